@@ -1,0 +1,22 @@
+-- What a source gives and a sink takes. The bytes of an end are told (`Some`) or not (`None`).
+use Rattle.std.specs.Prelude.{◌≡◌, ◌⊎◌, ℕ, ◌<◌, List, [], ◌++◌, Option, option_map, IfSome}
+
+-- these bytes were the front of what was left, and are taken from it
+abbrev pub Gives : Option (List ℕ) → List ℕ → Option (List ℕ) → Type 0
+Gives old front new = old ≡ option_map (λ rest. front ++ rest) new
+
+-- these bytes came to those that were got before
+abbrev pub Gets : Option (List ℕ) → List ℕ → Option (List ℕ) → Type 0
+Gets old more new = new ≡ option_map (λ got. got ++ more) old
+
+-- where the bytes are told, none is left
+abbrev pub IsSpent : Option (List ℕ) → Type 0
+IsSpent left = IfSome left (λ rest. rest ≡ [])
+
+-- the last value of a count of faults: 2 ^ 64 - 1
+abbrev pub last_count : ℕ
+last_count = 18446744073709551615
+
+-- a fault came: the count is greater, or stands at its last value
+abbrev pub Rose : ℕ → ℕ → Type 0
+Rose old new = (old < new) ⊎ (new ≡ last_count)
