@@ -1,5 +1,5 @@
 -- What a source gives and a sink takes. The bytes of an end are told (`Some`) or not (`None`).
-use Rattle.std.specs.Prelude.{◌≡◌, ◌⊎◌, ℕ, ◌<◌, List, [], ◌++◌, Option, option_map, IfSome}
+use Rattle.std.specs.Prelude.{◌≡◌, ◌⊎◌, ℕ, ◌<◌, List, [], ◌++◌, length, take, Option, option_map, IfSome}
 
 -- these bytes were the front of what was left, and are taken from it
 abbrev pub Gives : Option (List ℕ) → List ℕ → Option (List ℕ) → Type 0
@@ -20,3 +20,7 @@ last_count = 18446744073709551615
 -- a fault came: the count is greater, or stands at its last value
 abbrev pub Rose : ℕ → ℕ → Type 0
 Rose old new = (old < new) ⊎ (new ≡ last_count)
+
+-- a proper front of the bytes that are due came
+abbrev pub GetsPart : Option (List ℕ) → List ℕ → Option (List ℕ) → Type 0
+GetsPart old due new = (n : ℕ) × (n < length due) × Gets old (take n due) new

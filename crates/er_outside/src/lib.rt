@@ -2,5 +2,7 @@
 #![tactic(auto)]
 
 mod ends;
+mod put;
 
 pub use ends::{Failed, NoMemory, Sink, Source};
+pub use put::put_all;

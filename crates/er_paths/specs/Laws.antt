@@ -1,5 +1,5 @@
 -- What holds of paths.
-use Rattle.std.specs.Prelude.{◌≡◌, ◌↔◌, ℕ, ◌<◌, ◌≤◌, Bool, true, List, ◌++◌, length}
+use Rattle.std.specs.Prelude.{◌≡◌, ◌↔◌, ℕ, ◌<◌, ◌≤◌, true, List, ◌++◌, length}
 use Rattle.er_paths.specs.Paths.{joins, is_among, list_of, Leads}
 
 -- each list has earlier actions alone

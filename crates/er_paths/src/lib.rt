@@ -1,4 +1,6 @@
 //! Paths over lists of predecessors: the definition on which happens-before rests, and its laws.
+//!
+//! The lists stand newest first, one an action. Each law is a function with no parameters, whose contract is the law.
 #![tactic(auto)]
 
 ghost use Rattle.er_paths.specs.Laws.{PathsAreSteps, PathsCompose, PathsGoForward, PathsStand, PathsStay};
@@ -7,5 +9,28 @@ ghost use Rattle.er_paths.specs.Laws.{PathsAreSteps, PathsCompose, PathsGoForwar
 #[tactic(auto, using(crate::proofs::Paths::paths_are_steps))]
 pub fn paths_are_steps()
     ensures { PathsAreSteps }
-{
-}
+{}
+
+/// A path and a path behind it are a path.
+#[tactic(auto, using(crate::proofs::Paths::paths_compose))]
+pub fn paths_compose()
+    ensures { PathsCompose }
+{}
+
+/// Paths go forward, among the actions that there are.
+#[tactic(auto, using(crate::proofs::Paths::paths_go_forward))]
+pub fn paths_go_forward()
+    ensures { PathsGoForward }
+{}
+
+/// An action joins itself.
+#[tactic(auto, using(crate::proofs::Paths::paths_stand))]
+pub fn paths_stand()
+    ensures { PathsStand }
+{}
+
+/// Later lists change no path among the earlier.
+#[tactic(auto, using(crate::proofs::Paths::paths_stay))]
+pub fn paths_stay()
+    ensures { PathsStay }
+{}

@@ -1,0 +1,3 @@
+pub mod Items
+pub mod Spelling
+pub mod Trace

@@ -1,0 +1,92 @@
+-- A whole trace, and the causes for which a line is no line of one. Records stand oldest first.
+use Rattle.std.specs.Prelude.{◌≡◌, ◌≢◌, ◌⊎◌, ℕ, ◌+◌, ◌≤◌, Bool, ◌&&◌, nat_lt, List, [], ◌∷◌, ◌++◌, length, take, flat_map, codes, Option, Result, Ok, Err, MatchResult, MatchBool}
+use Rattle.std.specs.List.{AllByRecursion}
+use Rattle.std.specs.Option.{ok_or}
+use Rattle.er_text.specs.Lines.{first_line, has_no_lf}
+use Rattle.er_text.specs.declared.cause.Cause.{Cause}
+use Rattle.er_text.specs.declared.cause.Cause.TheVariants.{BadHeader, LongLine, BadRecord, NoEnd, AfterEnd, TooManyLines}
+use Rattle.er_trace.specs.declared.record.Record.{Record}
+use Rattle.er_trace.specs.Spelling.{spelling, IsRecord}
+
+-- the most lines of a trace, and the most bytes of a line without its LF
+abbrev pub most_lines : ℕ
+most_lines = 2097152
+
+abbrev pub most_line_bytes : ℕ
+most_line_bytes = 1024
+
+abbrev pub header : List ℕ
+header = codes "webtrace 1"
+
+abbrev pub end_word : List ℕ
+end_word = codes "end"
+
+-- a line and its LF
+abbrev pub line : List ℕ → List ℕ
+line bytes = bytes ++ 10 ∷ []
+
+abbrev pub lines : List Record → List ℕ
+lines records = flat_map (λ x. line (spelling x)) records
+
+-- the trace of these records
+abbrev pub text : List Record → List ℕ
+text records = line header ++ lines records ++ line end_word
+
+-- Where a line begins: at the start, behind the header and these records, or behind the `end` line.
+pub data Place : Type 0 where
+  Start : Place
+  After : (records : List Record) → Place
+  Ended : (records : List Record) → Place
+
+-- the records before it
+abbrev pub records_before : Place → List Record
+records_before Start = []
+records_before (After records) = records
+records_before (Ended records) = records
+
+-- the bytes before it
+abbrev pub bytes_before : Place → List ℕ
+bytes_before Start = []
+bytes_before (After records) = line header ++ lines records
+bytes_before (Ended records) = text records
+
+-- the number of the line
+abbrev pub line_number : Place → ℕ
+line_number Start = 1
+line_number (After records) = length records + 2
+line_number (Ended records) = length records + 3
+
+-- too many bytes came without an LF
+abbrev pub is_long : List ℕ → Bool
+is_long bytes = nat_lt most_line_bytes (length bytes) && has_no_lf (take (most_line_bytes + 1) bytes)
+
+-- the whole line at the front of the bytes and the bytes after its LF, or why there is none
+abbrev pub whole_line : List ℕ → Result (List ℕ × List ℕ) Cause
+whole_line bytes = if is_long bytes then Err LongLine else ok_or (first_line bytes) NoEnd
+
+-- no record is spelled so
+abbrev pub SpellsNone : List ℕ → Type 0
+SpellsNone bytes = (x : Record) → IsRecord x → bytes ≡ spelling x → ⊥
+
+-- Why the line that begins there, with these bytes from it on, is no line of a trace: the first cause that applies.
+abbrev pub LineCause : Place → List ℕ → Cause → Type 0
+LineCause Start rest c = MatchResult (whole_line rest) (λ l. (l.0 ≢ header) × (c ≡ BadHeader)) (λ why. c ≡ why)
+LineCause (After records) rest c = MatchBool (nat_lt most_lines (length records + 2) && nat_lt 0 (length rest)) (c ≡ TooManyLines) (MatchResult (whole_line rest) (λ l. (l.0 ≢ end_word) × SpellsNone l.0 × (c ≡ BadRecord)) (λ why. c ≡ why))
+LineCause (Ended records) rest c = (rest ≢ []) × (c ≡ AfterEnd)
+
+-- the lines before it are lines of a trace
+pub record IsPlace (place : Place) : Type 0 where
+  pub each : AllByRecursion IsRecord (records_before place)
+  pub few : line_number place ≤ most_lines + 1
+
+-- the records of a whole trace
+pub record IsTrace (records : List Record) : Type 0 where
+  pub each : AllByRecursion IsRecord records
+  pub few : length records + 2 ≤ most_lines
+
+-- The bytes begin with the lines before that place, and the line there has the cause.
+pub record Refuses (bytes : List ℕ) (place : Place) (c : Cause) : Type 0 where
+  pub is_place : IsPlace place
+  pub rest : List ℕ
+  pub begins : bytes ≡ bytes_before place ++ rest
+  pub cause : LineCause place rest c

@@ -1,0 +1,5 @@
+//! The trace format `webtrace 1`: its records, how they are spelled, and how a whole trace is read.
+#![tactic(auto)]
+
+pub mod name;
+pub mod record;

@@ -1,0 +1,95 @@
+//! The records of a trace. One record is one line.
+
+use crate::name::Name;
+
+/// The kind of an element that the parser made.
+#[derive(Clone, Copy, Debug, PartialEq, Eq)]
+pub enum Kind {
+    /// Any element that is not one of the others.
+    Plain,
+    /// A script in the page, which the parser runs before it goes on.
+    Inline,
+    /// A script from elsewhere, for which the parser waits.
+    Sync,
+    /// A script that runs once the document is parsed.
+    Defer,
+    /// A script that runs when it has come.
+    Async,
+    /// An image.
+    Image,
+}
+
+/// The kind of an element that a script made.
+#[derive(Clone, Copy, Debug, PartialEq, Eq)]
+pub enum NewKind {
+    Plain,
+    Async,
+    Image,
+}
+
+/// Whether an access reads or writes.
+#[derive(Clone, Copy, Debug, PartialEq, Eq)]
+pub enum Mode {
+    R,
+    W,
+}
+
+/// A logical location. Its number declares nothing and needs no declaration.
+#[derive(Drop)]
+pub enum Loc {
+    /// A variable of an object.
+    Var(u32, Name),
+    /// The look-up of an element in a document.
+    Elem(u32, Name),
+    /// The slot of an event handler of an element.
+    Slot(u32, Name),
+}
+
+/// A record. Documents, elements, handlers, timeouts, intervals, requests and dispatches are numbered apart from each other.
+#[derive(Drop)]
+pub enum Record {
+    /// A parse step that makes an element.
+    Parse { doc: u32, element: u32, kind: Kind },
+    /// A parse step that makes a frame element, and declares the document in it.
+    ParseFrame { doc: u32, element: u32, inner: u32 },
+    /// The run of a script element.
+    Exec { element: u32 },
+    /// The callback of a timeout.
+    Timer { timeout: u32 },
+    /// One callback of an interval.
+    Tick { interval: u32 },
+    /// The begin of DOMContentLoaded of a document.
+    Dcl { dispatch: u32, doc: u32 },
+    /// The begin of load of the window of a document.
+    Load { dispatch: u32, doc: u32 },
+    /// The begin of the first load event of an element.
+    Eload { dispatch: u32, element: u32 },
+    /// The begin of a dispatch at an element.
+    Fire { dispatch: u32, element: u32, name: Name },
+    /// The begin of a dispatch at the window of a document.
+    Wfire { dispatch: u32, doc: u32, name: Name },
+    /// The begin of a reply event of a request.
+    Reply { dispatch: u32, request: u32 },
+    /// The begin of a dispatch at an element that a script called synchronously.
+    Inline { dispatch: u32, element: u32, name: Name },
+    /// A handler runs in a group of a dispatch.
+    Run { dispatch: u32, group: u32, handler: u32 },
+    /// The close of a dispatch.
+    Close { dispatch: u32 },
+    /// The event goes on that an inline dispatch suspended.
+    Back { dispatch: u32 },
+    /// Makes an element.
+    New { doc: u32, element: u32, kind: NewKind },
+    /// Makes a frame element, and declares the document in it.
+    NewFrame { doc: u32, element: u32, inner: u32 },
+    /// Registers a handler.
+    On { handler: u32 },
+    /// Sets a timeout. The delay is in milliseconds.
+    Set { timeout: u32, delay: u32 },
+    /// Sets an interval. The delay is in milliseconds.
+    Every { interval: u32, delay: u32 },
+    /// Sends a request.
+    Send { request: u32 },
+    /// Reads or writes a location.
+    Access { mode: Mode, loc: Loc },
+}
