@@ -19,13 +19,20 @@ pub gets_again : (old mid new : Option (List ℕ)) (a b : List ℕ) → Gets old
 gets_again None mid new a b first second = grind (arith, common_steps)
 gets_again (Some got) mid new a b first second = grind (arith, common_steps)
 
+-- a front of the piece came, by its length
+pub gets_part_at : (old new : Option (List ℕ)) (due : List ℕ) (n : ℕ) → n < length due → Gets old (take n due) new → GetsPart old due new
+unfolding GetsPart
+gets_part_at old new due n below came = (n, below, came)
+
 pub gets_part_later : (old mid new : Option (List ℕ)) (a b : List ℕ) → Gets old a mid → GetsPart mid b new → GetsPart old (a ++ b) new
+unfolding GetsPart
 gets_part_later old mid new a b first (n, below, came) =
     let here : n + length a < length (a ++ b) = grind (arith, common_steps) in
     let whole : Gets old (a ++ take n b) new = gets_again old mid new a (take n b) first came in
     (length a + n, grind (arith, common_steps), rw (take-append-add a b n) whole)
 
 pub gets_part_first : (old new : Option (List ℕ)) (a b : List ℕ) → GetsPart old a new → GetsPart old (a ++ b) new
+unfolding GetsPart
 gets_part_first old new a b (n, below, came) =
     (n, omega (arith, length-append a b), rw (take-append-le n a b (omega arith)) came)
 

@@ -22,5 +22,5 @@ abbrev pub Rose : ℕ → ℕ → Type 0
 Rose old new = (old < new) ⊎ (new ≡ last_count)
 
 -- a proper front of the bytes that are due came
-abbrev pub GetsPart : Option (List ℕ) → List ℕ → Option (List ℕ) → Type 0
+unfoldable pub GetsPart : Option (List ℕ) → List ℕ → Option (List ℕ) → Type 0
 GetsPart old due new = (n : ℕ) × (n < length due) × Gets old (take n due) new

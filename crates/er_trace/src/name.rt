@@ -2,10 +2,9 @@
 
 ghost use Rattle.std.specs.Prelude.{◌≡◌, ℕ, List, length, IfOk, ◌≤◌};
 
+use er_outside::NoMemory;
 use std::alloc::Global;
 use std::marker::Model;
-
-use er_outside::NoMemory;
 
 /// A name: 1 to 255 bytes of any value. A contract sees it as the list of its bytes.
 #[derive(Drop)]

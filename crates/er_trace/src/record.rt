@@ -1,6 +1,9 @@
 //! The records of a trace. One record is one line.
 
+ghost use Rattle.std.specs.Prelude.{◌≡◌, IfOk};
+
 use crate::name::Name;
+use er_outside::NoMemory;
 
 /// The kind of an element that the parser made.
 #[derive(Clone, Copy, Debug, PartialEq, Eq)]
@@ -49,47 +52,242 @@ pub enum Loc {
 #[derive(Drop)]
 pub enum Record {
     /// A parse step that makes an element.
-    Parse { doc: u32, element: u32, kind: Kind },
+    Parse {
+        doc: u32,
+        element: u32,
+        kind: Kind,
+    },
     /// A parse step that makes a frame element, and declares the document in it.
-    ParseFrame { doc: u32, element: u32, inner: u32 },
+    ParseFrame {
+        doc: u32,
+        element: u32,
+        inner: u32,
+    },
     /// The run of a script element.
-    Exec { element: u32 },
+    Exec {
+        element: u32,
+    },
     /// The callback of a timeout.
-    Timer { timeout: u32 },
+    Timer {
+        timeout: u32,
+    },
     /// One callback of an interval.
-    Tick { interval: u32 },
+    Tick {
+        interval: u32,
+    },
     /// The begin of DOMContentLoaded of a document.
-    Dcl { dispatch: u32, doc: u32 },
+    Dcl {
+        dispatch: u32,
+        doc: u32,
+    },
     /// The begin of load of the window of a document.
-    Load { dispatch: u32, doc: u32 },
+    Load {
+        dispatch: u32,
+        doc: u32,
+    },
     /// The begin of the first load event of an element.
-    Eload { dispatch: u32, element: u32 },
+    Eload {
+        dispatch: u32,
+        element: u32,
+    },
     /// The begin of a dispatch at an element.
-    Fire { dispatch: u32, element: u32, name: Name },
+    Fire {
+        dispatch: u32,
+        element: u32,
+        name: Name,
+    },
     /// The begin of a dispatch at the window of a document.
-    Wfire { dispatch: u32, doc: u32, name: Name },
+    Wfire {
+        dispatch: u32,
+        doc: u32,
+        name: Name,
+    },
     /// The begin of a reply event of a request.
-    Reply { dispatch: u32, request: u32 },
+    Reply {
+        dispatch: u32,
+        request: u32,
+    },
     /// The begin of a dispatch at an element that a script called synchronously.
-    Inline { dispatch: u32, element: u32, name: Name },
+    Inline {
+        dispatch: u32,
+        element: u32,
+        name: Name,
+    },
     /// A handler runs in a group of a dispatch.
-    Run { dispatch: u32, group: u32, handler: u32 },
+    Run {
+        dispatch: u32,
+        group: u32,
+        handler: u32,
+    },
     /// The close of a dispatch.
-    Close { dispatch: u32 },
+    Close {
+        dispatch: u32,
+    },
     /// The event goes on that an inline dispatch suspended.
-    Back { dispatch: u32 },
+    Back {
+        dispatch: u32,
+    },
     /// Makes an element.
-    New { doc: u32, element: u32, kind: NewKind },
+    New {
+        doc: u32,
+        element: u32,
+        kind: NewKind,
+    },
     /// Makes a frame element, and declares the document in it.
-    NewFrame { doc: u32, element: u32, inner: u32 },
+    NewFrame {
+        doc: u32,
+        element: u32,
+        inner: u32,
+    },
     /// Registers a handler.
-    On { handler: u32 },
+    On {
+        handler: u32,
+    },
     /// Sets a timeout. The delay is in milliseconds.
-    Set { timeout: u32, delay: u32 },
+    Set {
+        timeout: u32,
+        delay: u32,
+    },
     /// Sets an interval. The delay is in milliseconds.
-    Every { interval: u32, delay: u32 },
+    Every {
+        interval: u32,
+        delay: u32,
+    },
     /// Sends a request.
-    Send { request: u32 },
+    Send {
+        request: u32,
+    },
     /// Reads or writes a location.
-    Access { mode: Mode, loc: Loc },
+    Access {
+        mode: Mode,
+        loc: Loc,
+    },
+}
+
+impl Loc {
+    /// An equal location.
+    pub fn copy(&self) -> Result<Loc, NoMemory>
+        ensures { IfOk result (λ loc. loc ≡ self.now) }
+    {
+        Ok(match self {
+            Loc::Var(object, name) => Loc::Var(*object, name.copy()?),
+            Loc::Elem(doc, name) => Loc::Elem(*doc, name.copy()?),
+            Loc::Slot(element, name) => Loc::Slot(*element, name.copy()?),
+        })
+    }
+}
+
+impl Record {
+    /// An equal record.
+    pub fn copy(&self) -> Result<Record, NoMemory>
+        ensures { IfOk result (λ copied. copied ≡ self.now) }
+    {
+        Ok(match self {
+            Record::Parse { doc, element, kind } => Record::Parse {
+                doc: *doc,
+                element: *element,
+                kind: *kind,
+            },
+            Record::ParseFrame {
+                doc,
+                element,
+                inner,
+            } => Record::ParseFrame {
+                doc: *doc,
+                element: *element,
+                inner: *inner,
+            },
+            Record::Exec { element } => Record::Exec { element: *element },
+            Record::Timer { timeout } => Record::Timer { timeout: *timeout },
+            Record::Tick { interval } => Record::Tick {
+                interval: *interval,
+            },
+            Record::Dcl { dispatch, doc } => Record::Dcl {
+                dispatch: *dispatch,
+                doc: *doc,
+            },
+            Record::Load { dispatch, doc } => Record::Load {
+                dispatch: *dispatch,
+                doc: *doc,
+            },
+            Record::Eload { dispatch, element } => Record::Eload {
+                dispatch: *dispatch,
+                element: *element,
+            },
+            Record::Fire {
+                dispatch,
+                element,
+                name,
+            } => Record::Fire {
+                dispatch: *dispatch,
+                element: *element,
+                name: name.copy()?,
+            },
+            Record::Wfire {
+                dispatch,
+                doc,
+                name,
+            } => Record::Wfire {
+                dispatch: *dispatch,
+                doc: *doc,
+                name: name.copy()?,
+            },
+            Record::Reply { dispatch, request } => Record::Reply {
+                dispatch: *dispatch,
+                request: *request,
+            },
+            Record::Inline {
+                dispatch,
+                element,
+                name,
+            } => Record::Inline {
+                dispatch: *dispatch,
+                element: *element,
+                name: name.copy()?,
+            },
+            Record::Run {
+                dispatch,
+                group,
+                handler,
+            } => Record::Run {
+                dispatch: *dispatch,
+                group: *group,
+                handler: *handler,
+            },
+            Record::Close { dispatch } => Record::Close {
+                dispatch: *dispatch,
+            },
+            Record::Back { dispatch } => Record::Back {
+                dispatch: *dispatch,
+            },
+            Record::New { doc, element, kind } => Record::New {
+                doc: *doc,
+                element: *element,
+                kind: *kind,
+            },
+            Record::NewFrame {
+                doc,
+                element,
+                inner,
+            } => Record::NewFrame {
+                doc: *doc,
+                element: *element,
+                inner: *inner,
+            },
+            Record::On { handler } => Record::On { handler: *handler },
+            Record::Set { timeout, delay } => Record::Set {
+                timeout: *timeout,
+                delay: *delay,
+            },
+            Record::Every { interval, delay } => Record::Every {
+                interval: *interval,
+                delay: *delay,
+            },
+            Record::Send { request } => Record::Send { request: *request },
+            Record::Access { mode, loc } => Record::Access {
+                mode: *mode,
+                loc: loc.copy()?,
+            },
+        })
+    }
 }
