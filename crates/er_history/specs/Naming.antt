@@ -1,8 +1,8 @@
 -- Which records are legal after the earlier ones. Lists of records stand newest first.
 use Rattle.std.specs.Prelude.{◌≡◌, ℕ, Bool, true, false, not, ◌==◌, ◌&&◌, ◌||◌, if◌then◌else◌, List, [], ◌∷◌, Option, Some, None}
 use Rattle.std.specs.List.{list_any}
-use Rattle.er_text.specs.declared.cause.Cause.{Cause}
-use Rattle.er_text.specs.declared.cause.Cause.TheVariants.{BadRecord, Unknown, Again}
+use Rattle.er_text.specs.declared.causes.Cause.{Cause}
+use Rattle.er_text.specs.declared.causes.Cause.TheVariants.{BadRecord, Unknown, Again}
 use Rattle.er_trace.specs.declared.record.Record.{Record}
 use Rattle.er_trace.specs.declared.record.Record.TheVariants.{Parse, Timer, Set, Access}
 use Rattle.er_trace.specs.declared.record.Kind.TheVariants as kinds

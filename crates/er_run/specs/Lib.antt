@@ -1,0 +1,5 @@
+pub mod Races
+pub mod Report
+pub mod Answer
+pub mod Promise
+pub mod Rows

@@ -1,0 +1,4 @@
+pub mod ByteLaws
+pub mod LineLaws
+pub mod WordLaws
+pub mod NumberLaws

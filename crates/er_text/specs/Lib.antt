@@ -1,0 +1,6 @@
+pub mod Bytes
+pub mod Lines
+pub mod Words
+pub mod Number
+pub mod Name
+pub mod Cause

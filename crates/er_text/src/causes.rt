@@ -1,0 +1,76 @@
+//! Why a trace is refused.
+
+ghost use Rattle.std.specs.Prelude.{◌≡◌};
+ghost use Rattle.er_text.specs.Cause.{cause_name, cause_number};
+
+/// The cause of a refusal.
+#[derive(Clone, Copy, Debug, PartialEq, Eq)]
+pub enum Cause {
+    BadHeader,
+    LongLine,
+    BadRecord,
+    NoEnd,
+    AfterEnd,
+    TooManyLines,
+    Unknown,
+    Again,
+    NotScript,
+    Misplaced,
+    OutOfOrder,
+    TooManyActions,
+    TooDeep,
+    TooManyAccesses,
+    TooManyPairs,
+    TooManyRaces,
+    TooManyClasses,
+}
+
+impl Cause {
+    pub fn name(self) -> &'static str
+        ensures { result.now ≡ cause_name self }
+    {
+        match self {
+            Cause::BadHeader => "bad-header",
+            Cause::LongLine => "long-line",
+            Cause::BadRecord => "bad-record",
+            Cause::NoEnd => "no-end",
+            Cause::AfterEnd => "after-end",
+            Cause::TooManyLines => "too-many-lines",
+            Cause::Unknown => "unknown",
+            Cause::Again => "again",
+            Cause::NotScript => "not-script",
+            Cause::Misplaced => "misplaced",
+            Cause::OutOfOrder => "out-of-order",
+            Cause::TooManyActions => "too-many-actions",
+            Cause::TooDeep => "too-deep",
+            Cause::TooManyAccesses => "too-many-accesses",
+            Cause::TooManyPairs => "too-many-pairs",
+            Cause::TooManyRaces => "too-many-races",
+            Cause::TooManyClasses => "too-many-classes",
+        }
+    }
+
+    pub fn number(self) -> u32
+        ensures { result ≡ cause_number self }
+    {
+        match self {
+            Cause::BadHeader => 1,
+            Cause::LongLine => 2,
+            Cause::BadRecord => 3,
+            Cause::NoEnd => 4,
+            Cause::AfterEnd => 5,
+            Cause::TooManyLines => 6,
+            Cause::Unknown => 7,
+            Cause::Again => 8,
+            Cause::NotScript => 9,
+            Cause::Misplaced => 10,
+            Cause::OutOfOrder => 11,
+            Cause::TooManyActions => 12,
+            Cause::TooDeep => 13,
+            Cause::TooManyAccesses => 14,
+            Cause::TooManyPairs => 15,
+            Cause::TooManyRaces => 16,
+            Cause::TooManyClasses => 17,
+        }
+    }
+}

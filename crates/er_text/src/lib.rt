@@ -1,0 +1,14 @@
+//! The tokens of the trace format, and the causes of a refusal.
+//!
+//! A line is a list of words separated by exactly one space. A word is a fixed one, a number or the
+//! spelling of a name.
+#![tactic(auto)]
+
+mod causes;
+pub mod laws;
+mod lines;
+mod numbers;
+
+pub use causes::Cause;
+pub use lines::{Words, take_line};
+pub use numbers::{BadToken, read_number};
