@@ -1,5 +1,9 @@
 -- What a source gives and a sink takes. The bytes of an end are told (`Some`) or not (`None`).
-use Rattle.std.specs.Prelude.{◌≡◌, ◌⊎◌, ℕ, ◌<◌, List, [], ◌++◌, length, take, Option, option_map, IfSome}
+use Rattle.std.specs.Prelude.{◌≡◌, ◌⊎◌, ℕ, ◌<◌, List, [], ◌++◌, length, take, Option, None, option_map, IfSome}
+
+-- the bytes of an end that does not tell them
+abbrev pub untold : Option (List ℕ)
+untold = None
 
 -- these bytes were the front of what was left, and are taken from it
 abbrev pub Gives : Option (List ℕ) → List ℕ → Option (List ℕ) → Type 0

@@ -1,5 +1,5 @@
 -- Kept accesses, candidates and races. Lists of records stand newest first, all others oldest first.
-use Rattle.std.specs.Prelude.{◌≡◌, ℕ, ◌+◌, Bool, true, false, not, ◌==◌, ◌&&◌, ◌||◌, if◌then◌else◌, List, [], ◌∷◌, ◌++◌, map, filter, reverse, length, Option, Some}
+use Rattle.std.specs.Prelude.{◌≡◌, ℕ, ◌+◌, Bool, true, false, not, ◌==◌, ◌&&◌, ◌||◌, if◌then◌else◌, List, [], ◌∷◌, ◌++◌, map, filter, reverse, length, Option, Some, slice_get}
 use Rattle.std.specs.List.{list_any}
 use Rattle.er_trace.specs.declared.record.Record.{Record}
 use Rattle.er_trace.specs.declared.record.Record.TheVariants.{Access}
@@ -7,16 +7,11 @@ use Rattle.er_trace.specs.declared.record.Mode.{Mode}
 use Rattle.er_trace.specs.declared.record.Mode.TheVariants as modes
 use Rattle.er_trace.specs.declared.record.Loc.{Loc}
 use Rattle.er_trace.specs.declared.record.Loc.TheVariants.{Var, Elem, Slot}
+use Rattle.er_run.specs.declared.accesses.Kept.{Kept}
+use Rattle.er_run.specs.declared.accesses.Race.{Race}
 use Rattle.er_history.specs.History.{Action, Entry, told}
 use Rattle.er_history.specs.Rules.{rules}
 use Rattle.er_history.specs.Edges.{path}
-
--- an access, with its line and the action that runs there
-pub record Kept : Type 0 where
-  pub line : ℕ
-  pub action : ℕ
-  pub mode : Mode
-  pub loc : Loc
 
 abbrev pub same_bytes : List ℕ → List ℕ → Bool
 same_bytes [] [] = true
@@ -79,3 +74,7 @@ races_by joined accesses = filter (λ p. not (joined p.0.action p.1.action)) (ca
 
 abbrev pub races : List Record → List (Kept × Kept)
 races h = races_by (path rules h) (kept h)
+
+-- these places in the kept list are those of the pairs, in their order
+abbrev pub ArePairs : List Kept → List Race → List (Kept × Kept) → Type 0
+ArePairs accesses found pairs = map (λ r. slice_get accesses r.first) found ≡ map (λ p. Some p.0) pairs × map (λ r. slice_get accesses r.second) found ≡ map (λ p. Some p.1) pairs

@@ -7,7 +7,8 @@ use Rattle.er_trace.specs.Items.{Item, Word, Number, items_spelling}
 use Rattle.er_trace.specs.Spelling.{mode_word, loc_items}
 use Rattle.er_trace.specs.Trace.{line}
 use Rattle.er_history.specs.History.{told}
-use Rattle.er_run.specs.Races.{Kept, kept, candidates_of, races}
+use Rattle.er_run.specs.declared.accesses.Kept.{Kept}
+use Rattle.er_run.specs.Races.{kept, candidates_of, races}
 
 abbrev pub item_line : List Item → List ℕ
 item_line items = line (items_spelling items)

@@ -7,7 +7,7 @@ use Rattle.er_trace.specs.declared.record.Mode.TheVariants as modes
 use Rattle.er_trace.specs.declared.record.Loc.TheVariants.{Var}
 use Rattle.er_trace.specs.Trace.{text}
 use Rattle.er_run.specs.Report.{report}
-use Rattle.er_run.specs.Races.{races, Kept, same_bytes}
+use Rattle.er_run.specs.Races.{races, same_bytes}
 
 abbrev pub timeouts_that_race : List Record
 timeouts_that_race = Parse 0 1 kinds.Plain ∷ Set 1 10 ∷ Set 2 0 ∷ Timer 2 ∷ Access modes.W (Var 0 (codes "x")) ∷ Timer 1 ∷ Access modes.R (Var 0 (codes "x")) ∷ []

@@ -4,6 +4,7 @@
 ghost use Rattle.std.specs.Prelude.{◌≡◌, ◌↔◌, ℕ, ◌<◌, List, length, Some};
 ghost use Rattle.er_run.specs.Promise.{IsAnswer, IsAnswered, IsCutShort};
 
+pub mod accesses;
 pub mod outcome;
 
 ghost use Rattle.er_run.specs.Rows.{Law1, Law2};

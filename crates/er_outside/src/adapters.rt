@@ -1,0 +1,102 @@
+//! A source over a reader of the standard library, and a sink over a writer.
+
+ghost use Rattle.std.specs.Prelude.{◌≡◌, ◌<◌, ◌≤◌, length, take, IfOk, IfSome, OnOk, OnErr};
+ghost use Rattle.er_outside.specs.Ends.{Gives, Gets, IsSpent, Rose, untold};
+ghost use Rattle.er_outside.specs.Memory.{one_more};
+
+use crate::ends::{Failed, Sink, Source};
+use std::io::{Read, Write};
+
+/// A source over a reader. It does not tell what is still to come. Each error of the reader is a fault, also an interruption.
+#[derive(Drop)]
+pub struct FromRead<R> {
+    inner: R,
+    faults: u64,
+}
+
+impl<R> FromRead<R> {
+    /// A source over this reader.
+    pub fn new(inner: R) -> FromRead<R>
+        ensures inner { result.inner ≡ inner }
+        ensures faults { result.faults ≡ 0 }
+    {
+        FromRead { inner, faults: 0 }
+    }
+}
+
+impl<R: Read> Source for FromRead<R> {
+    ghost left = { λ _. untold };
+
+    ghost faults = { λ s. s.faults };
+
+    fn read(&mut self, buf: &mut [u8]) -> Result<usize, Failed>
+        ensures placed { IfOk result (λ n. n ≤ length buf.new) }
+        ensures given { IfOk result (λ n. Gives untold (take n buf.new) untold) }
+        ensures end { IfOk result (λ n. n ≡ 0 → 0 < length buf.new → IsSpent untold) }
+        ensures kept { OnErr result (untold ≡ untold) }
+        ensures cause { OnErr result (Rose self.old.faults self.new.faults) }
+        ensures count { self.old.faults ≤ self.new.faults }
+        ensures raised { OnErr result (self.new.faults ≡ one_more self.old.faults) }
+        ensures stands { OnOk result (self.new.faults ≡ self.old.faults) }
+    {
+        let Ok(placed) = self.inner.read(buf) else {
+            self.faults = self.faults.saturating_add(1);
+            return Err(Failed);
+        };
+        Ok(placed)
+    }
+}
+
+/// A sink over a writer, flushed after each write. It does not tell what it took.
+/// Each error of the writer is a fault, also an interruption, and so is a write that takes nothing of a piece that is not empty.
+#[derive(Drop)]
+pub struct ToWrite<W> {
+    inner: W,
+    faults: u64,
+}
+
+impl<W> ToWrite<W> {
+    /// A sink over this writer.
+    pub fn new(inner: W) -> ToWrite<W>
+        ensures inner { result.inner ≡ inner }
+        ensures faults { result.faults ≡ 0 }
+    {
+        ToWrite { inner, faults: 0 }
+    }
+}
+
+impl<W: Write> Sink for ToWrite<W> {
+    ghost got = { λ _. untold };
+
+    ghost faults = { λ s. s.faults };
+
+    fn write(&mut self, piece: &[u8]) -> Result<usize, Failed>
+        ensures taken { IfOk result (λ n. n ≤ length piece.now) }
+        ensures got { IfOk result (λ n. Gets untold (take n piece.now) untold) }
+        ensures some { IfOk result (λ n. 0 < length piece.now → 0 < n) }
+        ensures kept { OnErr result (untold ≡ untold) }
+        ensures cause { OnErr result (Rose self.old.faults self.new.faults) }
+        ensures count { self.old.faults ≤ self.new.faults }
+        ensures raised { OnErr result (self.new.faults ≡ one_more self.old.faults) }
+        ensures stands { OnOk result (self.new.faults ≡ self.old.faults) }
+    {
+        let Some(taken) = write_and_flush(&mut self.inner, piece) else {
+            self.faults = self.faults.saturating_add(1);
+            return Err(Failed);
+        };
+        Ok(taken)
+    }
+}
+
+/// One write and a flush. Nothing is answered where one of them fails, or nothing is taken of a piece that is not empty.
+fn write_and_flush<W: Write>(writer: &mut W, piece: &[u8]) -> Option<usize>
+    ensures taken { IfSome result (λ n. n ≤ length piece.now) }
+    ensures some { IfSome result (λ n. 0 < length piece.now → 0 < n) }
+{
+    let taken = writer.write(piece).ok()?;
+    if taken == 0 && !piece.is_empty() {
+        return None;
+    }
+    writer.flush().ok()?;
+    Some(taken)
+}
