@@ -1,30 +1,12 @@
 -- Steps of the proofs about rows of flags.
-use Rattle.std.proofs.Common.{◌≡◌, ℕ, ◌+◌, ◌<◌, ◌≤◌, Bool, true, false, ◌||◌, List, [], ◌∷◌, ◌++◌, length, get_or, take, set, replicate, refl, sym, ap, ◌∙◌, arith, rules, inl, inr, ◌⊎◌, cond, subst}
-use Rattle.std.specs.Prelude.{◌==◌}
-use Rattle.std.specs.List.{list_any, All}
-use Rattle.std.proofs.lemmas.List.{get_or-set_same, get_or-set_other, get_or_past, get_or-replicate, length-replicate, get_or_append_left, get_or_push, take_all, length_push}
-use Rattle.std.proofs.lemmas.List.Folds.{list_any_more, list_any_none}
+use Rattle.std.proofs.Common.{◌≡◌, ℕ, ◌+◌, ◌<◌, ◌≤◌, Bool, true, false, ◌||◌, List, ◌∷◌, length, get_or, take, set, refl, sym, ap, ◌∙◌, arith, inl, inr}
+use Rattle.std.specs.List.{list_any}
+use Rattle.std.proofs.lemmas.List.{get_or-set_same, get_or-set_other, take_all}
+use Rattle.std.proofs.lemmas.List.Folds.{list_any_more}
 use Rattle.std.proofs.lemmas.Bool.Decides.{eqb_tells}
-use Rattle.er_paths.specs.Paths.{joins, is_among}
-use Rattle.er_paths.proofs.Paths.{or_cases, any_some, any_from, place_cases, joins_newest, joins_older, joins_past, joins_below, joins_itself, paths_go_forward, paths_compose}
-use Rattle.er_ancestors.specs.Rows.{flag, row_of, IsTriangle, StandsFor}
-
--- one row
-
-pub or_false : (b : Bool) → (b || false) ≡ b
-or_false true = refl
-or_false false = refl
-
--- where the row of more has ended
-pub flag_past : (b : Bool) (more : List Bool) (i : ℕ) → length more ≤ i → (b || flag more i) ≡ b
-flag_past b more i past = ap (λ c. b || c) (get_or_past more i false past) ∙ or_false b
-
-pub flag_empty : (n i : ℕ) → flag (replicate n false) i ≡ false
-flag_empty n i =
-    elim (place_cases i n) [
-        inl below ↦ get_or-replicate n i false false below
-      | inr past ↦ get_or_past (replicate n false) i false (omega (arith, past, length-replicate n false))
-    ]
+use Rattle.er_paths.specs.Paths.{joins}
+use Rattle.er_paths.proofs.Paths.{any_some, any_from, joins_newest, joins_itself, paths_compose}
+use Rattle.er_ancestors.specs.Rows.{flag, row_of, StandsFor}
 
 -- one source more
 
@@ -50,9 +32,6 @@ source_skipped lists sources n i within had =
 abbrev pub HasFirst : List (List Bool) → List ℕ → List Bool → ℕ → Type 0
 HasFirst rows sources row n = (lists : List (List ℕ)) → StandsFor rows lists → (i : ℕ) → flag row i ≡ list_any (λ k. joins lists i k) (take n sources)
 
-pub first_none : (rows : List (List Bool)) (sources : List ℕ) (len : ℕ) → HasFirst rows sources (replicate len false) 0
-first_none rows sources len = λ lists stands i. flag_empty len i
-
 pub first_skipped : (rows : List (List Bool)) (sources : List ℕ) (row : List Bool) (n : ℕ) → HasFirst rows sources row n → n < length sources
     → flag row (get_or sources n 0) ≡ true → HasFirst rows sources row (n + 1)
 first_skipped rows sources row n first within has = λ lists stands i.
@@ -70,44 +49,13 @@ pub newest_row : (rows : List (List Bool)) (sources : List ℕ) (row : List Bool
     → (lists : List (List ℕ)) → StandsFor rows lists → (i : ℕ) → flag (set row (length rows) true) i ≡ joins (sources ∷ lists) i (length rows)
 newest_row rows sources row n first all long lists stands i =
     elim (eqb_tells i (length rows)) [
-        inl same ↦
-            let within : length rows < length row = omega (arith, long) in
-            let there : flag (set row (length rows) true) i ≡ true = ap (λ m. flag (set row (length rows) true) m) same.1 ∙ get_or-set_same row (length rows) true false within in
-            there ∙ sym (joins_itself sources lists i (length rows) stands.size same.1)
+      | inl same ↦
+          let within : length rows < length row = omega (arith, long) in
+          let there : flag (set row (length rows) true) i ≡ true = ap (λ m. flag (set row (length rows) true) m) same.1 ∙ get_or-set_same row (length rows) true false within in
+          there ∙ sym (joins_itself sources lists i (length rows) stands.size same.1)
       | inr other ↦
-            let listed : flag row i ≡ list_any (λ k. joins lists i k) sources = first lists stands i ∙ ap (λ s. list_any (λ k. joins lists i k) s) (take_all n sources all) in
-            let newest : joins (sources ∷ lists) i (length rows) ≡ list_any (λ k. joins lists i k) sources =
-                joins_newest sources lists i (length rows) stands.size ∙ ap (λ b. b || list_any (λ k. joins lists i k) sources) other.0 in
-            get_or-set_other row (length rows) i true false other.1 ∙ listed ∙ sym newest
+          let listed : flag row i ≡ list_any (λ k. joins lists i k) sources = first lists stands i ∙ ap (λ s. list_any (λ k. joins lists i k) s) (take_all n sources all) in
+          let newest : joins (sources ∷ lists) i (length rows) ≡ list_any (λ k. joins lists i k) sources =
+          joins_newest sources lists i (length rows) stands.size ∙ ap (λ b. b || list_any (λ k. joins lists i k) sources) other.0 in
+          get_or-set_other row (length rows) i true false other.1 ∙ listed ∙ sym newest
     ]
-
--- one row more
-
-pub row_before : (rows : List (List Bool)) (row : List Bool) (j : ℕ) → j < length rows → row_of (rows ++ row ∷ []) j ≡ row_of rows j
-row_before rows row j below = get_or_append_left rows (row ∷ []) [] j below
-
-pub triangle_more : (rows : List (List Bool)) (row : List Bool) → IsTriangle rows → length row ≡ length rows + 1 → IsTriangle (rows ++ row ∷ [])
-triangle_more rows row triangle long j below =
-    elim (place_cases j (length rows)) [
-        inl before ↦ ap length (row_before rows row j before) ∙ triangle j before
-      | inr rest ↦
-            let newest : j ≡ length rows = omega (arith, rest, length_push rows row) in
-            ap length (get_or_push rows row [] j (sym newest)) ∙ long ∙ ap (λ m. m + 1) (sym newest)
-    ]
-
-pub stands_more : (rows : List (List Bool)) (row : List Bool) (sources : List ℕ) (lists : List (List ℕ)) → StandsFor rows lists
-    → ((i : ℕ) → flag row i ≡ joins (sources ∷ lists) i (length rows)) → StandsFor (rows ++ row ∷ []) (sources ∷ lists)
-stands_more rows row sources lists stands flags = record {
-    size = omega (arith, length_push rows row, stands.size);
-    flags = λ i j. elim (place_cases j (length rows)) [
-        inl before ↦
-            let older : j < length lists = omega (arith, stands.size) in
-            ap (λ r. flag r i) (row_before rows row j before) ∙ stands.flags i j ∙ sym (joins_older sources lists i j older)
-      | inr rest ↦ elim rest [
-            inl newest ↦ ap (λ r. flag r i) (get_or_push rows row [] j (sym newest)) ∙ flags i ∙ ap (joins (sources ∷ lists) i) (sym newest)
-          | inr past ↦
-                let over : length (rows ++ row ∷ []) ≤ j = omega (arith, length_push rows row) in
-                let none : length (sources ∷ lists) ≤ j = omega (arith, stands.size) in
-                ap (λ r. flag r i) (get_or_past (rows ++ row ∷ []) j [] over) ∙ sym (joins_past (sources ∷ lists) i j none)
-        ]
-    ] }

@@ -4,12 +4,10 @@ ghost use Rattle.std.specs.Prelude.{◌≡◌, ℕ, ◌+◌, ◌<◌, List, [], 
 ghost use Rattle.er_paths.specs.Paths.{joins};
 ghost use Rattle.er_ancestors.specs.Rows.{flag, IsTriangle, StandsFor};
 
+use crate::row::Row;
+use er_outside::NoMemory;
 use std::alloc::Global;
 use std::marker::Model;
-
-use er_outside::NoMemory;
-
-use crate::row::Row;
 
 /// For each action, from which actions a path leads to it. Callers see a row of flags for each action, oldest first.
 #[derive(Drop)]
@@ -60,6 +58,7 @@ impl Ancestors {
     pub fn push(&mut self, alloc: Global, sources: &[u32]) -> Result<(), NoMemory>
         requires { All (λ k. k < length self.old) sources.now }
         ensures pushed { OnOk result ((lists : List (List ℕ)) → StandsFor self.old lists → StandsFor self.new (sources.now ∷ lists)) }
+        ensures grown { OnOk result (length self.new ≡ length self.old + 1) }
         ensures kept { OnErr result (self.new ≡ self.old) }
     {
         let row = next_row(alloc, &self.rows, sources)?;
@@ -86,4 +85,41 @@ fn next_row(alloc: Global, rows: &[Row], sources: &[u32]) -> Result<Row, NoMemor
     }
     row.put(rows.len());
     Ok(row)
+}
+
+#[cfg(test)]
+mod tests {
+    use super::*;
+    use std::test::Fail;
+
+    #[test]
+    fn diamond(rt: HostRuntime) -> Result<(), Fail> {
+        let alloc = rt.alloc();
+        let mut paths = Ancestors::new(alloc);
+        paths.push(alloc, &[])?;
+        paths.push(alloc, &[0])?;
+        paths.push(alloc, &[0])?;
+        paths.push(alloc, &[2, 1])?;
+        assert_eq!(rt; paths.len(), 4);
+        assert!(rt; paths.joined(0, 3), "over either side");
+        assert!(rt; paths.joined(1, 3) && paths.joined(2, 3));
+        assert!(rt; !paths.joined(1, 2), "the sides are apart");
+        assert!(rt; paths.joined(3, 3), "an action joins itself");
+        assert!(rt; !paths.joined(3, 0), "no path leads back");
+        Ok(())
+    }
+
+    #[test]
+    fn chain(rt: HostRuntime) -> Result<(), Fail> {
+        let alloc = rt.alloc();
+        let mut paths = Ancestors::new(alloc);
+        paths.push(alloc, &[])?;
+        paths.push(alloc, &[0])?;
+        paths.push(alloc, &[1, 0])?;
+        paths.push(alloc, &[])?;
+        paths.push(alloc, &[3, 2, 1, 0])?;
+        assert!(rt; paths.joined(0, 2) && paths.joined(0, 4));
+        assert!(rt; paths.joined(3, 4) && !paths.joined(2, 3));
+        Ok(())
+    }
 }

@@ -3,10 +3,9 @@
 ghost use Rattle.std.specs.Prelude.{◌≡◌, ◌≤◌, ◌<◌, ℕ, ◌||◌, true, false, length, replicate, slice_set, IfOk};
 ghost use Rattle.er_ancestors.specs.Rows.{flag};
 
+use er_outside::NoMemory;
 use std::alloc::Global;
 use std::marker::Model;
-
-use er_outside::NoMemory;
 
 #[derive(Drop)]
 pub(crate) struct Row {

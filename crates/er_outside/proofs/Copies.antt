@@ -1,8 +1,7 @@
 -- What a read from bytes in memory gives.
-use Rattle.std.proofs.Common.{◌≡◌, ℕ, ◌+◌, ◌-◌, ◌≤◌, List, ◌++◌, length, take, drop, Some, refl, sym, ◌∙◌, ap, arith}
+use Rattle.std.proofs.Common.{◌≡◌, ℕ, ◌+◌, ◌-◌, ◌≤◌, List, ◌++◌, length, take, drop, sym, arith}
 use Rattle.std.proofs.lemmas.List.{take-append-drop}
 use Rattle.std.proofs.lemmas.Grind.{common_steps}
-use Rattle.er_outside.specs.Ends.{Gives}
 
 -- the bytes that were copied to the front of the buffer are the front of what was left
 pub copied_gives : (bytes copied tail : List ℕ) (given count : ℕ) → given + count ≤ length bytes

@@ -40,6 +40,14 @@ pub gives_again : (old mid new : Option (List ℕ)) (a b : List ℕ) → Gives o
 gives_again old mid None a b first second = grind (arith, common_steps)
 gives_again old mid (Some left) a b first second = grind (arith, common_steps)
 
+pub gives_nothing : (old : Option (List ℕ)) → Gives old [] old
+gives_nothing None = refl
+gives_nothing (Some left) = refl
+
+pub gives_nothing_back : (old new : Option (List ℕ)) → Gives old [] new → new ≡ old
+gives_nothing_back old None came = grind (arith, common_steps)
+gives_nothing_back old (Some left) came = grind (arith, common_steps)
+
 pub rose_later : (old mid new : ℕ) → old ≤ mid → Rose mid new → Rose old new
 rose_later old mid new up rose = elim rose [ inl more ↦ inl (omega arith) | inr last ↦ inr last ]
 
@@ -56,4 +64,4 @@ gets_more old mid new piece done n within first second =
     rw e (gets_again old mid new (take done piece) (take n (drop done piece)) first (rw rest at second))
 
 -- what makes a sequence of writes, and of reads
-pub ruleset composes = (gets_nothing, gets_nothing_back, gets_again, gets_part_later, gets_part_first, gives_again, rose_later)
+pub ruleset composes = (gets_nothing, gets_nothing_back, gets_again, gets_part_later, gets_part_first, gives_nothing, gives_nothing_back, gives_again, rose_later)

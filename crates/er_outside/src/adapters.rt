@@ -1,6 +1,7 @@
 //! A source over a reader of the standard library, and a sink over a writer.
 
 ghost use Rattle.std.specs.Prelude.{◌≡◌, ◌<◌, ◌≤◌, length, take, IfOk, IfSome, OnOk, OnErr};
+ghost use Rattle.std.specs.Io.KnownBytes.{Appends, ReadConsumes};
 ghost use Rattle.er_outside.specs.Ends.{Gives, Gets, IsSpent, Rose, untold};
 ghost use Rattle.er_outside.specs.Memory.{one_more};
 
@@ -38,6 +39,7 @@ impl<R: Read> Source for FromRead<R> {
         ensures count { self.old.faults ≤ self.new.faults }
         ensures raised { OnErr result (self.new.faults ≡ one_more self.old.faults) }
         ensures stands { OnOk result (self.new.faults ≡ self.old.faults) }
+        ensures passed_on { ReadConsumes (R.remaining self.old.inner) (R.remaining self.new.inner) result buf.new }
     {
         let Ok(placed) = self.inner.read(buf) else {
             self.faults = self.faults.saturating_add(1);
@@ -79,6 +81,7 @@ impl<W: Write> Sink for ToWrite<W> {
         ensures count { self.old.faults ≤ self.new.faults }
         ensures raised { OnErr result (self.new.faults ≡ one_more self.old.faults) }
         ensures stands { OnOk result (self.new.faults ≡ self.old.faults) }
+        ensures passed_on { IfOk result (λ n. Appends (W.contents self.old.inner) (W.contents self.new.inner) (take n piece.now)) }
     {
         let Some(taken) = write_and_flush(&mut self.inner, piece) else {
             self.faults = self.faults.saturating_add(1);
@@ -92,6 +95,7 @@ impl<W: Write> Sink for ToWrite<W> {
 fn write_and_flush<W: Write>(writer: &mut W, piece: &[u8]) -> Option<usize>
     ensures taken { IfSome result (λ n. n ≤ length piece.now) }
     ensures some { IfSome result (λ n. 0 < length piece.now → 0 < n) }
+    ensures appended { IfSome result (λ n. Appends (W.contents writer.old) (W.contents writer.new) (take n piece.now)) }
 {
     let taken = writer.write(piece).ok()?;
     if taken == 0 && !piece.is_empty() {

@@ -13,3 +13,6 @@ pub use ends::{Failed, NoMemory, Sink, Source};
 pub use memory_sink::MemorySink;
 pub use memory_source::MemorySource;
 pub use put::put_all;
+
+#[cfg(test)]
+mod tests;

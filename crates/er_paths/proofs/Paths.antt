@@ -178,6 +178,16 @@ forward_older p older forward i j e =
     let below = listed_below older i j e in
     forward i j (ap (is_among i) (list_older p older j below) ∙ e)
 
+pub forward_more : (p : List ℕ) (older : List (List ℕ)) → GoForward older → ((k : ℕ) → is_among k p ≡ true → k < length older) → GoForward (p ∷ older)
+forward_more p older forward earlier i j e =
+    elim (place_cases j (length older)) [
+      | inl below ↦ forward i j (sym (ap (is_among i) (list_older p older j below)) ∙ e)
+      | inr rest ↦
+          let newest : j ≡ length older = omega (arith, listed_below (p ∷ older) i j e) in
+          let among = sym (ap (is_among i) (list_newest p older j newest)) ∙ e in
+          omega (arith, earlier i among)
+    ]
+
 -- steps stand as the lists grow
 pub leads_older : (p : List ℕ) (older : List (List ℕ)) (i : ℕ) (steps : List ℕ) (j : ℕ) → Leads older i steps j → Leads (p ∷ older) i steps j
 leads_older p older i [] j leads = leads

@@ -1,1 +1,11 @@
-pub mod RowProofs
+pub mod AcceptLemmas
+pub mod AnswerLemmas
+pub mod EventLemmas
+pub mod ListerLemmas
+pub mod ReportLemmas
+pub mod Sameness
+pub mod SessionLemmas
+pub mod JudgeLemmas
+pub mod ReportableLemmas
+pub mod CompleteLemmas
+pub mod RepeatLemmas

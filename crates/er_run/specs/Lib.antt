@@ -1,5 +1,11 @@
+pub mod Accepted
+pub mod Answer
+pub mod Event
+pub mod Listing
+pub mod Names
+pub mod Pieces
+pub mod Promise
 pub mod Races
 pub mod Report
-pub mod Answer
-pub mod Promise
-pub mod Rows
+pub mod Session
+pub mod Status

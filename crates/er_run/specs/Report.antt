@@ -10,7 +10,8 @@ use Rattle.er_history.specs.History.{told}
 use Rattle.er_run.specs.declared.accesses.Kept.{Kept}
 use Rattle.er_run.specs.Races.{kept, candidates_of, races}
 
-abbrev pub item_line : List Item → List ℕ
+-- the line of some items
+unfoldable pub item_line : List Item → List ℕ
 item_line items = line (items_spelling items)
 
 -- `race K LINE LINE MODES ACTION ACTION LOC`
@@ -26,8 +27,16 @@ race_lines k (r ∷ rs) = race_line k r ++ race_lines (k + 1) rs
 abbrev pub count_line : List ℕ → ℕ → List ℕ
 count_line name n = item_line (Word name ∷ Number n ∷ [])
 
+-- the lines behind those of the races
+abbrev pub closing_lines : (actions accesses pairs races : ℕ) → List ℕ
+closing_lines actions accesses pairs races = count_line (codes "actions") actions ++ count_line (codes "accesses") accesses ++ count_line (codes "pairs") pairs ++ count_line (codes "races") races ++ line (codes "end")
+
+-- the report of these races, where so many actions, kept accesses and candidate pairs there are
+abbrev pub report_of : (found : List (Kept × Kept)) (actions accesses pairs : ℕ) → List ℕ
+report_of found actions accesses pairs = count_line (codes "report") 1 ++ race_lines 1 found ++ closing_lines actions accesses pairs (length found)
+
 abbrev pub report : List Record → List ℕ
-report h = item_line (Word (codes "report") ∷ Number 1 ∷ []) ++ race_lines 1 (races h) ++ count_line (codes "actions") (length (told h).actions) ++ count_line (codes "accesses") (length (kept h)) ++ count_line (codes "pairs") (length (candidates_of (kept h))) ++ count_line (codes "races") (length (races h)) ++ line (codes "end")
+report h = report_of (races h) (length (told h).actions) (length (kept h)) (length (candidates_of (kept h)))
 
 -- `refused LINE CAUSE`
 abbrev pub refusal : ℕ → Cause → List ℕ

@@ -1,17 +1,58 @@
 //! The top call: from the bytes of a trace to the report of its races.
 #![tactic(auto)]
 
-ghost use Rattle.std.specs.Prelude.{◌≡◌, ◌↔◌, ℕ, ◌<◌, List, length, Some};
-ghost use Rattle.er_run.specs.Promise.{IsAnswer, IsAnswered, IsCutShort};
+ghost use Rattle.std.specs.Prelude.{◌≡◌, ◌↔◌, ◌⊎◌, ℕ, ◌<◌, ◌≤◌, List, length, Some};
+ghost use Rattle.er_outside.specs.Ends.{Rose};
+ghost use Rattle.er_run.specs.Answer.{Answers};
+ghost use Rattle.er_run.specs.Promise.{IsAnswer, IsAnswered, IsCutShort, IsSilent};
+
+use std::alloc::Global;
+
+use er_outside::{Sink, Source};
+
+use crate::answer::answer;
+use crate::input::{InputFault, read_input};
+use crate::outcome::Outcome;
 
 pub mod accesses;
+mod answer;
+mod event;
+mod events;
+mod input;
+mod lister;
+mod names;
 pub mod outcome;
+mod report_writer;
+mod session;
 
-ghost use Rattle.er_run.specs.Rows.{Law1, Law2};
-
-#[tactic(auto, using(crate::proofs::RowProofs::law1, crate::proofs::RowProofs::law2))]
-pub fn rows()
-    ensures one { Law1 }
-    ensures two { Law2 }
+/// Reads a whole trace from the source, and writes the report of its races, or its refusal, to the sink.
+///
+/// The words are those of the command, without the program's own name. None is accepted.
+pub fn run<S: Source, K: Sink>(alloc: Global, words: &[String], source: &mut S, sink: &mut K) -> Outcome
+    // What was read answers the outcome, and the text that is due was written.
+    ensures answered { IsAnswer result → IsAnswered (S.left source.old) (S.left source.new) (K.got sink.old) (K.got sink.new) result }
+    // Words are refused, and no others.
+    ensures usage { (result ≡ Outcome.Usage) ↔ (0 < length words.now) }
+    ensures read_fault { result ≡ Outcome.ReadFault → Rose (S.faults source.old) (S.faults source.new) }
+    ensures write_fault { result ≡ Outcome.WriteFault → Rose (K.faults sink.old) (K.faults sink.new) }
+    ensures cut_short { result ≡ Outcome.WriteFault → IsCutShort (S.left source.old) (S.left source.new) (K.got sink.old) (K.got sink.new) }
+    // A refused command, a failed read and want of memory leave the sink as it was.
+    ensures kept { IsSilent result → K.got sink.new ≡ K.got sink.old }
+    // Where no fault came, the outcome is the answer of the bytes that the source held, unless memory ran out.
+    ensures complete { length words.now ≡ 0
+        → (Rose (S.faults source.old) (S.faults source.new) → ⊥)
+        → (Rose (K.faults sink.old) (K.faults sink.new) → ⊥)
+        → (bytes : List ℕ) → S.left source.old ≡ Some bytes
+        → (result ≡ Outcome.NoMemory) ⊎ ((due : List ℕ) × Answers bytes result due) }
+    ensures reads { S.faults source.old ≤ S.faults source.new }
+    ensures writes { K.faults sink.old ≤ K.faults sink.new }
 {
+    if !words.is_empty() {
+        return Outcome::Usage;
+    }
+    match read_input(alloc, source) {
+        Ok(bytes) => answer(alloc, bytes.as_slice(), sink),
+        Err(InputFault::Failed) => Outcome::ReadFault,
+        Err(InputFault::NoMemory) => Outcome::NoMemory,
+    }
 }

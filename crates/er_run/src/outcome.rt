@@ -20,3 +20,36 @@ pub enum Outcome {
     /// Memory ran out.
     NoMemory,
 }
+
+impl Outcome {
+    ghost use Rattle.std.specs.Prelude.{◌≡◌, option_map};
+    ghost use Rattle.er_run.specs.Status.{status_of, line_of};
+
+    /// The exit status of the program.
+    pub fn status(&self) -> u8
+        ensures { result ≡ status_of self.now }
+    {
+        match self {
+            Outcome::Clean => 0,
+            Outcome::Races => 1,
+            Outcome::Usage => 2,
+            Outcome::Refused { .. } => 3,
+            Outcome::ReadFault => 4,
+            Outcome::WriteFault => 5,
+            Outcome::NoMemory => 6,
+        }
+    }
+
+    /// The line on standard error, where the outcome has one.
+    pub fn line(&self) -> Option<&'static str>
+        ensures { option_map (λ text. text.now) result ≡ line_of self.now }
+    {
+        match self {
+            Outcome::Usage => Some("usage: er_cli"),
+            Outcome::ReadFault => Some("er_cli: input could not be read"),
+            Outcome::WriteFault => Some("er_cli: output could not be written"),
+            Outcome::NoMemory => Some("er_cli: out of memory"),
+            _ => None,
+        }
+    }
+}

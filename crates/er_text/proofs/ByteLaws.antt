@@ -1,7 +1,6 @@
--- Where a byte first stands in a list.
-use Rattle.std.proofs.Common.{◌≡◌, ℕ, ◌+◌, ◌<◌, List, [], ◌∷◌, ◌++◌, length, take, drop, Bool, true, false, not, ◌&&◌, cond, eqb, refl, ap, sym, ◌∙◌, arith}
-use Rattle.std.specs.Prelude.{◌==◌, ◌≤◌}
-use Rattle.std.specs.List.{list_all, position_or_len, prefix_len}
+-- A byte that stands nowhere in a list.
+use Rattle.std.proofs.Common.{◌≡◌, ℕ, List, ◌++◌, not, ◌&&◌}
+use Rattle.std.specs.Prelude.{◌==◌}
 use Rattle.std.proofs.lemmas.List.Folds.{list_all-append}
 use Rattle.er_text.specs.Bytes.{lacks}
 

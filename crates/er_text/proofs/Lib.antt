@@ -2,3 +2,4 @@ pub mod ByteLaws
 pub mod LineLaws
 pub mod WordLaws
 pub mod NumberLaws
+pub mod NameLaws

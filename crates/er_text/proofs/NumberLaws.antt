@@ -1,13 +1,15 @@
 -- The spelling of a number.
-use Rattle.std.proofs.Common.{◌≡◌, ℕ, ◌+◌, ◌-◌, ◌*◌, ◌<◌, ◌≤◌, ◌^◌, List, [], ◌∷◌, ◌++◌, length, take, drop, get_or, zero, suc, Bool, true, false, refl, ap, sym, ◌∙◌, subst, arith, rules, length-take-le, inl, inr, ⊎_elim}
-use Rattle.std.specs.Prelude.{decimal, ◌==◌, ◌⊎◌}
+use Rattle.std.proofs.Common.{◌≡◌, ℕ, ◌∙◌, Bool, ◌%◌, ◌&&◌, ◌+◌, ◌-◌, ◌*◌, ◌<◌, ◌≤◌, ◌^◌, List, [], ◌∷◌, length, take, get_or, zero, suc, true, false, refl, ap, sym, arith, length-take-le}
+use Rattle.std.proofs.lemmas.Grind.{common_steps}
+use Rattle.std.specs.Prelude.{decimal}
 use Rattle.std.specs.Char.{digit_value, is_ascii_digit}
 use Rattle.std.specs.Str.Parse.{AllDigits, digits_value}
-use Rattle.std.proofs.lemmas.Str.Parse.{IsNumeralModel, numerals_by_value, tells_digits, digits_value_short, digit_at}
+use Rattle.std.proofs.lemmas.Str.Parse.{IsNumeralModel, numerals_by_value, tells_digits, digits_value_short}
 use Rattle.std.proofs.lemmas.Int.Digits.{digits_more, digits_value_more}
-use Rattle.std.proofs.lemmas.Fmt.{decimal-digits_value, digits_decimal, digits_value-decimal, decimal_nonempty, first_decimal, length-decimal-le, decimal_digit}
+use Rattle.std.proofs.lemmas.Fmt.{decimal-digits_value, digits_decimal, digits_value-decimal, decimal_nonempty, first_decimal, length-decimal-le, decimal_digit, decimal_by_steps}
 use Rattle.std.proofs.lemmas.Bool.Decides.{nat_tests}
-use Rattle.std.proofs.lemmas.Grind.{common_steps}
+use Rattle.er_text.specs.Bytes.{lacks}
+use Rattle.er_text.proofs.ByteLaws.{lacks-append}
 use Rattle.er_text.specs.Number.{IsNumber}
 
 -- the first i bytes are digits, and spell the value
@@ -86,3 +88,17 @@ not_long_number word n e h = omega (arith, (number_form word n h).few)
 
 pub no_leading_zero : (word : List ℕ) (n : ℕ) → get_or word 0 0 ≡ 48 → 1 < length word → IsNumber word n → ⊥
 no_leading_zero word n z e h = omega (arith, (number_form word n h).first z)
+
+lacks_digit : (c d : ℕ) → c < 48 → lacks c ((48 + d) ∷ []) ≡ true
+lacks_digit c d small = grind (arith, nat_tests)
+
+both_true : {a b : Bool} → a ≡ true → b ≡ true → (a && b) ≡ true
+both_true ha hb = grind (arith, common_steps)
+
+-- a number's spelling has digits alone
+pub lacks-decimal : (c n : ℕ) → c < 48 → n < 2 ^ 64 → lacks c (decimal n) ≡ true
+lacks-decimal c n small =
+    decimal_by_steps (λ _ digits. lacks c digits ≡ true)
+    (λ d below. lacks_digit c d small)
+    (λ m digits big earlier. lacks-append c digits ((48 + m % 10) ∷ []) ∙ both_true earlier (lacks_digit c (m % 10) small))
+    n

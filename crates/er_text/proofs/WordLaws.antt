@@ -1,11 +1,12 @@
 -- The words of a line.
-use Rattle.std.proofs.Common.{◌≡◌, ℕ, ◌+◌, ◌-◌, ◌<◌, List, [], ◌∷◌, ◌++◌, length, take, drop, Bool, true, false, not, ◌&&◌, cond, eqb, refl, ap, sym, ◌∙◌, arith, Option, Some, None}
-use Rattle.std.specs.Prelude.{◌==◌, ◌≤◌, option_map, position}
-use Rattle.std.specs.List.{list_all, position_or_len, prefix_len, onto_first}
+use Rattle.std.proofs.Common.{◌≡◌, ℕ, ◌+◌, ◌-◌, ◌<◌, List, [], ◌∷◌, ◌++◌, length, take, drop, true, false, refl, ap, ◌∙◌, arith, Some, None}
+use Rattle.std.specs.Prelude.{◌==◌, ◌≤◌, position}
+use Rattle.std.specs.List.{position_or_len, list_all}
 use Rattle.std.proofs.lemmas.List.{take_rest}
 use Rattle.std.proofs.lemmas.Grind.{common_steps}
-use Rattle.er_text.specs.Bytes.{lacks, has_no_space}
-use Rattle.er_text.specs.Words.{words, joined, with_byte, are_words}
+use Rattle.er_text.specs.Bytes.{space, lacks, has_no_space}
+use Rattle.er_text.proofs.ByteLaws.{lacks-append}
+use Rattle.er_text.specs.Words.{words, joined, with_byte}
 
 words_within : (line : List ℕ) → position_or_len (λ b. b == 32) line < length line → words line ≡ take (position_or_len (λ b. b == 32) line) line ∷ words (drop (position_or_len (λ b. b == 32) line + 1) line)
 words_within [] h = grind arith
@@ -43,7 +44,12 @@ pub words-first : (word line : List ℕ) → has_no_space word ≡ true → word
 words-first [] line h = refl
 words-first (b ∷ word) line h = grind (arith, common_steps, words-first word line)
 
-pub words-joined : (parts : List (List ℕ)) → are_words parts ≡ true → words (joined parts) ≡ parts
-words-joined [] h = cc
-words-joined (word ∷ []) h = words-word word h
-words-joined (word ∷ next ∷ later) h = grind (arith, common_steps, words-first word (joined (next ∷ later)), words-joined (next ∷ later))
+pub words-joined : (word : List ℕ) (later : List (List ℕ)) → list_all has_no_space (word ∷ later) ≡ true → words (joined (word ∷ later)) ≡ word ∷ later
+words-joined word [] h = grind (arith, common_steps, words-word word)
+words-joined word (next ∷ later) h = grind (arith, common_steps, words-first word (joined (next ∷ later)), words-joined next later)
+
+-- a byte that is no space, and stands in no word, stands nowhere in the line
+pub lacks-joined : (c : ℕ) (parts : List (List ℕ)) → (space == c) ≡ false → list_all (lacks c) parts ≡ true → lacks c (joined parts) ≡ true
+lacks-joined c [] other h = refl
+lacks-joined c (word ∷ []) other h = grind (arith, common_steps)
+lacks-joined c (word ∷ next ∷ later) other h = grind (arith, common_steps, lacks-append c word (space ∷ joined (next ∷ later)), lacks-joined c (next ∷ later))

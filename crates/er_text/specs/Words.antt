@@ -1,8 +1,8 @@
 -- The words of a line: the parts between single spaces. A line with no space is one word.
-use Rattle.std.specs.Prelude.{ℕ, List, [], ◌∷◌, ◌++◌, ◌==◌, if◌then◌else◌, Option, Some, None, Bool, false, ◌&&◌}
+use Rattle.std.specs.Prelude.{ℕ, List, [], ◌∷◌, ◌++◌, ◌==◌, if◌then◌else◌, Option, Some, None}
 use Rattle.std.specs.List.{onto_first}
 use Rattle.std.specs.Borrow.{Bor}
-use Rattle.er_text.specs.Bytes.{space, has_no_space}
+use Rattle.er_text.specs.Bytes.{space}
 
 -- a byte before a line of these words: a space begins a new word
 abbrev pub with_byte : ℕ → List (List ℕ) → List (List ℕ)
@@ -22,9 +22,3 @@ joined (word ∷ next ∷ later) = word ++ space ∷ joined (next ∷ later)
 abbrev pub words_left : Option (Bor (List ℕ)) → List (List ℕ)
 words_left None = []
 words_left (Some rest) = words rest.now
-
--- one word at least, and no space in any
-abbrev pub are_words : List (List ℕ) → Bool
-are_words [] = false
-are_words (word ∷ []) = has_no_space word
-are_words (word ∷ next ∷ later) = has_no_space word && are_words (next ∷ later)

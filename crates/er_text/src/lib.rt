@@ -7,8 +7,13 @@
 mod causes;
 pub mod laws;
 mod lines;
+mod names;
 mod numbers;
 
 pub use causes::Cause;
 pub use lines::{Words, take_line};
-pub use numbers::{BadToken, read_number};
+pub use names::{MOST_NAME, NameBytes, NameWord, put_name, read_name};
+pub use numbers::{BadToken, put_number, read_number};
+
+#[cfg(test)]
+mod tests;

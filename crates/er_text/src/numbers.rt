@@ -1,9 +1,13 @@
 //! Numbers: decimal, without a sign and without leading zeros, and below 2 ^ 32.
 
-ghost use Rattle.std.specs.Prelude.{◌≡◌, ℕ, ◌≤◌, IfOk, Ok, length};
+ghost use Rattle.std.specs.Prelude.{◌≡◌, ℕ, ◌≤◌, IfOk, OnOk, OnErr, Ok, length, decimal};
+ghost use Rattle.er_outside.specs.Ends.{Gets, GetsPart, Rose};
 ghost use Rattle.std.specs.Option.{SomeIff};
 ghost use Rattle.std.specs.Str.Parse.{AllDigits, digits_value};
 ghost use Rattle.er_text.specs.Number.{IsNumber};
+
+use er_outside::{Failed, Sink, put_all};
+use itoa::Buffer;
 
 /// A word that is not what was asked for.
 #[derive(Clone, Copy, Debug, PartialEq, Eq)]
@@ -49,4 +53,15 @@ pub fn read_number(word: &[u8]) -> Result<u32, BadToken>
         return Err(BadToken);
     }
     Ok(value as u32)
+}
+
+/// Writes a number in decimal. It takes no memory.
+pub fn put_number<K: Sink>(sink: &mut K, n: u64) -> Result<(), Failed>
+    ensures whole { OnOk result (Gets (K.got sink.old) (decimal n) (K.got sink.new)) }
+    ensures part { OnErr result (GetsPart (K.got sink.old) (decimal n) (K.got sink.new)) }
+    ensures cause { OnErr result (Rose (K.faults sink.old) (K.faults sink.new)) }
+    ensures count { K.faults sink.old ≤ K.faults sink.new }
+{
+    let mut buffer = Buffer::new();
+    put_all(sink, buffer.format(n).as_bytes())
 }

@@ -1,6 +1,5 @@
 -- The tokens of a line, before they are bytes.
-use Rattle.std.specs.Prelude.{ℕ, ◌<◌, ◌^◌, List, [], ◌∷◌, map, decimal}
-use Rattle.std.specs.List.{AllByRecursion}
+use Rattle.std.specs.Prelude.{ℕ, ◌<◌, ◌^◌, List, map, decimal}
 use Rattle.er_text.specs.Name.{name_spelling, IsName}
 use Rattle.er_text.specs.Words.{joined}
 

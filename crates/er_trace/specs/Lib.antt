@@ -1,3 +1,6 @@
 pub mod Items
 pub mod Spelling
+pub mod Heads
+pub mod Tokens
 pub mod Trace
+pub mod Steps

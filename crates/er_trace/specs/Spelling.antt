@@ -1,5 +1,5 @@
 -- How each record is spelled.
-use Rattle.std.specs.Prelude.{ℕ, List, [], ◌∷◌, ◌++◌, codes}
+use Rattle.std.specs.Prelude.{ℕ, List, [], ◌∷◌, codes}
 use Rattle.std.specs.List.{AllByRecursion}
 use Rattle.er_trace.specs.Items.{Item, Word, Number, Named, IsItem, items_spelling}
 use Rattle.er_trace.specs.declared.record.Record.{Record}

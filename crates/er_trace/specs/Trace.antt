@@ -1,5 +1,5 @@
 -- A whole trace, and the causes for which a line is no line of one. Records stand oldest first.
-use Rattle.std.specs.Prelude.{◌≡◌, ◌≢◌, ◌⊎◌, ℕ, ◌+◌, ◌≤◌, Bool, ◌&&◌, nat_lt, List, [], ◌∷◌, ◌++◌, length, take, codes, if◌then◌else◌, Option, Result, Ok, Err, MatchResult, MatchBool}
+use Rattle.std.specs.Prelude.{◌≡◌, ◌≢◌, ℕ, ◌+◌, ◌≤◌, Bool, ◌&&◌, nat_lt, List, [], ◌∷◌, ◌++◌, length, take, codes, if◌then◌else◌, Result, Err, MatchResult, MatchBool}
 use Rattle.std.specs.List.{AllByRecursion, flat_map}
 use Rattle.std.specs.Option.{ok_or}
 use Rattle.er_text.specs.Bytes.{has_no_lf}
@@ -69,10 +69,14 @@ whole_line bytes = if is_long bytes then Err LongLine else ok_or (first_line byt
 abbrev pub SpellsNone : List ℕ → Type 0
 SpellsNone bytes = (x : Record) → IsRecord x → bytes ≡ spelling x → ⊥
 
--- Why the line that begins there, with these bytes from it on, is no line of a trace: the first cause that applies.
+-- why the line of that number, with these bytes from it on, is neither a record nor the end: the first cause that applies
+abbrev pub RecordCause : ℕ → List ℕ → Cause → Type 0
+RecordCause number rest c = MatchBool (nat_lt most_lines number && nat_lt 0 (length rest)) (c ≡ TooManyLines) (MatchResult (whole_line rest) (λ l. (l.0 ≢ end_word) × SpellsNone l.0 × (c ≡ BadRecord)) (λ why. c ≡ why))
+
+-- why the line that begins there, with these bytes from it on, is no line of a trace
 abbrev pub LineCause : Place → List ℕ → Cause → Type 0
 LineCause Start rest c = MatchResult (whole_line rest) (λ l. (l.0 ≢ header) × (c ≡ BadHeader)) (λ why. c ≡ why)
-LineCause (After records) rest c = MatchBool (nat_lt most_lines (length records + 2) && nat_lt 0 (length rest)) (c ≡ TooManyLines) (MatchResult (whole_line rest) (λ l. (l.0 ≢ end_word) × SpellsNone l.0 × (c ≡ BadRecord)) (λ why. c ≡ why))
+LineCause (After records) rest c = RecordCause (length records + 2) rest c
 LineCause (Ended records) rest c = (rest ≢ []) × (c ≡ AfterEnd)
 
 -- the lines before it are lines of a trace
@@ -91,3 +95,15 @@ pub record Refuses (bytes : List ℕ) (place : Place) (c : Cause) : Type 0 where
   pub rest : List ℕ
   pub begins : bytes ≡ bytes_before place ++ rest
   pub cause : LineCause place rest c
+
+-- a whole trace was read, and its records came to the list
+abbrev pub ReadsWhole : List ℕ → List Record → List Record → Type 0
+ReadsWhole bytes old new = (records : List Record) × IsTrace records × (bytes ≡ text records) × (new ≡ old ++ records)
+
+-- the line of that number has the cause, and the records before it came to the list
+abbrev pub ReadsUntil : List ℕ → ℕ → Cause → List Record → List Record → Type 0
+ReadsUntil bytes number c old new = (place : Place) × Refuses bytes place c × (number ≡ line_number place) × (new ≡ old ++ records_before place)
+
+-- some lines of a trace were read, and their records came to the list
+abbrev pub ReadsPart : List ℕ → List Record → List Record → Type 0
+ReadsPart bytes old new = (place : Place) × (rest : List ℕ) × IsPlace place × (bytes ≡ bytes_before place ++ rest) × (new ≡ old ++ records_before place)

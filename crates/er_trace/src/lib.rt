@@ -2,5 +2,15 @@
 #![tactic(auto)]
 
 pub mod fault;
+mod forms;
+mod head;
+mod items;
+pub mod laws;
 pub mod name;
+mod named_forms;
+pub mod parse;
+pub mod print;
 pub mod record;
+#[cfg(test)]
+mod tests;
+pub mod trace;

@@ -1,8 +1,10 @@
 //! Names: of variables, of event types, of handler slots.
 
 ghost use Rattle.std.specs.Prelude.{◌≡◌, ℕ, List, length, IfOk, ◌≤◌};
+ghost use Rattle.er_text.specs.Name.{most_name};
 
 use er_outside::NoMemory;
+use er_text::NameWord;
 use std::alloc::Global;
 use std::marker::Model;
 
@@ -13,18 +15,21 @@ pub struct Name {
 }
 
 impl Model for Name {
+    ghost use Rattle.std.specs.Prelude.{ℕ, List, length, ◌≤◌};
+    ghost use Rattle.er_text.specs.Name.{most_name};
+
     ghost Value = { List ℕ };
 
     ghost view = { λ name. name.bytes.items };
 
-    ghost invariant = { λ name. (1 ≤ length name.bytes.items) × (length name.bytes.items ≤ 255) };
+    ghost invariant = { λ name. (1 ≤ length name.bytes.items) × (length name.bytes.items ≤ most_name) };
 }
 
 impl Name {
     /// The name of these bytes.
     pub fn new(alloc: Global, bytes: &[u8]) -> Result<Name, NoMemory>
         requires some { 1 ≤ length bytes.now }
-        requires few { length bytes.now ≤ 255 }
+        requires few { length bytes.now ≤ most_name }
         ensures { IfOk result (λ name. name ≡ bytes.now) }
     {
         match Vec::from_slice(alloc, bytes) {
@@ -33,11 +38,24 @@ impl Name {
         }
     }
 
+    /// The name that is spelled so.
+    pub fn of_word(alloc: Global, word: &NameWord<'_>) -> Result<Name, NoMemory>
+        ensures { IfOk result (λ name. name ≡ word.now) }
+    {
+        let mut bytes = Vec::new(alloc);
+        for byte in word.bytes() {
+            let Ok(()) = bytes.push(byte) else {
+                return Err(NoMemory);
+            };
+        }
+        Ok(Name { bytes })
+    }
+
     /// Its bytes.
     pub fn bytes(&self) -> &[u8]
         ensures value { result.now ≡ self.now }
         ensures some { 1 ≤ length result.now }
-        ensures few { length result.now ≤ 255 }
+        ensures few { length result.now ≤ most_name }
     {
         self.bytes.as_slice()
     }

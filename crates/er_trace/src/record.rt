@@ -1,6 +1,7 @@
 //! The records of a trace. One record is one line.
 
 ghost use Rattle.std.specs.Prelude.{◌≡◌, IfOk};
+ghost use Rattle.er_trace.specs.Spelling.{kind_word, new_kind_word, mode_word};
 
 use crate::name::Name;
 use er_outside::NoMemory;
@@ -22,6 +23,22 @@ pub enum Kind {
     Image,
 }
 
+impl Kind {
+    /// How it is spelled.
+    pub fn word(self) -> &'static str
+        ensures { result.now ≡ kind_word self }
+    {
+        match self {
+            Kind::Plain => "plain",
+            Kind::Inline => "inline",
+            Kind::Sync => "sync",
+            Kind::Defer => "defer",
+            Kind::Async => "async",
+            Kind::Image => "image",
+        }
+    }
+}
+
 /// The kind of an element that a script made.
 #[derive(Clone, Copy, Debug, PartialEq, Eq)]
 pub enum NewKind {
@@ -30,11 +47,36 @@ pub enum NewKind {
     Image,
 }
 
+impl NewKind {
+    /// How it is spelled.
+    pub fn word(self) -> &'static str
+        ensures { result.now ≡ new_kind_word self }
+    {
+        match self {
+            NewKind::Plain => "plain",
+            NewKind::Async => "async",
+            NewKind::Image => "image",
+        }
+    }
+}
+
 /// Whether an access reads or writes.
 #[derive(Clone, Copy, Debug, PartialEq, Eq)]
 pub enum Mode {
     R,
     W,
+}
+
+impl Mode {
+    /// How it is spelled.
+    pub fn word(self) -> &'static str
+        ensures { result.now ≡ mode_word self }
+    {
+        match self {
+            Mode::R => "r",
+            Mode::W => "w",
+        }
+    }
 }
 
 /// A logical location. Its number declares nothing and needs no declaration.

@@ -1,0 +1,43 @@
+//! The program: standard input, standard output and the words of the command, and what `run` makes of them.
+#![tactic(auto)]
+
+use std::env::{self, Env};
+use std::io;
+use std::process::ExitCode;
+
+use er_outside::{FromRead, ToWrite};
+use er_run::outcome::Outcome;
+use er_run::run;
+
+/// The status where the system did not hand over the words. No outcome has it.
+const NO_WORDS: u8 = 7;
+
+fn main(rt: HostRuntime) -> ExitCode {
+    match words(&rt) {
+        Ok(words) => {
+            let mut source = FromRead::new(rt.stdin());
+            let mut sink = ToWrite::new(rt.stdout());
+            let outcome = run(rt.alloc(), &words, &mut source, &mut sink);
+            finish(&rt, outcome)
+        }
+        Err(error) if error.kind() == io::ErrorKind::OutOfMemory => finish(&rt, Outcome::NoMemory),
+        Err(_) => {
+            let _ = rt.eprintln("er_cli: arguments could not be read");
+            ExitCode::from(NO_WORDS)
+        }
+    }
+}
+
+/// The words behind the program's own name.
+fn words(rt: &(impl Env + AllocGlobal)) -> io::Result<Vec<String>> {
+    let words = env::args(rt)?.skip(1).collect(rt.alloc())?;
+    Ok(words)
+}
+
+/// Prints the line of the outcome, where it has one, and answers its status.
+fn finish(rt: &impl Eprint, outcome: Outcome) -> ExitCode {
+    if let Some(line) = outcome.line() {
+        let _ = rt.eprintln(line);
+    }
+    ExitCode::from(outcome.status())
+}

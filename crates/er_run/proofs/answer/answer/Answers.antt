@@ -1,0 +1,25 @@
+use Rattle.std.proofs.Common.{reverse}
+use Rattle.er_run.proofs.AnswerLemmas.{cut_report, given_report, cut_refusal, given_refusal}
+use Rattle.er_run.proofs.answer.answer.Goals as goal
+
+pub returns-in-Ok-clause-cut_short : goal.returns-in-Ok-clause-cut_short
+returns-in-Ok-clause-cut_short g c =
+    let accepted = c.in-Ok.ensures.accepted in
+    cut_report _ accepted.records _ _ _ accepted.legal (c.report_of.ensures.reported (reverse accepted.records) accepted.stands)
+
+pub returns-in-Ok-clause-answered : goal.returns-in-Ok-clause-answered
+returns-in-Ok-clause-answered g c = λ answer.
+    let accepted = c.in-Ok.ensures.accepted in
+    given_report _ accepted.records _ _ _ accepted.legal (c.report_of.ensures.reported (reverse accepted.records) accepted.stands) answer
+
+pub returns-in-Err-Refused-clause-answered : goal.returns-in-Err-Refused-clause-answered
+returns-in-Err-Refused-clause-answered g c =
+    let came = rw (c.in-Err-Refused.line-is, c.in-Err-Refused.cause-is) at c.refuse.ensures.refused in
+    let refused = rw c.in-Err-Refused.field-0-is at c.in-Err-Refused.ensures.refused in
+    given_refusal _ c.in-Err-Refused.line c.in-Err-Refused.cause _ _ _ refused came
+
+pub returns-in-Err-Refused-clause-cut_short : goal.returns-in-Err-Refused-clause-cut_short
+returns-in-Err-Refused-clause-cut_short g c =
+    let came = rw (c.in-Err-Refused.line-is, c.in-Err-Refused.cause-is) at c.refuse.ensures.refused in
+    let refused = rw c.in-Err-Refused.field-0-is at c.in-Err-Refused.ensures.refused in
+    cut_refusal _ c.in-Err-Refused.line c.in-Err-Refused.cause _ _ _ refused came

@@ -1,0 +1,9 @@
+pub mod HeadLaws
+pub mod FormLaws
+pub mod LineLaws
+pub mod RecordLaws
+pub mod ReadLaws
+pub mod PrintLaws
+pub mod OneRecord
+pub mod OneTrace
+pub mod WholeLaws

@@ -1,0 +1,154 @@
+//! The first words of records, and the words of kinds.
+
+ghost use Rattle.std.specs.Prelude.{◌≡◌, ◌↔◌, IsTrue, Some, IfSome};
+ghost use Rattle.er_trace.specs.declared.head.Head.{Head};
+ghost use Rattle.er_trace.specs.declared.record.Kind.{Kind};
+ghost use Rattle.er_trace.specs.declared.record.NewKind.{NewKind};
+ghost use Rattle.er_trace.specs.Heads.{head_word};
+ghost use Rattle.er_trace.specs.Spelling.{kind_word, new_kind_word};
+
+use crate::record::{Kind, NewKind};
+
+/// The first word of a record.
+#[derive(Clone, Copy, PartialEq, Eq)]
+pub enum Head {
+    Parse,
+    Exec,
+    Timer,
+    Tick,
+    Dcl,
+    Load,
+    Eload,
+    Fire,
+    Wfire,
+    Reply,
+    Inline,
+    Run,
+    Close,
+    Back,
+    New,
+    On,
+    Set,
+    Every,
+    Send,
+    R,
+    W,
+}
+
+/// Every first word, the commonest in front.
+const HEADS: [Head; 21] = [
+    Head::R,
+    Head::W,
+    Head::Run,
+    Head::Close,
+    Head::Parse,
+    Head::Exec,
+    Head::Timer,
+    Head::Tick,
+    Head::Dcl,
+    Head::Load,
+    Head::Eload,
+    Head::Fire,
+    Head::Wfire,
+    Head::Reply,
+    Head::Inline,
+    Head::Back,
+    Head::New,
+    Head::On,
+    Head::Set,
+    Head::Every,
+    Head::Send,
+];
+
+impl Head {
+    pub fn word(self) -> &'static str
+        ensures { result.now ≡ head_word self }
+    {
+        match self {
+            Head::Parse => "parse",
+            Head::Exec => "exec",
+            Head::Timer => "timer",
+            Head::Tick => "tick",
+            Head::Dcl => "dcl",
+            Head::Load => "load",
+            Head::Eload => "eload",
+            Head::Fire => "fire",
+            Head::Wfire => "wfire",
+            Head::Reply => "reply",
+            Head::Inline => "inline",
+            Head::Run => "run",
+            Head::Close => "close",
+            Head::Back => "back",
+            Head::New => "new",
+            Head::On => "on",
+            Head::Set => "set",
+            Head::Every => "every",
+            Head::Send => "send",
+            Head::R => "r",
+            Head::W => "w",
+        }
+    }
+}
+
+/// Whether the bytes are that text.
+pub fn is_word(bytes: &[u8], text: &str) -> bool
+    ensures { IsTrue result ↔ (bytes.now ≡ text.now) }
+{
+    bytes == text.as_bytes()
+}
+
+/// The first word that is spelled so.
+pub fn head_of(bytes: &[u8]) -> Option<Head>
+    ensures read { IfSome result (λ head. bytes.now ≡ head_word head) }
+    ensures exact { (head : Head) → bytes.now ≡ head_word head → result ≡ Some head }
+{
+    for head in HEADS {
+        if is_word(bytes, head.word()) {
+            return Some(head);
+        }
+    }
+    None
+}
+
+/// The kind that is spelled so.
+pub fn kind_of(bytes: &[u8]) -> Option<Kind>
+    ensures read { IfSome result (λ kind. bytes.now ≡ kind_word kind) }
+    ensures exact { (kind : Kind) → bytes.now ≡ kind_word kind → result ≡ Some kind }
+{
+    if is_word(bytes, "plain") {
+        return Some(Kind::Plain);
+    }
+    if is_word(bytes, "inline") {
+        return Some(Kind::Inline);
+    }
+    if is_word(bytes, "sync") {
+        return Some(Kind::Sync);
+    }
+    if is_word(bytes, "defer") {
+        return Some(Kind::Defer);
+    }
+    if is_word(bytes, "async") {
+        return Some(Kind::Async);
+    }
+    if is_word(bytes, "image") {
+        return Some(Kind::Image);
+    }
+    None
+}
+
+/// The kind of an element that a script made, that is spelled so.
+pub fn new_kind_of(bytes: &[u8]) -> Option<NewKind>
+    ensures read { IfSome result (λ kind. bytes.now ≡ new_kind_word kind) }
+    ensures exact { (kind : NewKind) → bytes.now ≡ new_kind_word kind → result ≡ Some kind }
+{
+    if is_word(bytes, "plain") {
+        return Some(NewKind::Plain);
+    }
+    if is_word(bytes, "async") {
+        return Some(NewKind::Async);
+    }
+    if is_word(bytes, "image") {
+        return Some(NewKind::Image);
+    }
+    None
+}

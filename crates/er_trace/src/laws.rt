@@ -1,0 +1,27 @@
+//! Laws of the definitions that the contracts cite. Each is a function that does nothing, whose
+//! contract is the law.
+
+ghost use Rattle.std.specs.Prelude.{◌≡◌, ℕ, List};
+ghost use Rattle.er_text.specs.declared.causes.Cause.{Cause};
+ghost use Rattle.er_trace.specs.declared.record.Record.{Record};
+ghost use Rattle.er_trace.specs.Spelling.{spelling, IsRecord};
+ghost use Rattle.er_trace.specs.Trace.{Place, line_number, records_before, text, IsTrace, Refuses};
+
+/// One spelling has one record.
+pub fn one_record()
+    ensures { (x y : Record) → IsRecord x → IsRecord y → spelling x ≡ spelling y → x ≡ y }
+{}
+
+/// One text has one trace.
+pub fn one_trace()
+    ensures { (a b : List Record) → IsTrace a → IsTrace b → text a ≡ text b → a ≡ b }
+{}
+
+/// Bytes are refused at one line, for one cause, with the same records before it. The text of a
+/// trace is not refused.
+pub fn one_cause()
+    ensures line { (bytes : List ℕ) (p q : Place) (c d : Cause) → Refuses bytes p c → Refuses bytes q d → line_number p ≡ line_number q }
+    ensures before { (bytes : List ℕ) (p q : Place) (c d : Cause) → Refuses bytes p c → Refuses bytes q d → records_before p ≡ records_before q }
+    ensures cause { (bytes : List ℕ) (p q : Place) (c d : Cause) → Refuses bytes p c → Refuses bytes q d → c ≡ d }
+    ensures never { (records : List Record) (p : Place) (c : Cause) → IsTrace records → ¬ Refuses (text records) p c }
+{}

@@ -1,0 +1,70 @@
+//! Reading one record.
+
+ghost use Rattle.std.specs.Prelude.{◌≡◌, ◌⊎◌, Ok, Err, IfOk};
+ghost use Rattle.std.specs.Option.{ok_or};
+ghost use Rattle.er_trace.specs.declared.record.Record.{Record};
+ghost use Rattle.er_trace.specs.Heads.{GoesOn};
+ghost use Rattle.er_trace.specs.Spelling.{spelling, IsRecord};
+
+use crate::fault::LineFault;
+use crate::forms::{
+    back_form, close_form, dcl_form, eload_form, every_form, exec_form, load_form, new_form,
+    on_form, parse_form, reply_form, run_form, send_form, set_form, tick_form, timer_form,
+};
+use crate::head::{Head, head_of};
+use crate::named_forms::{access_form, fire_form, inline_form, wfire_form};
+use crate::record::{Mode, Record};
+use er_text::Words;
+use std::alloc::Global;
+
+/// What a form without names gives.
+fn plain(form: Option<Record>) -> Result<Record, LineFault>
+    ensures { result ≡ ok_or form LineFault.BadRecord }
+{
+    form.ok_or(LineFault::BadRecord)
+}
+
+/// The record that begins with that word, and goes on with those that are left.
+fn read_form(alloc: Global, head: Head, words: &mut Words) -> Result<Record, LineFault>
+    ensures read { IfOk result (λ x. GoesOn head x words.old) }
+    ensures exact { (x : Record) → GoesOn head x words.old → (result ≡ Ok x) ⊎ (result ≡ Err LineFault.NoMemory) }
+{
+    match head {
+        Head::Parse => plain(parse_form(words)),
+        Head::Exec => plain(exec_form(words)),
+        Head::Timer => plain(timer_form(words)),
+        Head::Tick => plain(tick_form(words)),
+        Head::Dcl => plain(dcl_form(words)),
+        Head::Load => plain(load_form(words)),
+        Head::Eload => plain(eload_form(words)),
+        Head::Fire => fire_form(alloc, words),
+        Head::Wfire => wfire_form(alloc, words),
+        Head::Reply => plain(reply_form(words)),
+        Head::Inline => inline_form(alloc, words),
+        Head::Run => plain(run_form(words)),
+        Head::Close => plain(close_form(words)),
+        Head::Back => plain(back_form(words)),
+        Head::New => plain(new_form(words)),
+        Head::On => plain(on_form(words)),
+        Head::Set => plain(set_form(words)),
+        Head::Every => plain(every_form(words)),
+        Head::Send => plain(send_form(words)),
+        Head::R => access_form(alloc, Mode::R, words),
+        Head::W => access_form(alloc, Mode::W, words),
+    }
+}
+
+/// The record that is spelled so. `BadRecord` comes where none is.
+pub fn parse_record(alloc: Global, line: &[u8]) -> Result<Record, LineFault>
+    ensures read { IfOk result (λ x. IsRecord x × (line.now ≡ spelling x)) }
+    ensures exact { (x : Record) → IsRecord x → line.now ≡ spelling x → (result ≡ Ok x) ⊎ (result ≡ Err LineFault.NoMemory) }
+{
+    let mut words = Words::new(line);
+    let Some(first) = words.next() else {
+        return Err(LineFault::BadRecord);
+    };
+    let Some(head) = head_of(first) else {
+        return Err(LineFault::BadRecord);
+    };
+    read_form(alloc, head, &mut words)
+}

@@ -1,0 +1,160 @@
+//! Each public call once, against lines from the format's description.
+
+use crate::fault::{FeedFault, LineFault};
+use crate::name::Name;
+use crate::parse::parse_record;
+use crate::print::print_record;
+use crate::record::{Kind, Loc, Mode, Record};
+use crate::trace::read_whole;
+use er_outside::MemorySink;
+use er_text::Cause;
+use std::alloc::Global;
+use std::test::Fail;
+
+/// Each form, and each kind of element and location.
+const RECORDS: [&str; 32] = [
+    "parse 0 1 plain",
+    "parse 0 1 inline",
+    "parse 0 1 sync",
+    "parse 0 1 defer",
+    "parse 0 1 async",
+    "parse 0 1 image",
+    "parse 0 1 frame 2",
+    "exec 1",
+    "timer 2",
+    "tick 3",
+    "dcl 4 0",
+    "load 5 0",
+    "eload 6 1",
+    "fire 7 1 click",
+    "wfire 8 0 message",
+    "reply 9 4",
+    "inline 10 1 focus",
+    "run 7 2 11",
+    "close 7",
+    "back 10",
+    "new 0 1 plain",
+    "new 0 1 async",
+    "new 0 1 image",
+    "new 0 1 frame 2",
+    "on 11",
+    "set 2 0",
+    "every 3 4294967295",
+    "send 4",
+    "r var 0 x%20y",
+    "w var 0 %00%25%FF",
+    "r elem 0 i",
+    "w slot 1 onclick",
+];
+
+/// Lines that are no record.
+const OTHERS: [&str; 24] = [
+    "",
+    " ",
+    "end",
+    "Parse 0 1 plain",
+    "parse 0 1",
+    "parse 0 1 frame",
+    "parse 0 1 plain 2",
+    "parse 0 1 frame 2 3",
+    "parse 0 1 Plain",
+    "new 0 1 sync",
+    "exec",
+    "exec ",
+    "exec 1 ",
+    " exec 1",
+    "exec  1",
+    "exec 01",
+    "exec 4294967296",
+    "set 2",
+    "fire 7 1",
+    "fire 7 1 %41",
+    "r var 0",
+    "r attr 0 x",
+    "x var 0 x",
+    "run 7 2 11 4",
+];
+
+/// Whether the line is a record, whose copy is printed as that line.
+fn prints_back(alloc: Global, line: &str) -> Result<bool, Fail> {
+    let found = parse_record(alloc, line.as_bytes()).map_err(|_| "a record")?;
+    let copied = found.copy().map_err(|_| "memory")?;
+    let mut sink = MemorySink::new(alloc, 100, 3, Vec::new(alloc)).map_err(|_| "memory")?;
+    print_record(&copied, &mut sink).map_err(|_| "printed")?;
+    Ok(sink.bytes() == line.as_bytes())
+}
+
+#[test]
+fn records(rt: HostRuntime) -> Result<(), Fail> {
+    for line in RECORDS {
+        assert!(rt; prints_back(rt.alloc(), line)?, "{line}");
+    }
+    Ok(())
+}
+
+#[test]
+fn other_lines(rt: HostRuntime) {
+    for line in OTHERS {
+        let answer = parse_record(rt.alloc(), line.as_bytes());
+        assert!(rt; matches!(answer, Err(LineFault::BadRecord)), "{line}");
+    }
+}
+
+#[test]
+fn fields(rt: HostRuntime) -> Result<(), Fail> {
+    let made = parse_record(rt.alloc(), b"parse 3 4 defer").map_err(|_| "made")?;
+    let is_made = matches!(
+        made,
+        Record::Parse {
+            doc: 3,
+            element: 4,
+            kind: Kind::Defer
+        }
+    );
+    assert!(rt; is_made);
+    let access = parse_record(rt.alloc(), b"w var 5 a%0A").map_err(|_| "access")?;
+    let Record::Access {
+        mode: Mode::W,
+        loc: Loc::Var(5, name),
+    } = access
+    else {
+        return Err("a variable".into());
+    };
+    assert_eq!(rt; name.bytes(), b"a\n".as_slice());
+    let named = Name::new(rt.alloc(), b"n").map_err(|_| "memory")?;
+    assert_eq!(rt; named.bytes(), b"n".as_slice());
+    Ok(())
+}
+
+#[test]
+fn traces(rt: HostRuntime) -> Result<(), Fail> {
+    let mut out = Vec::new(rt.alloc());
+    let whole = read_whole(
+        rt.alloc(),
+        b"webtrace 1\nparse 0 1 inline\nexec 1\nend\n",
+        &mut out,
+    );
+    assert_eq!(rt; whole, Ok(()));
+    assert_eq!(rt; out.len(), 2);
+    let refusals = [
+        ("", 1, Cause::NoEnd, 0),
+        ("webtrace 2\n", 1, Cause::BadHeader, 0),
+        ("webtrace 1\r\nend\n", 1, Cause::BadHeader, 0),
+        (
+            "webtrace 1\nexec 1\nexec\nexec 2\nend\n",
+            3,
+            Cause::BadRecord,
+            1,
+        ),
+        ("webtrace 1\nexec 1\n", 3, Cause::NoEnd, 1),
+        ("webtrace 1\nend", 2, Cause::NoEnd, 0),
+        ("webtrace 1\nend\n\n", 3, Cause::AfterEnd, 0),
+    ];
+    for (text, line, cause, count) in refusals {
+        let mut before = Vec::new(rt.alloc());
+        let answer = read_whole(rt.alloc(), text.as_bytes(), &mut before);
+        assert_eq!(rt; answer, Err(FeedFault::Refused { line, cause }), "{text}");
+        assert_eq!(rt; before.len(), count, "{text}");
+    }
+    Ok(())
+}
