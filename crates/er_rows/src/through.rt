@@ -1,0 +1,60 @@
+//! One call of `run` over ends in memory.
+
+use std::alloc::{AllocError, Global};
+
+use er_outside::{MemorySink, MemorySource};
+use er_run::outcome::Outcome;
+use er_run::run;
+
+/// What came of a call.
+#[derive(Drop)]
+pub(crate) struct Done {
+    pub(crate) outcome: Outcome,
+    pub(crate) written: Vec<u8>,
+    pub(crate) read_faults: u64,
+    pub(crate) write_faults: u64,
+}
+
+/// How the ends of a call behave.
+#[derive(Drop)]
+pub(crate) struct Ends {
+    /// The most bytes that a read gives.
+    pub(crate) piece: u32,
+    pub(crate) failing_reads: Vec<u32>,
+    pub(crate) failing_writes: Vec<u32>,
+    pub(crate) room: u32,
+}
+
+/// Ends that never fail.
+pub(crate) fn sound(alloc: Global) -> Ends
+    ensures { 1 ≤ result.piece }
+{
+    Ends {
+        piece: 4096,
+        failing_reads: Vec::new(alloc),
+        failing_writes: Vec::new(alloc),
+        room: 65536,
+    }
+}
+
+pub(crate) fn through(alloc: Global, words: &[String], input: &[u8], ends: Ends) -> Result<Done, AllocError>
+    requires { 1 ≤ ends.piece }
+{
+    let Ends {
+        piece,
+        failing_reads,
+        failing_writes,
+        room,
+    } = ends;
+    let mut source = MemorySource::new(Vec::from_slice(alloc, input)?, piece, failing_reads);
+    let Ok(mut sink) = MemorySink::new(alloc, room, 4096, failing_writes) else {
+        return Err(AllocError);
+    };
+    let outcome = run(alloc, words, &mut source, &mut sink);
+    Ok(Done {
+        outcome,
+        written: Vec::from_slice(alloc, sink.bytes())?,
+        read_faults: source.fault_count(),
+        write_faults: sink.fault_count(),
+    })
+}
