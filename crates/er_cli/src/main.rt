@@ -1,13 +1,12 @@
 //! The program: standard input, standard output and the words of the command, and what `run` makes of them.
 #![tactic(auto)]
 
-use std::env::{self, Env};
-use std::io;
-use std::process::ExitCode;
-
 use er_outside::{FromRead, ToWrite};
 use er_run::outcome::Outcome;
 use er_run::run;
+use std::env::{self, Env};
+use std::io;
+use std::process::ExitCode;
 
 /// The status where the system did not hand over the words. No outcome has it.
 const NO_WORDS: u8 = 7;

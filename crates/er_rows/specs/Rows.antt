@@ -1,19 +1,89 @@
--- worked rows
-use Rattle.std.specs.Prelude.{◌≡◌, ℕ, List, [], ◌∷◌, reverse, Some, None, codes, Bool, true}
+-- Worked rows: small lists of records, oldest first, and what is answered for them.
+use Rattle.std.specs.Prelude.{◌≡◌, ℕ, List, [], ◌∷◌, ◌++◌, reverse, codes, true, Option, Some, None}
+use Rattle.er_text.specs.declared.causes.Cause.{Cause}
+use Rattle.er_text.specs.declared.causes.Cause.TheVariants.{BadRecord, Unknown, Again}
 use Rattle.er_trace.specs.declared.record.Record.{Record}
-use Rattle.er_trace.specs.declared.record.Record.TheVariants.{Parse, Set, Timer, Access}
+use Rattle.er_trace.specs.declared.record.Record.TheVariants.{Parse, Exec, Set, Timer, Access}
 use Rattle.er_trace.specs.declared.record.Kind.TheVariants as kinds
 use Rattle.er_trace.specs.declared.record.Mode.TheVariants as modes
-use Rattle.er_trace.specs.declared.record.Loc.TheVariants.{Var}
+use Rattle.er_trace.specs.declared.record.Loc.TheVariants.{Var, Elem}
 use Rattle.er_trace.specs.Trace.{text}
-use Rattle.er_run.specs.Report.{report}
-use Rattle.er_run.specs.Races.{races, same_bytes}
+use Rattle.er_history.specs.Naming.{cause_of}
+use Rattle.er_run.specs.Races.{same_bytes}
+use Rattle.er_run.specs.Report.{report, refusal}
 
-abbrev pub timeouts_that_race : List Record
-timeouts_that_race = Parse 0 1 kinds.Plain ∷ Set 1 10 ∷ Set 2 0 ∷ Timer 2 ∷ Access modes.W (Var 0 (codes "x")) ∷ Timer 1 ∷ Access modes.R (Var 0 (codes "x")) ∷ []
+-- each record with none of the causes after those before it, newest first
+abbrev pub causes : List Record → List (Option Cause)
+causes [] = []
+causes (x ∷ h) = cause_of h x ∷ causes h
 
-abbrev pub Law1 : Type 0
-Law1 = same_bytes (report (reverse timeouts_that_race)) (codes "report 1\nrace 1 6 8 wr 1 2 var 0 x\nactions 3\naccesses 2\npairs 1\nraces 1\nend\n") ≡ true
+-- The records are spelled so, each is legal, and this is their report.
+pub record Reports (records : List Record) (spelled reported : List ℕ) (none : List (Option Cause)) : Type 0 where
+  pub text : same_bytes (text records) spelled ≡ true
+  pub legal : causes (reverse records) ≡ none
+  pub report : same_bytes (report (reverse records)) reported ≡ true
 
-abbrev pub Law2 : Type 0
-Law2 = same_bytes (text timeouts_that_race) (codes "webtrace 1\nparse 0 1 plain\nset 1 10\nset 2 0\ntimer 2\nw var 0 x\ntimer 1\nr var 0 x\nend\n") ≡ true
+abbrev pub writes : List ℕ → Record
+writes name = Access modes.W (Var 0 name)
+
+abbrev pub reads : List ℕ → Record
+reads name = Access modes.R (Var 0 name)
+
+abbrev pub step : ℕ → Record
+step e = Parse 0 e kinds.Plain
+
+abbrev pub TimeoutsThatRace : Type 0
+TimeoutsThatRace = Reports (step 1 ∷ Set 1 10 ∷ Set 2 0 ∷ Timer 2 ∷ writes (codes "x") ∷ Timer 1 ∷ reads (codes "x") ∷ []) (codes "webtrace 1\nparse 0 1 plain\nset 1 10\nset 2 0\ntimer 2\nw var 0 x\ntimer 1\nr var 0 x\nend\n")
+    (codes "report 1\nrace 1 6 8 wr 1 2 var 0 x\nactions 3\naccesses 2\npairs 1\nraces 1\nend\n") (None ∷ None ∷ None ∷ None ∷ None ∷ None ∷ None ∷ [])
+
+abbrev pub TimeoutsInOrder : Type 0
+TimeoutsInOrder = Reports (step 1 ∷ Set 1 0 ∷ Set 2 10 ∷ Timer 1 ∷ writes (codes "x") ∷ Timer 2 ∷ reads (codes "x") ∷ []) (codes "webtrace 1\nparse 0 1 plain\nset 1 0\nset 2 10\ntimer 1\nw var 0 x\ntimer 2\nr var 0 x\nend\n")
+    (codes "report 1\nactions 3\naccesses 2\npairs 1\nraces 0\nend\n") (None ∷ None ∷ None ∷ None ∷ None ∷ None ∷ None ∷ [])
+
+abbrev pub EqualDelays : Type 0
+EqualDelays = Reports (step 1 ∷ Set 1 5 ∷ Set 2 5 ∷ Timer 1 ∷ writes (codes "x") ∷ Timer 2 ∷ reads (codes "x") ∷ []) (codes "webtrace 1\nparse 0 1 plain\nset 1 5\nset 2 5\ntimer 1\nw var 0 x\ntimer 2\nr var 0 x\nend\n")
+    (codes "report 1\nactions 3\naccesses 2\npairs 1\nraces 0\nend\n") (None ∷ None ∷ None ∷ None ∷ None ∷ None ∷ None ∷ [])
+
+-- recorded against the delays
+abbrev pub DelaysThatDisagree : Type 0
+DelaysThatDisagree = Reports (step 1 ∷ Set 1 0 ∷ Set 2 10 ∷ Timer 2 ∷ writes (codes "x") ∷ Timer 1 ∷ reads (codes "x") ∷ []) (codes "webtrace 1\nparse 0 1 plain\nset 1 0\nset 2 10\ntimer 2\nw var 0 x\ntimer 1\nr var 0 x\nend\n")
+    (codes "report 1\nrace 1 6 8 wr 1 2 var 0 x\nactions 3\naccesses 2\npairs 1\nraces 1\nend\n") (None ∷ None ∷ None ∷ None ∷ None ∷ None ∷ None ∷ [])
+
+-- set by two events
+abbrev pub TwoSetters : Type 0
+TwoSetters = Reports (step 1 ∷ Set 1 5 ∷ step 2 ∷ Set 2 5 ∷ Timer 1 ∷ writes (codes "x") ∷ Timer 2 ∷ writes (codes "x") ∷ []) (codes "webtrace 1\nparse 0 1 plain\nset 1 5\nparse 0 2 plain\nset 2 5\ntimer 1\nw var 0 x\ntimer 2\nw var 0 x\nend\n")
+    (codes "report 1\nrace 1 7 9 ww 2 3 var 0 x\nactions 4\naccesses 2\npairs 1\nraces 1\nend\n") (None ∷ None ∷ None ∷ None ∷ None ∷ None ∷ None ∷ None ∷ [])
+
+-- a repeat is not kept; a read and a write of one action are two accesses
+abbrev pub Repeats : Type 0
+Repeats = Reports (step 1 ∷ Set 1 9 ∷ Set 2 0 ∷ Timer 2 ∷ reads (codes "x") ∷ reads (codes "x") ∷ writes (codes "x") ∷ Timer 1 ∷ writes (codes "x") ∷ []) (codes "webtrace 1\nparse 0 1 plain\nset 1 9\nset 2 0\ntimer 2\nr var 0 x\nr var 0 x\nw var 0 x\ntimer 1\nw var 0 x\nend\n")
+    (codes "report 1\nrace 1 6 10 rw 1 2 var 0 x\nrace 2 8 10 ww 1 2 var 0 x\nactions 3\naccesses 3\npairs 2\nraces 2\nend\n") (None ∷ None ∷ None ∷ None ∷ None ∷ None ∷ None ∷ None ∷ None ∷ [])
+
+abbrev pub OneAction : Type 0
+OneAction = Reports (step 1 ∷ writes (codes "x") ∷ reads (codes "x") ∷ []) (codes "webtrace 1\nparse 0 1 plain\nw var 0 x\nr var 0 x\nend\n")
+    (codes "report 1\nactions 1\naccesses 2\npairs 0\nraces 0\nend\n") (None ∷ None ∷ None ∷ [])
+
+abbrev pub TwoReads : Type 0
+TwoReads = Reports (step 1 ∷ Set 1 9 ∷ Set 2 0 ∷ Timer 2 ∷ reads (codes "x") ∷ Timer 1 ∷ reads (codes "x") ∷ []) (codes "webtrace 1\nparse 0 1 plain\nset 1 9\nset 2 0\ntimer 2\nr var 0 x\ntimer 1\nr var 0 x\nend\n")
+    (codes "report 1\nactions 3\naccesses 2\npairs 0\nraces 0\nend\n") (None ∷ None ∷ None ∷ None ∷ None ∷ None ∷ None ∷ [])
+
+-- parse steps are in order, and before a timeout that a later one set
+abbrev pub ParseSteps : Type 0
+ParseSteps = Reports (step 1 ∷ writes (codes "a b") ∷ step 2 ∷ reads (codes "a b") ∷ Set 1 0 ∷ Timer 1 ∷ writes (codes "a b") ∷ []) (codes "webtrace 1\nparse 0 1 plain\nw var 0 a%20b\nparse 0 2 plain\nr var 0 a%20b\nset 1 0\ntimer 1\nw var 0 a%20b\nend\n")
+    (codes "report 1\nactions 3\naccesses 3\npairs 3\nraces 0\nend\n") (None ∷ None ∷ None ∷ None ∷ None ∷ None ∷ None ∷ [])
+
+abbrev pub NothingAtAll : Type 0
+NothingAtAll = Reports [] (codes "webtrace 1\nend\n") (codes "report 1\nactions 0\naccesses 0\npairs 0\nraces 0\nend\n") []
+
+-- the causes of single records
+pub record Causes : Type 0 where
+  pub unknown_timeout : cause_of (step 1 ∷ []) (Timer 9) ≡ Some Unknown
+  pub unknown_document : cause_of (step 1 ∷ []) (Parse 1 2 kinds.Plain) ≡ Some Unknown
+  pub unbuilt : cause_of (step 1 ∷ []) (Exec 1) ≡ Some BadRecord
+  pub unbuilt_location : cause_of (step 1 ∷ []) (Access modes.R (Elem 0 (codes "x"))) ≡ Some BadRecord
+  pub no_parse_first : cause_of [] (Set 1 0) ≡ Some BadRecord
+  pub element_again : cause_of (step 1 ∷ []) (step 1) ≡ Some Again
+  pub unknown_before_again : cause_of (step 1 ∷ []) (Parse 5 1 kinds.Plain) ≡ Some Unknown
+  pub set_again : cause_of (Set 1 5 ∷ step 1 ∷ []) (Set 1 6) ≡ Some Again
+  pub fired_again : cause_of (Timer 1 ∷ Set 1 0 ∷ step 1 ∷ []) (Timer 1) ≡ Some Again
+  pub line : same_bytes (refusal 3 Unknown) (codes "refused 3 unknown\n") ≡ true

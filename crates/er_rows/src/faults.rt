@@ -1,15 +1,15 @@
 //! Words, failing reads and writes, and want of memory.
 
+use crate::through::{Done, Ends, sound, through};
+use er_run::outcome::Outcome;
 use std::alloc::{AllocError, Global};
 use std::test::Fail;
 
-use er_run::outcome::Outcome;
+const INPUT: &str =
+    "webtrace 1\nparse 0 1 plain\nset 1 10\nset 2 0\ntimer 2\nw var 0 x\ntimer 1\nr var 0 x\nend\n";
 
-use crate::through::{Done, Ends, sound, through};
-
-const INPUT: &str = "webtrace 1\nparse 0 1 plain\nset 1 10\nset 2 0\ntimer 2\nw var 0 x\ntimer 1\nr var 0 x\nend\n";
-
-const OUTPUT: &str = "report 1\nrace 1 6 8 wr 1 2 var 0 x\nactions 3\naccesses 2\npairs 1\nraces 1\nend\n";
+const OUTPUT: &str =
+    "report 1\nrace 1 6 8 wr 1 2 var 0 x\nactions 3\naccesses 2\npairs 1\nraces 1\nend\n";
 
 #[test]
 fn a_word(rt: HostRuntime) -> Result<(), Fail> {
@@ -35,7 +35,10 @@ fn a_failing_read(rt: HostRuntime) -> Result<(), Fail> {
     assert_eq!(rt; done.outcome, Outcome::ReadFault);
     assert_eq!(rt; done.read_faults, 1);
     assert_eq!(rt; done.written.len(), 0);
-    assert_eq!(rt; done.outcome.line(), Some("er_cli: input could not be read"));
+    assert_eq!(rt;
+        done.outcome.line(),
+        Some("er_cli: input could not be read")
+    );
     Ok(())
 }
 
@@ -70,7 +73,10 @@ fn a_failing_write(rt: HostRuntime) -> Result<(), Fail> {
     assert_eq!(rt; done.outcome, Outcome::WriteFault);
     assert_eq!(rt; done.write_faults, 1);
     assert_eq!(rt; done.written.len(), 0);
-    assert_eq!(rt; done.outcome.line(), Some("er_cli: output could not be written"));
+    assert_eq!(rt;
+        done.outcome.line(),
+        Some("er_cli: output could not be written")
+    );
     Ok(())
 }
 

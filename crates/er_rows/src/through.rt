@@ -1,10 +1,11 @@
 //! One call of `run` over ends in memory.
 
-use std::alloc::{AllocError, Global};
+ghost use Rattle.std.specs.Prelude.{◌≤◌};
 
 use er_outside::{MemorySink, MemorySource};
 use er_run::outcome::Outcome;
 use er_run::run;
+use std::alloc::{AllocError, Global};
 
 /// What came of a call.
 #[derive(Drop)]
@@ -37,7 +38,12 @@ pub(crate) fn sound(alloc: Global) -> Ends
     }
 }
 
-pub(crate) fn through(alloc: Global, words: &[String], input: &[u8], ends: Ends) -> Result<Done, AllocError>
+pub(crate) fn through(
+    alloc: Global,
+    words: &[String],
+    input: &[u8],
+    ends: Ends,
+) -> Result<Done, AllocError>
     requires { 1 ≤ ends.piece }
 {
     let Ends {

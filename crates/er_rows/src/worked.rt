@@ -1,8 +1,7 @@
 //! The worked rows.
 
-use std::test::Fail;
-
 use crate::through::{sound, through};
+use std::test::Fail;
 
 /// An input, what is written for it, and the status.
 struct Row {
@@ -69,22 +68,61 @@ static REPORTS: [Row; 9] = [
 ];
 
 static REFUSALS: [(&str, &str); 26] = [
-    ("webtrace 1\nparse 0 1 plain\ntimer 9\nend\n", "refused 3 unknown\n"),
-    ("webtrace 1\nparse 0 1 plain\nexec 1\nend\n", "refused 3 bad-record\n"),
+    (
+        "webtrace 1\nparse 0 1 plain\ntimer 9\nend\n",
+        "refused 3 unknown\n",
+    ),
+    (
+        "webtrace 1\nparse 0 1 plain\nexec 1\nend\n",
+        "refused 3 bad-record\n",
+    ),
     ("webtrace 1\nset 1 0\nend\n", "refused 2 bad-record\n"),
     ("webtrace 1\ntimer 9\nend\n", "refused 2 bad-record\n"),
-    ("webtrace 1\nparse 0 1 inline\nend\n", "refused 2 bad-record\n"),
-    ("webtrace 1\nparse 0 1 plain\nw elem 0 x\nend\n", "refused 3 bad-record\n"),
+    (
+        "webtrace 1\nparse 0 1 inline\nend\n",
+        "refused 2 bad-record\n",
+    ),
+    (
+        "webtrace 1\nparse 0 1 plain\nw elem 0 x\nend\n",
+        "refused 3 bad-record\n",
+    ),
     ("webtrace 1\nparse 1 1 plain\nend\n", "refused 2 unknown\n"),
-    ("webtrace 1\nparse 0 1 plain\nparse 0 1 plain\nend\n", "refused 3 again\n"),
-    ("webtrace 1\nparse 0 1 plain\nparse 5 1 plain\nend\n", "refused 3 unknown\n"),
-    ("webtrace 1\nparse 0 1 plain\nset 1 5\nset 1 6\nend\n", "refused 4 again\n"),
-    ("webtrace 1\nparse 0 1 plain\nset 1 0\ntimer 1\ntimer 1\nend\n", "refused 5 again\n"),
-    ("webtrace 1\nparse 0 1 plain\nset 1 007\nend\n", "refused 3 bad-record\n"),
-    ("webtrace 1\nparse 0 1 plain\nset 1 7 \nend\n", "refused 3 bad-record\n"),
-    ("webtrace 1\nparse 0 1 plain\nset  1 7\nend\n", "refused 3 bad-record\n"),
-    ("webtrace 1\nparse 0 1 plain\nw var 0 %41\nend\n", "refused 3 bad-record\n"),
-    ("webtrace 1\nparse 0 1 plain\r\nend\n", "refused 2 bad-record\n"),
+    (
+        "webtrace 1\nparse 0 1 plain\nparse 0 1 plain\nend\n",
+        "refused 3 again\n",
+    ),
+    (
+        "webtrace 1\nparse 0 1 plain\nparse 5 1 plain\nend\n",
+        "refused 3 unknown\n",
+    ),
+    (
+        "webtrace 1\nparse 0 1 plain\nset 1 5\nset 1 6\nend\n",
+        "refused 4 again\n",
+    ),
+    (
+        "webtrace 1\nparse 0 1 plain\nset 1 0\ntimer 1\ntimer 1\nend\n",
+        "refused 5 again\n",
+    ),
+    (
+        "webtrace 1\nparse 0 1 plain\nset 1 007\nend\n",
+        "refused 3 bad-record\n",
+    ),
+    (
+        "webtrace 1\nparse 0 1 plain\nset 1 7 \nend\n",
+        "refused 3 bad-record\n",
+    ),
+    (
+        "webtrace 1\nparse 0 1 plain\nset  1 7\nend\n",
+        "refused 3 bad-record\n",
+    ),
+    (
+        "webtrace 1\nparse 0 1 plain\nw var 0 %41\nend\n",
+        "refused 3 bad-record\n",
+    ),
+    (
+        "webtrace 1\nparse 0 1 plain\r\nend\n",
+        "refused 2 bad-record\n",
+    ),
     ("webtrace 1\n\nend\n", "refused 2 bad-record\n"),
     ("webtrace 1\nend", "refused 2 no-end\n"),
     ("webtrace 1\nend\nend\n", "refused 3 after-end\n"),
@@ -104,7 +142,12 @@ fn reports(rt: HostRuntime) -> Result<(), Fail> {
     for row in &REPORTS {
         let done = through(alloc, &[], row.input.as_bytes(), sound(alloc))?;
         assert_eq!(rt; done.outcome.status(), row.status, "{}", row.input);
-        assert_eq!(rt; done.written.as_slice(), row.output.as_bytes(), "{}", row.input);
+        assert_eq!(rt;
+            done.written.as_slice(),
+            row.output.as_bytes(),
+            "{}",
+            row.input
+        );
     }
     Ok(())
 }

@@ -54,14 +54,18 @@ illegal_record bytes more records at x c spelled each few found legal cause =
       place = After r.earlier;
       number = omega (arith, r.count);
       legal = subst (λ h. IsLegal (reverse h)) r.taken legal;
-      refused = inr (refl, record {
-        is_place = record { each = each_before r.earlier (x ∷ r.later) there; few = at_most };
-        few = within;
-        read = x;
-        is_record = each_at r.earlier r.later x there;
-        rest = lines r.later ++ more;
-        begins = spelled ∙ ap (λ rs. (line header ++ lines rs) ++ more) r.is ∙ lines_around r.earlier x r.later (line header) more;
-        cause = subst (λ h. cause_of (reverse h) x ≡ Some c) r.taken cause })
+      refused = inr (
+        refl,
+        record {
+          is_place = record { each = each_before r.earlier (x ∷ r.later) there; few = at_most };
+          few = within;
+          read = x;
+          is_record = each_at r.earlier r.later x there;
+          rest = lines r.later ++ more;
+          begins = spelled ∙ ap (λ rs. (line header ++ lines rs) ++ more) r.is ∙ lines_around r.earlier x r.later (line header) more;
+          cause = subst (λ h. cause_of (reverse h) x ≡ Some c) r.taken cause;
+        },
+      );
     }
 
 illegal_before : (bytes : List ℕ) (place : Place) (records : List Record) (why : Cause) → Refuses bytes place why → records ≡ records_before place → (at : ℕ) (x : Record) (c : Cause)

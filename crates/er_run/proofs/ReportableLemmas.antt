@@ -67,7 +67,7 @@ reports s h found actions pairs stands listed counted paired =
     let all : actions ≡ length (told h).actions = counted ∙ same in
     record {
       are_pairs = subst (λ (ks : List Kept). ArePairs s.kept.items found (races_by (joins (edges rules (told h).actions)) ks)) stands.accesses here;
-      text = rw (all, paired, stands.accesses) refl
+      text = rw (all, paired, stands.accesses) refl;
     }
 
 empty_of_none : {X : Type 0} (xs : List X) → length xs ≡ 0 → xs ≡ []

@@ -10,19 +10,17 @@ ghost use Rattle.er_run.specs.Races.{races};
 ghost use Rattle.er_run.specs.Session.{StandsFor};
 ghost use Rattle.er_run.specs.Accepted.{IsAccepted, IsReading, IsRefusal, IsReportable, RefusedAs, ReportsOf};
 
-use std::alloc::Global;
-
-use er_outside::{NoMemory, Sink};
-use er_text::Cause;
-use er_trace::fault::FeedFault;
-use er_trace::record::Record;
-use er_trace::trace::read_whole;
-
 use crate::input::MOST_BYTES;
 use crate::lister::list;
 use crate::outcome::Outcome;
 use crate::report_writer::{write_refusal, write_report};
 use crate::session::{JudgeFault, Session, judge};
+use er_outside::{NoMemory, Sink};
+use er_text::Cause;
+use er_trace::fault::FeedFault;
+use er_trace::record::Record;
+use er_trace::trace::read_whole;
+use std::alloc::Global;
 
 /// Answers the bytes, and writes the text that is due.
 pub(crate) fn answer<K: Sink>(alloc: Global, bytes: &[u8], sink: &mut K) -> Outcome
@@ -47,7 +45,10 @@ fn accept(alloc: Global, bytes: &[u8]) -> Result<Session, FeedFault>
     ensures refused { IfErr result (IsRefusal bytes.now) }
 {
     if bytes.len() > MOST_BYTES {
-        return Err(FeedFault::Refused { line: 1, cause: Cause::TooManyLines });
+        return Err(FeedFault::Refused {
+            line: 1,
+            cause: Cause::TooManyLines,
+        });
     }
     let mut records = Vec::new(alloc);
     match read_records(alloc, bytes, &mut records) {
@@ -64,7 +65,11 @@ pub(crate) struct LineRefusal {
 }
 
 /// Reads the records before the first line that is no line of a trace, and answers that line.
-fn read_records(alloc: Global, bytes: &[u8], records: &mut Vec<Record>) -> Result<Option<LineRefusal>, NoMemory>
+fn read_records(
+    alloc: Global,
+    bytes: &[u8],
+    records: &mut Vec<Record>,
+) -> Result<Option<LineRefusal>, NoMemory>
     requires { records.old.items ≡ [] }
     ensures { IfOk result (IsReading bytes.now records.new.items) }
 {
@@ -76,7 +81,12 @@ fn read_records(alloc: Global, bytes: &[u8], records: &mut Vec<Record>) -> Resul
 }
 
 /// Judges the records that were read, and behind them the line that is none.
-fn judge_reading(alloc: Global, bytes: &[u8], records: &[Record], refused: Option<LineRefusal>) -> Result<Session, FeedFault>
+fn judge_reading(
+    alloc: Global,
+    bytes: &[u8],
+    records: &[Record],
+    refused: Option<LineRefusal>,
+) -> Result<Session, FeedFault>
     requires few { length bytes.now ≤ most_bytes }
     requires reading { IsReading bytes.now records.now refused }
     ensures accepted { IfOk result (IsAccepted bytes.now) }
@@ -87,7 +97,10 @@ fn judge_reading(alloc: Global, bytes: &[u8], records: &[Record], refused: Optio
             None => Ok(session),
             Some(LineRefusal { line, cause }) => Err(FeedFault::Refused { line, cause }),
         },
-        Err(JudgeFault::Refused { at, cause }) => Err(FeedFault::Refused { line: at + 2, cause }),
+        Err(JudgeFault::Refused { at, cause }) => Err(FeedFault::Refused {
+            line: at + 2,
+            cause,
+        }),
         Err(JudgeFault::NoMemory) => Err(FeedFault::NoMemory),
     }
 }
@@ -107,7 +120,11 @@ fn report_of<K: Sink>(alloc: Global, session: &Session, sink: &mut K) -> Outcome
     let Ok(()) = write_report(sink, actions, &session.kept, &listed.races, listed.pairs) else {
         return Outcome::WriteFault;
     };
-    if listed.races.is_empty() { Outcome::Clean } else { Outcome::Races }
+    if listed.races.is_empty() {
+        Outcome::Clean
+    } else {
+        Outcome::Races
+    }
 }
 
 /// Writes a refusal.

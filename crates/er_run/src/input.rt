@@ -4,9 +4,8 @@ ghost use Rattle.std.specs.Prelude.{◌≡◌, ℕ, ◌<◌, ◌≤◌, List, �
 ghost use Rattle.er_outside.specs.Ends.{Gives, IsSpent, Rose};
 ghost use Rattle.er_run.specs.Promise.{IsReadWhole};
 
-use std::alloc::Global;
-
 use er_outside::Source;
+use std::alloc::Global;
 
 /// The most bytes of an input.
 pub const MOST_BYTES: usize = 67_108_864;

@@ -6,13 +6,11 @@ ghost use Rattle.er_outside.specs.Ends.{Rose};
 ghost use Rattle.er_run.specs.Answer.{Answers};
 ghost use Rattle.er_run.specs.Promise.{IsAnswer, IsAnswered, IsCutShort, IsSilent};
 
-use std::alloc::Global;
-
-use er_outside::{Sink, Source};
-
 use crate::answer::answer;
 use crate::input::{InputFault, read_input};
 use crate::outcome::Outcome;
+use er_outside::{Sink, Source};
+use std::alloc::Global;
 
 pub mod accesses;
 mod answer;
@@ -28,7 +26,12 @@ mod session;
 /// Reads a whole trace from the source, and writes the report of its races, or its refusal, to the sink.
 ///
 /// The words are those of the command, without the program's own name. None is accepted.
-pub fn run<S: Source, K: Sink>(alloc: Global, words: &[String], source: &mut S, sink: &mut K) -> Outcome
+pub fn run<S: Source, K: Sink>(
+    alloc: Global,
+    words: &[String],
+    source: &mut S,
+    sink: &mut K,
+) -> Outcome
     // What was read answers the outcome, and the text that is due was written.
     ensures answered { IsAnswer result → IsAnswered (S.left source.old) (S.left source.new) (K.got sink.old) (K.got sink.new) result }
     // Words are refused, and no others.

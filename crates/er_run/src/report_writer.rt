@@ -10,10 +10,9 @@ ghost use Rattle.er_run.specs.Races.{ArePairs};
 ghost use Rattle.er_run.specs.Report.{item_line, race_line, race_lines, count_line, closing_lines, report_of, refusal};
 
 use crate::accesses::{Kept, Race};
-use er_text::put_number;
-use er_trace::print::print_loc;
 use er_outside::{Failed, Sink, put_all};
-use er_text::Cause;
+use er_text::{Cause, put_number};
+use er_trace::print::print_loc;
 use er_trace::record::{Loc, Mode};
 
 /// The letter of a mode.

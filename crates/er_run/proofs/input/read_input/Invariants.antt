@@ -5,7 +5,8 @@ use Rattle.er_run.proofs.input.read_input.Given as goal
 abbrev pub invariant-loop-source : goal.invariant-loop-source
 invariant-loop-source g l = record {
   given : Gives (g.S.Source.left l.fn.source) l.bytes.items (g.S.Source.left l.source);
-  counted : g.S.Source.faults l.fn.source ≤ g.S.Source.faults l.source; }
+  counted : g.S.Source.faults l.fn.source ≤ g.S.Source.faults l.source;
+}
 
 abbrev pub decreases-loop-source : goal.decreases-loop-source
 decreases-loop-source g l = 67108865 - vec_len l.bytes
