@@ -1,9 +1,8 @@
 -- From what was read and judged to the answer of the bytes.
-use Rattle.std.proofs.Common.{◌≡◌, ℕ, ◌+◌, ◌<◌, ◌≤◌, List, [], ◌∷◌, ◌++◌, length, take, drop, refl, sym, ap, ◌∙◌, subst, arith, inl, inr, ◌⊎◌, reverse, Option, Some, None, zero, suc, append_assoc, slice_get, nat_lt, MatchBool, true, false, Bool}
+use Rattle.std.proofs.Common.{◌≡◌, ℕ, ◌+◌, ◌≤◌, List, [], ◌∷◌, ◌++◌, length, take, refl, sym, ap, ◌∙◌, subst, arith, inr, reverse, Option, Some, None, zero, suc, append_assoc, slice_get, nat_lt, MatchBool, true, false, Bool}
 use Rattle.std.specs.List.{AllByRecursion}
 use Rattle.std.proofs.lemmas.List.Concat.{flat_map-append}
 use Rattle.std.proofs.lemmas.Option.{slice_get_within}
-use Rattle.std.proofs.lemmas.Grind.{common_steps}
 use Rattle.er_run.specs.declared.answer.LineRefusal.{LineRefusal}
 use Rattle.std.proofs.lemmas.Bool.Decides.{nat_tests}
 use Rattle.er_run.specs.declared.session.JudgeFault.TheVariants as judge_faults
@@ -12,9 +11,9 @@ use Rattle.er_run.specs.Accepted.{IsReading}
 use Rattle.er_text.specs.declared.causes.Cause.{Cause}
 use Rattle.er_trace.specs.declared.record.Record.{Record}
 use Rattle.er_trace.specs.Spelling.{spelling, IsRecord}
-use Rattle.er_trace.specs.Trace.{Place, Start, After, Ended, records_before, bytes_before, line_number, line, lines, text, header, end_word, most_lines, IsPlace, IsTrace, Refuses}
+use Rattle.er_trace.specs.Trace.{Place, Start, After, Ended, records_before, line, lines, header, end_word, most_lines, IsPlace, Refuses}
 use Rattle.er_history.specs.Naming.{cause_of, IsLegal}
-use Rattle.er_run.specs.Answer.{most_bytes, IsLegalTrace, RefusesRecord, FirstIllegal, IsRefused, Answers}
+use Rattle.er_run.specs.Answer.{most_bytes, FirstIllegal, IsRefused}
 
 -- a list around one of its members
 pub record Around {X : Type 0} (xs : List X) (at : ℕ) (x : X) : Type 0 where

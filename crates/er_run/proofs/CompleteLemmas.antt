@@ -1,13 +1,11 @@
 -- What was taken answers as all that the source held.
-use Rattle.std.proofs.Common.{◌≡◌, ◌≢◌, ℕ, ◌+◌, ◌<◌, ◌≤◌, Bool, true, false, List, [], ◌∷◌, ◌++◌, length, Option, Some, None, refl, sym, ap, ◌∙◌, subst, inl, inr, ◌⊎◌, ⊎_elim, arith, nat_lt, MatchBool, length-append}
+use Rattle.std.proofs.Common.{◌≡◌, ◌≢◌, ℕ, ◌<◌, Bool, true, false, List, [], ◌++◌, length, Option, Some, None, refl, sym, subst, inl, inr, ◌⊎◌, ⊎_elim, arith, nat_lt, MatchBool, length-append}
 use Rattle.std.specs.Prelude.{option_map}
 use Rattle.std.proofs.lemmas.Bool.Decides.{nat_tests}
 use Rattle.std.proofs.lemmas.Grind.{common_steps}
-use Rattle.er_text.specs.declared.causes.Cause.{Cause}
-use Rattle.er_text.specs.declared.causes.Cause.TheVariants.{TooManyLines}
 use Rattle.er_run.specs.declared.outcome.Outcome.{Outcome}
 use Rattle.er_run.specs.declared.outcome.Outcome.TheVariants.{Clean, Races, Usage, Refused, ReadFault, WriteFault, NoMemory}
-use Rattle.er_run.specs.Answer.{most_bytes, Answers, FirstIllegal, IsRefused}
+use Rattle.er_run.specs.Answer.{most_bytes, Answers, FirstIllegal}
 use Rattle.er_run.specs.Promise.{IsAnswer, IsGiven, IsReadWhole}
 
 in_first : (b : Bool) (P Q : Type 0) → b ≡ true → MatchBool b P Q → P

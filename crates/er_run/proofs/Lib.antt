@@ -9,3 +9,4 @@ pub mod JudgeLemmas
 pub mod ReportableLemmas
 pub mod CompleteLemmas
 pub mod RepeatLemmas
+pub mod OneAnswer

@@ -1,12 +1,12 @@
 -- What the lister asks of the session of an accepted trace.
-use Rattle.std.proofs.Common.{◌≡◌, ℕ, ◌+◌, ◌<◌, ◌≤◌, Bool, true, false, List, [], ◌∷◌, ◌++◌, length, refl, sym, ap, ◌∙◌, subst, arith, zero, suc, get_or, cond, slice_get, Option, Some, None}
+use Rattle.std.proofs.Common.{◌≡◌, ℕ, ◌+◌, ◌<◌, ◌≤◌, Bool, true, false, List, [], ◌∷◌, ◌++◌, length, refl, ap, ◌∙◌, subst, arith, suc, cond, slice_get, Option, Some, None}
 use Rattle.std.specs.Prelude.{All}
 use Rattle.std.specs.List.{list_any}
 use Rattle.std.proofs.lemmas.Grind.{common_steps}
 use Rattle.er_trace.specs.declared.record.Record.{Record}
 use Rattle.er_trace.specs.declared.record.Record.TheVariants.{Parse, ParseFrame, Exec, Timer, Tick, Dcl, Load, Eload, Fire, Wfire, Reply, Inline, Run, Close, Back, New, NewFrame, On, Set, Every, Send, Access}
 use Rattle.er_trace.specs.Trace.{most_lines}
-use Rattle.er_history.specs.History.{Action, Entry, told, after}
+use Rattle.er_history.specs.History.{Action, Entry, told}
 use Rattle.er_history.specs.Rules.{rules}
 use Rattle.er_history.specs.Edges.{edges}
 use Rattle.er_run.specs.declared.accesses.Kept.{Kept}

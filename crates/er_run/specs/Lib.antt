@@ -9,3 +9,4 @@ pub mod Races
 pub mod Report
 pub mod Session
 pub mod Status
+pub mod Laws

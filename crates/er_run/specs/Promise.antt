@@ -1,5 +1,5 @@
 -- What a call of `run` promises.
-use Rattle.std.specs.Prelude.{◌≡◌, ◌⊎◌, ℕ, ◌<◌, List, length, Option}
+use Rattle.std.specs.Prelude.{◌⊎◌, ℕ, ◌<◌, List, length, Option}
 use Rattle.er_outside.specs.Ends.{Gives, Gets, GetsPart, IsSpent}
 use Rattle.er_run.specs.declared.outcome.Outcome.{Outcome}
 use Rattle.er_run.specs.declared.outcome.Outcome.TheVariants.{Clean, Races, Refused, Usage, ReadFault, NoMemory}

@@ -17,6 +17,7 @@ mod answer;
 mod event;
 mod events;
 mod input;
+pub mod laws;
 mod lister;
 mod names;
 pub mod outcome;

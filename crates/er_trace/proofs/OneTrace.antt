@@ -22,24 +22,24 @@ abbrev pub StopsAt : ℕ → List ℕ → Stop → Type 0
 StopsAt number rest (Faulty c) = RecordCause number rest c
 StopsAt number rest (AtEnd later) = (number ≤ most_lines) × (rest ≡ line end_word ++ later)
 
-abbrev a_line : List ℕ → List ℕ → Result (List ℕ × List ℕ) Cause
+abbrev pub a_line : List ℕ → List ℕ → Result (List ℕ × List ℕ) Cause
 a_line l rest = Ok (l, rest)
 
-abbrev bytes_of : Result (List ℕ × List ℕ) Cause → List ℕ
+abbrev pub bytes_of : Result (List ℕ × List ℕ) Cause → List ℕ
 bytes_of (Ok l) = l.0
 bytes_of (Err why) = []
 
-abbrev rest_of : Result (List ℕ × List ℕ) Cause → List ℕ
+abbrev pub rest_of : Result (List ℕ × List ℕ) Cause → List ℕ
 rest_of (Ok l) = l.1
 rest_of (Err why) = []
 
-whole_header : (rest : List ℕ) → whole_line (line header ++ rest) ≡ Ok (header, rest)
+pub whole_header : (rest : List ℕ) → whole_line (line header ++ rest) ≡ Ok (header, rest)
 whole_header rest = whole_line-at header rest refl (omega arith)
 
-whole_end : (rest : List ℕ) → whole_line (line end_word ++ rest) ≡ Ok (end_word, rest)
+pub whole_end : (rest : List ℕ) → whole_line (line end_word ++ rest) ≡ Ok (end_word, rest)
 whole_end rest = whole_line-at end_word rest refl (omega arith)
 
-whole_record : (x : Record) (rest : List ℕ) → IsRecord x → whole_line (line (spelling x) ++ rest) ≡ Ok (spelling x, rest)
+pub whole_record : (x : Record) (rest : List ℕ) → IsRecord x → whole_line (line (spelling x) ++ rest) ≡ Ok (spelling x, rest)
 whole_record x rest is = ap whole_line (append_assoc (spelling x) (10 ∷ []) rest) ∙ whole_line-at (spelling x) rest (spelling_has_no_lf x is) (spelling_is_short x is)
 
 abbrev CauseBy : Bool → Result (List ℕ × List ℕ) Cause → Cause → Type 0
@@ -77,7 +77,7 @@ no_record_at number rest (AtEnd more) x later stops few is e =
     spelling_is_no_end x is (sym (ap bytes_of same))
 
 -- the first line of both is one record
-same_first : (x y : Record) (a b : List ℕ) → IsRecord x → IsRecord y → line (spelling x) ++ a ≡ line (spelling y) ++ b → (x ≡ y) × (a ≡ b)
+pub same_first : (x y : Record) (a b : List ℕ) → IsRecord x → IsRecord y → line (spelling x) ++ a ≡ line (spelling y) ++ b → (x ≡ y) × (a ≡ b)
 same_first x y a b first second e =
     let same : a_line (spelling x) a ≡ a_line (spelling y) b = (sym (whole_record x a first) ∙ ap whole_line e) ∙ whole_record y b second in
     (one_record x y first second (ap bytes_of same), ap rest_of same)

@@ -1,4 +1,4 @@
-use Rattle.std.proofs.Common.{◌≡◌, Some, sym, ◌∙◌}
+use Rattle.std.proofs.Common.{sym, ◌∙◌}
 use Rattle.er_run.proofs.CompleteLemmas.{complete}
 use Rattle.er_run.proofs.run.Goals as goal
 

@@ -1,4 +1,4 @@
-use Rattle.std.proofs.Common.{◌≡◌, subst, List, ℕ, length, arith}
+use Rattle.std.proofs.Common.{◌≡◌, subst, length, arith}
 use Rattle.std.proofs.lemmas.Bool.Decides.{nat_tests}
 use Rattle.er_outside.specs.Ends.{Gets, GetsPart}
 use Rattle.er_run.specs.Races.{races}

@@ -1,0 +1,260 @@
+-- A byte string has one answer.
+use Rattle.std.proofs.Common.{◌≡◌, ◌≢◌, ◌⊎◌, ℕ, ◌+◌, ◌≤◌, List, [], ◌∷◌, ◌++◌, length, reverse, Bool, true, false, ◌&&◌, Some, None, Ok, Err, refl, ap, sym, ◌∙◌, subst, inl, inr, arith, append_assoc, append-nil, length-append}
+use Rattle.std.specs.Prelude.{nat_lt, Result, MatchResult, MatchBool}
+use Rattle.std.specs.List.{AllByRecursion}
+use Rattle.std.proofs.lemmas.List.{append_cancel_left, reverse-append}
+use Rattle.std.proofs.lemmas.Bool.Decides.{nat_tests}
+use Rattle.er_text.specs.declared.causes.Cause.{Cause}
+use Rattle.er_text.specs.declared.causes.Cause.TheVariants.{BadHeader, BadRecord, TooManyLines}
+use Rattle.er_trace.specs.declared.record.Record.{Record}
+use Rattle.er_trace.specs.Spelling.{spelling, IsRecord}
+use Rattle.er_trace.specs.Trace.{most_lines, header, end_word, line, lines, whole_line, SpellsNone, Place, Start, After, Ended, records_before, line_number, Refuses, RecordCause}
+use Rattle.er_trace.proofs.RecordLaws.{spelling_is_no_end}
+use Rattle.er_trace.proofs.OneTrace.{one_refusal, trace_not_refused, one_trace, SameRefusal, a_line, bytes_of, whole_header, whole_end, whole_record, same_first}
+use Rattle.er_history.specs.Naming.{cause_of, IsLegal}
+use Rattle.er_run.specs.Races.{races}
+use Rattle.er_run.specs.Report.{report, refusal}
+use Rattle.er_run.specs.declared.outcome.Outcome.{Outcome}
+use Rattle.er_run.specs.declared.outcome.Outcome.TheVariants.{Clean, Races, Usage, Refused, ReadFault, WriteFault, NoMemory}
+use Rattle.er_run.specs.Answer.{most_bytes, IsLegalTrace, RefusesRecord, FirstIllegal, IsRefused, Answers}
+
+abbrev Line : Type 0
+Line = Result (List ℕ × List ℕ) Cause
+
+-- Two readings of the same bytes by records: one list is a front of the other.
+data Meets (a b : List Record) (r s : List ℕ) : Type 0 where
+  Equal : a ≡ b → r ≡ s → Meets a b r s
+  Shorter : (x : Record) (more : List Record) (rest : List ℕ) → IsRecord x → b ≡ a ++ x ∷ more → r ≡ line (spelling x) ++ rest → Meets a b r s
+  Longer : (x : Record) (more : List Record) (rest : List ℕ) → IsRecord x → a ≡ b ++ x ∷ more → s ≡ line (spelling x) ++ rest → Meets a b r s
+
+meets_more : (x y : Record) (a b : List Record) (r s : List ℕ) → x ≡ y → Meets a b r s → Meets (x ∷ a) (y ∷ b) r s
+meets_more x y a b r s same (Equal e there) = Equal (cc) there
+meets_more x y a b r s same (Shorter z more rest is e there) = Shorter z more rest is (cc) there
+meets_more x y a b r s same (Longer z more rest is e there) = Longer z more rest is (cc) there
+
+meets : (a b : List Record) (r s : List ℕ) → AllByRecursion IsRecord a → AllByRecursion IsRecord b → lines a ++ r ≡ lines b ++ s → Meets a b r s
+meets [] [] r s first second e = Equal refl e
+meets [] (y ∷ b) r s first second e = Shorter y b (lines b ++ s) second.0 refl (e ∙ append_assoc (line (spelling y)) (lines b) s)
+meets (x ∷ a) [] r s first second e = Longer x a (lines a ++ r) first.0 refl (sym e ∙ append_assoc (line (spelling x)) (lines a) r)
+meets (x ∷ a) (y ∷ b) r s first second e =
+    let apart : line (spelling x) ++ (lines a ++ r) ≡ line (spelling y) ++ (lines b ++ s) = (sym (append_assoc (line (spelling x)) (lines a) r) ∙ e) ∙ append_assoc (line (spelling y)) (lines b) s in
+    let same : (x ≡ y) × (lines a ++ r ≡ lines b ++ s) = same_first x y (lines a ++ r) (lines b ++ s) first.0 second.0 apart in
+    meets_more x y a b r s same.0 (meets a b r s first.1 second.1 same.1)
+
+-- in a legal list no record has a cause
+legal_older : (newer older : List Record) → IsLegal (newer ++ older) → IsLegal older
+legal_older [] older h = h
+legal_older (x ∷ newer) older h = legal_older newer older h.1
+
+reverse_front : (earlier more : List Record) (x : Record) → reverse (earlier ++ x ∷ more) ≡ reverse more ++ x ∷ reverse earlier
+reverse_front earlier more x =
+    (reverse-append earlier (x ∷ more) ∙ ap (λ (l : List Record). l ++ reverse earlier) (reverse-append (x ∷ []) more))
+    ∙ append_assoc (reverse more) (x ∷ []) (reverse earlier)
+
+no_cause : (list earlier more : List Record) (x : Record) (c : Cause) → IsLegal (reverse list) → list ≡ earlier ++ x ∷ more → cause_of (reverse earlier) x ≡ Some c → ⊥
+no_cause list earlier more x c legal e cause =
+    let back : reverse list ≡ reverse more ++ x ∷ reverse earlier = ap reverse e ∙ reverse_front earlier more x in
+    let older : IsLegal (x ∷ reverse earlier) = legal_older (reverse more) (x ∷ reverse earlier) (subst IsLegal back legal) in
+    let none : cause_of (reverse earlier) x ≡ None = older.0 in
+    let both : None ≡ Some c = sym none ∙ cause in
+    absurd (cc)
+
+-- behind the header these records stand, and then a record that has a cause after them
+record Faulty (bytes : List ℕ) (earlier : List Record) (x : Record) (c : Cause) : Type 0 where
+  each : AllByRecursion IsRecord earlier
+  few : length earlier + 2 ≤ most_lines
+  is_record : IsRecord x
+  rest : List ℕ
+  begins : bytes ≡ line header ++ (lines earlier ++ (line (spelling x) ++ rest))
+  cause : cause_of (reverse earlier) x ≡ Some c
+
+-- behind the header these legal records stand, and then these bytes
+record Legally (bytes : List ℕ) (records : List Record) (rest : List ℕ) : Type 0 where
+  each : AllByRecursion IsRecord records
+  begins : bytes ≡ line header ++ (lines records ++ rest)
+  legal : IsLegal (reverse records)
+
+faulty : (bytes : List ℕ) (earlier : List Record) (c : Cause) (h : RefusesRecord bytes earlier c) → Faulty bytes earlier h.read c
+faulty bytes earlier c h = record {
+  each = h.is_place.each;
+  few = h.few;
+  is_record = h.is_record;
+  rest = h.rest;
+  begins = (h.begins ∙ append_assoc (line header ++ lines earlier) (line (spelling h.read)) h.rest) ∙ append_assoc (line header) (lines earlier) (line (spelling h.read) ++ h.rest);
+  cause = h.cause;
+}
+
+-- no record stands at the front of the bytes
+abbrev NoRecord : List ℕ → Type 0
+NoRecord bytes = (x : Record) (rest : List ℕ) → IsRecord x → bytes ≡ line (spelling x) ++ rest → ⊥
+
+not_legally_by : (earlier records : List Record) (x : Record) (c : Cause) (r s : List ℕ) → Meets earlier records (line (spelling x) ++ r) s → IsRecord x → cause_of (reverse earlier) x ≡ Some c → IsLegal (reverse records)
+    → (length records ≤ length earlier → NoRecord s) → ⊥
+not_legally_by earlier records x c r s (Equal e there) is cause legal stops = stops (omega (arith, ap length e)) x r is (sym there)
+not_legally_by earlier records x c r s (Shorter y more rest is_y e there) is cause legal stops =
+    let same : x ≡ y = (same_first x y r rest is is_y there).0 in
+    no_cause records earlier more x c legal (e ∙ ap (λ z. earlier ++ z ∷ more) (sym same)) cause
+not_legally_by earlier records x c r s (Longer y more rest is_y e there) is cause legal stops =
+    stops (omega (arith, ap length e, length-append records (y ∷ more))) y rest is_y there
+
+-- a record that has a cause stands before no place that legal records lead to, where no record follows
+not_legally : (bytes : List ℕ) (earlier records : List Record) (x : Record) (c : Cause) (s : List ℕ) → Faulty bytes earlier x c → Legally bytes records s → (length records ≤ length earlier → NoRecord s) → ⊥
+not_legally bytes earlier records x c s first second stops =
+    let e : lines earlier ++ (line (spelling x) ++ first.rest) ≡ lines records ++ s = append_cancel_left (line header) (lines earlier ++ (line (spelling x) ++ first.rest)) (lines records ++ s) (sym first.begins ∙ second.begins) in
+    not_legally_by earlier records x c first.rest s (meets earlier records (line (spelling x) ++ first.rest) s first.each second.each e) first.is_record first.cause second.legal stops
+
+no_record_at_end : (later : List ℕ) → NoRecord (line end_word ++ later)
+no_record_at_end later x rest is e =
+    let same : a_line end_word later ≡ a_line (spelling x) rest = (sym (whole_end later) ∙ ap whole_line e) ∙ whole_record x rest is in
+    spelling_is_no_end x is (sym (ap bytes_of same))
+
+abbrev CauseBy : Bool → Line → Cause → Type 0
+CauseBy many whole c = MatchBool many (c ≡ TooManyLines) (MatchResult whole (λ l. (l.0 ≢ end_word) × SpellsNone l.0 × (c ≡ BadRecord)) (λ why. c ≡ why))
+
+spells_none : (many : Bool) (whole : Line) (c : Cause) (l rest : List ℕ) → CauseBy many whole c → many ≡ false → whole ≡ a_line l rest → SpellsNone l
+spells_none true whole c l rest h few is = cc
+spells_none false (Ok found) c l rest h few is = let same : found.0 ≡ l = cc in let none : SpellsNone found.0 = h.1 in rw same at none
+spells_none false (Err why) c l rest h few is = cc
+
+not_many : (number : ℕ) (bytes : List ℕ) → number ≤ most_lines → (nat_lt most_lines number && nat_lt 0 (length bytes)) ≡ false
+not_many number bytes few = grind (arith, nat_tests)
+
+no_record_at_cause : (number : ℕ) (bytes : List ℕ) (c : Cause) → RecordCause number bytes c → number ≤ most_lines → NoRecord bytes
+no_record_at_cause number bytes c h few x rest is e =
+    spells_none (nat_lt most_lines number && nat_lt 0 (length bytes)) (whole_line bytes) c (spelling x) rest h (not_many number bytes few) (ap whole_line e ∙ whole_record x rest is) x is refl
+
+no_header : (whole : Line) (c : Cause) (rest : List ℕ) → MatchResult whole (λ l. (l.0 ≢ header) × (c ≡ BadHeader)) (λ why. c ≡ why) → whole ≡ a_line header rest → ⊥
+no_header (Ok l) c rest h e = h.0 cc
+no_header (Err why) c rest h e = absurd (cc)
+
+-- a record that has a cause, and a line that has one, where each stands behind legal records
+record_not_line : (bytes : List ℕ) (earlier : List Record) (x : Record) (c d : Cause) (place : Place) → Faulty bytes earlier x c → IsLegal (reverse (records_before place)) → Refuses bytes place d → ⊥
+record_not_line bytes earlier x c d Start first legal second =
+    let same : bytes ≡ second.rest = second.begins in
+    no_header (whole_line bytes) d (lines earlier ++ (line (spelling x) ++ first.rest)) (rw same second.cause) (ap whole_line first.begins ∙ whole_header (lines earlier ++ (line (spelling x) ++ first.rest)))
+record_not_line bytes earlier x c d (After records) first legal second =
+    let behind : Legally bytes records second.rest = record { each = second.is_place.each; begins = second.begins ∙ append_assoc (line header) (lines records) second.rest; legal = legal } in
+    not_legally bytes earlier records x c second.rest first behind (λ (fits : length records ≤ length earlier). no_record_at_cause (length records + 2) second.rest d second.cause (omega (arith, first.few)))
+record_not_line bytes earlier x c d (Ended records) first legal second =
+    let behind : Legally bytes records (line end_word ++ second.rest) = record {
+      each = second.is_place.each;
+      begins = (second.begins ∙ append_assoc (line header ++ lines records) (line end_word) second.rest) ∙ append_assoc (line header) (lines records) (line end_word ++ second.rest);
+      legal = legal;
+    } in
+    not_legally bytes earlier records x c (line end_word ++ second.rest) first behind (λ (fits : length records ≤ length earlier). no_record_at_end second.rest)
+
+-- a record that has a cause stands in no legal trace
+record_not_trace : (bytes : List ℕ) (earlier records : List Record) (x : Record) (c : Cause) → Faulty bytes earlier x c → IsLegalTrace bytes records → ⊥
+record_not_trace bytes earlier records x c first second =
+    let behind : Legally bytes records (line end_word ++ []) = record {
+      each = second.is_trace.each;
+      begins = (second.spelled ∙ append_assoc (line header) (lines records) (line end_word)) ∙ ap (λ l. line header ++ (lines records ++ l)) (sym (append-nil (line end_word)));
+      legal = second.legal;
+    } in
+    not_legally bytes earlier records x c (line end_word ++ []) first behind (λ (fits : length records ≤ length earlier). no_record_at_end [])
+
+-- the first records that have a cause are the same
+same_record_by : (a b : List Record) (x y : Record) (c d : Cause) (r s : List ℕ) → Meets a b (line (spelling x) ++ r) (line (spelling y) ++ s) → IsRecord x → IsRecord y
+    → cause_of (reverse a) x ≡ Some c → cause_of (reverse b) y ≡ Some d → IsLegal (reverse a) → IsLegal (reverse b) → (a ≡ b) × (c ≡ d)
+same_record_by a b x y c d r s (Equal e there) is_x is_y cause_x cause_y legal_a legal_b =
+    let same : x ≡ y = (same_first x y r s is_x is_y there).0 in
+    let twice : cause_of (reverse a) x ≡ cause_of (reverse b) y = ap (λ l. cause_of (reverse l) x) e ∙ ap (cause_of (reverse b)) same in
+    let causes : Some c ≡ Some d = (sym cause_x ∙ twice) ∙ cause_y in
+    (e, cc)
+same_record_by a b x y c d r s (Shorter z more rest is_z e there) is_x is_y cause_x cause_y legal_a legal_b =
+    let same : x ≡ z = (same_first x z r rest is_x is_z there).0 in
+    absurd (no_cause b a more x c legal_b (e ∙ ap (λ w. a ++ w ∷ more) (sym same)) cause_x)
+same_record_by a b x y c d r s (Longer z more rest is_z e there) is_x is_y cause_x cause_y legal_a legal_b =
+    let same : y ≡ z = (same_first y z s rest is_y is_z there).0 in
+    absurd (no_cause a b more y d legal_a (e ∙ ap (λ w. b ++ w ∷ more) (sym same)) cause_y)
+
+same_record : (bytes : List ℕ) (a b : List Record) (x y : Record) (c d : Cause) → Faulty bytes a x c → Faulty bytes b y d → IsLegal (reverse a) → IsLegal (reverse b) → (a ≡ b) × (c ≡ d)
+same_record bytes a b x y c d first second legal_a legal_b =
+    let r : List ℕ = line (spelling x) ++ first.rest in
+    let s : List ℕ = line (spelling y) ++ second.rest in
+    let e : lines a ++ r ≡ lines b ++ s = append_cancel_left (line header) (lines a ++ r) (lines b ++ s) (sym first.begins ∙ second.begins) in
+    same_record_by a b x y c d first.rest second.rest (meets a b r s first.each second.each e) first.is_record second.is_record first.cause second.cause legal_a legal_b
+
+-- what refuses the bytes first: a line, or a record
+data Illegal (bytes : List ℕ) (n : ℕ) (c : Cause) : Type 0 where
+  ByLine : (place : Place) → n ≡ line_number place → IsLegal (reverse (records_before place)) → Refuses bytes place c → Illegal bytes n c
+  ByRecord : (earlier : List Record) (x : Record) → n ≡ length earlier + 2 → IsLegal (reverse earlier) → Faulty bytes earlier x c → Illegal bytes n c
+
+illegal_by : (bytes : List ℕ) (n : ℕ) (c : Cause) (place : Place) → n ≡ line_number place → IsLegal (reverse (records_before place))
+    → Refuses bytes place c ⊎ ((place ≡ After (records_before place)) × RefusesRecord bytes (records_before place) c) → Illegal bytes n c
+illegal_by bytes n c place number legal (inl h) = ByLine place number legal h
+illegal_by bytes n c place number legal (inr h) = ByRecord (records_before place) h.1.read (number ∙ ap line_number h.0) legal (faulty bytes (records_before place) c h.1)
+
+illegal : (bytes : List ℕ) (n : ℕ) (c : Cause) → FirstIllegal bytes n c → Illegal bytes n c
+illegal bytes n c h = illegal_by bytes n c h.place h.number h.legal h.refused
+
+illegal_once : (bytes : List ℕ) (n m : ℕ) (c d : Cause) → Illegal bytes n c → Illegal bytes m d → (n ≡ m) × (c ≡ d)
+illegal_once bytes n m c d (ByLine p number_p legal_p first) (ByLine q number_q legal_q second) =
+    let same : SameRefusal p q c d = one_refusal bytes p q c d first second in
+    (number_p ∙ (same.number ∙ sym number_q), same.cause)
+illegal_once bytes n m c d (ByLine p number_p legal_p first) (ByRecord b y number_b legal_b second) = absurd (record_not_line bytes b y d c p second legal_p first)
+illegal_once bytes n m c d (ByRecord a x number_a legal_a first) (ByLine q number_q legal_q second) = absurd (record_not_line bytes a x c d q first legal_q second)
+illegal_once bytes n m c d (ByRecord a x number_a legal_a first) (ByRecord b y number_b legal_b second) =
+    let same : (a ≡ b) × (c ≡ d) = same_record bytes a b x y c d first second legal_a legal_b in
+    (number_a ∙ (ap (λ l. length l + 2) same.0 ∙ sym number_b), same.1)
+
+not_illegal : (bytes : List ℕ) (records : List Record) (n : ℕ) (c : Cause) → IsLegalTrace bytes records → Illegal bytes n c → ⊥
+not_illegal bytes records n c trace (ByLine place number legal h) = trace_not_refused bytes records place c trace.is_trace trace.spelled h
+not_illegal bytes records n c trace (ByRecord earlier x number legal h) = record_not_trace bytes earlier records x c h trace
+
+refused_once_by : (many : Bool) (bytes : List ℕ) (n m : ℕ) (c d : Cause)
+    → MatchBool many ((n ≡ 1) × (c ≡ TooManyLines)) (FirstIllegal bytes n c) → MatchBool many ((m ≡ 1) × (d ≡ TooManyLines)) (FirstIllegal bytes m d) → (n ≡ m) × (c ≡ d)
+refused_once_by true bytes n m c d first second = (first.0 ∙ sym second.0, first.1 ∙ sym second.1)
+refused_once_by false bytes n m c d first second = illegal_once bytes n m c d (illegal bytes n c first) (illegal bytes m d second)
+
+refused_once : (bytes : List ℕ) (n m : ℕ) (c d : Cause) → IsRefused bytes n c → IsRefused bytes m d → (n ≡ m) × (c ≡ d)
+refused_once bytes n m c d first second = refused_once_by (nat_lt most_bytes (length bytes)) bytes n m c d first second
+
+not_refused_by : (many : Bool) (bytes : List ℕ) (records : List Record) (n : ℕ) (c : Cause)
+    → IsLegalTrace bytes records → many ≡ false → MatchBool many ((n ≡ 1) × (c ≡ TooManyLines)) (FirstIllegal bytes n c) → ⊥
+not_refused_by true bytes records n c trace few h = absurd (cc)
+not_refused_by false bytes records n c trace few h = not_illegal bytes records n c trace (illegal bytes n c h)
+
+not_too_long : (bytes : List ℕ) → length bytes ≤ most_bytes → nat_lt most_bytes (length bytes) ≡ false
+not_too_long bytes few = grind (arith, nat_tests)
+
+not_refused : (bytes : List ℕ) (records : List Record) (n : ℕ) (c : Cause) → IsLegalTrace bytes records → IsRefused bytes n c → ⊥
+not_refused bytes records n c trace h = not_refused_by (nat_lt most_bytes (length bytes)) bytes records n c trace (not_too_long bytes trace.few) h
+
+-- an outcome that races give, or none
+data Counted (h : List Record) (o : Outcome) : Type 0 where
+  NoRaces : races h ≡ [] → o ≡ Clean → Counted h o
+  SomeRaces : races h ≢ [] → o ≡ Races → Counted h o
+
+counted_once : (h : List Record) (o p : Outcome) → Counted h o → Counted h p → o ≡ p
+counted_once h o p (NoRaces none is) (NoRaces also other) = is ∙ sym other
+counted_once h o p (NoRaces none is) (SomeRaces some other) = absurd (some none)
+counted_once h o p (SomeRaces some is) (NoRaces none other) = absurd (some none)
+counted_once h o p (SomeRaces some is) (SomeRaces also other) = is ∙ sym other
+
+-- a legal trace, or a refusal
+data Settled (bytes : List ℕ) (o : Outcome) (due : List ℕ) : Type 0 where
+  ByTrace : (records : List Record) → IsLegalTrace bytes records → Counted (reverse records) o → due ≡ report (reverse records) → Settled bytes o due
+  ByRefusal : (n : ℕ) (c : Cause) → IsRefused bytes n c → o ≡ Refused n c → due ≡ refusal n c → Settled bytes o due
+
+settled : (bytes : List ℕ) (o : Outcome) (due : List ℕ) → Answers bytes o due → Settled bytes o due
+settled bytes Clean due h = ByTrace h.0 h.1 (NoRaces h.2 refl) h.3
+settled bytes Races due h = ByTrace h.0 h.1 (SomeRaces h.2 refl) h.3
+settled bytes (Refused n c) due h = ByRefusal n c h.0 refl h.1
+settled bytes Usage due h = absurd h
+settled bytes ReadFault due h = absurd h
+settled bytes WriteFault due h = absurd h
+settled bytes NoMemory due h = absurd h
+
+settled_once : (bytes : List ℕ) (o p : Outcome) (due other : List ℕ) → Settled bytes o due → Settled bytes p other → (o ≡ p) × (due ≡ other)
+settled_once bytes o p due other (ByTrace a first counted_a due_a) (ByTrace b second counted_b due_b) =
+    let same : a ≡ b = one_trace a b first.is_trace second.is_trace (sym first.spelled ∙ second.spelled) in
+    (counted_once (reverse b) o p (subst (λ l. Counted (reverse l) o) same counted_a) counted_b, (due_a ∙ ap (λ l. report (reverse l)) same) ∙ sym due_b)
+settled_once bytes o p due other (ByTrace a first counted_a due_a) (ByRefusal m d second is_p due_b) = absurd (not_refused bytes a m d first second)
+settled_once bytes o p due other (ByRefusal n c first is_o due_a) (ByTrace b second counted_b due_b) = absurd (not_refused bytes b n c second first)
+settled_once bytes o p due other (ByRefusal n c first is_o due_a) (ByRefusal m d second is_p due_b) =
+    let same : (n ≡ m) × (c ≡ d) = refused_once bytes n m c d first second in
+    (is_o ∙ ((ap (λ k. Refused k c) same.0 ∙ ap (λ why. Refused m why) same.1) ∙ sym is_p), due_a ∙ ((ap (λ k. refusal k c) same.0 ∙ ap (λ why. refusal m why) same.1) ∙ sym due_b))
+
+pub answer_once : (bytes : List ℕ) (o p : Outcome) (due other : List ℕ) → Answers bytes o due → Answers bytes p other → (o ≡ p) × (due ≡ other)
+answer_once bytes o p due other first second = settled_once bytes o p due other (settled bytes o due first) (settled bytes p other second)
