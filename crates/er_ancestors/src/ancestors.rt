@@ -55,12 +55,13 @@ impl Ancestors {
     /// Adds the next action, to which an edge leads from each of the sources.
     ///
     /// A source that a path already joins by those before it costs one look-up, so give the newest first.
-    pub fn push(&mut self, alloc: Global, sources: &[u32]) -> Result<(), NoMemory>
+    pub fn push(&mut self, sources: &[u32]) -> Result<(), NoMemory>
         requires { All (λ k. k < length self.old) sources.now }
         ensures pushed { OnOk result ((lists : List (List ℕ)) → StandsFor self.old lists → StandsFor self.new (sources.now ∷ lists)) }
         ensures grown { OnOk result (length self.new ≡ length self.old + 1) }
         ensures kept { OnErr result (self.new ≡ self.old) }
     {
+        let alloc = *self.rows.allocator();
         let row = next_row(alloc, &self.rows, sources)?;
         let Ok(()) = self.rows.push(row) else {
             return Err(NoMemory);
@@ -96,10 +97,10 @@ mod tests {
     fn diamond(rt: HostRuntime) -> Result<(), Fail> {
         let alloc = rt.alloc();
         let mut paths = Ancestors::new(alloc);
-        paths.push(alloc, &[])?;
-        paths.push(alloc, &[0])?;
-        paths.push(alloc, &[0])?;
-        paths.push(alloc, &[2, 1])?;
+        paths.push(&[])?;
+        paths.push(&[0])?;
+        paths.push(&[0])?;
+        paths.push(&[2, 1])?;
         assert_eq!(rt; paths.len(), 4);
         assert!(rt; paths.joined(0, 3), "over either side");
         assert!(rt; paths.joined(1, 3) && paths.joined(2, 3));
@@ -113,11 +114,11 @@ mod tests {
     fn chain(rt: HostRuntime) -> Result<(), Fail> {
         let alloc = rt.alloc();
         let mut paths = Ancestors::new(alloc);
-        paths.push(alloc, &[])?;
-        paths.push(alloc, &[0])?;
-        paths.push(alloc, &[1, 0])?;
-        paths.push(alloc, &[])?;
-        paths.push(alloc, &[3, 2, 1, 0])?;
+        paths.push(&[])?;
+        paths.push(&[0])?;
+        paths.push(&[1, 0])?;
+        paths.push(&[])?;
+        paths.push(&[3, 2, 1, 0])?;
         assert!(rt; paths.joined(0, 2) && paths.joined(0, 4));
         assert!(rt; paths.joined(3, 4) && !paths.joined(2, 3));
         Ok(())

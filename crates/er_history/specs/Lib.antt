@@ -2,3 +2,4 @@ pub mod History
 pub mod Rules
 pub mod Edges
 pub mod Naming
+pub mod Laws

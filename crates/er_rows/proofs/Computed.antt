@@ -1,8 +1,10 @@
 -- The worked rows, by computing.
-use Rattle.std.proofs.Common.{refl}
+use Rattle.std.proofs.Common.{refl, inr, [], ◌∷◌, codes, arith, lit<, lit≤}
 use Rattle.std.specs.Fmt.{digits}
 use Rattle.er_run.specs.Report.{item_line}
-use Rattle.er_rows.specs.Rows.{TimeoutsThatRace, TimeoutsInOrder, EqualDelays, DelaysThatDisagree, TwoSetters, Repeats, OneAction, TwoReads, ParseSteps, NothingAtAll, Causes}
+use Rattle.er_trace.specs.declared.record.Record.TheVariants.{Timer, Exec}
+use Rattle.er_trace.specs.Trace.{After}
+use Rattle.er_rows.specs.Rows.{TimeoutsThatRace, TimeoutsInOrder, EqualDelays, DelaysThatDisagree, TwoSetters, Repeats, OneAction, TwoReads, ParseSteps, NothingAtAll, Causes, UnknownTimeout, UnbuiltForm, step}
 
 pub timeouts_that_race : TimeoutsThatRace
 unfolding digits item_line
@@ -47,3 +49,43 @@ nothing_at_all = record { text = refl; legal = refl; report = refl }
 pub causes_of_records : Causes
 unfolding digits item_line
 causes_of_records = record { unknown_timeout = refl; unknown_document = refl; unbuilt = refl; unbuilt_location = refl; no_parse_first = refl; element_again = refl; unknown_before_again = refl; set_again = refl; fired_again = refl; line = refl }
+
+pub unknown_timeout : UnknownTimeout
+unfolding digits item_line
+unknown_timeout = record {
+  place = After (step 1 ∷ []);
+  number = refl;
+  legal = (refl, tt);
+  refused = inr (
+    refl,
+    record {
+      is_place = record { each = ((tt, (omega arith, (omega arith, (tt, tt)))), tt); few = omega arith };
+      few = omega arith;
+      read = Timer 9;
+      is_record = (tt, (omega arith, tt));
+      rest = codes "end\n";
+      begins = refl;
+      cause = refl;
+    },
+  );
+}
+
+pub unbuilt_form : UnbuiltForm
+unfolding digits item_line
+unbuilt_form = record {
+  place = After (step 1 ∷ []);
+  number = refl;
+  legal = (refl, tt);
+  refused = inr (
+    refl,
+    record {
+      is_place = record { each = ((tt, (omega arith, (omega arith, (tt, tt)))), tt); few = omega arith };
+      few = omega arith;
+      read = Exec 1;
+      is_record = (tt, (omega arith, tt));
+      rest = codes "end\n";
+      begins = refl;
+      cause = refl;
+    },
+  );
+}

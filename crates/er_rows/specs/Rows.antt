@@ -10,6 +10,7 @@ use Rattle.er_trace.specs.declared.record.Loc.TheVariants.{Var, Elem}
 use Rattle.er_trace.specs.Trace.{text}
 use Rattle.er_history.specs.Naming.{cause_of}
 use Rattle.er_run.specs.Races.{same_bytes}
+use Rattle.er_run.specs.Answer.{IsRefused}
 use Rattle.er_run.specs.Report.{report, refusal}
 
 -- each record with none of the causes after those before it, newest first
@@ -87,3 +88,10 @@ pub record Causes : Type 0 where
   pub set_again : cause_of (Set 1 5 ∷ step 1 ∷ []) (Set 1 6) ≡ Some Again
   pub fired_again : cause_of (Timer 1 ∷ Set 1 0 ∷ step 1 ∷ []) (Timer 1) ≡ Some Again
   pub line : same_bytes (refusal 3 Unknown) (codes "refused 3 unknown\n") ≡ true
+
+-- line 3 is the first illegal one of these bytes
+abbrev pub UnknownTimeout : Type 0
+UnknownTimeout = IsRefused (codes "webtrace 1\nparse 0 1 plain\ntimer 9\nend\n") 3 Unknown
+
+abbrev pub UnbuiltForm : Type 0
+UnbuiltForm = IsRefused (codes "webtrace 1\nparse 0 1 plain\nexec 1\nend\n") 3 BadRecord

@@ -1,4 +1,4 @@
-//! Words, failing reads and writes, and want of memory.
+//! Words, failing reads and writes, and want of memory. After a failed call all later ones would fail too, so one fault shows that none came.
 
 use crate::through::{Done, Ends, sound, through};
 use er_run::outcome::Outcome;
@@ -27,7 +27,7 @@ fn a_failing_read(rt: HostRuntime) -> Result<(), Fail> {
     let alloc = rt.alloc();
     let ends = Ends {
         piece: 16,
-        failing_reads: vec![in alloc; 2]?,
+        failing_reads: vec![in alloc; 2, 3, 4, 5, 6]?,
         failing_writes: Vec::new(alloc),
         room: 1000,
     };
@@ -46,15 +46,16 @@ fn a_failing_read(rt: HostRuntime) -> Result<(), Fail> {
 #[test]
 fn a_failing_last_read(rt: HostRuntime) -> Result<(), Fail> {
     let alloc = rt.alloc();
-    for input in [INPUT, "nonsense\n", ""] {
+    for (input, first) in [(INPUT, 2), ("nonsense\n", 2), ("", 1)] {
         let ends = Ends {
             piece: 1000,
-            failing_reads: vec![in alloc; if input.len() == 0 { 1 } else { 2 }]?,
+            failing_reads: vec![in alloc; first, first + 1, first + 2]?,
             failing_writes: Vec::new(alloc),
             room: 1000,
         };
         let done = through(alloc, &[], input.as_bytes(), ends)?;
         assert_eq!(rt; done.outcome, Outcome::ReadFault, "{input}");
+        assert_eq!(rt; done.read_faults, 1, "{input}");
         assert_eq!(rt; done.written.len(), 0, "{input}");
     }
     Ok(())
@@ -66,7 +67,7 @@ fn a_failing_write(rt: HostRuntime) -> Result<(), Fail> {
     let ends = Ends {
         piece: 16,
         failing_reads: Vec::new(alloc),
-        failing_writes: vec![in alloc; 1]?,
+        failing_writes: vec![in alloc; 1, 2, 3]?,
         room: 1000,
     };
     let done = through(alloc, &[], b"webtrace 1\nend\n", ends)?;
@@ -89,6 +90,7 @@ fn little_room(rt: HostRuntime) -> Result<(), Fail> {
         ends.room = 12;
         let done = through(alloc, &[], input.as_bytes(), ends)?;
         assert_eq!(rt; done.outcome, Outcome::WriteFault, "{input}");
+        assert_eq!(rt; done.write_faults, 1, "{input}");
         assert_eq!(rt; done.written.len(), 12, "{input}");
     }
     Ok(())

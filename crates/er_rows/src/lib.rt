@@ -1,7 +1,7 @@
 //! Tests that cross crates: the worked rows through `run`, as tables, and the same rows as laws of the definitions.
 #![tactic(auto)]
 
-ghost use Rattle.er_rows.specs.Rows.{TimeoutsThatRace, TimeoutsInOrder, EqualDelays, DelaysThatDisagree, TwoSetters, Repeats, OneAction, TwoReads, ParseSteps, NothingAtAll, Causes};
+ghost use Rattle.er_rows.specs.Rows.{TimeoutsThatRace, TimeoutsInOrder, EqualDelays, DelaysThatDisagree, TwoSetters, Repeats, OneAction, TwoReads, ParseSteps, NothingAtAll, Causes, UnknownTimeout, UnbuiltForm};
 
 #[cfg(test)]
 mod faults;
@@ -31,4 +31,11 @@ pub fn worked_reports()
 #[tactic(auto, using(crate::proofs::Computed::causes_of_records))]
 pub fn worked_causes()
     ensures { Causes }
+{}
+
+/// The first illegal line of small inputs, as the definitions give it.
+#[tactic(auto, using(crate::proofs::Computed::unknown_timeout, crate::proofs::Computed::unbuilt_form))]
+pub fn worked_refusals()
+    ensures unknown_timeout { UnknownTimeout }
+    ensures unbuilt_form { UnbuiltForm }
 {}

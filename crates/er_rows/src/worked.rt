@@ -67,7 +67,7 @@ static REPORTS: [Row; 9] = [
     },
 ];
 
-static REFUSALS: [(&str, &str); 26] = [
+static REFUSALS: [(&str, &str); 27] = [
     (
         "webtrace 1\nparse 0 1 plain\ntimer 9\nend\n",
         "refused 3 unknown\n",
@@ -132,8 +132,15 @@ static REFUSALS: [(&str, &str); 26] = [
     ("webtrace 1\nparse 0 1 plain\n", "refused 3 no-end\n"),
     ("webtrace 9\nend\n", "refused 1 bad-header\n"),
     ("\nwebtrace 1\nend\n", "refused 1 bad-header\n"),
-    // the first illegal line decides: a record before a line, a line before a record
-    ("webtrace 1\ntimer 9\nnonsense\n", "refused 2 bad-record\n"),
+    // the first illegal line decides
+    (
+        "webtrace 1\nparse 0 1 plain\ntimer 9\nnonsense\n",
+        "refused 3 unknown\n",
+    ),
+    (
+        "webtrace 1\nparse 0 1 plain\nnonsense\ntimer 9\n",
+        "refused 3 bad-record\n",
+    ),
 ];
 
 #[test]

@@ -36,7 +36,7 @@ answers_all bytes taken None outcome due held whole a = absurd (cc)
 answers_all bytes taken (Some rest) outcome due held whole a =
     let same : bytes ≡ taken ++ rest = cc in
     let is_all : rest ≡ [] → bytes ≡ taken = λ none. grind (arith, common_steps) in
-    ⊎_elim (λ spent. subst (λ bs. Answers bs outcome due) (sym (is_all spent)) a) (λ long. subst (λ bs. Answers bs outcome due) (sym same) (answers_long taken rest outcome due long a)) whole
+    ⊎_elim (λ spent. subst (λ bs. Answers bs outcome due) (sym (is_all spent)) a) (λ long. subst (λ bs. Answers bs outcome due) (sym same) (answers_long taken rest outcome due long a)) whole.0
 
 -- an outcome that no fault explains is the answer of all bytes, or want of memory
 pub complete : (bytes taken : List ℕ) (left got_old got_new : Option (List ℕ)) (outcome : Outcome) → Some bytes ≡ option_map (λ rest. taken ++ rest) left → IsReadWhole taken left

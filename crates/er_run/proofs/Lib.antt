@@ -10,3 +10,4 @@ pub mod ReportableLemmas
 pub mod CompleteLemmas
 pub mod RepeatLemmas
 pub mod OneAnswer
+pub mod BufferedLemmas

@@ -11,11 +11,12 @@ use Rattle.er_trace.specs.declared.record.Record.TheVariants.{Access}
 use Rattle.er_trace.specs.declared.record.Mode.{Mode}
 use Rattle.er_trace.specs.declared.record.Loc.{Loc}
 use Rattle.er_history.specs.History.{Action, History, told, running, begins, actions_after, action_begun}
+use Rattle.er_history.proofs.HistoryLemmas.{EachIsAnEvent, each_is_an_event, actions_grow}
 use Rattle.er_run.specs.declared.accesses.Kept.{Kept}
 use Rattle.er_run.specs.declared.session.Session.{Session}
 use Rattle.er_run.specs.Races.{kept, accesses_of, without_repeats, repeats}
 use Rattle.er_run.specs.Session.{has_action, IsFalling, IsNext}
-use Rattle.er_run.proofs.SessionLemmas.{IsNumbered, actions_numbered, events_length}
+use Rattle.er_run.proofs.SessionLemmas.{events_length}
 
 pub or_swaps : (a b : Bool) → (a || b) ≡ (b || a)
 or_swaps true true = refl
@@ -75,7 +76,7 @@ one_falls x before n e falling = step (list_any (repeats x) before)
     step true = falling
     step false = subst (IsFalling n) (sym (reverse-append before (x ∷ []))) (omega (arith, e), subst (λ m. IsFalling m (reverse before)) (sym e) falling)
 
-pub access_falls : (actions : List Action) (m : Mode) (l : Loc) (place : ℕ) (before : List Kept) → IsNumbered actions → IsFalling (length actions) (reverse before)
+pub access_falls : (actions : List Action) (m : Mode) (l : Loc) (place : ℕ) (before : List Kept) → EachIsAnEvent actions → IsFalling (length actions) (reverse before)
     → IsFalling (length actions) (reverse (without_repeats (accesses_of (record { read = Access m l; place = place; action = running actions })) before))
 access_falls [] m l place before n falling = falling
 access_falls (a ∷ older) m l place before n falling = one_falls (record { line = place + 2; action = a.number; mode = m; loc = l }) before (suc (length older)) (omega (arith, n.0)) falling
@@ -89,16 +90,9 @@ accesses_nothing None x place e = refl
 accesses_nothing (Some a) (Access m l) place e = cc
 accesses_nothing (Some a) x place e = refl
 
-pub actions_grow : (t : History) (x : Record) → length t.actions ≤ length (actions_after t x)
-actions_grow t x = step (begins x)
-  where
-    step : (b : Bool) → length t.actions ≤ length (if b then action_begun t x ∷ t.actions else t.actions)
-    step true = omega arith
-    step false = omega arith
-
 pub kept_falls : (h : List Record) → IsFalling (length (told h).actions) (reverse (kept h))
 kept_falls [] = tt
-kept_falls (Access m l ∷ h) = access_falls (told h).actions m l (length (told h).entries) (kept h) (actions_numbered h) (kept_falls h)
+kept_falls (Access m l ∷ h) = access_falls (told h).actions m l (length (told h).entries) (kept h) (each_is_an_event h) (kept_falls h)
 kept_falls (x ∷ h) =
     let nothing : accesses_of (record { read = x; place = length (told h).entries; action = running (actions_after (told h) x) }) ≡ [] = accesses_nothing (running (actions_after (told h) x)) x (length (told h).entries) refl in
     let same : kept (x ∷ h) ≡ kept h = ap (λ more. without_repeats more (kept h)) nothing in

@@ -4,8 +4,8 @@ use Rattle.std.specs.List.{slice_get}
 use Rattle.std.proofs.lemmas.Grind.{common_steps}
 use Rattle.std.proofs.lemmas.List.{length-map, take_all}
 use Rattle.std.proofs.lemmas.Option.{slice_get_read, slice_get-get_or, slice_get-map}
-use Rattle.er_outside.specs.Ends.{Gets, GetsPart}
-use Rattle.er_outside.proofs.Puts.{gets_again, gets_part_later, gets_part_first}
+use Rattle.er_outside.specs.Ends.{GetsPart}
+use Rattle.er_outside.proofs.Puts.{gets_part_first}
 use Rattle.er_text.specs.Cause.{cause_name}
 use Rattle.er_text.specs.declared.causes.Cause.{Cause}
 use Rattle.er_trace.specs.Spelling.{mode_word, loc_items, loc_spelling}
@@ -14,9 +14,11 @@ use Rattle.er_trace.specs.declared.record.Loc.{Loc}
 use Rattle.er_trace.specs.declared.record.Loc.TheVariants.{Var, Elem, Slot}
 use Rattle.er_run.specs.declared.accesses.Kept.{Kept}
 use Rattle.er_run.specs.declared.accesses.Race.{Race}
+use Rattle.er_run.specs.Buffered.{HoldsRest}
 use Rattle.er_run.specs.Races.{ArePairs}
 use Rattle.er_run.specs.Pieces.{item_start}
-use Rattle.er_run.specs.Report.{item_line, race_line, race_lines, count_line, refusal}
+use Rattle.er_run.specs.Report.{item_line, race_line, race_lines, count_line, closing_lines, report_of, refusal}
+use Rattle.er_run.proofs.BufferedLemmas.{holds_more, part_more}
 
 pub word_start : (word : List ℕ) → item_start (Word word) ≡ word ++ 32 ∷ []
 unfolding item_start
@@ -109,25 +111,49 @@ reads_race accesses found i d a b within (first, second) is_a is_b = record {
   second = slice_get_read accesses _ _ b refl second is_b;
 }
 
-pub races_more : (old mid new : Option (List ℕ)) (accesses : List Kept) (found : List Race) (i : ℕ) (a b : Kept) (pairs : List (Kept × Kept)) → IsRaceAt accesses found i a b
-    → ArePairs accesses found pairs → Gets old (race_lines 1 (take i pairs)) mid → Gets mid (race_line (i + 1) (a, b)) new → Gets old (race_lines 1 (take (i + 1) pairs)) new
-races_more old mid new accesses found i a b pairs at are before came =
+pub races_more : (old mid new : Option (List ℕ)) (before held last : List ℕ) (accesses : List Kept) (found : List Race) (i : ℕ) (a b : Kept) (pairs : List (Kept × Kept)) → IsRaceAt accesses found i a b
+    → ArePairs accesses found pairs → HoldsRest old (before ++ race_lines 1 (take i pairs)) mid held → HoldsRest mid (held ++ race_line (i + 1) (a, b)) new last → HoldsRest old (before ++ race_lines 1 (take (i + 1) pairs)) new last
+races_more old mid new before held last accesses found i a b pairs at are so_far came =
     let p = pair_at accesses found pairs i at.race a b are at.here at.first at.second in
     let e : race_lines 1 (take (i + 1) pairs) ≡ race_lines 1 (take i pairs) ++ race_line (1 + i) (a, b) = race_lines_more 1 pairs i (a, b) p in
     let n : i + 1 ≡ 1 + i = omega arith in
-    rw e (gets_again old mid new _ _ before (rw n at came))
+    rw e (holds_more old mid new before _ _ held last so_far (rw n at came))
 
-pub races_part : (old mid new : Option (List ℕ)) (accesses : List Kept) (found : List Race) (i : ℕ) (a b : Kept) (pairs : List (Kept × Kept)) → IsRaceAt accesses found i a b
-    → ArePairs accesses found pairs → Gets old (race_lines 1 (take i pairs)) mid → GetsPart mid (race_line (i + 1) (a, b)) new → GetsPart old (race_lines 1 pairs) new
-races_part old mid new accesses found i a b pairs at are before came =
+pub races_part : (old mid new : Option (List ℕ)) (before held : List ℕ) (accesses : List Kept) (found : List Race) (i : ℕ) (a b : Kept) (pairs : List (Kept × Kept)) → IsRaceAt accesses found i a b
+    → ArePairs accesses found pairs → HoldsRest old (before ++ race_lines 1 (take i pairs)) mid held → GetsPart mid (held ++ race_line (i + 1) (a, b)) new → GetsPart old (before ++ race_lines 1 pairs) new
+races_part old mid new before held accesses found i a b pairs at are so_far came =
     let p = pair_at accesses found pairs i at.race a b are at.here at.first at.second in
     let e : race_lines 1 (take (i + 1) pairs) ≡ race_lines 1 (take i pairs) ++ race_line (1 + i) (a, b) = race_lines_more 1 pairs i (a, b) p in
     let n : i + 1 ≡ 1 + i = omega arith in
-    let part : GetsPart old (race_lines 1 (take (i + 1) pairs)) new = rw e (gets_part_later old mid new _ _ before (rw n at came)) in
-    rw (race_lines_split 1 pairs (i + 1)) (gets_part_first old new _ _ part)
+    let line : GetsPart old (before ++ race_lines 1 (take (i + 1) pairs)) new = rw e (part_more old mid new before _ _ held so_far (rw n at came)) in
+    let all : GetsPart old ((before ++ race_lines 1 (take (i + 1) pairs)) ++ race_lines (1 + (i + 1)) (drop (i + 1) pairs)) new = gets_part_first old new _ _ line in
+    rw (race_lines_split 1 pairs (i + 1)) (rw (append_assoc before (race_lines 1 (take (i + 1) pairs)) (race_lines (1 + (i + 1)) (drop (i + 1) pairs))) at all)
 
-pub races_all : (old new : Option (List ℕ)) (accesses : List Kept) (found : List Race) (pairs : List (Kept × Kept)) → ArePairs accesses found pairs
-    → Gets old (race_lines 1 (take (length found) pairs)) new → Gets old (race_lines 1 pairs) new
-races_all old new accesses found pairs are came =
-    let e : take (length found) pairs ≡ pairs = take_all _ _ (omega (arith, as_many_pairs accesses found pairs are)) in
-    rw e at came
+-- the report in the order in which it is put together, by the number of its races
+report_pieces : (found : List (Kept × Kept)) (actions accesses pairs number : ℕ) → length found ≡ number
+    → report_of found actions accesses pairs ≡ (count_line (codes "report") 1 ++ race_lines 1 found) ++ closing_lines actions accesses pairs number
+report_pieces found actions accesses pairs number long = rw (← long, append_assoc (count_line (codes "report") 1) (race_lines 1 found) (closing_lines actions accesses pairs (length found))) refl
+
+-- the first line, the races and the closing lines are the report
+pub report_held : (old opened raced new : Option (List ℕ)) (before one two last : List ℕ) (found : List (Kept × Kept)) (actions accesses pairs number : ℕ) → length found ≡ number
+    → HoldsRest old (before ++ count_line (codes "report") 1) opened one → HoldsRest opened (one ++ race_lines 1 found) raced two
+    → HoldsRest raced (two ++ closing_lines actions accesses pairs number) new last → HoldsRest old (before ++ report_of found actions accesses pairs) new last
+report_held old opened raced new before one two last found actions accesses pairs number long first second third =
+    let so_far = holds_more old opened raced before _ _ one two first second in
+    rw (report_pieces found actions accesses pairs number long) (holds_more old raced new before _ _ two last so_far third)
+
+pub report_part : (old opened raced new : Option (List ℕ)) (before one two : List ℕ) (found : List (Kept × Kept)) (actions accesses pairs number : ℕ) → length found ≡ number
+    → HoldsRest old (before ++ count_line (codes "report") 1) opened one → HoldsRest opened (one ++ race_lines 1 found) raced two
+    → GetsPart raced (two ++ closing_lines actions accesses pairs number) new → GetsPart old (before ++ report_of found actions accesses pairs) new
+report_part old opened raced new before one two found actions accesses pairs number long first second third =
+    let so_far = holds_more old opened raced before _ _ one two first second in
+    rw (report_pieces found actions accesses pairs number long) (part_more old raced new before _ _ two so_far third)
+
+-- a part of the races is a part of the report
+pub races_part_of_report : (old opened new : Option (List ℕ)) (before one : List ℕ) (found : List (Kept × Kept)) (actions accesses pairs : ℕ)
+    → HoldsRest old (before ++ count_line (codes "report") 1) opened one → GetsPart opened (one ++ race_lines 1 found) new → GetsPart old (before ++ report_of found actions accesses pairs) new
+races_part_of_report old opened new before one found actions accesses pairs first second =
+    let lines = count_line (codes "report") 1 ++ race_lines 1 found in
+    let closing = closing_lines actions accesses pairs (length found) in
+    let all : GetsPart old ((before ++ lines) ++ closing) new = gets_part_first old new (before ++ lines) closing (part_more old opened new before _ _ one first second) in
+    rw (report_pieces found actions accesses pairs (length found) refl) (rw (append_assoc before lines closing) at all)

@@ -9,6 +9,7 @@ use Rattle.er_trace.specs.Trace.{most_lines}
 use Rattle.er_history.specs.History.{Action, Entry, told}
 use Rattle.er_history.specs.Rules.{rules}
 use Rattle.er_history.specs.Edges.{edges}
+use Rattle.er_history.proofs.HistoryLemmas.{entries_length, edges_length}
 use Rattle.er_run.specs.declared.accesses.Kept.{Kept}
 use Rattle.er_run.specs.declared.session.Session.{Session}
 use Rattle.std.proofs.lemmas.List.{length-map}
@@ -40,19 +41,11 @@ kept_few : (entries : List Entry) → length (kept_of entries) ≤ length entrie
 kept_few [] = omega arith
 kept_few (entry ∷ older) = let so_far = kept_few older in let step = at_most_one (accesses_of entry) (kept_of older) (one_access entry) in omega arith
 
-entries_counted : (h : List Record) → length (told h).entries ≡ length h
-entries_counted [] = refl
-entries_counted (x ∷ h) = ap suc (entries_counted h)
-
-edges_counted : (acts : List Action) → length (edges rules acts) ≡ length acts
-edges_counted [] = refl
-edges_counted (j ∷ older) = ap suc (edges_counted older)
-
 pub few_to_list : (s : Session) → IsReportable s → length s.kept.items ≤ most_lines
-few_to_list s r = omega (arith, kept_few (told r.list).entries, entries_counted r.list, ap length r.stands.accesses, r.few)
+few_to_list s r = omega (arith, kept_few (told r.list).entries, entries_length r.list, ap length r.stands.accesses, r.few)
 
 pub known_to_list : (s : Session) → IsReportable s → All (λ (k : Kept). k.action < length s.events.ancestors) s.kept.items
-known_to_list s r = let same : length s.events.ancestors ≡ length (told r.list).actions = r.stands.paths.size ∙ edges_counted (told r.list).actions in rw (r.stands.accesses, same) r.stands.begun
+known_to_list s r = let same : length s.events.ancestors ≡ length (told r.list).actions = r.stands.paths.size ∙ edges_length rules (told r.list).actions in rw (r.stands.accesses, same) r.stands.begun
 
 -- what was listed are the races of the records, and with the counts of the session they make the report
 pub record IsReport (s : Session) (h : List Record) (found : List Race) (actions pairs : ℕ) : Type 0 where
@@ -63,7 +56,7 @@ pub reports : (s : Session) (h : List Record) (found : List Race) (actions pairs
     → actions ≡ length s.events.ancestors → pairs ≡ length (candidates_of s.kept.items) → IsReport s h found actions pairs
 reports s h found actions pairs stands listed counted paired =
     let here : ArePairs s.kept.items found (races_by (joins (edges rules (told h).actions)) s.kept.items) = listed (edges rules (told h).actions) stands.paths in
-    let same : length s.events.ancestors ≡ length (told h).actions = stands.paths.size ∙ edges_counted (told h).actions in
+    let same : length s.events.ancestors ≡ length (told h).actions = stands.paths.size ∙ edges_length rules (told h).actions in
     let all : actions ≡ length (told h).actions = counted ∙ same in
     record {
       are_pairs = subst (λ (ks : List Kept). ArePairs s.kept.items found (races_by (joins (edges rules (told h).actions)) ks)) stands.accesses here;

@@ -16,6 +16,7 @@ use Rattle.er_history.specs.History as history
 use Rattle.er_history.specs.History.{first_to, or_else, makes_timeout, History, Action, Event, told, begins, actions_after, action_begun, what_begun, running}
 use Rattle.er_history.specs.Rules.{rules, any_holds}
 use Rattle.er_history.specs.Edges.{edge, edges, sources}
+use Rattle.er_history.proofs.HistoryLemmas.{EachIsAnEvent, each_is_an_event, entries_length, edges_length}
 use Rattle.er_run.specs.declared.accesses.Kept.{Kept}
 use Rattle.er_run.specs.declared.event.Event as run
 use Rattle.er_run.specs.declared.event.What.{What}
@@ -32,23 +33,6 @@ use Rattle.er_run.specs.declared.session.Session.{Session}
 use Rattle.er_run.specs.Event.{event_of, comes_before, sources_of, AreNumbered, event_next, what_of}
 use Rattle.er_run.specs.Session.{StandsFor, IsSession, IsNext}
 use Rattle.er_run.proofs.EventLemmas.{no_paths, All-reverse}
-
--- actions are numbered from the oldest, and so are their events
-abbrev pub IsNumbered : List Action → Type 0
-IsNumbered [] = Unit {0}
-IsNumbered (a ∷ older) = (a.number ≡ length older) × (a.event.number ≡ length older) × IsNumbered older
-
-pub actions_numbered : (h : List Record) → IsNumbered (told h).actions
-actions_numbered [] = tt
-actions_numbered (x ∷ h) = step (told h) (begins x) x (actions_numbered h)
-  where
-    step : (t : History) (b : Bool) (x : Record) → IsNumbered t.actions → IsNumbered (if b then action_begun t x ∷ t.actions else t.actions)
-    step t true x n = (refl, refl, n)
-    step t false x n = n
-
-pub entries_length : (h : List Record) → length (told h).entries ≡ length h
-entries_length [] = refl
-entries_length (x ∷ h) = let e = entries_length h in omega arith
 
 abbrev pub event_by : Action → Event
 event_by a = a.event
@@ -71,7 +55,7 @@ source_more false true u found a due t e f = cc
 source_more false false u found a due t e f = f
 
 pub sources_same : (joined : ℕ → ℕ → Bool) (newest : List run.Event) (event : run.Event) (actions : List Action) (j : Action)
-    → map event_of newest ≡ map event_by actions → IsNumbered actions → event_of event ≡ j.event → length actions ≤ j.number
+    → map event_of newest ≡ map event_by actions → EachIsAnEvent actions → event_of event ≡ j.event → length actions ≤ j.number
     → map (λ (u : run.Event). u.number) (filter (λ u. comes_before u event) newest) ≡ sources rules joined actions j
 sources_same joined [] event [] j e n f below = refl
 sources_same joined [] event (a ∷ older) j e n f below = cc
@@ -85,7 +69,7 @@ sources_same joined (u ∷ newest) event (a ∷ older) j e n f below =
     source_more (comes_before u event) (edge rules joined a j) u (filter (λ x. comes_before x event) newest) a (filter (λ i. edge rules joined i j) older) (test_more joined u event a j head f under) number rest
 
 -- each event has a number below the count of them
-pub numbers_below : (newest : List run.Event) (actions : List Action) (n : ℕ) → map event_of newest ≡ map event_by actions → IsNumbered actions → length actions ≤ n → AllByRecursion (λ (u : run.Event). u.number < n) newest
+pub numbers_below : (newest : List run.Event) (actions : List Action) (n : ℕ) → map event_of newest ≡ map event_by actions → EachIsAnEvent actions → length actions ≤ n → AllByRecursion (λ (u : run.Event). u.number < n) newest
 numbers_below [] actions n e numbered below = tt
 numbers_below (u ∷ newest) [] n e numbered below = cc
 numbers_below (u ∷ newest) (a ∷ older) n e numbered below =
@@ -104,15 +88,11 @@ events_numbered s is =
     let h = is.list in
     let same = events_length list (told h).actions is.stands.events in
     let P : run.Event → Type 0 = λ u. u.number < length list in
-    let all : All P (reverse list) = All-from_recursion P (reverse list) (numbers_below (reverse list) (told h).actions (length list) is.stands.events (actions_numbered h) (omega arith)) in
+    let all : All P (reverse list) = All-from_recursion P (reverse list) (numbers_below (reverse list) (told h).actions (length list) is.stands.events (each_is_an_event h) (omega arith)) in
     subst (All P) (reverse-reverse list) (All-reverse P (reverse list) all)
 
-pub edges_length : (actions : List Action) → length (edges rules actions) ≡ length actions
-edges_length [] = refl
-edges_length (a ∷ older) = let e = edges_length older in omega arith
-
 pub events_sized : (s : Session) → IsSession s → length s.events.ancestors ≡ length s.events.list.items
-events_sized s is = is.stands.paths.size ∙ (edges_length (told is.list).actions ∙ sym (events_length s.events.list.items (told is.list).actions is.stands.events))
+events_sized s is = is.stands.paths.size ∙ (edges_length rules (told is.list).actions ∙ sym (events_length s.events.list.items (told is.list).actions is.stands.events))
 
 pub events_few : (s : Session) → IsSession s → length s.events.list.items ≤ s.records
 events_few s is = omega (arith, events_length s.events.list.items (told is.list).actions is.stands.events, is.stands.few, is.stands.count)
@@ -132,7 +112,7 @@ began old new h x what stands acts keeps whats names list paths accesses count =
     let a : Action = action_begun (told h) x in
     let long = events_length old.events.list.items actions stands.events in
     let same : event_of event ≡ a.event = cc in
-    let due = sources_same (joins (edges rules actions)) (reverse old.events.list.items) event actions a stands.events (actions_numbered h) same (omega arith) in
+    let due = sources_same (joins (edges rules actions)) (reverse old.events.list.items) event actions a stands.events (each_is_an_event h) same (omega arith) in
     let Paths : List Action → Type 0 = λ more. RowsStandFor new.events.ancestors (edges rules more) in
     let Row : List ℕ → Type 0 = λ row. RowsStandFor new.events.ancestors (row ∷ edges rules actions) in
     let more : length (told (x ∷ h)).actions ≡ length actions + 1 = omega (arith, ap length acts) in
@@ -181,7 +161,7 @@ settled old new h x stands acts keeps begun names events count some =
       some = λ _. omega (arith, stands.some some);
     }
 
-pub runs : (actions : List Action) → 0 < length actions → (a : Action) × (running actions ≡ Some a) × ((r : ℕ) → IsNumbered actions → r + 1 ≡ length actions → (r ≡ a.number) × (r ≡ a.event.number))
+pub runs : (actions : List Action) → 0 < length actions → (a : Action) × (running actions ≡ Some a) × ((r : ℕ) → EachIsAnEvent actions → r + 1 ≡ length actions → (r ≡ a.number) × (r ≡ a.event.number))
 runs [] some = absurd (omega arith)
 runs (a ∷ older) some = (a, refl, λ r n e. (omega (arith, n.0), omega (arith, n.1)))
 
@@ -220,7 +200,7 @@ pub made_after : (s : Session) (h : List Record) (t d : ℕ) (made : Timeout) �
 made_after s h t d made stands legal place maker =
     let r = runs (told h).actions (stands.some (later h (Set t d) legal refl)) in
     let long : made.maker + 1 ≡ length (told h).actions = maker ∙ events_length s.events.list.items (told h).actions stands.events in
-    record { place = place ∙ (stands.count ∙ sym (entries_length h)); action = r.0; runs = r.1; maker = (r.2 made.maker (actions_numbered h) long).1 }
+    record { place = place ∙ (stands.count ∙ sym (entries_length h)); action = r.0; runs = r.1; maker = (r.2 made.maker (each_is_an_event h) long).1 }
 
 pub not_set : (h : List Record) (t d : ℕ) → cause_of h (Set t d) ≡ None → list_any (sets_timeout t) h ≡ false
 not_set h t d legal = (legal_parts h (Set t d) legal).2
@@ -263,7 +243,7 @@ accessed old new h m l access stands legal line action mode loc names events acc
     let some = later h (Access m l) legal refl in
     let r = runs (told h).actions (stands.some some) in
     let long : access.action + 1 ≡ length (told h).actions = action ∙ events_length old.events.list.items (told h).actions stands.events in
-    let runs_there : access.action ≡ r.0.number = (r.2 access.action (actions_numbered h) long).0 in
+    let runs_there : access.action ≡ r.0.number = (r.2 access.action (each_is_an_event h) long).0 in
     let place : access.line ≡ length (told h).entries + 2 = omega (arith, stands.count, entries_length h) in
     let due : Kept = record { line = length (told h).entries + 2; action = r.0.number; mode = m; loc = l } in
     let is : access ≡ due = same_kept access (length (told h).entries + 2) r.0.number m l place runs_there mode loc in

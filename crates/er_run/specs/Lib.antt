@@ -10,3 +10,4 @@ pub mod Report
 pub mod Session
 pub mod Status
 pub mod Laws
+pub mod Buffered

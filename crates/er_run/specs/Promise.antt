@@ -1,5 +1,5 @@
 -- What a call of `run` promises.
-use Rattle.std.specs.Prelude.{◌⊎◌, ℕ, ◌<◌, List, length, Option}
+use Rattle.std.specs.Prelude.{◌⊎◌, ℕ, ◌+◌, ◌<◌, ◌≤◌, List, length, Option}
 use Rattle.er_outside.specs.Ends.{Gives, Gets, GetsPart, IsSpent}
 use Rattle.er_run.specs.declared.outcome.Outcome.{Outcome}
 use Rattle.er_run.specs.declared.outcome.Outcome.TheVariants.{Clean, Races, Refused, Usage, ReadFault, NoMemory}
@@ -12,9 +12,13 @@ IsAnswer Races = Unit {0}
 IsAnswer (Refused n c) = Unit {0}
 IsAnswer _ = ⊥
 
--- nothing is left, or enough came to know that it is too much
+-- the most bytes that one read asks for
+abbrev pub piece_bytes : ℕ
+piece_bytes = 4096
+
+-- nothing is left, or enough came to know that it is too much; and no more was read than that takes
 abbrev pub IsReadWhole : List ℕ → Option (List ℕ) → Type 0
-IsReadWhole taken left = IsSpent left ⊎ (most_bytes < length taken)
+IsReadWhole taken left = (IsSpent left ⊎ (most_bytes < length taken)) × (length taken ≤ most_bytes + piece_bytes)
 
 -- an outcome that leaves the sink as it was
 abbrev pub IsSilent : Outcome → Type 0

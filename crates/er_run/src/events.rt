@@ -29,7 +29,7 @@ impl Events {
     }
 
     /// Begins an event.
-    pub(crate) fn begin(&mut self, alloc: Global, what: What) -> Result<(), NoMemory>
+    pub(crate) fn begin(&mut self, what: What) -> Result<(), NoMemory>
         requires few { length self.old.list.items < 2 ^ 32 }
         requires numbered { AreNumbered self.old.list.items }
         requires sized { length self.old.ancestors ≡ length self.old.list.items }
@@ -40,11 +40,12 @@ impl Events {
             number: self.list.len() as u32,
             what,
         };
+        let alloc = *self.list.allocator();
         let sources = sources(alloc, &self.list, &event)?;
         let Ok(()) = self.list.reserve(1) else {
             return Err(NoMemory);
         };
-        self.ancestors.push(alloc, &sources)?;
+        self.ancestors.push(&sources)?;
         let Ok(()) = self.list.push(event) else {
             unreachable!()
         };

@@ -2,7 +2,7 @@
 
 ghost use Rattle.std.specs.Prelude.{◌≡◌, ℕ, ◌<◌, ◌≤◌, List, ◌++◌, length, IfOk, OnErr, IsErrOf};
 ghost use Rattle.er_outside.specs.Ends.{Gives, IsSpent, Rose};
-ghost use Rattle.er_run.specs.Promise.{IsReadWhole};
+ghost use Rattle.er_run.specs.Promise.{IsReadWhole, piece_bytes};
 
 use er_outside::Source;
 use std::alloc::Global;
@@ -40,6 +40,7 @@ pub(crate) fn read_input<S: Source>(alloc: Global, source: &mut S) -> Result<Vec
 fn read_piece<S: Source>(source: &mut S, bytes: &mut Vec<u8>) -> Result<usize, InputFault>
     ensures read { IfOk result (λ n. (piece : List ℕ) × (length piece ≡ n)
         × (bytes.new.items ≡ bytes.old.items ++ piece) × Gives (S.left source.old) piece (S.left source.new)) }
+    ensures few { IfOk result (λ n. n ≤ piece_bytes) }
     ensures end { IfOk result (λ n. n ≡ 0 → IsSpent (S.left source.new)) }
     ensures failed { IsErrOf result InputFault.Failed → Rose (S.faults source.old) (S.faults source.new) }
     ensures count { S.faults source.old ≤ S.faults source.new }

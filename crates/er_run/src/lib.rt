@@ -14,6 +14,8 @@ use std::alloc::Global;
 
 pub mod accesses;
 mod answer;
+mod buffer;
+mod buffered;
 mod event;
 mod events;
 mod input;
@@ -35,7 +37,7 @@ pub fn run<S: Source, K: Sink>(
 ) -> Outcome
     // What was read answers the outcome, and the text that is due was written.
     ensures answered { IsAnswer result → IsAnswered (S.left source.old) (S.left source.new) (K.got sink.old) (K.got sink.new) result }
-    // Words are refused, and no others.
+    // Any word gives `Usage`, and nothing else does.
     ensures usage { (result ≡ Outcome.Usage) ↔ (0 < length words.now) }
     ensures read_fault { result ≡ Outcome.ReadFault → Rose (S.faults source.old) (S.faults source.new) }
     ensures write_fault { result ≡ Outcome.WriteFault → Rose (K.faults sink.old) (K.faults sink.new) }

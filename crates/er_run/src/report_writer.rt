@@ -1,15 +1,18 @@
 //! The writer of the report, and of a refusal.
 
-ghost use Rattle.std.specs.Prelude.{◌≡◌, ◌≤◌, List, [], ◌∷◌, ◌++◌, length, All, OnOk, OnErr};
+ghost use Rattle.std.specs.Prelude.{◌≡◌, ◌≤◌, List, [], ◌∷◌, ◌++◌, length, codes, All, OnOk, OnErr};
 ghost use Rattle.er_outside.specs.Ends.{Gets, GetsPart, Rose};
 ghost use Rattle.er_trace.specs.Items.{Word, Number};
 ghost use Rattle.er_trace.specs.Spelling.{mode_word, loc_items};
+ghost use Rattle.er_run.specs.Buffered.{HoldsRest};
 ghost use Rattle.er_run.specs.Listing.{IsWithin};
 ghost use Rattle.er_run.specs.Pieces.{item_start};
 ghost use Rattle.er_run.specs.Races.{ArePairs};
 ghost use Rattle.er_run.specs.Report.{item_line, race_line, race_lines, count_line, closing_lines, report_of, refusal};
 
 use crate::accesses::{Kept, Race};
+use crate::buffer::Buffer;
+use crate::buffered::{Text, flush, put_text};
 use er_outside::{Failed, Sink, put_all};
 use er_text::{Cause, put_number};
 use er_trace::print::print_loc;
@@ -110,63 +113,114 @@ fn put_count<K: Sink>(sink: &mut K, name: &str, number: u64) -> Result<(), Faile
     end_with_number(sink, number)
 }
 
-/// Writes the line of a race of these two accesses.
-#[tactic(auto, using(er_outside::proofs::Puts::composes, crate::proofs::ReportLemmas::race_pieces))]
-fn put_race<K: Sink>(sink: &mut K, number: u64, first: &Kept, second: &Kept) -> Result<(), Failed>
-    ensures whole { OnOk result (Gets (K.got sink.old) (race_line number (first.now, second.now)) (K.got sink.new)) }
-    ensures part { OnErr result (GetsPart (K.got sink.old) (race_line number (first.now, second.now)) (K.got sink.new)) }
-    ensures cause { OnErr result (Rose (K.faults sink.old) (K.faults sink.new)) }
-    ensures count { K.faults sink.old ≤ K.faults sink.new }
-{
-    put_word(sink, "race")?;
-    put_field(sink, number)?;
-    put_field(sink, first.line as u64)?;
-    put_field(sink, second.line as u64)?;
-    put_modes(sink, first.mode, second.mode)?;
-    put_field(sink, first.action as u64)?;
-    put_field(sink, second.action as u64)?;
-    end_with_loc(sink, &first.loc)
+/// The first line of a report.
+#[derive(Drop)]
+struct Opening;
+
+impl Text for Opening {
+    ghost text = { λ _. count_line (codes "report") 1 };
+
+    fn put<K: Sink>(&self, sink: &mut K) -> Result<(), Failed> {
+        put_count(sink, "report", 1)
+    }
 }
 
-/// Writes the lines of the races, numbered from 1.
-fn put_races<K: Sink>(sink: &mut K, kept: &[Kept], races: &[Race]) -> Result<(), Failed>
+/// The line of a race of two accesses.
+#[derive(Drop)]
+struct RaceLine<'a> {
+    number: u64,
+    first: &'a Kept,
+    second: &'a Kept,
+}
+
+impl<'a> Text for RaceLine<'a> {
+    ghost text = { λ race. race_line race.number (race.first.now, race.second.now) };
+
+    #[tactic(auto, using(er_outside::proofs::Puts::composes, crate::proofs::ReportLemmas::race_pieces))]
+    fn put<K: Sink>(&self, sink: &mut K) -> Result<(), Failed> {
+        put_word(sink, "race")?;
+        put_field(sink, self.number)?;
+        put_field(sink, self.first.line as u64)?;
+        put_field(sink, self.second.line as u64)?;
+        put_modes(sink, self.first.mode, self.second.mode)?;
+        put_field(sink, self.first.action as u64)?;
+        put_field(sink, self.second.action as u64)?;
+        end_with_loc(sink, &self.first.loc)
+    }
+}
+
+/// The lines behind those of the races.
+#[derive(Drop)]
+struct Closing {
+    actions: u64,
+    accesses: u64,
+    pairs: u64,
+    races: u64,
+}
+
+impl Text for Closing {
+    ghost text = { λ c. closing_lines c.actions c.accesses c.pairs c.races };
+
+    #[tactic(auto, using(er_outside::proofs::Puts::composes))]
+    fn put<K: Sink>(&self, sink: &mut K) -> Result<(), Failed> {
+        put_count(sink, "actions", self.actions)?;
+        put_count(sink, "accesses", self.accesses)?;
+        put_count(sink, "pairs", self.pairs)?;
+        put_count(sink, "races", self.races)?;
+        put_all(sink, b"end\n")
+    }
+}
+
+/// The line of a refusal.
+#[derive(Drop)]
+struct Refusal {
+    line: u32,
+    cause: Cause,
+}
+
+impl Text for Refusal {
+    ghost text = { λ r. refusal r.line r.cause };
+
+    #[tactic(auto, using(er_outside::proofs::Puts::composes, crate::proofs::ReportLemmas::refusal_pieces))]
+    fn put<K: Sink>(&self, sink: &mut K) -> Result<(), Failed> {
+        put_word(sink, "refused")?;
+        put_field(sink, self.line as u64)?;
+        end_with_word(sink, self.cause.name())
+    }
+}
+
+/// Puts the lines of the races into the buffer, numbered from 1.
+fn put_races<K: Sink>(
+    sink: &mut K,
+    buffer: &mut Buffer,
+    kept: &[Kept],
+    races: &[Race],
+) -> Result<(), Failed>
     requires in_range { All (IsWithin kept.now) races.now }
-    ensures whole { (pairs : List (Kept × Kept)) → ArePairs kept.now races.now pairs → OnOk result (Gets (K.got sink.old) (race_lines 1 pairs) (K.got sink.new)) }
-    ensures part { (pairs : List (Kept × Kept)) → ArePairs kept.now races.now pairs → OnErr result (GetsPart (K.got sink.old) (race_lines 1 pairs) (K.got sink.new)) }
+    ensures whole { (pairs : List (Kept × Kept)) → ArePairs kept.now races.now pairs → OnOk result (HoldsRest (K.got sink.old) (buffer.old ++ race_lines 1 pairs) (K.got sink.new) buffer.new) }
+    ensures part { (pairs : List (Kept × Kept)) → ArePairs kept.now races.now pairs → OnErr result (GetsPart (K.got sink.old) (buffer.old ++ race_lines 1 pairs) (K.got sink.new)) }
     ensures cause { OnErr result (Rose (K.faults sink.old) (K.faults sink.new)) }
     ensures count { K.faults sink.old ≤ K.faults sink.new }
 {
     for (place, race) in races.iter().enumerate() {
         let first = &kept[race.first as usize];
         let second = &kept[race.second as usize];
-        put_race(sink, place as u64 + 1, first, second)?;
+        let number = place as u64 + 1;
+        put_text(
+            sink,
+            buffer,
+            &RaceLine {
+                number,
+                first,
+                second,
+            },
+        )?;
     }
     Ok(())
 }
 
-/// Writes the lines behind those of the races.
-#[tactic(auto, using(er_outside::proofs::Puts::composes))]
-fn put_counts<K: Sink>(
-    sink: &mut K,
-    actions: u64,
-    accesses: u64,
-    pairs: u64,
-    races: u64,
-) -> Result<(), Failed>
-    ensures whole { OnOk result (Gets (K.got sink.old) (closing_lines actions accesses pairs races) (K.got sink.new)) }
-    ensures part { OnErr result (GetsPart (K.got sink.old) (closing_lines actions accesses pairs races) (K.got sink.new)) }
-    ensures cause { OnErr result (Rose (K.faults sink.old) (K.faults sink.new)) }
-    ensures count { K.faults sink.old ≤ K.faults sink.new }
-{
-    put_count(sink, "actions", actions)?;
-    put_count(sink, "accesses", accesses)?;
-    put_count(sink, "pairs", pairs)?;
-    put_count(sink, "races", races)?;
-    put_all(sink, b"end\n")
-}
-
 /// Writes the numbers of the report, and its races.
-#[tactic(auto, using(er_outside::proofs::Puts::composes, crate::proofs::ReportLemmas::as_many_pairs))]
+#[tactic(auto, using(er_outside::proofs::Puts::composes))]
 pub(crate) fn write_report<K: Sink>(
     sink: &mut K,
     actions: u64,
@@ -180,20 +234,28 @@ pub(crate) fn write_report<K: Sink>(
     ensures cause { OnErr result (Rose (K.faults sink.old) (K.faults sink.new)) }
     ensures count { K.faults sink.old ≤ K.faults sink.new }
 {
-    put_count(sink, "report", 1)?;
-    put_races(sink, kept, races)?;
-    put_counts(sink, actions, kept.len() as u64, pairs, races.len() as u64)
+    let mut buffer = Buffer::new();
+    put_text(sink, &mut buffer, &Opening)?;
+    put_races(sink, &mut buffer, kept, races)?;
+    let closing = Closing {
+        actions,
+        accesses: kept.len() as u64,
+        pairs,
+        races: races.len() as u64,
+    };
+    put_text(sink, &mut buffer, &closing)?;
+    flush(sink, &mut buffer)
 }
 
 /// Writes the line of a refusal.
-#[tactic(auto, using(er_outside::proofs::Puts::composes, crate::proofs::ReportLemmas::refusal_pieces))]
+#[tactic(auto, using(er_outside::proofs::Puts::composes))]
 pub(crate) fn write_refusal<K: Sink>(sink: &mut K, line: u32, cause: Cause) -> Result<(), Failed>
     ensures whole { OnOk result (Gets (K.got sink.old) (refusal line cause) (K.got sink.new)) }
     ensures part { OnErr result (GetsPart (K.got sink.old) (refusal line cause) (K.got sink.new)) }
     ensures cause { OnErr result (Rose (K.faults sink.old) (K.faults sink.new)) }
     ensures count { K.faults sink.old ≤ K.faults sink.new }
 {
-    put_word(sink, "refused")?;
-    put_field(sink, line as u64)?;
-    end_with_word(sink, cause.name())
+    let mut buffer = Buffer::new();
+    put_text(sink, &mut buffer, &Refusal { line, cause })?;
+    flush(sink, &mut buffer)
 }

@@ -51,7 +51,7 @@ pub(crate) fn judge(alloc: Global, records: &[Record]) -> Result<Session, JudgeF
             let at = at as u32;
             return Err(JudgeFault::Refused { at, cause });
         }
-        let Ok(()) = session.apply(alloc, rec) else {
+        let Ok(()) = session.apply(rec) else {
             return Err(JudgeFault::NoMemory);
         };
     }
@@ -88,14 +88,14 @@ impl Session {
     }
 
     /// Takes the next record, which `check` accepts.
-    pub(crate) fn apply(&mut self, alloc: Global, rec: &Record) -> Result<(), NoMemory>
+    pub(crate) fn apply(&mut self, rec: &Record) -> Result<(), NoMemory>
         requires next { IsNext self.old rec.now }
         requires room { self.old.records + 2 < 2 ^ 32 }
         ensures { OnOk result ((h : List Record) → StandsFor self.old h → naming.cause_of h rec.now ≡ None → StandsFor self.new (rec.now ∷ h)) }
     {
         match rec {
-            Record::Parse { doc, element, .. } => self.parse(alloc, *doc, *element),
-            Record::Timer { timeout } => self.fire(alloc, *timeout),
+            Record::Parse { doc, element, .. } => self.parse(*doc, *element),
+            Record::Timer { timeout } => self.fire(*timeout),
             Record::Set { timeout, delay } => self.set(*timeout, *delay),
             Record::Access { mode, loc } => self.access(*mode, loc),
             _ => unreachable!(),
@@ -104,12 +104,12 @@ impl Session {
 
     /// Takes a parse step.
     #[tactic(auto, using(crate::proofs::SessionLemmas::events_numbered, crate::proofs::SessionLemmas::events_sized, crate::proofs::SessionLemmas::events_few))]
-    fn parse(&mut self, alloc: Global, doc: u32, element: u32) -> Result<(), NoMemory>
+    fn parse(&mut self, doc: u32, element: u32) -> Result<(), NoMemory>
         requires known { IsSession self.old }
         requires room { self.old.records + 2 < 2 ^ 32 }
         ensures { OnOk result ((h : List Record) (kind : Kind) → StandsFor self.old h → StandsFor self.new (records.Parse doc element kind ∷ h)) }
     {
-        self.events.begin(alloc, What::ParseStep { doc })?;
+        self.events.begin(What::ParseStep { doc })?;
         self.names.parse(element)?;
         self.records += 1;
         Ok(())
@@ -117,7 +117,7 @@ impl Session {
 
     /// Takes the callback of a timeout.
     #[tactic(auto, using(crate::proofs::SessionLemmas::events_numbered, crate::proofs::SessionLemmas::events_sized, crate::proofs::SessionLemmas::events_few, crate::proofs::SessionLemmas::next_known))]
-    fn fire(&mut self, alloc: Global, timeout: u32) -> Result<(), NoMemory>
+    fn fire(&mut self, timeout: u32) -> Result<(), NoMemory>
         requires next { IsNext self.old (records.Timer timeout) }
         requires room { self.old.records + 2 < 2 ^ 32 }
         ensures { OnOk result ((h : List Record) → StandsFor self.old h → StandsFor self.new (records.Timer timeout ∷ h)) }
@@ -125,8 +125,7 @@ impl Session {
         let Some(made) = self.names.timeout(timeout) else {
             unreachable!()
         };
-        self.events
-            .begin(alloc, What::TimeoutRun { timeout, made })?;
+        self.events.begin(What::TimeoutRun { timeout, made })?;
         self.names.fire(timeout)?;
         self.records += 1;
         Ok(())
