@@ -82,6 +82,11 @@ same_first x y a b first second e =
     let same : a_line (spelling x) a ≡ a_line (spelling y) b = (sym (whole_record x a first) ∙ ap whole_line e) ∙ whole_record y b second in
     (one_record x y first second (ap bytes_of same), ap rest_of same)
 
+no_record_is_end : (x : Record) (later : List ℕ) → IsRecord x → line end_word ≡ line (spelling x) ++ later → ⊥
+no_record_is_end x later is e =
+    let same : a_line end_word [] ≡ a_line (spelling x) later = (sym (whole_end []) ∙ ap whole_line (append-nil (line end_word) ∙ e)) ∙ whole_record x later is in
+    spelling_is_no_end x is (sym (ap bytes_of same))
+
 lines_once : (a b : List Record) (number : ℕ) (r s : List ℕ) (p q : Stop) → AllByRecursion IsRecord a → AllByRecursion IsRecord b → lines a ++ r ≡ lines b ++ s
     → number + length a ≤ most_lines + 1 → number + length b ≤ most_lines + 1 → StopsAt (number + length a) r p → StopsAt (number + length b) s q → (a ≡ b) × (p ≡ q)
 lines_once [] [] number r s p q first second e few_a few_b stops_a stops_b =
@@ -203,5 +208,25 @@ not_refused_by bytes records place c behind (PastEnd later some other n is) =
 pub trace_not_refused : (bytes : List ℕ) (records : List Record) (place : Place) (c : Cause) → IsTrace records → bytes ≡ text records → Refuses bytes place c → ⊥
 trace_not_refused bytes records place c is e h = not_refused_by bytes records place c (trace_behind bytes records is e) (refusal bytes place c h)
 
+-- no record is spelled as the end, so both lists end at once
+one_lines : (a b : List Record) → AllByRecursion IsRecord a → AllByRecursion IsRecord b → lines a ++ line end_word ≡ lines b ++ line end_word → a ≡ b
+one_lines [] [] first second e = refl
+one_lines [] (y ∷ b) first second e =
+    absurd (no_record_is_end y (lines b ++ line end_word) second.0 (e ∙ append_assoc (line (spelling y)) (lines b) (line end_word)))
+one_lines (x ∷ a) [] first second e =
+    absurd (no_record_is_end x (lines a ++ line end_word) first.0 (sym e ∙ append_assoc (line (spelling x)) (lines a) (line end_word)))
+one_lines (x ∷ a) (y ∷ b) first second e =
+    let apart : line (spelling x) ++ (lines a ++ line end_word) ≡ line (spelling y) ++ (lines b ++ line end_word) = (sym (append_assoc (line (spelling x)) (lines a) (line end_word)) ∙ e) ∙ append_assoc (line (spelling y)) (lines b) (line end_word) in
+    let same : (x ≡ y) × (lines a ++ line end_word ≡ lines b ++ line end_word) = same_first x y (lines a ++ line end_word) (lines b ++ line end_word) first.0 second.0 apart in
+    let later : a ≡ b = one_lines a b first.1 second.1 same.1 in
+    cc
+
+-- one text has one list of records
+pub one_text : (a b : List Record) → AllByRecursion IsRecord a → AllByRecursion IsRecord b → text a ≡ text b → a ≡ b
+one_text a b first second e =
+    one_lines a b first second
+    (append_cancel_left (line header) (lines a ++ line end_word) (lines b ++ line end_word)
+    ((sym (append_assoc (line header) (lines a) (line end_word)) ∙ e) ∙ append_assoc (line header) (lines b) (line end_word)))
+
 pub one_trace : (a b : List Record) → IsTrace a → IsTrace b → text a ≡ text b → a ≡ b
-one_trace a b first second e = (behind_once (text a) a b (AtEnd []) (AtEnd []) (trace_behind (text a) a first refl) (trace_behind (text a) b second e)).0
+one_trace a b first second e = one_text a b first.each second.each e

@@ -1,13 +1,13 @@
 -- Writing items one after the other.
-use Rattle.std.proofs.Common.{◌≡◌, ℕ, ◌+◌, ◌<◌, ◌≤◌, List, [], ◌∷◌, ◌++◌, length, take, drop, get_or, Option, Ok, Err, ap, sym, ◌∙◌, arith, append_assoc, append-nil}
-use Rattle.std.specs.Prelude.{Result, OnErr}
-use Rattle.std.specs.List.{flat_map}
+use Rattle.std.proofs.Common.{◌≡◌, ℕ, zero, suc, ◌+◌, ◌<◌, ◌≤◌, List, [], ◌∷◌, ◌++◌, length, take, drop, get_or, Option, Ok, Err, ap, sym, ◌∙◌, arith, refl, append_assoc, append-nil}
+use Rattle.std.specs.Prelude.{Result, OnErr, map}
+use Rattle.std.specs.List.{AllByRecursion, flat_map}
 use Rattle.std.proofs.lemmas.Grind.{common_steps, flat_map-append}
 use Rattle.std.proofs.lemmas.List.{take-append-drop, take_all}
 use Rattle.er_outside.specs.Ends.{Gets, GetsPart}
 use Rattle.er_outside.proofs.Puts.{gets_again, gets_part_later, gets_part_first}
 use Rattle.er_trace.specs.declared.print.Token.{Token}
-use Rattle.er_trace.specs.Items.{item_spelling}
+use Rattle.er_trace.specs.Items.{IsItem, item_spelling}
 use Rattle.er_trace.specs.Tokens.{token_item, tokens_spelling}
 
 pub part_first_byte : (old new : Option (List ℕ)) (b : ℕ) (more : List ℕ) → GetsPart old (b ∷ []) new → GetsPart old (b ∷ more) new
@@ -36,6 +36,17 @@ later_more : (later : List Token) (i : ℕ) (t : Token) → i < length later →
 later_more later i t within is =
     let front : take (i + 1) later ≡ take i later ++ t ∷ [] = grind (arith, common_steps) in
     (ap later_spelling front ∙ flat_map-append next_spelling (take i later) (t ∷ [])) ∙ ap (λ l. later_spelling (take i later) ++ l) (append-nil (next_spelling t))
+
+-- each of items that fit fits
+pub token_fits : (later : List Token) (i : ℕ) (t : Token) → i < length later → AllByRecursion IsItem (map token_item later) → IsItem (token_item (get_or later i t))
+token_fits [] i t within fit = absurd (omega arith)
+token_fits (u ∷ later) zero t within fit = fit.0
+token_fits (u ∷ later) (suc i) t within fit = token_fits later i t (omega arith) fit.1
+
+pub same_token : (later : List Token) (i : ℕ) (t : Token) → i < length later → get_or later i t ≡ get_or later i (get_or later i t)
+same_token [] i t within = refl
+same_token (u ∷ later) zero t within = refl
+same_token (u ∷ later) (suc i) t within = same_token later i t (omega arith)
 
 pub tokens_none : (old new : Option (List ℕ)) (word : List ℕ) → Gets old word new → Gets old (word ++ []) new
 tokens_none old new word h = rw (append-nil word) h

@@ -2,7 +2,7 @@
 use Rattle.std.specs.Prelude.{◌≡◌, ◌≢◌, ℕ, ◌+◌, ◌≤◌, Bool, ◌&&◌, nat_lt, List, [], ◌∷◌, ◌++◌, length, take, codes, if◌then◌else◌, Result, Err, MatchResult, MatchBool}
 use Rattle.std.specs.List.{AllByRecursion, flat_map}
 use Rattle.std.specs.Option.{ok_or}
-use Rattle.er_text.specs.Bytes.{has_no_lf}
+use Rattle.er_text.specs.Bytes.{line_end, has_no_lf}
 use Rattle.er_text.specs.Lines.{first_line}
 use Rattle.er_text.specs.declared.causes.Cause.{Cause}
 use Rattle.er_text.specs.declared.causes.Cause.TheVariants.{BadHeader, LongLine, BadRecord, NoEnd, AfterEnd, TooManyLines}
@@ -24,7 +24,7 @@ end_word = codes "end"
 
 -- a line and its LF
 abbrev pub line : List ℕ → List ℕ
-line bytes = bytes ++ 10 ∷ []
+line bytes = bytes ++ line_end ∷ []
 
 abbrev pub lines : List Record → List ℕ
 lines records = flat_map (λ x. line (spelling x)) records
@@ -69,13 +69,27 @@ whole_line bytes = if is_long bytes then Err LongLine else ok_or (first_line byt
 abbrev pub SpellsNone : List ℕ → Type 0
 SpellsNone bytes = (x : Record) → IsRecord x → bytes ≡ spelling x → ⊥
 
--- why the line of that number, with these bytes from it on, is neither a record nor the end: the first cause that applies
+-- Why the line of that number, with these bytes from it on, is neither a record nor the end: the first cause that applies.
 abbrev pub RecordCause : ℕ → List ℕ → Cause → Type 0
-RecordCause number rest c = MatchBool (nat_lt most_lines number && nat_lt 0 (length rest)) (c ≡ TooManyLines) (MatchResult (whole_line rest) (λ l. (l.0 ≢ end_word) × SpellsNone l.0 × (c ≡ BadRecord)) (λ why. c ≡ why))
+RecordCause number rest c =
+    MatchBool (nat_lt most_lines number && nat_lt 0 (length rest))
+    (c ≡ TooManyLines)
+    (MatchResult (whole_line rest)
+    (λ l. (l.0 ≢ end_word) × SpellsNone l.0 × (c ≡ BadRecord))
+    (λ why. c ≡ why))
 
--- why the line that begins there, with these bytes from it on, is no line of a trace
+-- Why the line that begins there, with these bytes from it on, is no line of a trace: the first of these that applies.
+-- after-end: there are bytes after the `end` line
+-- too-many-lines: there are bytes, and the number of the line is above the most
+-- long-line: more bytes than a line may have come without an LF
+-- no-end: no LF comes, also where there are no bytes
+-- bad-header: the first line is not the header
+-- bad-record: a later line is neither the `end` line nor how a record is spelled
 abbrev pub LineCause : Place → List ℕ → Cause → Type 0
-LineCause Start rest c = MatchResult (whole_line rest) (λ l. (l.0 ≢ header) × (c ≡ BadHeader)) (λ why. c ≡ why)
+LineCause Start rest c =
+    MatchResult (whole_line rest)
+    (λ l. (l.0 ≢ header) × (c ≡ BadHeader))
+    (λ why. c ≡ why)
 LineCause (After records) rest c = RecordCause (length records + 2) rest c
 LineCause (Ended records) rest c = (rest ≢ []) × (c ≡ AfterEnd)
 

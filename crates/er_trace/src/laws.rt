@@ -2,6 +2,7 @@
 //! contract is the law.
 
 ghost use Rattle.std.specs.Prelude.{◌≡◌, ℕ, List};
+ghost use Rattle.std.specs.List.{AllByRecursion};
 ghost use Rattle.er_text.specs.declared.causes.Cause.{Cause};
 ghost use Rattle.er_trace.specs.declared.record.Record.{Record};
 ghost use Rattle.er_trace.specs.Spelling.{spelling, IsRecord};
@@ -12,9 +13,9 @@ pub fn one_record()
     ensures { (x y : Record) → IsRecord x → IsRecord y → spelling x ≡ spelling y → x ≡ y }
 {}
 
-/// One text has one trace.
+/// One text has one list of records, however many they are.
 pub fn one_trace()
-    ensures { (a b : List Record) → IsTrace a → IsTrace b → text a ≡ text b → a ≡ b }
+    ensures { (a b : List Record) → AllByRecursion IsRecord a → AllByRecursion IsRecord b → text a ≡ text b → a ≡ b }
 {}
 
 /// Bytes are refused at one line, for one cause, with the same records before it. The text of a

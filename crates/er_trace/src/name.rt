@@ -1,7 +1,7 @@
 //! Names: of variables, of event types, of handler slots.
 
 ghost use Rattle.std.specs.Prelude.{◌≡◌, ℕ, List, length, IfOk, ◌≤◌};
-ghost use Rattle.er_text.specs.Name.{most_name};
+ghost use Rattle.er_text.specs.Name.{most_name, IsName};
 
 use er_outside::NoMemory;
 use er_text::NameWord;
@@ -15,14 +15,14 @@ pub struct Name {
 }
 
 impl Model for Name {
-    ghost use Rattle.std.specs.Prelude.{ℕ, List, length, ◌≤◌};
-    ghost use Rattle.er_text.specs.Name.{most_name};
+    ghost use Rattle.std.specs.Prelude.{ℕ, List};
+    ghost use Rattle.er_text.specs.Name.{IsName};
 
     ghost Value = { List ℕ };
 
     ghost view = { λ name. name.bytes.items };
 
-    ghost invariant = { λ name. (1 ≤ length name.bytes.items) × (length name.bytes.items ≤ most_name) };
+    ghost invariant = { λ name. IsName name.bytes.items };
 }
 
 impl Name {
@@ -54,6 +54,7 @@ impl Name {
     /// Its bytes.
     pub fn bytes(&self) -> &[u8]
         ensures value { result.now ≡ self.now }
+        ensures name { IsName self.now }
         ensures some { 1 ≤ length result.now }
         ensures few { length result.now ≤ most_name }
     {

@@ -54,7 +54,9 @@ fn read_form(alloc: Global, head: Head, words: &mut Words) -> Result<Record, Lin
     }
 }
 
-/// The record that is spelled so. `BadRecord` comes where none is.
+/// The record that is spelled so. `BadRecord` comes where none is. Each printed record parses
+/// back: it has a spelling (`fits` of [`crate::print::print_record`]), and its spelling gives it
+/// again (`exact`), memory allowing.
 pub fn parse_record(alloc: Global, line: &[u8]) -> Result<Record, LineFault>
     ensures read { IfOk result (λ x. IsRecord x × (line.now ≡ spelling x)) }
     ensures exact { (x : Record) → IsRecord x → line.now ≡ spelling x → (result ≡ Ok x) ⊎ (result ≡ Err LineFault.NoMemory) }

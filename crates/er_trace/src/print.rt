@@ -1,9 +1,11 @@
 //! Writing records as they are spelled.
 
-ghost use Rattle.std.specs.Prelude.{ℕ, ◌≤◌, List, [], ◌∷◌, decimal, OnOk, OnErr, codes};
+ghost use Rattle.std.specs.Prelude.{ℕ, ◌≤◌, List, [], ◌∷◌, map, decimal, OnOk, OnErr, codes};
+ghost use Rattle.std.specs.List.{AllByRecursion};
 ghost use Rattle.er_outside.specs.Ends.{Gets, GetsPart, Rose};
-ghost use Rattle.er_trace.specs.Items.{item_spelling, items_spelling, Word, Number, Named};
-ghost use Rattle.er_trace.specs.Spelling.{loc_spelling, loc_items, mode_word, spelling};
+ghost use Rattle.er_text.specs.Name.{IsName};
+ghost use Rattle.er_trace.specs.Items.{IsItem, item_spelling, items_spelling, Word, Number, Named};
+ghost use Rattle.er_trace.specs.Spelling.{loc_spelling, loc_items, mode_word, spelling, IsLoc, IsRecord};
 ghost use Rattle.er_trace.specs.Tokens.{token_item, tokens_spelling};
 
 use crate::name::Name;
@@ -16,10 +18,11 @@ use er_text::{put_name, put_number};
 enum Token<'a> {
     Text(&'a str),
     Number(u32),
-    Named(&'a Name),
+    Named(&'a [u8]),
 }
 
 fn put_token<K: Sink>(sink: &mut K, token: &Token) -> Result<(), Failed>
+    requires { IsItem (token_item token.now) }
     ensures whole { OnOk result (Gets (K.got sink.old) (item_spelling (token_item token.now)) (K.got sink.new)) }
     ensures part { OnErr result (GetsPart (K.got sink.old) (item_spelling (token_item token.now)) (K.got sink.new)) }
     ensures cause { OnErr result (Rose (K.faults sink.old) (K.faults sink.new)) }
@@ -28,13 +31,14 @@ fn put_token<K: Sink>(sink: &mut K, token: &Token) -> Result<(), Failed>
     match token {
         Token::Text(word) => put_all(sink, word.as_bytes()),
         Token::Number(number) => put_number(sink, *number as u64),
-        Token::Named(name) => put_name(sink, name.bytes()),
+        Token::Named(name) => put_name(sink, name),
     }
 }
 
 /// Writes a space and the item.
 #[tactic(auto, using(crate::proofs::PrintLaws::after_byte, er_outside::proofs::Puts::composes))]
 fn put_next<K: Sink>(sink: &mut K, token: &Token) -> Result<(), Failed>
+    requires { IsItem (token_item token.now) }
     ensures whole { OnOk result (Gets (K.got sink.old) (32 ∷ item_spelling (token_item token.now)) (K.got sink.new)) }
     ensures part { OnErr result (GetsPart (K.got sink.old) (32 ∷ item_spelling (token_item token.now)) (K.got sink.new)) }
     ensures cause { OnErr result (Rose (K.faults sink.old) (K.faults sink.new)) }
@@ -45,8 +49,9 @@ fn put_next<K: Sink>(sink: &mut K, token: &Token) -> Result<(), Failed>
 }
 
 /// Writes the word and the items, with single spaces between.
-#[tactic(auto, using(crate::proofs::PrintLaws::tokens_writes, er_outside::proofs::Puts::composes))]
+#[tactic(auto, using(crate::proofs::PrintLaws::tokens_writes, crate::proofs::PrintLaws::token_fits, er_outside::proofs::Puts::composes))]
 fn put_tokens<K: Sink>(sink: &mut K, word: &str, later: &[Token]) -> Result<(), Failed>
+    requires { AllByRecursion IsItem (map token_item later.now) }
     ensures whole { OnOk result (Gets (K.got sink.old) (tokens_spelling word.now later.now) (K.got sink.new)) }
     ensures part { OnErr result (GetsPart (K.got sink.old) (tokens_spelling word.now later.now) (K.got sink.new)) }
     ensures cause { OnErr result (Rose (K.faults sink.old) (K.faults sink.new)) }
@@ -97,6 +102,7 @@ fn put_two_and_name<K: Sink>(
     b: u32,
     name: &Name,
 ) -> Result<(), Failed>
+    ensures name { IsName name.now }
     ensures whole { OnOk result (Gets (K.got sink.old) (items_spelling (Word word.now ∷ Number a ∷ Number b ∷ Named name.now ∷ [])) (K.got sink.new)) }
     ensures part { OnErr result (GetsPart (K.got sink.old) (items_spelling (Word word.now ∷ Number a ∷ Number b ∷ Named name.now ∷ [])) (K.got sink.new)) }
     ensures cause { OnErr result (Rose (K.faults sink.old) (K.faults sink.new)) }
@@ -105,7 +111,11 @@ fn put_two_and_name<K: Sink>(
     put_tokens(
         sink,
         word,
-        &[Token::Number(a), Token::Number(b), Token::Named(name)],
+        &[
+            Token::Number(a),
+            Token::Number(b),
+            Token::Named(name.bytes()),
+        ],
     )
 }
 
@@ -157,16 +167,22 @@ fn put_frame<K: Sink>(
 }
 
 fn put_located<K: Sink>(sink: &mut K, word: &str, number: u32, name: &Name) -> Result<(), Failed>
+    ensures name { IsName name.now }
     ensures whole { OnOk result (Gets (K.got sink.old) (items_spelling (Word word.now ∷ Number number ∷ Named name.now ∷ [])) (K.got sink.new)) }
     ensures part { OnErr result (GetsPart (K.got sink.old) (items_spelling (Word word.now ∷ Number number ∷ Named name.now ∷ [])) (K.got sink.new)) }
     ensures cause { OnErr result (Rose (K.faults sink.old) (K.faults sink.new)) }
     ensures count { K.faults sink.old ≤ K.faults sink.new }
 {
-    put_tokens(sink, word, &[Token::Number(number), Token::Named(name)])
+    put_tokens(
+        sink,
+        word,
+        &[Token::Number(number), Token::Named(name.bytes())],
+    )
 }
 
-/// Writes the location as it is spelled.
+/// Writes the location as it is spelled. Any location can be printed (`fits`).
 pub fn print_loc<K: Sink>(loc: &Loc, sink: &mut K) -> Result<(), Failed>
+    ensures fits { IsLoc loc.now }
     ensures whole { OnOk result (Gets (K.got sink.old) (loc_spelling loc.now) (K.got sink.new)) }
     ensures part { OnErr result (GetsPart (K.got sink.old) (loc_spelling loc.now) (K.got sink.new)) }
     ensures cause { OnErr result (Rose (K.faults sink.old) (K.faults sink.new)) }
@@ -186,6 +202,7 @@ fn put_access<'a, K: Sink>(
     number: u32,
     name: &'a Name,
 ) -> Result<(), Failed>
+    ensures name { IsName name.now }
     ensures whole { OnOk result (Gets (K.got sink.old) (items_spelling (Word word.now ∷ Word place.now ∷ Number number ∷ Named name.now ∷ [])) (K.got sink.new)) }
     ensures part { OnErr result (GetsPart (K.got sink.old) (items_spelling (Word word.now ∷ Word place.now ∷ Number number ∷ Named name.now ∷ [])) (K.got sink.new)) }
     ensures cause { OnErr result (Rose (K.faults sink.old) (K.faults sink.new)) }
@@ -197,12 +214,13 @@ fn put_access<'a, K: Sink>(
         &[
             Token::Text(place),
             Token::Number(number),
-            Token::Named(name),
+            Token::Named(name.bytes()),
         ],
     )
 }
 
 fn print_access<K: Sink>(mode: Mode, loc: &Loc, sink: &mut K) -> Result<(), Failed>
+    ensures fits { IsLoc loc.now }
     ensures whole { OnOk result (Gets (K.got sink.old) (items_spelling (Word (mode_word mode) ∷ loc_items loc.now)) (K.got sink.new)) }
     ensures part { OnErr result (GetsPart (K.got sink.old) (items_spelling (Word (mode_word mode) ∷ loc_items loc.now)) (K.got sink.new)) }
     ensures cause { OnErr result (Rose (K.faults sink.old) (K.faults sink.new)) }
@@ -216,8 +234,11 @@ fn print_access<K: Sink>(mode: Mode, loc: &Loc, sink: &mut K) -> Result<(), Fail
     }
 }
 
-/// Writes the record as it is spelled, without an LF.
+/// Writes the record as it is spelled, without an LF. Any record can be printed (`fits`), and
+/// what is written of it is a line that [`crate::parse::parse_record`] reads back as that record
+/// (its clause `exact`).
 pub fn print_record<K: Sink>(rec: &Record, sink: &mut K) -> Result<(), Failed>
+    ensures fits { IsRecord rec.now }
     ensures whole { OnOk result (Gets (K.got sink.old) (spelling rec.now) (K.got sink.new)) }
     ensures part { OnErr result (GetsPart (K.got sink.old) (spelling rec.now) (K.got sink.new)) }
     ensures cause { OnErr result (Rose (K.faults sink.old) (K.faults sink.new)) }

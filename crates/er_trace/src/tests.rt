@@ -3,7 +3,7 @@
 use crate::fault::{FeedFault, LineFault};
 use crate::name::Name;
 use crate::parse::parse_record;
-use crate::print::print_record;
+use crate::print::{print_loc, print_record};
 use crate::record::{Kind, Loc, Mode, Record};
 use crate::trace::read_whole;
 use er_outside::MemorySink;
@@ -48,7 +48,7 @@ const RECORDS: [&str; 32] = [
 ];
 
 /// Lines that are no record.
-const OTHERS: [&str; 24] = [
+const OTHERS: [&str; 28] = [
     "",
     " ",
     "end",
@@ -73,6 +73,10 @@ const OTHERS: [&str; 24] = [
     "r attr 0 x",
     "x var 0 x",
     "run 7 2 11 4",
+    "w elem 0 %41",
+    "w elem 0 a%2f",
+    "w elem 0 %",
+    "w elem 0",
 ];
 
 /// Whether the line is a record, whose copy is printed as that line.
@@ -123,6 +127,25 @@ fn fields(rt: HostRuntime) -> Result<(), Fail> {
     assert_eq!(rt; name.bytes(), b"a\n".as_slice());
     let named = Name::new(rt.alloc(), b"n").map_err(|_| "memory")?;
     assert_eq!(rt; named.bytes(), b"n".as_slice());
+    let again = named.copy().map_err(|_| "memory")?;
+    assert_eq!(rt; again.bytes(), b"n".as_slice());
+    Ok(())
+}
+
+#[test]
+fn locations(rt: HostRuntime) -> Result<(), Fail> {
+    let access = parse_record(rt.alloc(), b"w elem 0 a%20b").map_err(|_| "access")?;
+    let Record::Access { mode: Mode::W, loc } = access else {
+        return Err("a write".into());
+    };
+    let copied = loc.copy().map_err(|_| "memory")?;
+    let Loc::Elem(0, name) = &copied else {
+        return Err("an element".into());
+    };
+    assert_eq!(rt; name.bytes(), b"a b".as_slice());
+    let mut sink = MemorySink::new(rt.alloc(), 100, 3, Vec::new(rt.alloc())).map_err(|_| "memory")?;
+    print_loc(&copied, &mut sink).map_err(|_| "printed")?;
+    assert_eq!(rt; sink.bytes(), b"elem 0 a%20b".as_slice());
     Ok(())
 }
 

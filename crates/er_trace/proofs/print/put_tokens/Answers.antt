@@ -1,13 +1,13 @@
 use Rattle.er_outside.specs.Ends.{GetsPart}
 use Rattle.er_trace.specs.Tokens.{tokens_spelling}
-use Rattle.er_trace.proofs.PrintLaws.{tokens_part_later, tokens_all, on_err}
+use Rattle.er_trace.proofs.PrintLaws.{tokens_part_later, tokens_all, same_token, on_err}
 use Rattle.er_trace.proofs.print.put_tokens.Goals as goal
 
 pub returns-in_err-put_next-clause-part : goal.returns-in_err-put_next-clause-part
 returns-in_err-put_next-clause-part g c =
     on_err c.from_residual-in_err-put_next.result (GetsPart (g.K.Sink.got c.args.sink.now) (tokens_spelling c.args.word.now c.args.later.now) (g.K.Sink.got c.put_next.new.sink))
-    (tokens_part_later (g.K.Sink.got c.args.sink.now) (g.K.Sink.got c.loop-token.sink) (g.K.Sink.got c.put_next.new.sink) c.args.word.now c.args.later.now c.loop-token.token-index c.token-item.result
-    c.loop-token-test.true c.token-item.is c.loop-token.invariant.whole c.in_err-put_next.ensures.part)
+    (tokens_part_later (g.K.Sink.got c.args.sink.now) (g.K.Sink.got c.loop-token.sink) (g.K.Sink.got c.put_next.new.sink) c.args.word.now c.args.later.now c.loop-token.token-index _
+    c.loop-token-test.true (same_token c.args.later.now c.loop-token.token-index _ c.loop-token-test.true) c.loop-token.invariant.whole c.in_err-put_next.ensures.part)
 
 pub returns-clause-whole : goal.returns-clause-whole
 returns-clause-whole g c =
