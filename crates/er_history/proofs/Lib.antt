@@ -1,1 +1,10 @@
 pub mod HistoryLemmas
+pub mod FactsLemmas
+pub mod NamedLemmas
+pub mod MakersLemmas
+pub mod OrderLemmas
+pub mod DeclaredLemmas
+pub mod ExactLemmas
+pub mod UnfinishedLemmas
+pub mod EventLemmas
+pub mod HandedLemmas

@@ -1,17 +1,39 @@
 -- Edges between actions, and the paths over them, by a table of rules.
-use Rattle.std.specs.Prelude.{ℕ, Bool, ◌&&◌, nat_lt, List, [], ◌∷◌, map, filter}
+use Rattle.std.specs.Prelude.{ℕ, ◌+◌, Bool, false, ◌==◌, ◌&&◌, ◌||◌, nat_lt, List, [], ◌∷◌, map, filter}
 use Rattle.er_trace.specs.declared.record.Record.{Record}
+use Rattle.er_trace.specs.declared.record.Record.TheVariants.{Inline, Back}
 use Rattle.er_paths.specs.Paths.{joins}
-use Rattle.er_history.specs.History.{Action, told}
+use Rattle.er_history.specs.History.{What, CloseOf, Action, told, is_inline}
 use Rattle.er_history.specs.Rules.{Rule, any_holds}
+
+-- the piece that an inline dispatch suspends, and its begin; each piece of its close, and the piece that its `back` begins
+abbrev pub around_inline : Action → Action → Bool
+around_inline i j = by j.begin
+  where
+    closes : ℕ → What → Bool
+    closes p (CloseOf d) = is_inline d && (d.number == p)
+    closes p _ = false
+
+    by : Record → Bool
+    by (Inline p e n) = i.number + 1 == j.number
+    by (Back p) = closes p i.event.what
+    by _ = false
+
+-- two pieces of one event
+abbrev pub of_one_event : Action → Action → Bool
+of_one_event i j = i.event.number == j.event.number
 
 -- the paths among the actions before the n-th
 abbrev pub up_to : ℕ → (ℕ → ℕ → Bool) → ℕ → ℕ → Bool
 up_to n joined i j = nat_lt j n && joined i j
 
--- i was begun first, and a rule holds between their events; the rules are told of the paths among the actions before event j
+-- a rule of the table holds between their events; the rules are told of the paths among the actions before event j
+abbrev pub is_ruled : List (ℕ × Rule) → (ℕ → ℕ → Bool) → Action → Action → Bool
+is_ruled table joined i j = any_holds table (up_to j.event.number joined) i.event j.event
+
+-- i was begun first, and a rule holds between their events, or one of the two on pieces
 abbrev pub edge : List (ℕ × Rule) → (ℕ → ℕ → Bool) → Action → Action → Bool
-edge table joined i j = nat_lt i.number j.number && any_holds table (up_to j.event.number joined) i.event j.event
+edge table joined i j = nat_lt i.number j.number && (is_ruled table joined i j || (around_inline i j || of_one_event i j))
 
 -- the older actions with an edge to j, newest first
 abbrev pub sources : List (ℕ × Rule) → (ℕ → ℕ → Bool) → List Action → Action → List ℕ

@@ -1,5 +1,5 @@
 -- What holds of the actions of a list of records, of the edges between them, and of paths. Lists stand newest first.
-use Rattle.std.specs.Prelude.{◌≡◌, ◌↔◌, ◌⊎◌, ℕ, ◌<◌, true, List, [], ◌∷◌, ◌++◌, length}
+use Rattle.std.specs.Prelude.{◌≡◌, ◌↔◌, ◌⊎◌, ℕ, ◌<◌, ◌≤◌, true, List, [], ◌∷◌, ◌++◌, length}
 use Rattle.er_trace.specs.declared.record.Record.{Record}
 use Rattle.er_paths.specs.Paths.{is_among, list_of, Leads}
 use Rattle.er_paths.specs.Laws.{GoForward}
@@ -30,6 +30,22 @@ LeadsByEdges table h a (c ∷ steps) b = Among c (told h).actions × (edge table
 abbrev pub ActionsAreNumbered : Type 0
 ActionsAreNumbered = (h : List Record) → IsNumbered (told h).actions
 
+-- A piece is of an event that begins with it, or has begun before.
+abbrev pub EventsBeginBefore : Type 0
+EventsBeginBefore = (h : List Record) (a : Action) → Among a (told h).actions → a.event.number ≤ a.number
+
+-- The event of an action is that of the action with the number of the event, its first piece.
+abbrev pub EventsHaveFirstPieces : Type 0
+EventsHaveFirstPieces = (h : List Record) (a : Action) → Among a (told h).actions → (b : Action) × Among b (told h).actions × (b.number ≡ a.event.number) × (b.event ≡ a.event)
+
+-- Later records leave the earlier actions as they are.
+abbrev pub ActionsAreKept : Type 0
+ActionsAreKept = (more h : List Record) → (new : List Action) × ((told (more ++ h)).actions ≡ new ++ (told h).actions)
+
+-- Each record has its entry.
+abbrev pub EntriesAreCounted : Type 0
+EntriesAreCounted = (h : List Record) → length (told h).entries ≡ length h
+
 -- An edge leads from an earlier action to a later one.
 abbrev pub EdgesGoForward : Type 0
 EdgesGoForward = (table : List (ℕ × Rule)) (h : List Record) → GoForward (edges table (told h).actions)
@@ -45,14 +61,18 @@ EdgesJoinActions = (table : List (ℕ × Rule)) (h : List Record) (i j : ℕ) �
     → HasNumber (told h).actions i × HasNumber (told h).actions j
 
 -- There is a path exactly where a list of steps leads from i to j, each by an edge.
-abbrev pub PathsAreChains : Type 0
-PathsAreChains = (table : List (ℕ × Rule)) (h : List Record) (i j : ℕ) → j < length (told h).actions
+abbrev pub PathsLeadOverEdges : Type 0
+PathsLeadOverEdges = (table : List (ℕ × Rule)) (h : List Record) (i j : ℕ) → j < length (told h).actions
     → (path table h i j ≡ true) ↔ ((steps : List ℕ) × Leads (edges table (told h).actions) i steps j)
 
 -- There is a path from a to b exactly where a list of actions leads from a to b, each by an edge.
-abbrev pub PathsAreChainsOfActions : Type 0
-PathsAreChainsOfActions = (table : List (ℕ × Rule)) (h : List Record) (a b : Action) → Among a (told h).actions → Among b (told h).actions
+abbrev pub PathsLeadOverActions : Type 0
+PathsLeadOverActions = (table : List (ℕ × Rule)) (h : List Record) (a b : Action) → Among a (told h).actions → Among b (told h).actions
     → (path table h a.number b.number ≡ true) ↔ ((steps : List Action) × LeadsByEdges table h a steps b)
+
+-- Later records change no list of an earlier action.
+abbrev pub EdgesStay : Type 0
+EdgesStay = (table : List (ℕ × Rule)) (more h : List Record) → (new : List (List ℕ)) × (edges table (told (more ++ h)).actions ≡ new ++ edges table (told h).actions)
 
 -- Later records change no path among the earlier actions.
 abbrev pub PathsStay : Type 0

@@ -1,5 +1,9 @@
-pub mod History
-pub mod Rules
 pub mod Edges
-pub mod Naming
+pub mod Facts
+pub mod Handed
+pub mod History
 pub mod Laws
+pub mod Naming
+pub mod Rules
+pub mod Sound
+pub mod Unfinished

@@ -1,67 +1,193 @@
--- Which records are legal after the earlier ones. Lists of records stand newest first.
-use Rattle.std.specs.Prelude.{◌≡◌, ℕ, Bool, true, false, not, ◌==◌, ◌&&◌, ◌||◌, if◌then◌else◌, List, [], ◌∷◌, Option, Some, None}
+-- Which records naming and nesting accept after the earlier ones, and where room ends. Lists of records stand newest first.
+use Rattle.std.specs.Prelude.{◌≡◌, ℕ, Bool, true, false, not, ◌==◌, ◌&&◌, ◌||◌, nat_lt, if◌then◌else◌, List, [], ◌∷◌, length, filter, Option, Some, None}
 use Rattle.std.specs.List.{list_any}
 use Rattle.er_text.specs.declared.causes.Cause.{Cause}
-use Rattle.er_text.specs.declared.causes.Cause.TheVariants.{BadRecord, Unknown, Again}
+use Rattle.er_text.specs.declared.causes.Cause.TheVariants.{Unknown, Again, NotScript, Misplaced, TooManyActions, TooDeep}
 use Rattle.er_trace.specs.declared.record.Record.{Record}
-use Rattle.er_trace.specs.declared.record.Record.TheVariants.{Parse, Timer, Set, Access}
+use Rattle.er_trace.specs.declared.record.Record.TheVariants.{Parse, ParseFrame, Exec, Timer, Tick, Dcl, Load, Eload, Fire, Wfire, Reply, Inline, Run, Close, Back, New, NewFrame, On, Set, Every, Send}
+use Rattle.er_trace.specs.declared.record.Kind.{Kind}
 use Rattle.er_trace.specs.declared.record.Kind.TheVariants as kinds
-use Rattle.er_trace.specs.declared.record.Loc.TheVariants.{Var}
-
--- the forms of record whose rules are built
-abbrev pub is_built : Record → Bool
-is_built (Parse d e kinds.Plain) = true
-is_built (Set t delay) = true
-is_built (Timer t) = true
-is_built (Access m (Var o n)) = true
-is_built _ = false
-
-abbrev pub is_parse : Record → Bool
-is_parse (Parse d e k) = true
-is_parse _ = false
-
-abbrev pub is_first : List Record → Bool
-is_first [] = true
-is_first (x ∷ h) = false
+use Rattle.er_history.specs.History.{begins, declares_document, declares_handler, declares_interval, declares_request, makes_element, first_to, Form, Kinded, Framing, Element, History, told, Open, is_inline, running, What, ScriptRun, TimeoutRun, TickRun, HandlerOf, CloseOf, Action}
 
 abbrev pub declares_element : ℕ → Record → Bool
-declares_element n (Parse d e k) = e == n
-declares_element n _ = false
+declares_element number (Parse d e k) = e == number
+declares_element number (ParseFrame d e f) = e == number
+declares_element number (New d e k) = e == number
+declares_element number (NewFrame d e f) = e == number
+declares_element number _ = false
 
 abbrev pub sets_timeout : ℕ → Record → Bool
-sets_timeout n (Set t delay) = t == n
-sets_timeout n _ = false
+sets_timeout number (Set t n) = t == number
+sets_timeout number _ = false
+
+abbrev pub begins_dispatch : ℕ → Record → Bool
+begins_dispatch number (Dcl p d) = p == number
+begins_dispatch number (Load p d) = p == number
+begins_dispatch number (Eload p e) = p == number
+begins_dispatch number (Fire p e n) = p == number
+begins_dispatch number (Wfire p d n) = p == number
+begins_dispatch number (Reply p r) = p == number
+begins_dispatch number (Inline p e n) = p == number
+begins_dispatch number _ = false
+
+abbrev pub runs_script : ℕ → Record → Bool
+runs_script number (Exec e) = e == number
+runs_script number _ = false
 
 abbrev pub fires_timeout : ℕ → Record → Bool
-fires_timeout n (Timer t) = t == n
-fires_timeout n _ = false
+fires_timeout number (Timer t) = t == number
+fires_timeout number _ = false
 
--- it is of no form that is built, or comes first and is no parse step
-abbrev pub unbuilt : List Record → Record → Bool
-unbuilt h x = not (is_built x) || (is_first h && not (is_parse x))
+abbrev pub is_dcl : ℕ → Record → Bool
+is_dcl number (Dcl p d) = d == number
+is_dcl number _ = false
 
--- it uses a number that no earlier record declared; document 0 is known from the start
+abbrev pub is_load : ℕ → Record → Bool
+is_load number (Load p d) = d == number
+is_load number _ = false
+
+abbrev pub is_eload : ℕ → Record → Bool
+is_eload number (Eload p e) = e == number
+is_eload number _ = false
+
+-- document 0 is known from the start
+abbrev pub knows_document : List Record → ℕ → Bool
+knows_document h d = (d == 0) || list_any (declares_document d) h
+
+-- the record uses a number that no earlier record declared
 abbrev pub unknown : List Record → Record → Bool
-unknown h (Parse d e k) = not (d == 0)
+unknown h (Parse d e k) = not (knows_document h d)
+unknown h (ParseFrame d e f) = not (knows_document h d)
+unknown h (New d e k) = not (knows_document h d)
+unknown h (NewFrame d e f) = not (knows_document h d)
+unknown h (Dcl p d) = not (knows_document h d)
+unknown h (Load p d) = not (knows_document h d)
+unknown h (Wfire p d n) = not (knows_document h d)
+unknown h (Exec e) = not (list_any (declares_element e) h)
+unknown h (Eload p e) = not (list_any (declares_element e) h)
+unknown h (Fire p e n) = not (list_any (declares_element e) h)
+unknown h (Inline p e n) = not (list_any (declares_element e) h)
 unknown h (Timer t) = not (list_any (sets_timeout t) h)
+unknown h (Tick i) = not (list_any (declares_interval i) h)
+unknown h (Reply p r) = not (list_any (declares_request r) h)
+unknown h (Run p g x) = not (list_any (begins_dispatch p) h) || not (list_any (declares_handler x) h)
+unknown h (Close p) = not (list_any (begins_dispatch p) h)
+unknown h (Back p) = not (list_any (begins_dispatch p) h)
 unknown h _ = false
 
 -- it declares or starts what was declared or started before
 abbrev pub again : List Record → Record → Bool
 again h (Parse d e k) = list_any (declares_element e) h
-again h (Set t delay) = list_any (sets_timeout t) h
+again h (ParseFrame d e f) = list_any (declares_element e) h || knows_document h f
+again h (New d e k) = list_any (declares_element e) h
+again h (NewFrame d e f) = list_any (declares_element e) h || knows_document h f
+again h (Exec e) = list_any (runs_script e) h
 again h (Timer t) = list_any (fires_timeout t) h
+again h (Dcl p d) = list_any (begins_dispatch p) h || list_any (is_dcl d) h
+again h (Load p d) = list_any (begins_dispatch p) h || list_any (is_load d) h
+again h (Eload p e) = list_any (begins_dispatch p) h || list_any (is_eload e) h
+again h (Fire p e n) = list_any (begins_dispatch p) h
+again h (Wfire p d n) = list_any (begins_dispatch p) h
+again h (Reply p r) = list_any (begins_dispatch p) h
+again h (Inline p e n) = list_any (begins_dispatch p) h
+again h (On x) = list_any (declares_handler x) h
+again h (Set t n) = list_any (sets_timeout t) h
+again h (Every i n) = list_any (declares_interval i) h
+again h (Send r) = list_any (declares_request r) h
 again h _ = false
+
+abbrev pub is_script : Option Element → Bool
+is_script None = false
+is_script (Some e) = of e.form
+  where
+    kind : Kind → Bool
+    kind kinds.Plain = false
+    kind kinds.Image = false
+    kind _ = true
+
+    of : Form → Bool
+    of (Kinded k) = kind k
+    of (Framing f) = false
+
+-- it runs an element that is no script
+abbrev pub not_script : History → Record → Bool
+not_script h (Exec e) = not (is_script (first_to (makes_element e) h.entries))
+not_script h _ = false
+
+abbrev pub has_open : List Open → Bool
+has_open [] = false
+has_open (o ∷ below) = true
+
+-- dispatch p is on top of the stack, and its close has or has not begun
+abbrev pub is_top : Bool → ℕ → List Open → Bool
+is_top closing p [] = false
+is_top true p (o ∷ below) = (o.dispatch.number == p) && o.closing
+is_top false p (o ∷ below) = (o.dispatch.number == p) && not o.closing
+
+-- the running action can call an inline dispatch: it is of a script run, a timeout, a tick, a handler or a close
+abbrev pub may_call : Option Action → Bool
+may_call None = false
+may_call (Some a) = by a.event.what
+  where
+    by : What → Bool
+    by (ScriptRun e made) = true
+    by (TimeoutRun t made) = true
+    by (TickRun i m) = true
+    by (HandlerOf p g x m) = true
+    by (CloseOf p) = true
+    by _ = false
+
+abbrev pub runs : Option Action → Bool
+runs None = false
+runs (Some a) = true
+
+-- it is not allowed at this point of the nesting
+abbrev pub misplaced : History → Record → Bool
+misplaced h (Inline p e n) = not (may_call (running h.actions))
+misplaced h (Run p g x) = not (is_top false p h.stack)
+misplaced h (Close p) = not (is_top false p h.stack)
+misplaced h (Back p) = not (is_top true p h.stack)
+misplaced h x = if begins x then has_open h.stack else not (runs (running h.actions))
 
 abbrev pub first_cause : List (Bool × Cause) → Option Cause
 first_cause [] = None
 first_cause (c ∷ cs) = if c.0 then Some c.1 else first_cause cs
 
--- the first cause for which the record is refused after the earlier ones
-abbrev pub cause_of : List Record → Record → Option Cause
-cause_of h x = first_cause ((unbuilt h x, BadRecord) ∷ (unknown h x, Unknown) ∷ (again h x, Again) ∷ [])
+-- the first cause of naming and nesting
+abbrev pub naming : List Record → Record → Option Cause
+naming h x = first_cause ((unknown h x, Unknown) ∷ (again h x, Again) ∷ (not_script (told h) x, NotScript) ∷ (misplaced (told h) x, Misplaced) ∷ [])
 
--- each record has no cause after those before it
-abbrev pub IsLegal : List Record → Type 0
-IsLegal [] = Unit {0}
-IsLegal (x ∷ h) = (cause_of h x ≡ None) × IsLegal h
+-- Until inline dispatches are built, one that is neither unknown nor again is misplaced.
+abbrev pub misplaced_now : History → Record → Bool
+misplaced_now h (Inline p e n) = true
+misplaced_now h x = misplaced h x
+
+abbrev pub naming_now : List Record → Record → Option Cause
+naming_now h x = first_cause ((unknown h x, Unknown) ∷ (again h x, Again) ∷ (not_script (told h) x, NotScript) ∷ (misplaced_now (told h) x, Misplaced) ∷ [])
+
+-- naming refuses no record of the list after those before it
+abbrev pub IsNamed : List Record → Type 0
+IsNamed [] = Unit {0}
+IsNamed (x ∷ h) = (naming h x ≡ None) × IsNamed h
+
+-- the same until inline dispatches are built
+abbrev pub IsNamedNow : List Record → Type 0
+IsNamedNow [] = Unit {0}
+IsNamedNow (x ∷ h) = (naming_now h x ≡ None) × IsNamedNow h
+
+abbrev pub most_actions : ℕ
+most_actions = 16384
+
+abbrev pub most_inline : ℕ
+most_inline = 256
+
+abbrev pub too_many_actions : History → Record → Bool
+too_many_actions h x = begins x && not (nat_lt (length h.actions) most_actions)
+
+abbrev pub too_deep : History → Record → Bool
+too_deep h (Inline p e n) = not (nat_lt (length (filter (λ o. is_inline o.dispatch) h.stack)) most_inline)
+too_deep h _ = false
+
+-- the first limit that the record would pass
+abbrev pub room : List Record → Record → Option Cause
+room h x = first_cause ((too_many_actions (told h) x, TooManyActions) ∷ (too_deep (told h) x, TooDeep) ∷ [])

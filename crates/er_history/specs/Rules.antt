@@ -1,51 +1,347 @@
 -- Which events must come before which.
-use Rattle.std.specs.Prelude.{ℕ, Bool, true, false, not, ◌==◌, ◌&&◌, nat_lt, nat_le, List, [], ◌∷◌, Option, Some, None}
+use Rattle.std.specs.Prelude.{ℕ, Bool, true, false, not, ◌==◌, ◌&&◌, ◌||◌, nat_lt, nat_le, List, [], ◌∷◌, ◌++◌, Option, Some, None}
 use Rattle.std.specs.List.{list_any}
-use Rattle.er_history.specs.History.{Timeout, What, ParseStep, TimeoutRun, Event}
+use Rattle.er_trace.specs.declared.record.Kind.{Kind}
+use Rattle.er_trace.specs.declared.record.Kind.TheVariants as kinds
+use Rattle.er_history.specs.History.{Form, Kinded, Framing, Element, Delivery, DclOf, LoadOf, EloadOf, FireAt, InlineAt, WindowFire, ReplyOf, What, ParseStep, ScriptRun, TimeoutRun, TickRun, BeginOf, HandlerOf, CloseOf, Event}
 
--- A rule is told which earlier actions a path joins.
+-- A rule between two events. It is told which earlier actions a path joins. It says nothing of lists in which naming refuses a record.
 abbrev pub Rule : Type 0
 Rule = (ℕ → ℕ → Bool) → Event → Event → Bool
 
--- u was begun first
+-- Words of the rules.
+
+-- u was begun first. A rule that asks this never puts a record out of order.
 abbrev pub recorded : Event → Event → Bool
 recorded u v = nat_lt u.number v.number
 
+-- u is the event that made it
+abbrev pub made_by : Option ℕ → Event → Bool
+made_by None u = false
+made_by (Some m) u = m == u.number
+
+-- it was made, and passes the test
 abbrev pub of_made : {A : Type 0} → (A → Bool) → Option A → Bool
 of_made test None = false
 of_made test (Some x) = test x
 
+-- both were made, and pass the test
 abbrev pub both_made : {A : Type 0} → (A → A → Bool) → Option A → Option A → Bool
 both_made test (Some x) (Some y) = test x y
 both_made test _ _ = false
 
--- a parse step of a document, and a later one of it
+-- it is no frame, and its kind passes the test
+abbrev pub has_kind : (Kind → Bool) → Form → Bool
+has_kind test (Kinded k) = test k
+has_kind test (Framing f) = false
+
+-- a static script for which the parser waits
+abbrev pub is_blocking : Element → Bool
+is_blocking e = e.is_static && has_kind test e.form
+  where
+    test : Kind → Bool
+    test kinds.Inline = true
+    test kinds.Sync = true
+    test _ = false
+
+-- a static script that runs when its document has been parsed
+abbrev pub is_deferred : Element → Bool
+is_deferred e = e.is_static && has_kind test e.form
+  where
+    test : Kind → Bool
+    test kinds.Defer = true
+    test _ = false
+
+-- neither a script nor an image nor a frame
+abbrev pub is_plain : Element → Bool
+is_plain e = has_kind test e.form
+  where
+    test : Kind → Bool
+    test kinds.Plain = true
+    test _ = false
+
+-- a frame, which declared this document
+abbrev pub declared : Form → ℕ → Bool
+declared (Framing f) d = f == d
+declared (Kinded k) d = false
+
+abbrev pub same_bytes : List ℕ → List ℕ → Bool
+same_bytes [] [] = true
+same_bytes (x ∷ xs) (y ∷ ys) = (x == y) && same_bytes xs ys
+same_bytes _ _ = false
+
+-- dispatches of one type at one element, or at one window
+abbrev pub same_target : Delivery → Delivery → Bool
+same_target (WindowFire d n m) (WindowFire c k l) = (d == c) && same_bytes n k
+same_target (FireAt e n m) (FireAt f k l) = (e == f) && same_bytes n k
+same_target (FireAt e n m) (InlineAt f k l) = (e == f) && same_bytes n k
+same_target (InlineAt e n m) (FireAt f k l) = (e == f) && same_bytes n k
+same_target (InlineAt e n m) (InlineAt f k l) = (e == f) && same_bytes n k
+same_target _ _ = false
+
+abbrev pub is_dcl_of : ℕ → Delivery → Bool
+is_dcl_of d (DclOf c m) = c == d
+is_dcl_of d _ = false
+
+-- a parse step of the document, or the run of a script of it that passes
+abbrev pub step_or_script : (Element → Bool) → ℕ → What → Bool
+step_or_script test d (ParseStep c m) = c == d
+step_or_script test d (ScriptRun e made) = of_made (λ x. test x && (x.doc == d)) made
+step_or_script test d _ = false
+
+-- The rules, in the order of their numbers. Each says: u before v. None asks yet which paths there are.
+
+-- 1. A parse step of a document before a later parse step of it (recorded). HTML Standard, "Parsing HTML documents".
 abbrev pub parse_steps_in_order : Rule
 parse_steps_in_order joined u v = recorded u v && go u.what v.what
   where
     go : What → What → Bool
-    go (ParseStep d) (ParseStep c) = d == c
+    go (ParseStep d m) (ParseStep c k) = d == c
     go _ _ = false
 
--- the event that set a timeout, and its callback
+-- 2. The event that declared a document before each parse step of it. This project's own.
+abbrev pub document_before_its_steps : Rule
+document_before_its_steps joined u v = go v.what
+  where
+    go : What → Bool
+    go (ParseStep d m) = made_by m u
+    go _ = false
+
+-- 3. The event that made a script before its run. HTML Standard, "The script element".
+abbrev pub script_made_before_run : Rule
+script_made_before_run joined u v = go v.what
+  where
+    go : What → Bool
+    go (ScriptRun e made) = of_made (λ x. x.maker == u.number) made
+    go _ = false
+
+-- 4. The run of a blocking script before each parse step of its document behind its own. A parse step is one piece, so its event has its number. HTML Standard, "The script element".
+abbrev pub blocking_script_before_later_step : Rule
+blocking_script_before_later_step joined u v = go u.what v.what
+  where
+    go : What → What → Bool
+    go (ScriptRun e made) (ParseStep d m) = of_made (λ x. is_blocking x && ((x.doc == d) && nat_lt x.piece v.number)) made
+    go _ _ = false
+
+-- 5. A parse step before the run of a deferred script of its document. HTML Standard, "The end".
+abbrev pub step_before_deferred_script : Rule
+step_before_deferred_script joined u v = go u.what v.what
+  where
+    go : What → What → Bool
+    go (ParseStep d m) (ScriptRun e made) = of_made (λ x. is_deferred x && (x.doc == d)) made
+    go _ _ = false
+
+-- 6. The run of a blocking script before the run of a deferred script of its document. HTML Standard, "The end".
+abbrev pub blocking_before_deferred_script : Rule
+blocking_before_deferred_script joined u v = go u.what v.what
+  where
+    go : What → What → Bool
+    go (ScriptRun e made) (ScriptRun f made2) = both_made (λ x y. is_blocking x && (is_deferred y && (x.doc == y.doc))) made made2
+    go _ _ = false
+
+-- 7. The run of a deferred script before the run of a deferred script of its document that was parsed later. HTML Standard, "The end".
+abbrev pub deferred_scripts_as_parsed : Rule
+deferred_scripts_as_parsed joined u v = go u.what v.what
+  where
+    go : What → What → Bool
+    go (ScriptRun e made) (ScriptRun f made2) = both_made (λ x y. is_deferred x && (is_deferred y && ((x.doc == y.doc) && nat_lt x.piece y.piece))) made made2
+    go _ _ = false
+
+-- 8. A parse step, or the run of a blocking or deferred script, before the begin of DOMContentLoaded of its document. HTML Standard, "The end".
+abbrev pub parsed_before_dcl : Rule
+parsed_before_dcl joined u v = go v.what
+  where
+    of : Delivery → Bool
+    of (DclOf d m) = step_or_script (λ e. is_blocking e || is_deferred e) d u.what
+    of _ = false
+
+    go : What → Bool
+    go (BeginOf q) = of q.delivers
+    go _ = false
+
+-- 9. The begin, a handler or the close of DOMContentLoaded before the begin of load of the document. HTML Standard, "The end".
+abbrev pub dcl_before_load : Rule
+dcl_before_load joined u v = go v.what
+  where
+    piece_of : ℕ → What → Bool
+    piece_of d (BeginOf p) = is_dcl_of d p.delivers
+    piece_of d (HandlerOf p g x m) = is_dcl_of d p.delivers
+    piece_of d (CloseOf p) = is_dcl_of d p.delivers
+    piece_of d _ = false
+
+    of : Delivery → Bool
+    of (LoadOf d m) = piece_of d u.what
+    of _ = false
+
+    go : What → Bool
+    go (BeginOf q) = of q.delivers
+    go _ = false
+
+-- 10. A parse step, or the run of a static script, before the begin of load of its document. HTML Standard, "The end".
+abbrev pub parsed_before_load : Rule
+parsed_before_load joined u v = go v.what
+  where
+    of : Delivery → Bool
+    of (LoadOf d m) = step_or_script (λ e. e.is_static) d u.what
+    of _ = false
+
+    go : What → Bool
+    go (BeginOf q) = of q.delivers
+    go _ = false
+
+-- 11. The close of the first load event of a static element that is not plain before the begin of load of its document (recorded). This project's own.
+abbrev pub static_loads_before_load : Rule
+static_loads_before_load joined u v = recorded u v && go u.what v.what
+  where
+    of : Delivery → Delivery → Bool
+    of (EloadOf x made) (LoadOf d m) = of_made (λ e. e.is_static && (not (is_plain e) && (e.doc == d))) made
+    of _ _ = false
+
+    go : What → What → Bool
+    go (CloseOf p) (BeginOf q) = of p.delivers q.delivers
+    go _ _ = false
+
+-- 12. The event that made an element, and the run of it where it is a script, before the begin of its first load event. HTML Standard, "The script element".
+abbrev pub element_before_its_load : Rule
+element_before_its_load joined u v = go v.what
+  where
+    runs : ℕ → What → Bool
+    runs e (ScriptRun f made) = f == e
+    runs e _ = false
+
+    of : Delivery → Bool
+    of (EloadOf e made) = of_made (λ x. x.maker == u.number) made || runs e u.what
+    of _ = false
+
+    go : What → Bool
+    go (BeginOf q) = of q.delivers
+    go _ = false
+
+-- 13. The close of load of a frame's document before the begin of the frame's first load event (recorded). This project's own.
+abbrev pub inner_load_before_frame_load : Rule
+inner_load_before_frame_load joined u v = recorded u v && go u.what v.what
+  where
+    of : Delivery → Delivery → Bool
+    of (LoadOf f m) (EloadOf x made) = of_made (λ e. declared e.form f) made
+    of _ _ = false
+
+    go : What → What → Bool
+    go (CloseOf p) (BeginOf q) = of p.delivers q.delivers
+    go _ _ = false
+
+-- 14. The event that made an element before the begin of a dispatch of a type at it; the event that declared a document before the begin of a dispatch at its window, of DOMContentLoaded and of load. This project's own.
+abbrev pub target_before_dispatch : Rule
+target_before_dispatch joined u v = go v.what
+  where
+    of : Delivery → Bool
+    of (FireAt e n m) = made_by m u
+    of (InlineAt e n m) = made_by m u
+    of (WindowFire d n m) = made_by m u
+    of (DclOf d m) = made_by m u
+    of (LoadOf d m) = made_by m u
+    of _ = false
+
+    go : What → Bool
+    go (BeginOf q) = of q.delivers
+    go _ = false
+
+-- 15. The event that registered a handler before each run of it. DOM Standard, "Interface EventTarget".
+abbrev pub registered_before_run : Rule
+registered_before_run joined u v = go v.what
+  where
+    go : What → Bool
+    go (HandlerOf p g x m) = made_by m u
+    go _ = false
+
+-- 16. The begin of a dispatch before its handlers and its close; a handler before those of a greater group and before the close. DOM Standard, "Dispatching events"; within a group DOM Level 2 Events fixes no order.
+abbrev pub dispatch_in_order : Rule
+dispatch_in_order joined u v = go u.what v.what
+  where
+    go : What → What → Bool
+    go (BeginOf p) (HandlerOf q g x m) = p.number == q.number
+    go (BeginOf p) (CloseOf q) = p.number == q.number
+    go (HandlerOf p g x m) (HandlerOf q k y l) = (p.number == q.number) && nat_lt g k
+    go (HandlerOf p g x m) (CloseOf q) = p.number == q.number
+    go _ _ = false
+
+-- 17. The close of a dispatch before the begin of another of its type at its target (recorded). This project's own.
+abbrev pub dispatches_of_one_type_in_order : Rule
+dispatches_of_one_type_in_order joined u v = recorded u v && go u.what v.what
+  where
+    go : What → What → Bool
+    go (CloseOf p) (BeginOf q) = same_target p.delivers q.delivers
+    go _ _ = false
+
+-- 18. The event that set a timeout before its callback. HTML Standard, "Timers".
 abbrev pub set_before_timer : Rule
 set_before_timer joined u v = go v.what
   where
     go : What → Bool
-    go (TimeoutRun t made) = of_made (λ (x : Timeout). x.maker == u.number) made
+    go (TimeoutRun t made) = of_made (λ x. x.maker == u.number) made
     go _ = false
 
--- callbacks of two timeouts that one event set, the first with the lesser delay or the same
+-- 19. The callback of a timeout before that of another that the same event set later with no lesser delay (recorded). HTML Standard, "Timers"; that delays alone are compared is this project's own.
 abbrev pub timers_of_one_event_in_order : Rule
 timers_of_one_event_in_order joined u v = recorded u v && go u.what v.what
   where
     go : What → What → Bool
-    go (TimeoutRun s made) (TimeoutRun t made2) = both_made (λ (x : Timeout) (y : Timeout). (x.maker == y.maker) && (nat_lt x.place y.place && nat_le x.delay y.delay)) made made2
+    go (TimeoutRun s made) (TimeoutRun t made2) = both_made (λ x y. (x.maker == y.maker) && (nat_lt x.place y.place && nat_le x.delay y.delay)) made made2
     go _ _ = false
 
--- The rules that are built, each with its number.
+-- 20. The event that set an interval before each callback of it; a callback before a later one of the same interval (recorded). HTML Standard, "Timers".
+abbrev pub ticks_in_order : Rule
+ticks_in_order joined u v = go u.what v.what
+  where
+    earlier : ℕ → What → Bool
+    earlier i (TickRun k m) = recorded u v && (i == k)
+    earlier i _ = false
+
+    go : What → What → Bool
+    go x (TickRun i m) = made_by m u || earlier i x
+    go _ _ = false
+
+-- 21. The event that sent a request before the begin of each reply of it; the close of a reply before the begin of a later reply of the same request (recorded). This project's own.
+abbrev pub replies_in_order : Rule
+replies_in_order joined u v = go v.what
+  where
+    closes : ℕ → What → Bool
+    closes r (CloseOf p) = of p.delivers
+      where
+        of : Delivery → Bool
+        of (ReplyOf s m) = s == r
+        of _ = false
+    closes r _ = false
+
+    of : Delivery → Bool
+    of (ReplyOf r m) = made_by m u || (recorded u v && closes r u.what)
+    of _ = false
+
+    go : What → Bool
+    go (BeginOf q) = of q.delivers
+    go _ = false
+
+-- Each rule between events with its number, in the groups of the crates that ask it. Rules 22 and 23 speak of pieces (Edges).
+abbrev pub parse_rules : List (ℕ × Rule)
+parse_rules = (1, parse_steps_in_order) ∷ (2, document_before_its_steps) ∷ []
+
+abbrev pub script_rules : List (ℕ × Rule)
+script_rules = (3, script_made_before_run) ∷ (4, blocking_script_before_later_step) ∷ (5, step_before_deferred_script) ∷ (6, blocking_before_deferred_script) ∷ (7, deferred_scripts_as_parsed) ∷ []
+
+abbrev pub load_rules : List (ℕ × Rule)
+load_rules = (8, parsed_before_dcl) ∷ (9, dcl_before_load) ∷ (10, parsed_before_load) ∷ (11, static_loads_before_load) ∷ (12, element_before_its_load) ∷ (13, inner_load_before_frame_load) ∷ []
+
+abbrev pub dispatch_rules : List (ℕ × Rule)
+dispatch_rules = (14, target_before_dispatch) ∷ (15, registered_before_run) ∷ (16, dispatch_in_order) ∷ (17, dispatches_of_one_type_in_order) ∷ []
+
+abbrev pub timer_rules : List (ℕ × Rule)
+timer_rules = (18, set_before_timer) ∷ (19, timers_of_one_event_in_order) ∷ (20, ticks_in_order) ∷ []
+
+abbrev pub request_rules : List (ℕ × Rule)
+request_rules = (21, replies_in_order) ∷ []
+
+-- All rules between events, in the order of their numbers.
 abbrev pub rules : List (ℕ × Rule)
-rules = (1, parse_steps_in_order) ∷ (18, set_before_timer) ∷ (19, timers_of_one_event_in_order) ∷ []
+rules = parse_rules ++ script_rules ++ load_rules ++ dispatch_rules ++ timer_rules ++ request_rules
 
 -- one of the rules of a table holds between two events
 abbrev pub any_holds : List (ℕ × Rule) → (ℕ → ℕ → Bool) → Event → Event → Bool

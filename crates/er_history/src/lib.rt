@@ -1,13 +1,41 @@
-//! What a list of records says: its actions, the rules between them, paths, and which records are legal.
+//! What a list of records says: its actions, the rules between them, paths, and which records naming, order and room refuse.
 //! Definitions and their laws; no state. Each law is a function with no parameters, whose contract is the law.
 #![tactic(auto)]
 
-ghost use Rattle.er_history.specs.Laws.{ActionsAreNumbered, EdgesAreEdges, EdgesGoForward, EdgesJoinActions, PathsAreChains, PathsAreChainsOfActions, PathsStay};
+ghost use Rattle.er_history.specs.Laws.{ActionsAreKept, ActionsAreNumbered, EdgesAreEdges, EdgesGoForward, EdgesJoinActions, EdgesStay, EntriesAreCounted, EventsBeginBefore, EventsHaveFirstPieces, PathsLeadOverEdges, PathsLeadOverActions, PathsStay};
+ghost use Rattle.er_history.specs.Facts.{FactsAreExact, FactsStay};
+ghost use Rattle.er_history.specs.Rules.{parse_rules, timer_rules, request_rules};
+ghost use Rattle.er_history.specs.Sound.{NeverLeadBack, SoundListsAreNamed};
+ghost use Rattle.er_history.specs.Unfinished.{StackIsUnfinished};
 
 /// The actions are numbered in the order in which they begin.
 #[tactic(auto, using(crate::proofs::HistoryLemmas::actions_are_numbered))]
 pub fn actions_are_numbered()
     ensures { ActionsAreNumbered }
+{}
+
+/// A piece is of an event that begins with it, or has begun before.
+#[tactic(auto, using(crate::proofs::HistoryLemmas::events_begin_before))]
+pub fn events_begin_before()
+    ensures { EventsBeginBefore }
+{}
+
+/// The event of an action is that of the action with its number, its first piece.
+#[tactic(auto, using(crate::proofs::HistoryLemmas::events_have_first_pieces))]
+pub fn events_have_first_pieces()
+    ensures { EventsHaveFirstPieces }
+{}
+
+/// Later records leave the earlier actions as they are.
+#[tactic(auto, using(crate::proofs::HistoryLemmas::actions_are_kept))]
+pub fn actions_are_kept()
+    ensures { ActionsAreKept }
+{}
+
+/// Each record has its entry.
+#[tactic(auto, using(crate::proofs::HistoryLemmas::entries_are_counted))]
+pub fn entries_are_counted()
+    ensures { EntriesAreCounted }
 {}
 
 /// An edge leads from an earlier action to a later one.
@@ -29,19 +57,57 @@ pub fn edges_join_actions()
 {}
 
 /// A path is a list of steps, each by an edge.
-#[tactic(auto, using(crate::proofs::HistoryLemmas::paths_are_chains))]
-pub fn paths_are_chains()
-    ensures { PathsAreChains }
+#[tactic(auto, using(crate::proofs::HistoryLemmas::paths_lead_over_edges))]
+pub fn paths_lead_over_edges()
+    ensures { PathsLeadOverEdges }
 {}
 
 /// A path between two actions is a list of actions, each by an edge.
-#[tactic(auto, using(crate::proofs::HistoryLemmas::paths_are_chains_of_actions))]
-pub fn paths_are_chains_of_actions()
-    ensures { PathsAreChainsOfActions }
+#[tactic(auto, using(crate::proofs::HistoryLemmas::paths_lead_over_actions))]
+pub fn paths_lead_over_actions()
+    ensures { PathsLeadOverActions }
+{}
+
+/// Later records change no list of an earlier action.
+#[tactic(auto, using(crate::proofs::HistoryLemmas::edges_stay))]
+pub fn edges_stay()
+    ensures { EdgesStay }
 {}
 
 /// Later records change no path among the earlier actions.
 #[tactic(auto, using(crate::proofs::HistoryLemmas::paths_stay))]
 pub fn paths_stay()
     ensures { PathsStay }
+{}
+
+/// What a look-up found when an event began, it finds in the whole list too.
+#[tactic(auto, using(crate::proofs::FactsLemmas::facts_stay))]
+pub fn facts_stay()
+    ensures { FactsStay }
+{}
+
+/// Where naming refuses no record, each fact that an event kept is the one that the whole list gives.
+#[tactic(auto, using(crate::proofs::ExactLemmas::facts_are_exact))]
+pub fn facts_are_exact()
+    ensures { FactsAreExact }
+{}
+
+/// Naming refuses no record of a sound list.
+#[tactic(auto, using(crate::proofs::NamedLemmas::sound_lists_are_named))]
+pub fn sound_lists_are_named()
+    ensures { SoundListsAreNamed }
+{}
+
+/// The rules of parsing, timers and requests put no record out of order.
+#[tactic(auto, using(crate::proofs::OrderLemmas::parse_rules_never_lead_back, crate::proofs::OrderLemmas::timer_rules_never_lead_back, crate::proofs::OrderLemmas::request_rules_never_lead_back))]
+pub fn later_events_never_lead_back()
+    ensures parsing { NeverLeadBack parse_rules }
+    ensures timers { NeverLeadBack timer_rules }
+    ensures requests { NeverLeadBack request_rules }
+{}
+
+/// Where naming refuses no record, the stack has the numbers of the dispatches that have begun and are not finished.
+#[tactic(auto, using(crate::proofs::UnfinishedLemmas::stack_is_unfinished))]
+pub fn stack_is_unfinished()
+    ensures { StackIsUnfinished }
 {}

@@ -1,11 +1,11 @@
 -- Proofs of the laws of paths, and what inductions over lists of predecessors cite.
 use Rattle.std.proofs.Common.{◌≡◌, ℕ, ◌<◌, ◌≤◌, Bool, true, false, List, [], ◌∷◌, ◌++◌, length, refl, sym, ap, ◌∙◌, arith, inl, inr, ◌⊎◌, length-append}
-use Rattle.std.specs.Prelude.{◌==◌, ◌||◌}
+use Rattle.std.specs.Prelude.{◌==◌, ◌||◌, if◌then◌else◌}
 use Rattle.std.specs.List.{list_any}
 use Rattle.std.proofs.lemmas.Bool.{eqb-true, eq-eqb}
 use Rattle.std.proofs.lemmas.Bool.Decides.{eqb_tells}
 use Rattle.er_paths.specs.Paths.{joins, is_among, list_of, Leads}
-use Rattle.er_paths.specs.Laws.{GoForward, PathsAreSteps, PathsCompose, PathsGoForward, PathsStand, PathsStay}
+use Rattle.er_paths.specs.Laws.{GoForward, IsEnough, HandedPaths, PathsAreSteps, PathsCompose, PathsGoForward, PathsStand, PathsStay}
 
 -- tests joined by "or"
 
@@ -225,3 +225,43 @@ path_from_steps lists i (k ∷ steps) j forward below leads =
 
 pub paths_are_steps : PathsAreSteps
 paths_are_steps lists i j forward below = (λ e. steps_from_path lists i j e, λ found. path_from_steps lists i found.0 j forward below found.1)
+
+-- handed lists beside the whole ones
+
+pub enough_long : (handed lists : List (List ℕ)) → IsEnough handed lists → length handed ≡ length lists
+enough_long [] [] enough = refl
+enough_long (p ∷ rest) (q ∷ older) enough = let e = enough_long rest older enough.0 in omega arith
+enough_long [] (q ∷ older) enough = absurd enough
+enough_long (p ∷ rest) [] enough = absurd enough
+
+-- some handed one is joined exactly where some one of the whole list is
+pub any_handed : (p q : List ℕ) (older : List (List ℕ)) (i : ℕ) → ((k : ℕ) → is_among k p ≡ true → is_among k q ≡ true)
+    → ((k : ℕ) → is_among k q ≡ true → list_any (λ m. joins older k m) p ≡ true)
+    → list_any (λ k. joins older i k) p ≡ list_any (λ k. joins older i k) q
+any_handed p q older i among enough = same_test (list_any (λ k. joins older i k) p) (list_any (λ k. joins older i k) q) to from
+  where
+    same_test : (b c : Bool) → (b ≡ true → c ≡ true) → (c ≡ true → b ≡ true) → b ≡ c
+    same_test true c e f = sym (e refl)
+    same_test false true e f = f refl
+    same_test false false e f = refl
+
+    to : list_any (λ k. joins older i k) p ≡ true → list_any (λ k. joins older i k) q ≡ true
+    to e = let found = any_some (λ k. joins older i k) p e in any_from (λ k. joins older i k) found.0 q (among found.0 found.1) found.2
+
+    from : list_any (λ k. joins older i k) q ≡ true → list_any (λ k. joins older i k) p ≡ true
+    from e =
+        let found = any_some (λ k. joins older i k) q e in
+        let way = any_some (λ m. joins older found.0 m) p (enough found.0 found.1) in
+        any_from (λ k. joins older i k) way.0 p way.1 (paths_compose older i found.0 way.0 found.2 way.2)
+
+pub handed_paths : HandedPaths
+handed_paths [] [] i j enough = refl
+handed_paths [] (q ∷ older) i j enough = absurd enough
+handed_paths (p ∷ rest) [] i j enough = absurd enough
+handed_paths (p ∷ rest) (q ∷ older) i j enough =
+    let before : (k : ℕ) → joins rest i k ≡ joins older i k = λ k. handed_paths rest older i k enough.0 in
+    let joined : (λ k. joins rest i k) ≡ (λ k. joins older i k) = λ at k. before k at in
+    let listed : list_any (λ k. joins rest i k) p ≡ list_any (λ k. joins older i k) q = ap (λ (f : ℕ → Bool). list_any f p) joined ∙ any_handed p q older i enough.1 enough.2 in
+    ap (λ n. if j == n then (i == j) || list_any (λ k. joins rest i k) p else joins rest i j) (enough_long rest older enough.0)
+    ∙ (ap (λ b. if j == length older then (i == j) || b else joins rest i j) listed
+    ∙ ap (λ b. if j == length older then (i == j) || list_any (λ k. joins older i k) q else b) (before j))

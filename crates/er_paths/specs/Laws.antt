@@ -1,5 +1,6 @@
 -- What holds of paths.
-use Rattle.std.specs.Prelude.{◌≡◌, ◌↔◌, ℕ, ◌<◌, ◌≤◌, true, List, ◌++◌, length}
+use Rattle.std.specs.Prelude.{◌≡◌, ◌↔◌, ℕ, ◌<◌, ◌≤◌, true, List, [], ◌∷◌, ◌++◌, length}
+use Rattle.std.specs.List.{list_any}
 use Rattle.er_paths.specs.Paths.{joins, is_among, list_of, Leads}
 
 -- each list has earlier actions alone
@@ -25,3 +26,13 @@ PathsStand = (lists : List (List ℕ)) (i : ℕ) → i < length lists → joins 
 -- Later lists change no path among the earlier.
 abbrev pub PathsStay : Type 0
 PathsStay = (more lists : List (List ℕ)) (i j : ℕ) → j < length lists → joins (more ++ lists) i j ≡ joins lists i j
+
+-- Handed numbers beside whole lists: each handed number is of the list, and from each number of the list a path leads to a handed one.
+abbrev pub IsEnough : List (List ℕ) → List (List ℕ) → Type 0
+IsEnough [] [] = Unit {0}
+IsEnough (handed ∷ rest) (all ∷ older) = IsEnough rest older × ((k : ℕ) → is_among k handed ≡ true → is_among k all ≡ true) × ((i : ℕ) → is_among i all ≡ true → list_any (λ k. joins older i k) handed ≡ true)
+IsEnough _ _ = ⊥
+
+-- Then the paths are the same.
+abbrev pub HandedPaths : Type 0
+HandedPaths = (handed lists : List (List ℕ)) (i j : ℕ) → IsEnough handed lists → joins handed i j ≡ joins lists i j

@@ -3,7 +3,7 @@
 //! The lists stand newest first, one an action. Each law is a function with no parameters, whose contract is the law.
 #![tactic(auto)]
 
-ghost use Rattle.er_paths.specs.Laws.{PathsAreSteps, PathsCompose, PathsGoForward, PathsStand, PathsStay};
+ghost use Rattle.er_paths.specs.Laws.{HandedPaths, PathsAreSteps, PathsCompose, PathsGoForward, PathsStand, PathsStay};
 
 /// A path is a list of steps, each by an edge.
 #[tactic(auto, using(crate::proofs::Paths::paths_are_steps))]
@@ -33,4 +33,10 @@ pub fn paths_stand()
 #[tactic(auto, using(crate::proofs::Paths::paths_stay))]
 pub fn paths_stay()
     ensures { PathsStay }
+{}
+
+/// Where the lists hold enough of the predecessors, the paths are the same.
+#[tactic(auto, using(crate::proofs::Paths::handed_paths))]
+pub fn handed_paths()
+    ensures { HandedPaths }
 {}

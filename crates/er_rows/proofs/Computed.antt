@@ -1,10 +1,11 @@
 -- The worked rows, by computing.
-use Rattle.std.proofs.Common.{refl, inr, [], ◌∷◌, codes, arith, lit<, lit≤}
+use Rattle.std.proofs.Common.{refl, inr, [], ◌∷◌, codes, arith}
 use Rattle.std.specs.Fmt.{digits}
 use Rattle.er_run.specs.Report.{item_line}
-use Rattle.er_trace.specs.declared.record.Record.TheVariants.{Timer, Exec}
+use Rattle.er_trace.specs.declared.record.Record.TheVariants.{Parse, Timer, Exec}
+use Rattle.er_trace.specs.declared.record.Kind.TheVariants as kinds
 use Rattle.er_trace.specs.Trace.{After}
-use Rattle.er_rows.specs.Rows.{TimeoutsThatRace, TimeoutsInOrder, EqualDelays, DelaysThatDisagree, TwoSetters, Repeats, OneAction, TwoReads, ParseSteps, NothingAtAll, Causes, UnknownTimeout, UnbuiltForm, step}
+use Rattle.er_rows.specs.Rows.{TimeoutsThatRace, TimeoutsInOrder, EqualDelays, DelaysThatDisagree, TwoSetters, Repeats, OneAction, TwoReads, ParseSteps, NothingAtAll, BlockingScripts, AsyncScripts, DeferredScripts, OtherDocuments, Causes, Orders, UnknownTimeout, NotAScript, RunTooLate, step}
 
 pub timeouts_that_race : TimeoutsThatRace
 unfolding digits item_line
@@ -46,9 +47,28 @@ pub nothing_at_all : NothingAtAll
 unfolding digits item_line
 nothing_at_all = record { text = refl; legal = refl; report = refl }
 
+pub blocking_scripts : BlockingScripts
+unfolding digits item_line
+blocking_scripts = record { text = refl; legal = refl; report = refl }
+
+pub async_scripts : AsyncScripts
+unfolding digits item_line
+async_scripts = record { text = refl; legal = refl; report = refl }
+
+pub deferred_scripts : DeferredScripts
+unfolding digits item_line
+deferred_scripts = record { text = refl; legal = refl; report = refl }
+
+pub other_documents : OtherDocuments
+unfolding digits item_line
+other_documents = record { text = refl; legal = refl; report = refl }
+
 pub causes_of_records : Causes
 unfolding digits item_line
-causes_of_records = record { unknown_timeout = refl; unknown_document = refl; unbuilt = refl; unbuilt_location = refl; no_parse_first = refl; element_again = refl; unknown_before_again = refl; set_again = refl; fired_again = refl; line = refl }
+causes_of_records = record { unknown_timeout = refl; unknown_document = refl; not_script = refl; script = refl; element_location = refl; note_first = refl; timer_first = refl; handler_first = refl; timer_within = refl; closed = refl; closed_again = refl; element_again = refl; unknown_before_again = refl; set_again = refl; fired_again = refl; line = refl }
+
+pub orders_of_records : Orders
+orders_of_records = record { step_after_deferred = refl; step_after_async = refl; step_before_deferred = refl; blocking_after_step = refl; blocking_after_step_of_another = refl; blocking_after_deferred = refl; deferred_after_blocking = refl; deferred_after_later = refl; deferred_after_earlier = refl; naming_first = refl }
 
 pub unknown_timeout : UnknownTimeout
 unfolding digits item_line
@@ -70,9 +90,9 @@ unknown_timeout = record {
   );
 }
 
-pub unbuilt_form : UnbuiltForm
+pub not_a_script : NotAScript
 unfolding digits item_line
-unbuilt_form = record {
+not_a_script = record {
   place = After (step 1 ∷ []);
   number = refl;
   legal = (refl, tt);
@@ -80,6 +100,26 @@ unbuilt_form = record {
     refl,
     record {
       is_place = record { each = ((tt, (omega arith, (omega arith, (tt, tt)))), tt); few = omega arith };
+      few = omega arith;
+      read = Exec 1;
+      is_record = (tt, (omega arith, tt));
+      rest = codes "end\n";
+      begins = refl;
+      cause = refl;
+    },
+  );
+}
+
+pub run_too_late : RunTooLate
+unfolding digits item_line
+run_too_late = record {
+  place = After (Parse 0 1 kinds.Sync ∷ step 2 ∷ []);
+  number = refl;
+  legal = (refl, (refl, tt));
+  refused = inr (
+    refl,
+    record {
+      is_place = record { each = ((tt, (omega arith, (omega arith, (tt, tt)))), ((tt, (omega arith, (omega arith, (tt, tt)))), tt)); few = omega arith };
       few = omega arith;
       read = Exec 1;
       is_record = (tt, (omega arith, tt));

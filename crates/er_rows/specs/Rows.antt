@@ -1,14 +1,15 @@
 -- Worked rows: small lists of records, oldest first, and what is answered for them.
-use Rattle.std.specs.Prelude.{◌≡◌, ℕ, List, [], ◌∷◌, ◌++◌, reverse, codes, true, Option, Some, None}
+use Rattle.std.specs.Prelude.{◌≡◌, ℕ, List, [], ◌∷◌, reverse, codes, true, Option, Some, None}
 use Rattle.er_text.specs.declared.causes.Cause.{Cause}
-use Rattle.er_text.specs.declared.causes.Cause.TheVariants.{BadRecord, Unknown, Again}
+use Rattle.er_text.specs.declared.causes.Cause.TheVariants.{Unknown, Again, NotScript, Misplaced, OutOfOrder}
 use Rattle.er_trace.specs.declared.record.Record.{Record}
-use Rattle.er_trace.specs.declared.record.Record.TheVariants.{Parse, Exec, Set, Timer, Access}
+use Rattle.er_trace.specs.declared.record.Record.TheVariants.{Parse, ParseFrame, Exec, Set, Timer, On, Fire, Close, Access}
 use Rattle.er_trace.specs.declared.record.Kind.TheVariants as kinds
 use Rattle.er_trace.specs.declared.record.Mode.TheVariants as modes
 use Rattle.er_trace.specs.declared.record.Loc.TheVariants.{Var, Elem}
 use Rattle.er_trace.specs.Trace.{text}
-use Rattle.er_history.specs.Naming.{cause_of}
+use Rattle.er_history.specs.Sound.{cause}
+use Rattle.er_graph.specs.Rules.{rules_now}
 use Rattle.er_run.specs.Races.{same_bytes}
 use Rattle.er_run.specs.Answer.{IsRefused}
 use Rattle.er_run.specs.Report.{report, refusal}
@@ -16,7 +17,7 @@ use Rattle.er_run.specs.Report.{report, refusal}
 -- each record with none of the causes after those before it, newest first
 abbrev pub causes : List Record → List (Option Cause)
 causes [] = []
-causes (x ∷ h) = cause_of h x ∷ causes h
+causes (x ∷ h) = cause rules_now h x ∷ causes h
 
 -- The records are spelled so, each is legal, and this is their report.
 pub record Reports (records : List Record) (spelled reported : List ℕ) (none : List (Option Cause)) : Type 0 where
@@ -76,22 +77,65 @@ ParseSteps = Reports (step 1 ∷ writes (codes "a b") ∷ step 2 ∷ reads (code
 abbrev pub NothingAtAll : Type 0
 NothingAtAll = Reports [] (codes "webtrace 1\nend\n") (codes "report 1\nactions 0\naccesses 0\npairs 0\nraces 0\nend\n") []
 
+-- a blocking script runs before a later parse step
+abbrev pub BlockingScripts : Type 0
+BlockingScripts = Reports (Parse 0 1 kinds.Sync ∷ Exec 1 ∷ writes (codes "x") ∷ step 2 ∷ reads (codes "x") ∷ []) (codes "webtrace 1\nparse 0 1 sync\nexec 1\nw var 0 x\nparse 0 2 plain\nr var 0 x\nend\n")
+    (codes "report 1\nactions 3\naccesses 2\npairs 1\nraces 0\nend\n") (None ∷ None ∷ None ∷ None ∷ None ∷ [])
+
+-- an async one does not
+abbrev pub AsyncScripts : Type 0
+AsyncScripts = Reports (Parse 0 1 kinds.Async ∷ Exec 1 ∷ writes (codes "x") ∷ step 2 ∷ reads (codes "x") ∷ []) (codes "webtrace 1\nparse 0 1 async\nexec 1\nw var 0 x\nparse 0 2 plain\nr var 0 x\nend\n")
+    (codes "report 1\nrace 1 4 6 wr 1 2 var 0 x\nactions 3\naccesses 2\npairs 1\nraces 1\nend\n") (None ∷ None ∷ None ∷ None ∷ None ∷ [])
+
+-- deferred scripts run as they were parsed, after each blocking one
+abbrev pub DeferredScripts : Type 0
+DeferredScripts = Reports (Parse 0 1 kinds.Defer ∷ Parse 0 2 kinds.Inline ∷ Exec 2 ∷ writes (codes "x") ∷ Parse 0 3 kinds.Defer ∷ Exec 1 ∷ writes (codes "x") ∷ Exec 3 ∷ reads (codes "x") ∷ [])
+    (codes "webtrace 1\nparse 0 1 defer\nparse 0 2 inline\nexec 2\nw var 0 x\nparse 0 3 defer\nexec 1\nw var 0 x\nexec 3\nr var 0 x\nend\n") (codes "report 1\nactions 6\naccesses 3\npairs 3\nraces 0\nend\n") (None ∷ None ∷ None ∷ None ∷ None ∷ None ∷ None ∷ None ∷ None ∷ [])
+
+-- the step that declared a document is before its parse steps, which are in no order with others of the first
+abbrev pub OtherDocuments : Type 0
+OtherDocuments = Reports (ParseFrame 0 1 1 ∷ writes (codes "x") ∷ Parse 1 2 kinds.Plain ∷ writes (codes "x") ∷ step 3 ∷ reads (codes "x") ∷ []) (codes "webtrace 1\nparse 0 1 frame 1\nw var 0 x\nparse 1 2 plain\nw var 0 x\nparse 0 3 plain\nr var 0 x\nend\n")
+    (codes "report 1\nrace 1 5 7 wr 1 2 var 0 x\nactions 3\naccesses 3\npairs 3\nraces 1\nend\n") (None ∷ None ∷ None ∷ None ∷ None ∷ None ∷ [])
+
 -- the causes of single records
 pub record Causes : Type 0 where
-  pub unknown_timeout : cause_of (step 1 ∷ []) (Timer 9) ≡ Some Unknown
-  pub unknown_document : cause_of (step 1 ∷ []) (Parse 1 2 kinds.Plain) ≡ Some Unknown
-  pub unbuilt : cause_of (step 1 ∷ []) (Exec 1) ≡ Some BadRecord
-  pub unbuilt_location : cause_of (step 1 ∷ []) (Access modes.R (Elem 0 (codes "x"))) ≡ Some BadRecord
-  pub no_parse_first : cause_of [] (Set 1 0) ≡ Some BadRecord
-  pub element_again : cause_of (step 1 ∷ []) (step 1) ≡ Some Again
-  pub unknown_before_again : cause_of (step 1 ∷ []) (Parse 5 1 kinds.Plain) ≡ Some Unknown
-  pub set_again : cause_of (Set 1 5 ∷ step 1 ∷ []) (Set 1 6) ≡ Some Again
-  pub fired_again : cause_of (Timer 1 ∷ Set 1 0 ∷ step 1 ∷ []) (Timer 1) ≡ Some Again
+  pub unknown_timeout : cause rules_now (step 1 ∷ []) (Timer 9) ≡ Some Unknown
+  pub unknown_document : cause rules_now (step 1 ∷ []) (Parse 1 2 kinds.Plain) ≡ Some Unknown
+  pub not_script : cause rules_now (step 1 ∷ []) (Exec 1) ≡ Some NotScript
+  pub script : cause rules_now (Parse 0 1 kinds.Inline ∷ []) (Exec 1) ≡ None
+  pub element_location : cause rules_now (step 1 ∷ []) (Access modes.R (Elem 0 (codes "x"))) ≡ None
+  pub note_first : cause rules_now [] (Set 1 0) ≡ Some Misplaced
+  pub timer_first : cause rules_now [] (Timer 9) ≡ Some Unknown
+  pub handler_first : cause rules_now [] (On 7) ≡ Some Misplaced
+  pub timer_within : cause rules_now (Fire 1 1 (codes "x") ∷ Set 1 0 ∷ step 1 ∷ []) (Timer 1) ≡ Some Misplaced
+  pub closed : cause rules_now (Fire 1 1 (codes "x") ∷ step 1 ∷ []) (Close 1) ≡ None
+  pub closed_again : cause rules_now (Close 1 ∷ Fire 1 1 (codes "x") ∷ step 1 ∷ []) (Close 1) ≡ Some Misplaced
+  pub element_again : cause rules_now (step 1 ∷ []) (step 1) ≡ Some Again
+  pub unknown_before_again : cause rules_now (step 1 ∷ []) (Parse 5 1 kinds.Plain) ≡ Some Unknown
+  pub set_again : cause rules_now (Set 1 5 ∷ step 1 ∷ []) (Set 1 6) ≡ Some Again
+  pub fired_again : cause rules_now (Timer 1 ∷ Set 1 0 ∷ step 1 ∷ []) (Timer 1) ≡ Some Again
   pub line : same_bytes (refusal 3 Unknown) (codes "refused 3 unknown\n") ≡ true
+
+-- which records of parsing and scripts come too late
+pub record Orders : Type 0 where
+  pub step_after_deferred : cause rules_now (Exec 1 ∷ Parse 0 1 kinds.Defer ∷ []) (step 2) ≡ Some OutOfOrder
+  pub step_after_async : cause rules_now (Exec 1 ∷ Parse 0 1 kinds.Async ∷ []) (step 2) ≡ None
+  pub step_before_deferred : cause rules_now (Parse 0 1 kinds.Defer ∷ []) (step 2) ≡ None
+  pub blocking_after_step : cause rules_now (step 2 ∷ Parse 0 1 kinds.Sync ∷ []) (Exec 1) ≡ Some OutOfOrder
+  pub blocking_after_step_of_another : cause rules_now (Parse 1 3 kinds.Plain ∷ Parse 0 2 kinds.Sync ∷ ParseFrame 0 1 1 ∷ []) (Exec 2) ≡ None
+  pub blocking_after_deferred : cause rules_now (Exec 1 ∷ Parse 0 2 kinds.Inline ∷ Parse 0 1 kinds.Defer ∷ []) (Exec 2) ≡ Some OutOfOrder
+  pub deferred_after_blocking : cause rules_now (Exec 2 ∷ Parse 0 2 kinds.Inline ∷ Parse 0 1 kinds.Defer ∷ []) (Exec 1) ≡ None
+  pub deferred_after_later : cause rules_now (Exec 2 ∷ Parse 0 2 kinds.Defer ∷ Parse 0 1 kinds.Defer ∷ []) (Exec 1) ≡ Some OutOfOrder
+  pub deferred_after_earlier : cause rules_now (Exec 1 ∷ Parse 0 2 kinds.Defer ∷ Parse 0 1 kinds.Defer ∷ []) (Exec 2) ≡ None
+  pub naming_first : cause rules_now (Exec 1 ∷ Parse 0 1 kinds.Defer ∷ []) (step 1) ≡ Some Again
 
 -- line 3 is the first illegal one of these bytes
 abbrev pub UnknownTimeout : Type 0
 UnknownTimeout = IsRefused (codes "webtrace 1\nparse 0 1 plain\ntimer 9\nend\n") 3 Unknown
 
-abbrev pub UnbuiltForm : Type 0
-UnbuiltForm = IsRefused (codes "webtrace 1\nparse 0 1 plain\nexec 1\nend\n") 3 BadRecord
+abbrev pub NotAScript : Type 0
+NotAScript = IsRefused (codes "webtrace 1\nparse 0 1 plain\nexec 1\nend\n") 3 NotScript
+
+-- and line 4 of these
+abbrev pub RunTooLate : Type 0
+RunTooLate = IsRefused (codes "webtrace 1\nparse 0 1 sync\nparse 0 2 plain\nexec 1\nend\n") 4 OutOfOrder

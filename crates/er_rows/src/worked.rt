@@ -1,16 +1,10 @@
-//! The worked rows.
+//! Rows of timeouts and variables, and refusals of lines and names.
 
+use crate::row::Row;
 use crate::through::{sound, through};
 use std::test::Fail;
 
-/// An input, what is written for it, and the status.
-struct Row {
-    input: &'static str,
-    output: &'static str,
-    status: u8,
-}
-
-static REPORTS: [Row; 9] = [
+static REPORTS: [Row; 12] = [
     // two timeouts that race
     Row {
         input: "webtrace 1\nparse 0 1 plain\nset 1 10\nset 2 0\ntimer 2\nw var 0 x\ntimer 1\nr var 0 x\nend\n",
@@ -59,6 +53,24 @@ static REPORTS: [Row; 9] = [
         output: "report 1\nactions 2\naccesses 2\npairs 1\nraces 0\nend\n",
         status: 0,
     },
+    // a frame's parse step is one of its document
+    Row {
+        input: "webtrace 1\nparse 0 1 frame 1\nw var 0 x\nparse 0 2 plain\nr var 0 x\nend\n",
+        output: "report 1\nactions 2\naccesses 2\npairs 1\nraces 0\nend\n",
+        status: 0,
+    },
+    // a place of an element
+    Row {
+        input: "webtrace 1\nparse 0 1 plain\nset 1 10\nset 2 0\ntimer 2\nw elem 0 x\ntimer 1\nr elem 0 x\nend\n",
+        output: "report 1\nrace 1 6 8 wr 1 2 elem 0 x\nactions 3\naccesses 2\npairs 1\nraces 1\nend\n",
+        status: 1,
+    },
+    // one access to a place of an element, with a space in its name
+    Row {
+        input: "webtrace 1\nparse 0 1 plain\nw elem 0 a%20b\nend\n",
+        output: "report 1\nactions 1\naccesses 1\npairs 0\nraces 0\nend\n",
+        status: 0,
+    },
     // nothing at all
     Row {
         input: "webtrace 1\nend\n",
@@ -67,24 +79,26 @@ static REPORTS: [Row; 9] = [
     },
 ];
 
-static REFUSALS: [(&str, &str); 27] = [
+static REFUSALS: [(&str, &str); 33] = [
     (
         "webtrace 1\nparse 0 1 plain\ntimer 9\nend\n",
         "refused 3 unknown\n",
     ),
     (
         "webtrace 1\nparse 0 1 plain\nexec 1\nend\n",
-        "refused 3 bad-record\n",
+        "refused 3 not-script\n",
     ),
-    ("webtrace 1\nset 1 0\nend\n", "refused 2 bad-record\n"),
-    ("webtrace 1\ntimer 9\nend\n", "refused 2 bad-record\n"),
+    ("webtrace 1\nset 1 0\nend\n", "refused 2 misplaced\n"),
+    ("webtrace 1\non 1\nend\n", "refused 2 misplaced\n"),
+    ("webtrace 1\ntimer 9\nend\n", "refused 2 unknown\n"),
+    ("webtrace 1\nr var 0 x\nend\n", "refused 2 misplaced\n"),
     (
-        "webtrace 1\nparse 0 1 inline\nend\n",
-        "refused 2 bad-record\n",
+        "webtrace 1\nparse 0 1 inline\nexec 1\nexec 1\nend\n",
+        "refused 4 again\n",
     ),
     (
-        "webtrace 1\nparse 0 1 plain\nw elem 0 x\nend\n",
-        "refused 3 bad-record\n",
+        "webtrace 1\nparse 0 1 plain\nfire 1 1 click\nparse 0 2 plain\nend\n",
+        "refused 4 misplaced\n",
     ),
     ("webtrace 1\nparse 1 1 plain\nend\n", "refused 2 unknown\n"),
     (
@@ -117,6 +131,22 @@ static REFUSALS: [(&str, &str); 27] = [
     ),
     (
         "webtrace 1\nparse 0 1 plain\nw var 0 %41\nend\n",
+        "refused 3 bad-record\n",
+    ),
+    (
+        "webtrace 1\nparse 0 1 plain\nw elem 0 %41\nend\n",
+        "refused 3 bad-record\n",
+    ),
+    (
+        "webtrace 1\nparse 0 1 plain\nw elem 0 a%2f\nend\n",
+        "refused 3 bad-record\n",
+    ),
+    (
+        "webtrace 1\nparse 0 1 plain\nw elem 0 %\nend\n",
+        "refused 3 bad-record\n",
+    ),
+    (
+        "webtrace 1\nparse 0 1 plain\nw elem 0\nend\n",
         "refused 3 bad-record\n",
     ),
     (

@@ -1,5 +1,5 @@
 -- What a sequence of texts put into a buffer does, from what each of them does.
-use Rattle.std.proofs.Common.{◌≡◌, ℕ, ◌<◌, ◌≤◌, Result, List, [], ◌++◌, length, take, Option, Some, refl, sym, ap, ◌∙◌, arith}
+use Rattle.std.proofs.Common.{◌≡◌, ℕ, ◌≤◌, Result, List, [], ◌++◌, length, take, Option, Some, refl, sym, ap, ◌∙◌, arith}
 use Rattle.std.specs.Result.{OnOk, OnErr}
 use Rattle.std.proofs.lemmas.Result.{on_ok_weaker, on_err_weaker}
 use Rattle.std.proofs.lemmas.Grind.{common_steps}

@@ -1,6 +1,5 @@
 pub mod AcceptLemmas
 pub mod AnswerLemmas
-pub mod EventLemmas
 pub mod ListerLemmas
 pub mod ReportLemmas
 pub mod Sameness

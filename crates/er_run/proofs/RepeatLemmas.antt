@@ -1,5 +1,5 @@
 -- A repeat stands among the newest accesses.
-use Rattle.std.proofs.Common.{◌≡◌, ℕ, ◌+◌, ◌≤◌, Bool, true, false, List, [], ◌∷◌, ◌++◌, reverse, length, take, suc, Option, Some, None, refl, ap, subst, sym, ◌∙◌, inl, inr, arith}
+use Rattle.std.proofs.Common.{◌≡◌, ℕ, ◌+◌, ◌≤◌, Bool, true, false, List, [], ◌∷◌, ◌++◌, reverse, length, take, suc, Option, Some, None, option_map, refl, ap, subst, sym, ◌∙◌, inl, inr, arith}
 use Rattle.std.specs.Prelude.{◌==◌, ◌||◌, take_while, if◌then◌else◌}
 use Rattle.std.specs.List.{list_any, prefix_len}
 use Rattle.std.proofs.lemmas.Bool.{ne_eqb}
@@ -10,13 +10,15 @@ use Rattle.er_trace.specs.declared.record.Record.{Record}
 use Rattle.er_trace.specs.declared.record.Record.TheVariants.{Access}
 use Rattle.er_trace.specs.declared.record.Mode.{Mode}
 use Rattle.er_trace.specs.declared.record.Loc.{Loc}
-use Rattle.er_history.specs.History.{Action, History, told, running, begins, actions_after, action_begun}
-use Rattle.er_history.proofs.HistoryLemmas.{EachIsAnEvent, each_is_an_event, actions_grow}
+use Rattle.er_history.specs.History.{Action, told, running, actions_after}
+use Rattle.er_history.specs.Laws.{IsNumbered}
+use Rattle.er_history.proofs.HistoryLemmas.{actions_are_numbered, actions_grow}
 use Rattle.er_run.specs.declared.accesses.Kept.{Kept}
-use Rattle.er_run.specs.declared.session.Session.{Session}
 use Rattle.er_run.specs.Races.{kept, accesses_of, without_repeats, repeats}
-use Rattle.er_run.specs.Session.{has_action, IsFalling, IsNext}
-use Rattle.er_run.proofs.SessionLemmas.{events_length}
+use Rattle.er_run.specs.Session.{has_action, is_access, IsFalling, AreInOrder}
+use Rattle.er_page.specs.declared.page.Page.{Page}
+use Rattle.er_page.specs.Page.{IsPage}
+use Rattle.er_page.specs.LookUps.{running_action}
 
 pub or_swaps : (a b : Bool) → (a || b) ≡ (b || a)
 or_swaps true true = refl
@@ -76,14 +78,10 @@ one_falls x before n e falling = step (list_any (repeats x) before)
     step true = falling
     step false = subst (IsFalling n) (sym (reverse-append before (x ∷ []))) (omega (arith, e), subst (λ m. IsFalling m (reverse before)) (sym e) falling)
 
-pub access_falls : (actions : List Action) (m : Mode) (l : Loc) (place : ℕ) (before : List Kept) → EachIsAnEvent actions → IsFalling (length actions) (reverse before)
+pub access_falls : (actions : List Action) (m : Mode) (l : Loc) (place : ℕ) (before : List Kept) → IsNumbered actions → IsFalling (length actions) (reverse before)
     → IsFalling (length actions) (reverse (without_repeats (accesses_of (record { read = Access m l; place = place; action = running actions })) before))
 access_falls [] m l place before n falling = falling
 access_falls (a ∷ older) m l place before n falling = one_falls (record { line = place + 2; action = a.number; mode = m; loc = l }) before (suc (length older)) (omega (arith, n.0)) falling
-
-abbrev pub is_access : Record → Bool
-is_access (Access m l) = true
-is_access _ = false
 
 pub accesses_nothing : (o : Option Action) (x : Record) (place : ℕ) → is_access x ≡ false → accesses_of (record { read = x; place = place; action = o }) ≡ []
 accesses_nothing None x place e = refl
@@ -92,7 +90,7 @@ accesses_nothing (Some a) x place e = refl
 
 pub kept_falls : (h : List Record) → IsFalling (length (told h).actions) (reverse (kept h))
 kept_falls [] = tt
-kept_falls (Access m l ∷ h) = access_falls (told h).actions m l (length (told h).entries) (kept h) (each_is_an_event h) (kept_falls h)
+kept_falls (Access m l ∷ h) = access_falls (told h).actions m l (length (told h).entries) (kept h) (actions_are_numbered h) (kept_falls h)
 kept_falls (x ∷ h) =
     let nothing : accesses_of (record { read = x; place = length (told h).entries; action = running (actions_after (told h) x) }) ≡ [] = accesses_nothing (running (actions_after (told h) x)) x (length (told h).entries) refl in
     let same : kept (x ∷ h) ≡ kept h = ap (λ more. without_repeats more (kept h)) nothing in
@@ -100,7 +98,11 @@ kept_falls (x ∷ h) =
     (falling_more (length (told h).actions) (length (told (x ∷ h)).actions) (reverse (kept h)) (actions_grow (told h) x) (kept_falls h))
 
 -- the running action is the newest
-pub next_falls : (s : Session) (x : Record) (r : ℕ) → IsNext s x → r + 1 ≡ length s.events.list.items → IsFalling (r + 1) (reverse s.kept.items)
-next_falls s x r next e =
-    let long : length (told next.list).actions ≡ r + 1 = sym (e ∙ events_length s.events.list.items (told next.list).actions next.stands.events) in
-    subst (λ ks. IsFalling (r + 1) (reverse ks)) (sym next.stands.accesses) (subst (λ n. IsFalling n (reverse (kept next.list))) long (kept_falls next.list))
+newest_is : (actions : List Action) (r : ℕ) → IsNumbered actions → Some r ≡ option_map (λ (a : Action). a.number) (running actions) → r + 1 ≡ length actions
+newest_is [] r n e = absurd (cc)
+newest_is (a ∷ older) r n e = let same : r ≡ a.number = cc in omega (arith, n.0, same)
+
+pub next_falls : (page : Page) (accesses : List Kept) (r : ℕ) (o : AreInOrder page accesses) → ((h : List Record) → IsPage page h → Some r ≡ running_action h) → IsFalling (r + 1) (reverse accesses)
+next_falls page accesses r o runs =
+    let long : r + 1 ≡ length (told o.list).actions = newest_is (told o.list).actions r (actions_are_numbered o.list) (runs o.list o.stands) in
+    subst (λ n. IsFalling n (reverse accesses)) (sym long) o.falling

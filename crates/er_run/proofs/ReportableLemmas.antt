@@ -1,5 +1,5 @@
 -- What the lister asks of the session of an accepted trace.
-use Rattle.std.proofs.Common.{◌≡◌, ℕ, ◌+◌, ◌<◌, ◌≤◌, Bool, true, false, List, [], ◌∷◌, ◌++◌, length, refl, ap, ◌∙◌, subst, arith, suc, cond, slice_get, Option, Some, None}
+use Rattle.std.proofs.Common.{◌≡◌, ℕ, ◌+◌, ◌<◌, ◌≤◌, Bool, true, false, List, [], ◌∷◌, ◌++◌, length, refl, sym, ap, subst, arith, cond, slice_get, Option, Some, None}
 use Rattle.std.specs.Prelude.{All}
 use Rattle.std.specs.List.{list_any}
 use Rattle.std.proofs.lemmas.Grind.{common_steps}
@@ -7,19 +7,23 @@ use Rattle.er_trace.specs.declared.record.Record.{Record}
 use Rattle.er_trace.specs.declared.record.Record.TheVariants.{Parse, ParseFrame, Exec, Timer, Tick, Dcl, Load, Eload, Fire, Wfire, Reply, Inline, Run, Close, Back, New, NewFrame, On, Set, Every, Send, Access}
 use Rattle.er_trace.specs.Trace.{most_lines}
 use Rattle.er_history.specs.History.{Action, Entry, told}
-use Rattle.er_history.specs.Rules.{rules}
-use Rattle.er_history.specs.Edges.{edges}
-use Rattle.er_history.proofs.HistoryLemmas.{entries_length, edges_length}
+use Rattle.er_history.specs.Edges.{path}
+use Rattle.er_history.proofs.HistoryLemmas.{entries_length}
+use Rattle.er_page.specs.declared.page.Page.{Page}
+use Rattle.er_page.specs.Page.{IsPage}
+use Rattle.er_graph.specs.Accepted.{Accepted, records}
+use Rattle.er_graph.specs.Graph.{IsGraph, IsListed}
+use Rattle.er_graph.specs.Rules.{rules_now}
 use Rattle.er_run.specs.declared.accesses.Kept.{Kept}
 use Rattle.er_run.specs.declared.session.Session.{Session}
 use Rattle.std.proofs.lemmas.List.{length-map}
-use Rattle.er_paths.specs.Paths.{joins}
-use Rattle.er_ancestors.specs.Rows.{StandsFor as RowsStandFor}
 use Rattle.er_run.specs.declared.accesses.Race.{Race}
 use Rattle.er_run.specs.Races.{kept, kept_of, accesses_of, without_repeats, repeats, races, races_by, candidates_of, ArePairs}
 use Rattle.er_run.specs.Report.{report, report_of as report_text}
-use Rattle.er_run.specs.Session.{StandsFor}
+use Rattle.er_run.specs.Session.{numbered, StandsFor}
+use Rattle.er_run.specs.Listing.{AreBegun}
 use Rattle.er_run.specs.Accepted.{IsReportable}
+use Rattle.er_run.proofs.SessionLemmas.{records_numbered, kept_begun, page_of}
 
 at_most_one : (xs old : List Kept) → length xs ≤ 1 → length (without_repeats xs old) ≤ length old + 1
 at_most_one [] old h = omega arith
@@ -44,22 +48,29 @@ kept_few (entry ∷ older) = let so_far = kept_few older in let step = at_most_o
 pub few_to_list : (s : Session) → IsReportable s → length s.kept.items ≤ most_lines
 few_to_list s r = omega (arith, kept_few (told r.list).entries, entries_length r.list, ap length r.stands.accesses, r.few)
 
-pub known_to_list : (s : Session) → IsReportable s → All (λ (k : Kept). k.action < length s.events.ancestors) s.kept.items
-known_to_list s r = let same : length s.events.ancestors ≡ length (told r.list).actions = r.stands.paths.size ∙ edges_length rules (told r.list).actions in rw (r.stands.accesses, same) r.stands.begun
+pub begun_to_list : (s : Session) → IsReportable s → AreBegun s.graph s.kept.items
+begun_to_list s r =
+    let Begun : List Record → List Kept → Type 0 = λ h ks. All (λ (k : Kept). k.action < length (told h).actions) ks in
+    record {
+      accepted = numbered r.list;
+      stands = r.stands.graph;
+      begun = subst (λ h. Begun h s.kept.items) (sym (records_numbered r.list)) (subst (Begun r.list) (sym r.stands.accesses) (kept_begun r.list));
+    }
 
 -- what was listed are the races of the records, and with the counts of the session they make the report
 pub record IsReport (s : Session) (h : List Record) (found : List Race) (actions pairs : ℕ) : Type 0 where
   pub are_pairs : ArePairs s.kept.items found (races h)
   pub text : report_text (races h) actions (length s.kept.items) pairs ≡ report h
 
-pub reports : (s : Session) (h : List Record) (found : List Race) (actions pairs : ℕ) → StandsFor s h → ((lists : List (List ℕ)) → RowsStandFor s.events.ancestors lists → ArePairs s.kept.items found (races_by (joins lists) s.kept.items))
-    → actions ≡ length s.events.ancestors → pairs ≡ length (candidates_of s.kept.items) → IsReport s h found actions pairs
-reports s h found actions pairs stands listed counted paired =
-    let here : ArePairs s.kept.items found (races_by (joins (edges rules (told h).actions)) s.kept.items) = listed (edges rules (told h).actions) stands.paths in
-    let same : length s.events.ancestors ≡ length (told h).actions = stands.paths.size ∙ edges_length rules (told h).actions in
-    let all : actions ≡ length (told h).actions = counted ∙ same in
+pub reports : (s : Session) (page : Page) (h : List Record) (found : List Race) (actions pairs : ℕ) → StandsFor s h
+    → ((accepted : List Accepted) → IsGraph s.graph accepted → ArePairs s.kept.items found (races_by (path rules_now (records accepted)) s.kept.items))
+    → ((accepted : List Accepted) → IsListed s.graph accepted → IsPage page (records accepted)) → ((h : List Record) → IsPage page h → actions ≡ length (told h).actions) → pairs ≡ length (candidates_of s.kept.items)
+    → IsReport s h found actions pairs
+reports s page h found actions pairs stands listed shows counted paired =
+    let all : actions ≡ length (told h).actions = counted h (page_of page s.graph h shows stands.graph) in
+    let here : ArePairs s.kept.items found (races_by (path rules_now h) s.kept.items) = subst (λ l. ArePairs s.kept.items found (races_by (path rules_now l) s.kept.items)) (records_numbered h) (listed (numbered h) stands.graph) in
     record {
-      are_pairs = subst (λ (ks : List Kept). ArePairs s.kept.items found (races_by (joins (edges rules (told h).actions)) ks)) stands.accesses here;
+      are_pairs = subst (λ (ks : List Kept). ArePairs s.kept.items found (races_by (path rules_now h) ks)) stands.accesses here;
       text = rw (all, paired, stands.accesses) refl;
     }
 

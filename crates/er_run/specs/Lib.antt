@@ -1,8 +1,6 @@
 pub mod Accepted
 pub mod Answer
-pub mod Event
 pub mod Listing
-pub mod Names
 pub mod Pieces
 pub mod Promise
 pub mod Races

@@ -1,5 +1,9 @@
 -- How far a listing of races has come.
-use Rattle.std.specs.Prelude.{ℕ, ◌<◌, Bool, not, ◌&&◌, List, ◌++◌, length}
+use Rattle.std.specs.Prelude.{ℕ, ◌<◌, All, Bool, not, ◌&&◌, List, ◌++◌, length}
+use Rattle.er_history.specs.History.{told}
+use Rattle.er_graph.specs.declared.graph.Graph.{Graph}
+use Rattle.er_graph.specs.Accepted.{Accepted, records}
+use Rattle.er_graph.specs.Graph.{IsGraph}
 use Rattle.er_run.specs.declared.accesses.Kept.{Kept}
 use Rattle.er_run.specs.declared.accesses.Race.{Race}
 use Rattle.er_run.specs.Races.{is_candidate, ArePairs}
@@ -7,6 +11,12 @@ use Rattle.er_run.specs.Races.{is_candidate, ArePairs}
 -- a candidate whose first action does not join the second
 abbrev pub is_race : (ℕ → ℕ → Bool) → Kept → Kept → Bool
 is_race joined a b = is_candidate a b && not (joined a.action b.action)
+
+-- the graph stands for some records, which have begun the actions of the accesses
+pub record AreBegun (graph : Graph) (accesses : List Kept) : Type 0 where
+  pub accepted : List Accepted
+  pub stands : IsGraph graph accepted
+  pub begun : All (λ (x : Kept). x.action < length (told (records accepted)).actions) accesses
 
 -- both places are in the list
 abbrev pub IsWithin : List Kept → Race → Type 0

@@ -14,7 +14,8 @@ use crate::input::MOST_BYTES;
 use crate::lister::list;
 use crate::outcome::Outcome;
 use crate::report_writer::{write_refusal, write_report};
-use crate::session::{JudgeFault, Session, judge};
+use crate::session::{Session, judge};
+use er_graph::GraphFault;
 use er_outside::{NoMemory, Sink};
 use er_text::Cause;
 use er_trace::fault::FeedFault;
@@ -95,13 +96,19 @@ fn judge_reading(
     match judge(alloc, records) {
         Ok(session) => match refused {
             None => Ok(session),
-            Some(LineRefusal { line, cause }) => Err(FeedFault::Refused { line, cause }),
+            Some(refusal) => Err(fault_of(refusal)),
         },
-        Err(JudgeFault::Refused { at, cause }) => Err(FeedFault::Refused {
-            line: at + 2,
-            cause,
-        }),
-        Err(JudgeFault::NoMemory) => Err(FeedFault::NoMemory),
+        Err(GraphFault::Refused { line, cause }) => Err(FeedFault::Refused { line, cause }),
+        Err(GraphFault::NoMemory) => Err(FeedFault::NoMemory),
+    }
+}
+
+fn fault_of(refusal: LineRefusal) -> FeedFault
+    ensures { result ≡ FeedFault.Refused refusal.line refusal.cause }
+{
+    FeedFault::Refused {
+        line: refusal.line,
+        cause: refusal.cause,
     }
 }
 
@@ -112,11 +119,11 @@ fn report_of<K: Sink>(alloc: Global, session: &Session, sink: &mut K) -> Outcome
     ensures write_fault { result ≡ Outcome.WriteFault → Rose (K.faults sink.old) (K.faults sink.new) }
     ensures writes { K.faults sink.old ≤ K.faults sink.new }
 {
-    let ancestors = &session.events.ancestors;
-    let Ok(listed) = list(alloc, &session.kept, ancestors) else {
+    let graph = &session.graph;
+    let Ok(listed) = list(alloc, &session.kept, graph) else {
         return Outcome::NoMemory;
     };
-    let actions = ancestors.len() as u64;
+    let actions = u64::from(graph.page().actions());
     let Ok(()) = write_report(sink, actions, &session.kept, &listed.races, listed.pairs) else {
         return Outcome::WriteFault;
     };

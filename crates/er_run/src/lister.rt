@@ -1,15 +1,17 @@
 //! Which candidate pairs race.
 
 ghost use Rattle.std.specs.Prelude.{◌≡◌, ℕ, ◌+◌, ◌<◌, ◌≤◌, ◌^◌, ◌⊎◌, List, [], ◌∷◌, ◌++◌, All, length, drop, cond, OnOk, IfOk};
-ghost use Rattle.er_paths.specs.Paths.{joins};
-ghost use Rattle.er_ancestors.specs.Rows.{StandsFor};
 ghost use Rattle.er_trace.specs.Trace.{most_lines};
+ghost use Rattle.er_history.specs.Edges.{path};
+ghost use Rattle.er_graph.specs.Accepted.{Accepted, records};
+ghost use Rattle.er_graph.specs.Graph.{IsGraph, HaveBegun};
+ghost use Rattle.er_graph.specs.Rules.{rules_now};
 ghost use Rattle.er_run.specs.Races as spec;
-ghost use Rattle.er_run.specs.Listing.{is_race, IsWithin, Leaves};
+ghost use Rattle.er_run.specs.Listing.{is_race, AreBegun, IsWithin, Leaves};
 ghost use Rattle.er_run.specs.declared.accesses.Kept as accesses;
 
 use crate::accesses::{Kept, Race, is_candidate};
-use er_ancestors::Ancestors;
+use er_graph::Graph;
 use er_outside::NoMemory;
 use std::alloc::Global;
 
@@ -21,10 +23,10 @@ pub(crate) struct Listed {
 }
 
 /// Judges each pair of kept accesses once, in the order of the first and then of the second.
-pub(crate) fn list(alloc: Global, kept: &[Kept], ancestors: &Ancestors) -> Result<Listed, NoMemory>
+pub(crate) fn list(alloc: Global, kept: &[Kept], graph: &Graph) -> Result<Listed, NoMemory>
     requires few { length kept.now ≤ most_lines }
-    requires known { All (λ access. access.action < length ancestors.now) kept.now }
-    ensures races { IfOk result (λ listed. (lists : List (List ℕ)) → StandsFor ancestors.now lists → spec.ArePairs kept.now listed.races.items (spec.races_by (joins lists) kept.now)) }
+    requires begun { AreBegun graph.now kept.now }
+    ensures races { IfOk result (λ listed. (accepted : List Accepted) → IsGraph graph.now accepted → spec.ArePairs kept.now listed.races.items (spec.races_by (path rules_now (records accepted)) kept.now)) }
     ensures pairs { IfOk result (λ listed. listed.pairs ≡ length (spec.candidates_of kept.now)) }
     ensures in_range { IfOk result (λ listed. All (IsWithin kept.now) listed.races.items) }
 {
@@ -33,7 +35,7 @@ pub(crate) fn list(alloc: Global, kept: &[Kept], ancestors: &Ancestors) -> Resul
         pairs: 0,
     };
     for first in 0..kept.len() {
-        list_from(&mut listed, kept, ancestors, first)?;
+        list_from(&mut listed, kept, graph, first)?;
     }
     Ok(listed)
 }
@@ -42,14 +44,14 @@ pub(crate) fn list(alloc: Global, kept: &[Kept], ancestors: &Ancestors) -> Resul
 fn list_from(
     listed: &mut Listed,
     kept: &[Kept],
-    ancestors: &Ancestors,
+    graph: &Graph,
     first: usize,
 ) -> Result<(), NoMemory>
     requires within { first < length kept.now }
     requires few { length kept.now ≤ most_lines }
-    requires known { All (λ access. access.action < length ancestors.now) kept.now }
+    requires begun { AreBegun graph.now kept.now }
     requires room { listed.old.pairs + length (spec.candidates_of (drop first kept.now)) < 2 ^ 63 }
-    ensures races { OnOk result ((lists : List (List ℕ)) (all : List (accesses.Kept × accesses.Kept)) → StandsFor ancestors.now lists → Leaves kept.now listed.old.races.items (spec.races_by (joins lists) (drop first kept.now)) all → Leaves kept.now listed.new.races.items (spec.races_by (joins lists) (drop (first + 1) kept.now)) all) }
+    ensures races { OnOk result ((accepted : List Accepted) (all : List (accesses.Kept × accesses.Kept)) → IsGraph graph.now accepted → Leaves kept.now listed.old.races.items (spec.races_by (path rules_now (records accepted)) (drop first kept.now)) all → Leaves kept.now listed.new.races.items (spec.races_by (path rules_now (records accepted)) (drop (first + 1) kept.now)) all) }
     ensures pairs { OnOk result (listed.new.pairs + length (spec.candidates_of (drop (first + 1) kept.now)) ≡ listed.old.pairs + length (spec.candidates_of (drop first kept.now))) }
     ensures in_range { OnOk result (All (IsWithin kept.now) listed.old.races.items → All (IsWithin kept.now) listed.new.races.items) }
 {
@@ -59,22 +61,16 @@ fn list_from(
             first: first as u32,
             second: second as u32,
         };
-        judge(listed, pair, a, &kept[second], ancestors)?;
+        judge(listed, pair, a, &kept[second], graph)?;
     }
     Ok(())
 }
 
 /// Counts the pair where it is a candidate, and lists it where it races.
-fn judge(
-    listed: &mut Listed,
-    pair: Race,
-    a: &Kept,
-    b: &Kept,
-    ancestors: &Ancestors,
-) -> Result<(), NoMemory>
-    requires known { b.now.action < length ancestors.now }
+fn judge(listed: &mut Listed, pair: Race, a: &Kept, b: &Kept, graph: &Graph) -> Result<(), NoMemory>
+    requires begun { ∥ HaveBegun graph.now a.now.action b.now.action ∥₁ }
     requires room { listed.old.pairs < 2 ^ 63 }
-    ensures races { OnOk result ((lists : List (List ℕ)) → StandsFor ancestors.now lists → listed.new.races.items ≡ cond (is_race (joins lists) a.now b.now) (listed.old.races.items ++ pair ∷ []) listed.old.races.items) }
+    ensures races { OnOk result ((accepted : List Accepted) → IsGraph graph.now accepted → listed.new.races.items ≡ cond (is_race (path rules_now (records accepted)) a.now b.now) (listed.old.races.items ++ pair ∷ []) listed.old.races.items) }
     ensures one { OnOk result ((listed.new.races.items ≡ listed.old.races.items) ⊎ (listed.new.races.items ≡ listed.old.races.items ++ pair ∷ [])) }
     ensures pairs { OnOk result (listed.new.pairs ≡ listed.old.pairs + cond (spec.is_candidate a.now b.now) 1 0) }
 {
@@ -82,7 +78,7 @@ fn judge(
         return Ok(());
     }
     listed.pairs += 1;
-    if ancestors.joined(a.action, b.action) {
+    if graph.joined(a.action, b.action) {
         return Ok(());
     }
     let Ok(()) = listed.races.push(pair) else {

@@ -1,14 +1,16 @@
-use Rattle.std.proofs.Common.{◌≡◌, ℕ, ◌+◌, List, length, drop}
+use Rattle.std.proofs.Common.{◌≡◌, ◌+◌, List, length, drop}
 use Rattle.std.specs.List.{All}
-use Rattle.er_paths.specs.Paths.{joins}
-use Rattle.er_ancestors.specs.Rows.{StandsFor}
+use Rattle.er_history.specs.Edges.{path}
+use Rattle.er_graph.specs.Accepted.{Accepted, records}
+use Rattle.er_graph.specs.Graph.{IsGraph}
+use Rattle.er_graph.specs.Rules.{rules_now}
 use Rattle.er_run.specs.Races.{candidates_of, races_by}
 use Rattle.er_run.specs.Listing.{IsWithin, Leaves}
 use Rattle.er_run.proofs.lister.list.Given as goal
 
 abbrev pub invariant-loop-first : goal.invariant-loop-first
 invariant-loop-first l = record {
-  races : (lists : List (List ℕ)) → StandsFor l.ancestors lists → Leaves l.kept l.listed.races.items (races_by (joins lists) (drop l.first l.kept)) (races_by (joins lists) l.kept);
+  races : (accepted : List Accepted) → IsGraph l.graph accepted → Leaves l.kept l.listed.races.items (races_by (path rules_now (records accepted)) (drop l.first l.kept)) (races_by (path rules_now (records accepted)) l.kept);
   pairs : l.listed.pairs + length (candidates_of (drop l.first l.kept)) ≡ length (candidates_of l.kept);
   in_range : All (IsWithin l.kept) l.listed.races.items;
 }

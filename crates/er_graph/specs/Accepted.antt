@@ -1,0 +1,54 @@
+-- Records that were accepted with their lines, and what is kept of them. Lists stand newest first.
+use Rattle.std.specs.Prelude.{◌≡◌, ℕ, Bool, false, List, [], ◌∷◌, ◌++◌, map, if◌then◌else◌, Option, None}
+use Rattle.er_text.specs.declared.causes.Cause.{Cause}
+use Rattle.er_trace.specs.declared.record.Record.{Record}
+use Rattle.er_paths.specs.Laws.{IsEnough}
+use Rattle.er_history.specs.History.{told, begins}
+use Rattle.er_history.specs.Edges.{edges}
+use Rattle.er_history.specs.Sound.{cause, IsSound}
+use Rattle.er_ancestors.specs.Rows.{StandsFor}
+use Rattle.er_page.specs.declared.page.Page.{Page}
+use Rattle.er_page.specs.Page.{IsPage}
+use Rattle.er_graph.specs.Rules.{rules_now}
+
+-- a record that was accepted, with the line that was handed in
+pub record Accepted : Type 0 where
+  pub line : ℕ
+  pub read : Record
+
+abbrev pub records : List Accepted → List Record
+records accepted = map (λ (x : Accepted). x.read) accepted
+
+-- the lines of the records that began the actions, in the order of the actions
+abbrev pub lines_of : List Accepted → List ℕ
+lines_of [] = []
+lines_of (x ∷ older) = if begins x.read then lines_of older ++ x.line ∷ [] else lines_of older
+
+-- a page and lines say what the accepted records say
+pub record IsTold (shown : Page) (kept : List ℕ) (accepted : List Accepted) : Type 0 where
+  pub page : IsPage shown (records accepted)
+  pub sound : IsSound rules_now (records accepted)
+  pub lines : kept ≡ lines_of accepted
+
+-- rows of flags are the paths over lists of predecessors that are enough
+pub record IsJoined (flags : List (List Bool)) (accepted : List Accepted) : Type 0 where
+  pub lists : List (List ℕ)
+  pub rows : StandsFor flags lists
+  pub enough : IsEnough lists (edges rules_now (told (records accepted)).actions)
+
+-- the first cause against a record after the accepted ones
+abbrev pub cause_now : List Accepted → Record → Option Cause
+cause_now accepted x = cause rules_now (records accepted) x
+
+-- the parts of a graph are those of some accepted records, after which the record is accepted
+pub record IsNext (shown : Page) (flags : List (List Bool)) (kept : List ℕ) (x : Record) : Type 0 where
+  pub accepted : List Accepted
+  pub told : IsTold shown kept accepted
+  pub joined : IsJoined flags accepted
+  pub legal : cause_now accepted x ≡ None
+
+-- the parts of a graph are those of some accepted records; after want of memory without the rows
+pub record IsSomeGraph (shown : Page) (flags : List (List Bool)) (kept : List ℕ) (has_failed : Bool) : Type 0 where
+  pub accepted : List Accepted
+  pub told : IsTold shown kept accepted
+  pub joined : has_failed ≡ false → IsJoined flags accepted

@@ -1,0 +1,40 @@
+-- What a graph stands for, and what an answer to a record says. Lists stand newest first.
+use Rattle.std.specs.Prelude.{◌≡◌, ℕ, ◌<◌, true, false, List, length, Some}
+use Rattle.er_trace.specs.declared.record.Record.{Record}
+use Rattle.er_history.specs.History.{told}
+use Rattle.er_graph.specs.declared.graph.Graph.{Graph}
+use Rattle.er_graph.specs.declared.fault.GraphFault.{GraphFault}
+use Rattle.er_graph.specs.declared.fault.GraphFault.TheVariants.{Refused, NoMemory}
+use Rattle.er_graph.specs.Accepted.{Accepted, records, cause_now, IsTold, IsJoined}
+
+-- Its page and its lines are those of the accepted records. This outlives want of memory.
+abbrev pub IsListed : Graph → List Accepted → Type 0
+IsListed graph accepted = IsTold graph.page graph.lines.items accepted
+
+-- It stands for the accepted records: its rows are their paths besides.
+pub record IsGraph (graph : Graph) (accepted : List Accepted) : Type 0 where
+  pub listed : IsListed graph accepted
+  pub joined : IsJoined graph.ancestors accepted
+  pub whole : graph.has_failed ≡ false
+
+-- memory ran out in an earlier call
+abbrev pub HasFailed : Graph → Type 0
+HasFailed graph = graph.has_failed ≡ true
+
+-- some accepted records have begun the action
+pub record HasBegun (graph : Graph) (action : ℕ) : Type 0 where
+  pub accepted : List Accepted
+  pub listed : IsListed graph accepted
+  pub begun : action < length (told (records accepted)).actions
+
+-- memory has not run out, and the accepted records have begun both actions
+pub record HaveBegun (graph : Graph) (i j : ℕ) : Type 0 where
+  pub accepted : List Accepted
+  pub stands : IsGraph graph accepted
+  pub first : i < length (told (records accepted)).actions
+  pub second : j < length (told (records accepted)).actions
+
+-- What a fault says. A refusal has the line that was handed in and the first cause against the record, and changes nothing; after want of memory the graph is marked, and its page and lines are as they were.
+abbrev pub IsFault : GraphFault → ℕ → Record → Graph → Graph → Type 0
+IsFault (Refused l c) line x old new = (l ≡ line) × (new ≡ old) × ((accepted : List Accepted) → IsListed old accepted → cause_now accepted x ≡ Some c)
+IsFault NoMemory line x old new = HasFailed new × ((accepted : List Accepted) → IsListed old accepted → IsListed new accepted)

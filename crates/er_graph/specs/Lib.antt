@@ -1,0 +1,4 @@
+pub mod Accepted
+pub mod Graph
+pub mod Rules
+pub mod Timers

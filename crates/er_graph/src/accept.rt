@@ -1,0 +1,109 @@
+//! How records are accepted, and what the graph answers.
+
+ghost use Rattle.std.specs.Prelude.{◌≡◌, ◌<◌, List, [], ◌∷◌, Some, None, slice_get, OnOk, OnErr, IfOk, IfErr};
+ghost use Rattle.er_history.specs.Edges.{path};
+ghost use Rattle.er_page.specs.Accepted.{result_of};
+ghost use Rattle.er_page.specs.Page.{IsPage};
+ghost use Rattle.er_graph.specs.Rules.{rules_now};
+ghost use Rattle.er_graph.specs.Accepted.{Accepted, records, lines_of, cause_now, IsNext};
+ghost use Rattle.er_graph.specs.Graph.{IsListed, IsGraph, HasBegun, HasFailed, HaveBegun, IsFault};
+
+use crate::fault::GraphFault;
+use crate::graph::Graph;
+use crate::grow::grow;
+use crate::order::is_late;
+use er_ancestors::Ancestors;
+use er_outside::NoMemory;
+use er_page::page::Page;
+use er_text::Cause;
+use er_trace::record::Record;
+use std::alloc::Global;
+
+impl Graph {
+    /// No record yet.
+    pub fn new(alloc: Global) -> Result<Graph, NoMemory>
+        ensures { IfOk result (λ graph. IsGraph graph []) }
+    {
+        Ok(Graph {
+            page: Page::new(alloc)?,
+            ancestors: Ancestors::new(alloc),
+            lines: Vec::new(alloc),
+            has_failed: false,
+        })
+    }
+
+    /// Accepts the next record, which stands in this line, or answers the first cause against it.
+    ///
+    /// Naming and nesting are asked first, then order, then room. After `NoMemory` every later call answers `NoMemory`.
+    pub fn accept(&mut self, line: u32, rec: &Record) -> Result<(), GraphFault>
+        ensures accepted { OnOk result ((accepted : List Accepted) → IsGraph self.old accepted → (cause_now accepted rec.now ≡ None) × IsGraph self.new (record { line = line; read = rec.now } ∷ accepted)) }
+        ensures refused { IfErr result (λ fault. IsFault fault line rec.now self.old self.new) }
+        ensures failed { HasFailed self.old → result ≡ Err (GraphFault.NoMemory) }
+    {
+        if self.has_failed {
+            return Err(GraphFault::NoMemory);
+        }
+        if let Err(cause) = self.check(rec) {
+            return Err(GraphFault::Refused { line, cause });
+        }
+        let Ok(()) = self.take(line, rec) else {
+            return Err(GraphFault::NoMemory);
+        };
+        Ok(())
+    }
+
+    /// The page of the accepted records.
+    pub fn page(&self) -> &Page
+        ensures { (accepted : List Accepted) → IsListed self.now accepted → IsPage result.now (records accepted) }
+    {
+        &self.page
+    }
+
+    /// The line that was handed in with the record that began the action.
+    pub fn line_of(&self, action: u32) -> u32
+        requires begun { ∥ HasBegun self.now action ∥₁ }
+        ensures { (accepted : List Accepted) → IsListed self.now accepted → slice_get (lines_of accepted) action ≡ Some result }
+    {
+        self.lines[action as usize]
+    }
+
+    /// Whether a path leads from action i to action j. It takes no memory.
+    pub fn joined(&self, i: u32, j: u32) -> bool
+        requires begun { ∥ HaveBegun self.now i j ∥₁ }
+        ensures { (accepted : List Accepted) → IsGraph self.now accepted → result ≡ path rules_now (records accepted) i j }
+    {
+        self.ancestors.joined(i, j)
+    }
+
+    /// The first cause against the record, if there is one.
+    fn check(&self, rec: &Record) -> Result<(), Cause>
+        ensures { (accepted : List Accepted) → IsListed self.now accepted → result ≡ result_of (cause_now accepted rec.now) }
+    {
+        if let Err(cause) = self.page.check(rec) {
+            return Err(cause);
+        }
+        if is_late(&self.page, rec) {
+            return Err(Cause::OutOfOrder);
+        }
+        self.page.room(rec)
+    }
+
+    /// Takes a record that `check` accepts. The graph is marked as failed first, so that it stays so where memory runs out.
+    fn take(&mut self, line: u32, rec: &Record) -> Result<(), NoMemory>
+        requires next { ∥ IsNext self.old.page self.old.ancestors self.old.lines.items rec.now ∥₁ }
+        ensures taken { OnOk result ((accepted : List Accepted) → IsGraph self.old accepted → cause_now accepted rec.now ≡ None → IsGraph self.new (record { line = line; read = rec.now } ∷ accepted)) }
+        ensures failed { OnErr result (HasFailed self.new) }
+        ensures kept { OnErr result ((accepted : List Accepted) → IsListed self.old accepted → IsListed self.new accepted) }
+    {
+        self.has_failed = true;
+        grow(
+            &mut self.page,
+            &mut self.ancestors,
+            &mut self.lines,
+            line,
+            rec,
+        )?;
+        self.has_failed = false;
+        Ok(())
+    }
+}

@@ -1,0 +1,18 @@
+//! The graph of the records that were accepted.
+
+ghost use Rattle.er_graph.specs.Accepted.{IsSomeGraph};
+
+use er_ancestors::Ancestors;
+use er_page::page::Page;
+
+/// What the accepted records say, the lines that were handed in with them, and which of their actions a path joins.
+#[derive(Drop)]
+pub struct Graph {
+    pub(crate) page: Page,
+    pub(crate) ancestors: Ancestors,
+    /// The lines of the records that began the actions.
+    pub(crate) lines: Vec<u32>,
+    /// Whether memory ran out: then no record is accepted any more.
+    pub(crate) has_failed: bool,
+    ghost stands: { ∥ IsSomeGraph page ancestors lines.items has_failed ∥₁ },
+}

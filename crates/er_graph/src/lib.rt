@@ -1,0 +1,12 @@
+//! Records accepted one after the other, and which of the actions that they begin a path joins.
+#![tactic(auto)]
+
+mod accept;
+pub mod fault;
+pub mod graph;
+mod grow;
+mod order;
+mod timers;
+
+pub use fault::GraphFault;
+pub use graph::Graph;

@@ -1,0 +1,102 @@
+-- What a group of rules hands where it hands the source of every edge. Lists stand newest first.
+use Rattle.std.proofs.Common.{◌≡◌, ℕ, ◌+◌, ◌≤◌, Bool, true, false, cond, List, [], ◌∷◌, ◌++◌, length, take, filter, suc, zero, refl, sym, ap, ◌∙◌, arith, inl, inr}
+use Rattle.std.specs.List.{list_any}
+use Rattle.er_trace.specs.declared.record.Record.{Record}
+use Rattle.er_trace.specs.declared.record.Record.TheVariants.{Back}
+use Rattle.er_paths.specs.Paths.{is_among}
+use Rattle.er_paths.proofs.Paths.{any_from, paths_stand}
+use Rattle.er_history.specs.History.{History, Action, told, begins, action_begun}
+use Rattle.er_history.specs.Rules.{Rule}
+use Rattle.er_history.specs.Edges.{edges, path, is_ruled}
+use Rattle.er_history.specs.Laws.{Among, IsNumbered}
+use Rattle.er_history.specs.Handed.{AreSources, AreEnough, AreHanded}
+use Rattle.er_history.proofs.HistoryLemmas.{numbers, among_from, among_to, among_below, goes_on, edges_length, actions_are_numbered}
+
+-- the numbers of the actions that pass
+abbrev pub found_among : (ℕ → Bool) → List Action → List ℕ
+found_among test actions = numbers (filter (λ (a : Action). test a.number) actions)
+
+pub none_found : (test : ℕ → Bool) (actions : List Action) → ((k : ℕ) → test k ≡ false) → found_among test actions ≡ []
+none_found test [] none = refl
+none_found test (a ∷ older) none = step (test a.number) (none a.number) (none_found test older none)
+  where
+    step : (b : Bool) → b ≡ false → found_among test older ≡ []
+        → numbers (cond b (a ∷ filter (λ (c : Action). test c.number) older) (filter (λ (c : Action). test c.number) older)) ≡ []
+    step true e rest = cc
+    step false e rest = rest
+
+-- an action more
+
+take_more : (n : ℕ) (a : Action) (older : List Action) → take (suc n + 1) (a ∷ older) ≡ a ∷ take (n + 1) older
+take_more n a older = let e : suc n + 1 ≡ suc (n + 1) = omega arith in rw e refl
+
+found_next : (test : ℕ → Bool) (n k : ℕ) (a : Action) (older : List Action) → found_among test (take (n + 1) older) ≡ found_among test (take n older) ++ cond (test k) (k ∷ []) []
+    → found_among test (take (suc n + 1) (a ∷ older)) ≡ found_among test (take (suc n) (a ∷ older)) ++ cond (test k) (k ∷ []) []
+found_next test n k a older rest = ap (found_among test) (take_more n a older) ∙ step (test a.number)
+  where
+    step : (b : Bool) → numbers (cond b (a ∷ filter (λ (c : Action). test c.number) (take (n + 1) older)) (filter (λ (c : Action). test c.number) (take (n + 1) older)))
+        ≡ numbers (cond b (a ∷ filter (λ (c : Action). test c.number) (take n older)) (filter (λ (c : Action). test c.number) (take n older))) ++ cond (test k) (k ∷ []) []
+    step true = ap (λ l. a.number ∷ l) rest
+    step false = rest
+
+-- what was found among the newest, and the next action where it passes
+pub found_more : (test : ℕ → Bool) (actions : List Action) (n k : ℕ) → IsNumbered actions → n + 1 + k ≡ length actions
+    → found_among test (take (n + 1) actions) ≡ found_among test (take n actions) ++ cond (test k) (k ∷ []) []
+found_more test [] n k numbered e = absurd (omega (arith, e))
+found_more test (a ∷ older) zero k numbered e = let same : a.number ≡ k = omega (arith, numbered.0, e) in step (test a.number) ∙ (λ i. cond (test (same i)) (same i ∷ []) [])
+  where
+    step : (b : Bool) → numbers (cond b (a ∷ []) []) ≡ cond b (a.number ∷ []) []
+    step true = refl
+    step false = refl
+found_more test (a ∷ older) (suc n) k numbered e = found_next test n k a older (found_more test older n k numbered.1 (omega (arith, e)))
+
+-- the test tells of each action whether a rule of the group leads from its event
+abbrev pub Tells : (ℕ → Bool) → List (ℕ × Rule) → (ℕ → ℕ → Bool) → History → Record → Type 0
+Tells test group joined h x = (a : Action) → Among a h.actions → test a.number ≡ is_ruled group joined a (action_begun h x)
+
+among_taken : (n : ℕ) (actions : List Action) (a : Action) → Among a (take n actions) → Among a actions
+among_taken zero actions a among = absurd among
+among_taken (suc n) [] a among = absurd among
+among_taken (suc n) (x ∷ older) a (inl same) = inl same
+among_taken (suc n) (x ∷ older) a (inr deeper) = inr (among_taken n older a deeper)
+
+-- those that were found among the newest are sources
+pub some_are_sources : (test : ℕ → Bool) (group : List (ℕ × Rule)) (joined : ℕ → ℕ → Bool) (h : History) (x : Record) (n : ℕ)
+    → Tells test group joined h x → AreSources group joined h x (found_among test (take n h.actions))
+some_are_sources test group joined h x n tells = λ k among.
+    let found = among_from (λ (a : Action). test a.number) (take n h.actions) k among in
+    let within = among_taken n h.actions found.0 found.1 in (
+      found.0,
+      within,
+      found.2,
+      sym (tells found.0 within) ∙ found.3,
+    )
+
+pub take_whole : (n : ℕ) (actions : List Action) → length actions ≤ n → take n actions ≡ actions
+take_whole zero [] long = refl
+take_whole (suc n) [] long = refl
+take_whole zero (a ∷ older) long = absurd (omega arith)
+take_whole (suc n) (a ∷ older) long = let rest : length older ≤ n = omega arith in ap (λ l. a ∷ l) (take_whole n older rest)
+
+each_enough : (group : List (ℕ × Rule)) (joined : ℕ → ℕ → Bool) (h : History) (x : Record) (handed : List ℕ) → goes_on x ≡ false
+    → ((i : Action) → Among i h.actions → is_ruled group joined i (action_begun h x) ≡ true → list_any (λ k. joined i.number k) handed ≡ true)
+    → AreEnough group joined h x handed
+each_enough group joined h (Back p) handed e each = absurd (cc)
+each_enough group joined h x handed e each = each
+
+-- all that were found are enough
+pub all_are_handed : (test : ℕ → Bool) (group : List (ℕ × Rule)) (joined : ℕ → ℕ → Bool) (h : History) (x : Record)
+    → Tells test group joined h x → ((a : Action) → Among a h.actions → joined a.number a.number ≡ true) → goes_on x ≡ false → (begins x ≡ false → found_among test h.actions ≡ [])
+    → AreHanded group joined h x (found_among test h.actions)
+all_are_handed test group joined h x tells stands new none = record {
+  sources = λ k among. some_are_sources test group joined h x (length h.actions) tells k (ap (λ l. is_among k (found_among test l)) (take_whole (length h.actions) h.actions (omega arith)) ∙ among);
+  enough = each_enough group joined h x (found_among test h.actions) new (λ i among ruled.
+      any_from (λ k. joined i.number k) i.number (found_among test h.actions) (among_to (λ (a : Action). test a.number) h.actions i among (tells i among ∙ ruled)) (stands i among));
+  none = none;
+}
+
+-- an action joins itself
+pub action_stands : (table : List (ℕ × Rule)) (h : List Record) (a : Action) → Among a (told h).actions → path table h a.number a.number ≡ true
+action_stands table h a among =
+    let acts = (told h).actions in
+    paths_stand (edges table acts) a.number (omega (arith, edges_length table acts, among_below acts a (actions_are_numbered h) among))

@@ -1,0 +1,46 @@
+-- What a page stands for. Lists of records stand newest first.
+use Rattle.std.specs.Prelude.{◌≡◌, ℕ, ◌<◌, List, length, Some, None}
+use Rattle.er_trace.specs.declared.record.Record.{Record}
+use Rattle.er_history.specs.History.{told}
+use Rattle.er_history.specs.Naming.{naming_now, room}
+use Rattle.er_page.specs.declared.page.Page.{Page}
+use Rattle.er_page.specs.Accepted.{IsAccepted}
+use Rattle.er_page.specs.Fired.{FiredAre}
+use Rattle.er_page.specs.Latest.{LatestAre}
+use Rattle.er_page.specs.LookUps.{event_of}
+use Rattle.er_page.specs.Names.{NamesAre}
+use Rattle.er_page.specs.Stack.{StackIs}
+use Rattle.er_page.specs.Pieces.{PiecesAre}
+
+-- the list is accepted, and all that the page keeps answers what the list says
+pub record IsPage (page : Page) (h : List Record) : Type 0 where
+  pub names : NamesAre page.names h
+  pub stack : StackIs page.stack h
+  pub pieces : PiecesAre page.pieces h
+  pub fired : FiredAre page.fired h
+  pub latest : LatestAre page.latest h
+  pub accepted : IsAccepted h
+
+-- it stands for some list
+pub record IsSomePage (page : Page) : Type 0 where
+  pub list : List Record
+  pub stands : IsPage page list
+
+-- it stands for some list, after which the record is accepted
+pub record IsNext (page : Page) (x : Record) : Type 0 where
+  pub list : List Record
+  pub stands : IsPage page list
+  pub named : naming_now list x ≡ None
+  pub fits : room list x ≡ None
+
+-- it stands for some list in which the action has begun
+pub record HasBegun (page : Page) (action : ℕ) : Type 0 where
+  pub list : List Record
+  pub stands : IsPage page list
+  pub begun : action < length (told list).actions
+
+-- it stands for some list in which this is the number of an event
+pub record HasEvent (page : Page) (event : ℕ) : Type 0 where
+  pub list : List Record
+  pub stands : IsPage page list
+  pub first : event_of list event ≡ Some event

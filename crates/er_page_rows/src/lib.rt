@@ -1,0 +1,14 @@
+//! A page that reads lines, and the tests of pages as tables of such lines.
+#![tactic(auto)]
+
+#[cfg(test)]
+mod answers;
+#[cfg(test)]
+mod letting_go;
+#[cfg(test)]
+mod limits;
+#[cfg(test)]
+mod naming;
+pub mod reading;
+#[cfg(test)]
+mod rows;

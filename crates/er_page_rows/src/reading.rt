@@ -1,0 +1,62 @@
+//! A page that reads lines.
+
+ghost use Rattle.std.specs.Prelude.{◌≡◌, List, [], Ok, Err, IfOk, OnErr};
+ghost use Rattle.er_trace.specs.declared.record.Record.{Record};
+ghost use Rattle.er_trace.specs.Spelling.{spelling, IsRecord};
+ghost use Rattle.er_page.specs.Page.{IsPage, IsSomePage};
+ghost use Rattle.er_page_rows.specs.Lines.{HasTaken};
+
+use er_outside::NoMemory;
+use er_page::page::Page;
+use er_text::Cause;
+use er_trace::fault::LineFault;
+use er_trace::parse::parse_record;
+use er_trace::record::Record;
+use std::alloc::Global;
+
+/// A page that stands for some list of records.
+#[derive(Drop)]
+pub struct Reading {
+    pub page: Page,
+    ghost some: { ∥ IsSomePage page ∥₁ },
+}
+
+impl Reading {
+    /// The page of the empty list.
+    #[tactic(auto, using(er_page::proofs::PageLemmas::first_page))]
+    pub fn new(alloc: Global) -> Result<Reading, NoMemory>
+        ensures { IfOk result (λ reading. IsPage reading.page []) }
+    {
+        let page = Page::new(alloc)?;
+        Ok(Reading { page })
+    }
+
+    /// Takes the record that the line spells, or answers the first cause against it.
+    pub fn read(&mut self, alloc: Global, line: &str) -> Result<Option<Cause>, LineFault>
+        ensures taken { IfOk result (λ cause. (x : Record) → IsRecord x → line.now ≡ spelling x → (h : List Record) → IsPage self.old.page h → HasTaken self.new.page x cause h) }
+        ensures bad { result ≡ Err LineFault.BadRecord → (x : Record) → IsRecord x → line.now ≡ spelling x → ⊥ }
+        ensures kept { OnErr result ((h : List Record) → IsPage self.old.page h → IsPage self.new.page h) }
+    {
+        let rec = parse_record(alloc, line.as_bytes())?;
+        match self.take(&rec) {
+            Ok(cause) => Ok(cause),
+            Err(NoMemory) => Err(LineFault::NoMemory),
+        }
+    }
+
+    /// Takes the record, or answers the first cause against it.
+    #[tactic(auto, using(er_page::proofs::PageLemmas::next_of, er_page::proofs::PageLemmas::after_next, er_page::proofs::PageLemmas::kept_page, crate::proofs::TakenLemmas::misnamed, crate::proofs::TakenLemmas::over, crate::proofs::TakenLemmas::taken))]
+    pub fn take(&mut self, rec: &Record) -> Result<Option<Cause>, NoMemory>
+        ensures taken { IfOk result (λ cause. (h : List Record) → IsPage self.old.page h → HasTaken self.new.page rec.now cause h) }
+        ensures kept { OnErr result ((h : List Record) → IsPage self.old.page h → IsPage self.new.page h) }
+    {
+        if let Err(cause) = self.page.check(rec) {
+            return Ok(Some(cause));
+        }
+        if let Err(cause) = self.page.room(rec) {
+            return Ok(Some(cause));
+        }
+        self.page.apply(rec)?;
+        Ok(None)
+    }
+}

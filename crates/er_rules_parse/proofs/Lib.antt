@@ -1,0 +1,2 @@
+pub mod RulesLemmas
+pub mod ScanLemmas

@@ -1,0 +1,11 @@
+//! Parsing: the rules that order the parse steps of a document.
+//!
+//! - Rule 1: a parse step of a document comes before each parse step of it that is recorded later
+//!   (the HTML Standard, "Parsing HTML documents": the tree is built in the order of the input).
+//! - Rule 2: the event that declared a document comes before each parse step of it (this project's own).
+#![tactic(auto)]
+
+pub mod against;
+pub mod laws;
+pub mod predecessors;
+mod rules;
