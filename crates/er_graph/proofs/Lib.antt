@@ -1,4 +1,3 @@
-pub mod ActionLemmas
 pub mod EnoughLemmas
 pub mod GraphLemmas
 pub mod GroupLemmas

@@ -14,9 +14,9 @@ use Rattle.er_history.specs.History.{told, begins, or_else, action_begun, Action
 use Rattle.er_history.specs.Edges.{edges, path}
 use Rattle.er_history.specs.Naming.{naming_now, room}
 use Rattle.er_history.specs.Handed.{AreHanded}
-use Rattle.er_history.specs.Sound.{cause, out_of_order, IsSound}
+use Rattle.er_history.specs.Sound.{out_of_order, IsSound}
 use Rattle.er_history.proofs.HistoryLemmas.{edges_length}
-use Rattle.er_history.proofs.NamedLemmas.{sound_is_named_now}
+use Rattle.er_history.proofs.NamedLemmas.{no_cause, sound_is_named_now}
 use Rattle.er_ancestors.specs.Rows.{StandsFor}
 use Rattle.er_page.specs.declared.page.Page.{Page}
 use Rattle.er_page.specs.Accepted.{result_of}
@@ -52,19 +52,6 @@ then_room None rest false e f = refl
 then_room None rest true e f = absurd (cc)
 then_room (Some d) rest b e f = absurd (cc)
 
-pub record Passes (h : List Record) (x : Record) : Type 0 where
-  pub named : naming_now h x ≡ None
-  pub ordered : out_of_order rules_now h x ≡ false
-  pub fits : room h x ≡ None
-
-pub passes : (h : List Record) (x : Record) → cause rules_now h x ≡ None → Passes h x
-passes h x e = let p = three (naming_now h x) (room h x) (out_of_order rules_now h x) e in record { named = p.0; ordered = p.1; fits = p.2 }
-  where
-    three : (o rest : Option Cause) (b : Bool) → or_else o (if b then Some OutOfOrder else rest) ≡ None → (o ≡ None) × (b ≡ false) × (rest ≡ None)
-    three None rest false e = (refl, refl, e)
-    three None rest true e = absurd (cc)
-    three (Some c) rest b e = absurd (cc)
-
 -- sizes
 
 pub lines_counted : (accepted : List Accepted) → length (lines_of accepted) ≡ length (told (records accepted)).actions
@@ -91,7 +78,7 @@ pub some_page : (page : Page) (flags : List (List Bool)) (kept : List ℕ) (x : 
 some_page page flags kept x some = ∥∥₁_map some (λ next. record { list = records next.accepted; stands = next.told.page })
 
 pub next_page : (page : Page) (flags : List (List Bool)) (kept : List ℕ) (x : Record) → ∥ IsNext page flags kept x ∥₁ → ∥ pages.IsNext page x ∥₁
-next_page page flags kept x some = ∥∥₁_map some (λ next. let p = passes (records next.accepted) x next.legal in record { list = records next.accepted; stands = next.told.page; named = p.named; fits = p.fits })
+next_page page flags kept x some = ∥∥₁_map some (λ next. let p = no_cause rules_now (records next.accepted) x next.legal in record { list = records next.accepted; stands = next.told.page; named = p.named; fits = p.fits })
 
 pub known_sources : (page : Page) (flags : List (List Bool)) (kept : List ℕ) (x : Record) (found passed : List ℕ) → ∥ IsNext page flags kept x ∥₁ → passed ≡ found
     → ((h : List Record) → IsPage page h → IsSound rules_now h → naming_now h x ≡ None → out_of_order rules_now h x ≡ false → AreHanded rules_now (path rules_now h) (told h) x found)
@@ -101,7 +88,7 @@ known_sources page flags kept x found passed some same handed = ∥∥₁_elim s
     known : IsNext page flags kept x → All (λ k. k < length flags) passed
     known next =
         let h = records next.accepted in
-        let p = passes h x next.legal in
+        let p = no_cause rules_now h x next.legal in
         let are = handed h next.told.page next.told.sound p.named p.ordered in
         subst (All (λ k. k < length flags)) (sym same) (handed_below rules_now h x found (length flags) are.sources (rows_counted flags next.accepted next.joined))
 
@@ -117,7 +104,7 @@ same_lines line x accepted kept begin is = is ∙ sym (ap (λ b. if b then lines
 pub told_more : (old new : Page) (kept grown : List ℕ) (line : ℕ) (x : Record) (accepted : List Accepted) → IsTold old kept accepted → cause_now accepted x ≡ None
     → ((h : List Record) → IsPage old h → naming_now h x ≡ None → room h x ≡ None → IsPage new (x ∷ h)) → grown ≡ lines_of (record { line = line; read = x } ∷ accepted) → IsTold new grown (record { line = line; read = x } ∷ accepted)
 told_more old new kept grown line x accepted told legal taken lines =
-    let p = passes (records accepted) x legal in
+    let p = no_cause rules_now (records accepted) x legal in
     record { page = taken (records accepted) told.page p.named p.fits; sound = (legal, told.sound); lines = lines }
 
 pub told_still : (old new : Page) (kept same : List ℕ) (accepted : List Accepted) → ((h : List Record) → IsPage old h → IsPage new h) → same ≡ kept → IsTold old kept accepted → IsTold new same accepted
@@ -129,7 +116,7 @@ pub joined_more : (page : Page) (flags more : List (List Bool)) (kept : List ℕ
     → passed ≡ found → ((lists : List (List ℕ)) → StandsFor flags lists → StandsFor more (passed ∷ lists)) → IsJoined more (record { line = line; read = x } ∷ accepted)
 joined_more page flags more kept line x accepted found passed told_ joined legal begin handed same pushed =
     let h = records accepted in
-    let p = passes h x legal in
+    let p = no_cause rules_now h x legal in
     record {
       lists = found ∷ joined.lists;
       rows = subst (λ (l : List ℕ). StandsFor more (l ∷ joined.lists)) same (pushed joined.lists joined.rows);

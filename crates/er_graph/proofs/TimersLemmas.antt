@@ -1,23 +1,22 @@
 -- The rules of timeouts, read off the records. Lists of records stand newest first.
-use Rattle.std.proofs.Common.{◌≡◌, ℕ, ◌+◌, ◌<◌, ◌≤◌, Bool, true, false, cond, List, [], ◌∷◌, ◌++◌, length, take, Option, Some, None, option_map, refl, sym, ap, subst, ◌∙◌, arith, inl, inr, append-nil, append_assoc}
+use Rattle.std.proofs.Common.{◌≡◌, ℕ, ◌<◌, Bool, true, false, List, [], ◌∷◌, length, Option, Some, None, refl, sym, ap, subst, ◌∙◌, arith, inl, inr}
 use Rattle.std.specs.Prelude.{not, ◌&&◌, ◌||◌, ◌==◌, nat_lt, if◌then◌else◌}
 use Rattle.std.proofs.lemmas.Bool.{ne_eqb, lt-ltb}
 use Rattle.er_trace.specs.declared.record.Record.{Record}
 use Rattle.er_trace.specs.declared.record.Record.TheVariants.{Timer, Run, Close, Back}
-use Rattle.er_history.specs.History.{told, begins, first_to, makes_timeout, action_begun, event_begun, Entry, Timeout, Action, Event, What, TimeoutRun}
+use Rattle.er_history.specs.History.{told, begins, first_to, makes_timeout, action_begun, event_begun, Entry, Timeout, Action, What, TimeoutRun}
 use Rattle.er_history.specs.Naming.{naming_now, IsNamedNow}
 use Rattle.er_history.specs.Rules.{Rule, any_holds, of_made, both_made, set_before_timer, timers_of_one_event_in_order}
 use Rattle.er_history.specs.Edges.{up_to, path}
 use Rattle.er_history.specs.Laws.{Among}
 use Rattle.er_history.specs.Facts.{WhatIs}
-use Rattle.er_history.specs.Handed.{HasHanded, HasHandedSome}
 use Rattle.er_history.specs.Sound.{IsSound}
-use Rattle.er_history.proofs.HistoryLemmas.{EachIsAnEvent, goes_on, actions_are_numbered, among_below}
-use Rattle.er_history.proofs.NamedLemmas.{none_holds_now, none_inline, not_back, top_found, number_is, each_named, now_is_named, sound_is_named_now}
+use Rattle.er_history.proofs.HistoryLemmas.{actions_are_numbered, among_below}
+use Rattle.er_history.proofs.NamedLemmas.{none_holds_now, none_inline, not_back, not_resumed, top_found, number_is, one_piece, now_is_named, sound_is_named_now}
 use Rattle.er_history.proofs.ExactLemmas.{facts_are_exact}
-use Rattle.er_history.proofs.EventLemmas.{found_by_number}
-use Rattle.er_history.proofs.HandedLemmas.{found_among, found_more, Tells, none_found, take_whole, all_are_handed, some_are_sources, action_stands}
-use Rattle.er_page.specs.LookUps.{event_of, begin_of}
+use Rattle.er_history.proofs.EventLemmas.{event_with}
+use Rattle.er_history.proofs.HandedLemmas.{Tells, IsTestOf}
+use Rattle.er_page.proofs.ScanLemmas.{said_of_own, nothing_said}
 use Rattle.er_graph.specs.Rules.{timeout_rules}
 use Rattle.er_graph.specs.Timers.{has_rule, timer_of, sets, goes_off_first, in_order, leads, precedes}
 
@@ -66,24 +65,7 @@ timer_kept entries (TimeoutRun t made) x e is = absurd (cc)
 timer_kept entries w (Timer u) e is = absurd (cc)
 timer_kept entries w x e is = refl
 
--- each event has one piece
-event_is : (actions : List Action) (a : Action) → EachIsAnEvent actions → Among a actions → a.event.number ≡ a.number
-event_is [] a n among = absurd among
-event_is (x ∷ older) a n (inl same) = ap (λ (c : Action). c.event.number) same ∙ (n.1 ∙ (sym n.0 ∙ sym (ap (λ (c : Action). c.number) same)))
-event_is (x ∷ older) a n (inr deeper) = event_is older a n.2 deeper
-
-precedes_is : (h : List Record) (y : Record) (a : Action) → IsNamedNow h → Among a (told h).actions → precedes h y a.number ≡ leads (told h).entries a.number a.begin y
-precedes_is h y a named among =
-    let at = found_by_number (told h).actions a (actions_are_numbered h) among in
-    let own = event_is (told h).actions a (each_named h named) among in
-    let from : ℕ → Bool = λ u. of_made (λ (x : Record). leads (told h).entries u x y) (begin_of h u) in
-    ap (λ o. of_made from (option_map (λ (c : Action). c.event.number) o)) at
-    ∙ (ap from own ∙ ap (λ o. of_made (λ (x : Record). leads (told h).entries a.number x y) (option_map (λ (c : Action). c.begin) o)) at)
-
 -- the rules between two events
-
-abbrev pub event_with : ℕ → What → Event
-event_with n w = record { number = n; what = w }
 
 set_rule : (joined : ℕ → ℕ → Bool) (m n : ℕ) (v w : What) → set_before_timer joined (event_with m v) (event_with n w) ≡ of_made (λ (t : Timeout). t.maker == m) (timer_in w)
 set_rule joined m n v (TimeoutRun t made) = refl
@@ -118,11 +100,11 @@ rules_tell h joined y named is a among =
     let t = told h in
     let n = length t.actions in
     let below = among_below t.actions a (actions_are_numbered h) among in
-    let own = event_is t.actions a (each_named h named) among in
+    let own = one_piece h a named among in
     let number = number_is h y (none_inline h named) is in
     let kept = timer_kept t.entries a.event.what a.begin (are_numbers h named a among) (facts_are_exact h a (now_is_named h named) among) in
     let Holds : ℕ → ℕ → Bool = λ j m. any_holds timeout_rules (up_to m joined) (event_with j a.event.what) (event_with m (event_begun t y).what) in
-    precedes_is h y a named among
+    said_of_own h (λ (u : ℕ) (x : Record). leads t.entries u x y) a named among
     ∙ (sym (rules_hold t.entries (up_to n joined) a.number n a.event.what (event_begun t y).what a.begin y below kept (timer_begun h y named is)) ∙ sym (λ i. Holds (own i) (number i)))
 
 -- no record of another form is preceded
@@ -131,62 +113,21 @@ both_none : {A : Type 0} (test : A → A → Bool) (o : Option A) → both_made 
 both_none test None = refl
 both_none test (Some x) = refl
 
-no_lead : (entries : List Entry) (u : ℕ) (x y : Record) → has_rule y ≡ false → leads entries u x y ≡ false
-no_lead entries u x (Timer t) none = absurd (cc)
-no_lead entries u x y none = both_none goes_off_first (timer_of entries x)
-
-never_made : {A : Type 0} → (test : A → Bool) (o : Option A) → ((x : A) → test x ≡ false) → of_made test o ≡ false
-never_made test None never = refl
-never_made test (Some x) never = never x
-
-none_precedes : (h : List Record) (y : Record) → has_rule y ≡ false → (k : ℕ) → precedes h y k ≡ false
-none_precedes h y none k = never_made (λ (u : ℕ). of_made (λ (x : Record). leads (told h).entries u x y) (begin_of h u)) (event_of h k)
-    (λ u. never_made (λ (x : Record). leads (told h).entries u x y) (begin_of h u) (λ x. no_lead (told h).entries u x y none))
+no_lead : (entries : List Entry) (y : Record) → has_rule y ≡ false → (u : ℕ) (x : Record) → leads entries u x y ≡ false
+no_lead entries (Timer t) without u x = absurd (cc)
+no_lead entries y without u x = both_none goes_off_first (timer_of entries x)
 
 no_note : (y : Record) → begins y ≡ false → has_rule y ≡ false
 no_note (Timer t) note = absurd (cc)
 no_note y note = refl
 
--- what is handed
-
-begins_new : (h : List Record) (y : Record) → IsNamedNow h → naming_now h y ≡ None → goes_on y ≡ false
-begins_new h (Back p) named is = absurd (not_back h p (none_inline h named) is)
-begins_new h y named is = refl
-
-handed : (table : List (ℕ × Rule)) (h : List Record) (y : Record) (old new : List ℕ) → IsSound table h → naming_now h y ≡ None
-    → new ≡ old ++ found_among (precedes h y) (told h).actions → HasHanded timeout_rules (path table h) (told h) y old new
-handed table h y old new sound is grown =
+-- so the scan goes by the rules of timeouts
+pub scanned : (table : List (ℕ × Rule)) (h : List Record) (y : Record) → IsSound table h → naming_now h y ≡ None → IsTestOf timeout_rules table h y (precedes h y) (has_rule y)
+scanned table h y sound is =
     let named = sound_is_named_now table h sound in
     record {
-      handed = found_among (precedes h y) (told h).actions;
-      grown = grown;
-      are_handed = all_are_handed (precedes h y) timeout_rules (path table h) (told h) y (rules_tell h (path table h) y named is) (action_stands table h) (begins_new h y named is)
-          (λ note. none_found (precedes h y) (told h).actions (none_precedes h y (no_note y note)));
+      tells = rules_tell h (path table h) y named is;
+      new = not_resumed h y named is;
+      none = λ without. nothing_said h (λ (u : ℕ) (x : Record). leads (told h).entries u x y) (no_lead (told h).entries y without);
+      note = no_note y;
     }
-
--- where all actions were gone through
-pub handed_all : (table : List (ℕ × Rule)) (h : List Record) (y : Record) (n : ℕ) (old new : List ℕ) → IsSound table h → naming_now h y ≡ None → length (told h).actions ≤ n
-    → new ≡ old ++ found_among (precedes h y) (take n (told h).actions) → HasHanded timeout_rules (path table h) (told h) y old new
-handed_all table h y n old new sound is whole grown = handed table h y old new sound is (grown ∙ ap (λ l. old ++ found_among (precedes h y) l) (take_whole n (told h).actions whole))
-
-pub handed_nothing : (table : List (ℕ × Rule)) (h : List Record) (y : Record) (old : List ℕ) → IsSound table h → naming_now h y ≡ None → has_rule y ≡ false
-    → HasHanded timeout_rules (path table h) (told h) y old old
-handed_nothing table h y old sound is none = handed table h y old old sound is
-    (sym (append-nil old) ∙ ap (λ l. old ++ l) (sym (none_found (precedes h y) (told h).actions (none_precedes h y none))))
-
-pub handed_some : (table : List (ℕ × Rule)) (h : List Record) (y : Record) (n : ℕ) (old new : List ℕ) → IsSound table h → naming_now h y ≡ None
-    → new ≡ old ++ found_among (precedes h y) (take n (told h).actions) → HasHandedSome timeout_rules (path table h) (told h) y old new
-handed_some table h y n old new sound is grown = record {
-  handed = found_among (precedes h y) (take n (told h).actions);
-  grown = grown;
-  sources = some_are_sources (precedes h y) timeout_rules (path table h) (told h) y n (rules_tell h (path table h) y (sound_is_named_now table h sound) is);
-}
-
--- an action more
-pub handed_more : (h : List Record) (y : Record) (back k : ℕ) (old found new : List ℕ) → back + 1 + k ≡ length (told h).actions
-    → found ≡ old ++ found_among (precedes h y) (take back (told h).actions) → new ≡ found ++ cond (precedes h y k) (k ∷ []) []
-    → new ≡ old ++ found_among (precedes h y) (take (back + 1) (told h).actions)
-handed_more h y back k old found new at e f =
-    let acts = (told h).actions in
-    let more = found_more (precedes h y) acts back k (actions_are_numbered h) at in
-    f ∙ (ap (λ l. l ++ cond (precedes h y k) (k ∷ []) []) e ∙ (append_assoc old (found_among (precedes h y) (take back acts)) (cond (precedes h y k) (k ∷ []) []) ∙ ap (λ l. old ++ l) (sym more)))

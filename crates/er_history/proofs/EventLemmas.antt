@@ -11,6 +11,9 @@ use Rattle.er_history.specs.Naming.{IsNamed}
 use Rattle.er_history.proofs.HistoryLemmas.{BeginsBefore, action_at_among, among_below, event_before, told_before, actions_are_numbered, events_have_first_pieces}
 use Rattle.er_history.proofs.ExactLemmas.{facts_are_exact}
 
+abbrev pub event_with : ℕ → What → Event
+event_with n w = record { number = n; what = w }
+
 -- neither a parse step nor the run of a script
 abbrev pub IsOther : What → Type 0
 IsOther (ParseStep d m) = ⊥

@@ -1,5 +1,7 @@
--- What a group of rules hands where it hands the source of every edge. Lists stand newest first.
-use Rattle.std.proofs.Common.{◌≡◌, ℕ, ◌+◌, ◌≤◌, Bool, true, false, cond, List, [], ◌∷◌, ◌++◌, length, take, filter, suc, zero, refl, sym, ap, ◌∙◌, arith, inl, inr}
+-- What a scan of all actions hands: the source of every edge of a group of rules. Lists of records stand newest first.
+use Rattle.std.proofs.Common.{◌≡◌, ℕ, ◌+◌, ◌≤◌, Bool, true, false, cond, List, [], ◌∷◌, ◌++◌, length, take, drop, filter, suc, zero, refl, sym, ap, ◌∙◌, arith, inl, inr, append-nil, append_assoc}
+use Rattle.std.proofs.Math.Seq.{take-append_seam}
+use Rattle.std.proofs.lemmas.List.{take-append-drop}
 use Rattle.std.specs.List.{list_any}
 use Rattle.er_trace.specs.declared.record.Record.{Record}
 use Rattle.er_trace.specs.declared.record.Record.TheVariants.{Back}
@@ -9,7 +11,7 @@ use Rattle.er_history.specs.History.{History, Action, told, begins, action_begun
 use Rattle.er_history.specs.Rules.{Rule}
 use Rattle.er_history.specs.Edges.{edges, path, is_ruled}
 use Rattle.er_history.specs.Laws.{Among, IsNumbered}
-use Rattle.er_history.specs.Handed.{AreSources, AreEnough, AreHanded}
+use Rattle.er_history.specs.Handed.{AreSources, AreEnough, AreHanded, HasHanded, HasHandedSome}
 use Rattle.er_history.proofs.HistoryLemmas.{numbers, among_from, among_to, among_below, goes_on, edges_length, actions_are_numbered}
 
 -- the numbers of the actions that pass
@@ -100,3 +102,59 @@ pub action_stands : (table : List (ℕ × Rule)) (h : List Record) (a : Action) 
 action_stands table h a among =
     let acts = (told h).actions in
     paths_stand (edges table acts) a.number (omega (arith, edges_length table acts, among_below acts a (actions_are_numbered h) among))
+
+-- what a scan hands
+
+-- What a scan goes by: a test of numbers, which tells of each action whether a rule of the group leads from its event to the one that the record would begin, and whether a rule speaks of the record at all.
+pub record IsTestOf (group table : List (ℕ × Rule)) (h : List Record) (x : Record) (test : ℕ → Bool) (speaks : Bool) : Type 0 where
+  pub tells : Tells test group (path table h) (told h) x
+  pub new : goes_on x ≡ false
+  pub none : speaks ≡ false → (k : ℕ) → test k ≡ false
+  pub note : begins x ≡ false → speaks ≡ false
+
+pub handed : {group table : List (ℕ × Rule)} {h : List Record} {x : Record} {test : ℕ → Bool} {speaks : Bool} (old new : List ℕ) → IsTestOf group table h x test speaks
+    → new ≡ old ++ found_among test (told h).actions → HasHanded group (path table h) (told h) x old new
+handed {group} {table} {h} {x} {test} old new is grown = record {
+  handed = found_among test (told h).actions;
+  grown = grown;
+  are_handed = all_are_handed test group (path table h) (told h) x is.tells (action_stands table h) is.new (λ note. none_found test (told h).actions (is.none (is.note note)));
+}
+
+-- when all actions have been gone through
+pub handed_all : {group table : List (ℕ × Rule)} {h : List Record} {x : Record} {test : ℕ → Bool} {speaks : Bool} (n : ℕ) (old new : List ℕ) → IsTestOf group table h x test speaks
+    → length (told h).actions ≤ n → new ≡ old ++ found_among test (take n (told h).actions) → HasHanded group (path table h) (told h) x old new
+handed_all {h = h} {test = test} n old new is whole grown = handed old new is (grown ∙ ap (λ l. old ++ found_among test l) (take_whole n (told h).actions whole))
+
+-- when no rule speaks of the record
+pub handed_nothing : {group table : List (ℕ × Rule)} {h : List Record} {x : Record} {test : ℕ → Bool} {speaks : Bool} (old : List ℕ) → IsTestOf group table h x test speaks
+    → speaks ≡ false → HasHanded group (path table h) (told h) x old old
+handed_nothing {h = h} {test = test} old is without = handed old old is (sym (append-nil old) ∙ ap (λ l. old ++ l) (sym (none_found test (told h).actions (is.none without))))
+
+-- when memory ran out behind the newest
+pub handed_some : {group table : List (ℕ × Rule)} {h : List Record} {x : Record} {test : ℕ → Bool} {speaks : Bool} (n : ℕ) (old found new : List ℕ) → IsTestOf group table h x test speaks
+    → found ≡ old ++ found_among test (take n (told h).actions) → new ≡ found → HasHandedSome group (path table h) (told h) x old new
+handed_some {group} {table} {h} {x} {test} n old found new is e kept = record {
+  handed = found_among test (take n (told h).actions);
+  grown = kept ∙ e;
+  sources = some_are_sources test group (path table h) (told h) x n is.tells;
+}
+
+-- an action more
+pub handed_more : (h : List Record) (test : ℕ → Bool) (n k : ℕ) (old found new : List ℕ) → n + 1 + k ≡ length (told h).actions
+    → found ≡ old ++ found_among test (take n (told h).actions) → new ≡ found ++ cond (test k) (k ∷ []) [] → new ≡ old ++ found_among test (take (n + 1) (told h).actions)
+handed_more h test n k old found new at e f =
+    let newest : List ℕ = found_among test (take n (told h).actions) in
+    let more : List ℕ = cond (test k) (k ∷ []) [] in
+    f ∙ (ap (λ l. l ++ more) e ∙ (append_assoc old newest more ∙ ap (λ l. old ++ l) (sym (found_more test (told h).actions n k (actions_are_numbered h) at))))
+
+-- what stood in front stays there
+
+in_front : (old new : List ℕ) → take (length old) new ≡ old → new ≡ old ++ drop (length old) new
+in_front old new e = sym (take-append-drop (length old) new) ∙ ap (λ l. l ++ drop (length old) new) e
+
+pub stays_in_front : (old middle new : List ℕ) → take (length old) middle ≡ old → take (length middle) new ≡ middle → take (length old) new ≡ old
+stays_in_front old middle new first second =
+    let more = drop (length old) middle in
+    let rest = drop (length middle) new in
+    let grown : new ≡ old ++ (more ++ rest) = in_front middle new second ∙ (ap (λ l. l ++ rest) (in_front old middle first) ∙ append_assoc old more rest) in
+    ap (take (length old)) grown ∙ take-append_seam old (more ++ rest)

@@ -10,8 +10,8 @@ use Rattle.er_history.specs.History.{told, begins, running, action_begun, action
 use Rattle.er_history.specs.Rules.{Rule}
 use Rattle.er_history.specs.Naming.{naming, naming_now, unknown, again, not_script, misplaced, misplaced_now, first_cause, is_top, runs, room, too_deep, most_actions, most_inline, IsNamed, IsNamedNow}
 use Rattle.er_history.specs.Laws.{Among}
-use Rattle.er_history.specs.Sound.{out_of_order, IsSound, SoundListsAreNamed}
-use Rattle.er_history.proofs.HistoryLemmas.{EachIsAnEvent}
+use Rattle.er_history.specs.Sound.{cause, out_of_order, IsSound, SoundListsAreNamed}
+use Rattle.er_history.proofs.HistoryLemmas.{EachIsAnEvent, goes_on}
 
 -- none of the four tests of naming holds
 pub record NoneHolds (h : List Record) (x : Record) : Type 0 where
@@ -62,14 +62,23 @@ pub now_is_named : (h : List Record) → IsNamedNow h → IsNamed h
 now_is_named [] is = tt
 now_is_named (x ∷ h) is = (now_named h x is.0, now_is_named h is.1)
 
--- the first cause of a sound record is none of naming's
+-- neither naming, nor order, nor room is against the record
+pub record HasNoCause (table : List (ℕ × Rule)) (h : List Record) (x : Record) : Type 0 where
+  pub named : naming_now h x ≡ None
+  pub ordered : out_of_order table h x ≡ false
+  pub fits : room h x ≡ None
+
+pub no_cause : (table : List (ℕ × Rule)) (h : List Record) (x : Record) → cause table h x ≡ None → HasNoCause table h x
+no_cause table h x e = let p = three (naming_now h x) (room h x) (out_of_order table h x) e in record { named = p.0; ordered = p.1; fits = p.2 }
+  where
+    three : (o rest : Option Cause) (b : Bool) → or_else o (if b then Some OutOfOrder else rest) ≡ None → (o ≡ None) × (b ≡ false) × (rest ≡ None)
+    three None rest false e = (refl, refl, e)
+    three None rest true e = absurd (cc)
+    three (Some c) rest b e = absurd (cc)
+
 pub sound_is_named_now : (table : List (ℕ × Rule)) (h : List Record) → IsSound table h → IsNamedNow h
 sound_is_named_now table [] sound = tt
-sound_is_named_now table (x ∷ h) sound = (first (naming_now h x) (if out_of_order table h x then Some OutOfOrder else room h x) sound.0, sound_is_named_now table h sound.1)
-  where
-    first : (a b : Option Cause) → or_else a b ≡ None → a ≡ None
-    first None b e = refl
-    first (Some c) b e = e
+sound_is_named_now table (x ∷ h) sound = ((no_cause table h x sound.0).named, sound_is_named_now table h sound.1)
 
 pub sound_lists_are_named : SoundListsAreNamed
 sound_lists_are_named table h sound = now_is_named h (sound_is_named_now table h sound)
@@ -165,6 +174,11 @@ none_more h _ n is = n
 pub none_inline : (h : List Record) → IsNamedNow h → NoneInline (told h).stack
 none_inline [] is = tt
 none_inline (x ∷ h) is = none_more h x (none_inline h is.1) is.0
+
+-- so no event goes on
+pub not_resumed : (h : List Record) (x : Record) → IsNamedNow h → naming_now h x ≡ None → goes_on x ≡ false
+not_resumed h (Back p) named is = absurd (not_back h p (none_inline h named) is)
+not_resumed h x named is = refl
 
 -- each record that begins an action begins an event of its own
 pub number_is : (h : List Record) (x : Record) → NoneInline (told h).stack → naming_now h x ≡ None → (event_begun (told h) x).number ≡ length (told h).actions

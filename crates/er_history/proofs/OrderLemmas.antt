@@ -10,8 +10,11 @@ use Rattle.er_history.specs.History.{Element, Timeout, Delivery, DclOf, LoadOf, 
 use Rattle.er_history.specs.Rules.{Rule, any_holds, recorded, made_by, of_made, parse_rules, timer_rules, request_rules, parse_steps_in_order, document_before_its_steps, script_made_before_run, static_loads_before_load, inner_load_before_frame_load, target_before_dispatch, registered_before_run, dispatches_of_one_type_in_order, set_before_timer, timers_of_one_event_in_order, ticks_in_order, replies_in_order}
 use Rattle.er_history.specs.Laws.{Among}
 use Rattle.er_history.specs.Facts.{DeliveryStays, WhatStays}
-use Rattle.er_history.specs.Sound.{leads_back, NeverLeadBack}
-use Rattle.er_history.proofs.HistoryLemmas.{event_below, told_before}
+use Rattle.er_history.specs.Edges.{path}
+use Rattle.er_history.specs.Handed.{HasGroup}
+use Rattle.er_history.specs.Sound.{leads_back, out_of_order, NeverLeadBack}
+use Rattle.er_history.proofs.HistoryLemmas.{event_below, told_before, goes_on}
+use Rattle.er_history.proofs.DeclaredLemmas.{or_none}
 use Rattle.er_history.proofs.FactsLemmas.{facts_stay}
 use Rattle.er_history.proofs.MakersLemmas.{ElementBelow, maker_below, element_below, element_maker_below, timeout_below}
 
@@ -197,6 +200,19 @@ pub none_passes : (test : Action → Bool) (actions : List Action) → ((a : Act
 none_passes test [] none = refl
 none_passes test (a ∷ older) none = neither (test a) (list_any test older) (none a (inl refl)) (none_passes test older (λ b among. none b (inr among)))
 
+pub each_fails : (test : Action → Bool) (actions : List Action) → list_any test actions ≡ false → (a : Action) → Among a actions → test a ≡ false
+each_fails test [] e a among = absurd among
+each_fails test (b ∷ older) e a (inl same) = ap test same ∙ (or_none (test b) (list_any test older) e).0
+each_fails test (b ∷ older) e a (inr deeper) = each_fails test older (or_none (test b) (list_any test older) e).1 a deeper
+
+pub any_same : (f g : Action → Bool) (actions : List Action) → ((a : Action) → Among a actions → f a ≡ g a) → list_any f actions ≡ list_any g actions
+any_same f g [] same = refl
+any_same f g (a ∷ older) same = (λ i. same a (inl refl) i || any_same f g older (λ b among. same b (inr among)) i)
+
+pub any_under : (b : Bool) (test : Action → Bool) (actions : List Action) → list_any (λ a. b && test a) actions ≡ (b && list_any test actions)
+any_under true test actions = refl
+any_under false test actions = none_passes (λ a. false) actions (λ a among. refl)
+
 pub none_lead_back : (rules : List (ℕ × Rule)) → NoneBack rules → NeverLeadBack rules
 none_lead_back rules none joined h (Back p) = refl
 none_lead_back rules none joined h x =
@@ -212,6 +228,26 @@ timer_rules_never_lead_back = none_lead_back timer_rules (set_never_back, (timer
 
 pub request_rules_never_lead_back : NeverLeadBack request_rules
 request_rules_never_lead_back = none_lead_back request_rules (replies_never_back, tt)
+
+-- where the table does not hold, no rule of the group does
+pub group_fails : (table group : List (ℕ × Rule)) (joined : ℕ → ℕ → Bool) (u v : Event) → HasGroup table group → any_holds table joined u v ≡ false → any_holds group joined u v ≡ false
+group_fails table group joined u v has e = by (any_holds group joined u v) (any_holds table joined u v) (has joined u v) e
+  where
+    by : (b c : Bool) → (b ≡ true → c ≡ true) → c ≡ false → b ≡ false
+    by true c f e = absurd (let g = f refl in cc)
+    by false c f e = refl
+
+-- from what a record in order begins, the group leads to no event that has begun
+pub leads_nowhere : (table group : List (ℕ × Rule)) (h : List Record) (x : Record) → HasGroup table group → goes_on x ≡ false → out_of_order table h x ≡ false → begins x ≡ true
+    → (a : Action) → Among a (told h).actions → any_holds group (path table h) (event_begun (told h) x) a.event ≡ false
+leads_nowhere table group h (Back p) has new order begin a among = absurd (cc)
+leads_nowhere table group h x has new order begin a among =
+    let event : Event = event_begun (told h) x in
+    group_fails table group (path table h) event a.event has (each_fails (λ (c : Action). any_holds table (path table h) event c.event) (told h).actions (under (begins x) _ begin order) a among)
+  where
+    under : (b c : Bool) → b ≡ true → (b && c) ≡ false → c ≡ false
+    under true c e f = f
+    under false c e f = absurd (cc)
 
 -- two tables together
 

@@ -6,7 +6,7 @@ use Rattle.er_paths.specs.Paths.{joins}
 use Rattle.er_history.specs.History.{What, CloseOf, Action, told, is_inline}
 use Rattle.er_history.specs.Rules.{Rule, any_holds}
 
--- the piece that an inline dispatch suspends, and its begin; each piece of its close, and the piece that its `back` begins
+-- 22. The piece that an inline dispatch suspends before its begin, and each piece of its close before the piece that its `back` begins. This project's own.
 abbrev pub around_inline : Action → Action → Bool
 around_inline i j = by j.begin
   where
@@ -19,7 +19,7 @@ around_inline i j = by j.begin
     by (Back p) = closes p i.event.what
     by _ = false
 
--- two pieces of one event
+-- 23. A piece of an event before a later piece of it. This project's own.
 abbrev pub of_one_event : Action → Action → Bool
 of_one_event i j = i.event.number == j.event.number
 

@@ -2,6 +2,8 @@ pub mod AcceptedLemmas
 pub mod AccessLemmas
 pub mod LatestLemmas
 pub mod NamesLemmas
+pub mod NewestLemmas
 pub mod PageLemmas
 pub mod PiecesLemmas
 pub mod RankLemmas
+pub mod ScanLemmas

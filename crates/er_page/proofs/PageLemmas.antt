@@ -1,5 +1,5 @@
 -- How a page comes to stand for one record more.
-use Rattle.std.proofs.Common.{◌≡◌, ℕ, ◌<◌, ◌≤◌, Bool, true, false, List, [], ◌∷◌, ◌++◌, length, map, reverse, Option, Some, None, Result, Ok, refl, sym, ap, ◌∙◌, arith}
+use Rattle.std.proofs.Common.{◌≡◌, ℕ, ◌<◌, ◌≤◌, Bool, true, false, List, [], ◌∷◌, ◌++◌, length, map, reverse, option_map, Option, Some, None, Result, Ok, refl, sym, ap, ◌∙◌, arith}
 use Rattle.std.proofs.Math.Logic.{∥∥₁_elim, ∥∥₁_map}
 use Rattle.std.proofs.Props.{props}
 use Rattle.std.specs.Prelude.{not, if◌then◌else◌}
@@ -8,9 +8,9 @@ use Rattle.er_trace.specs.declared.record.Record.{Record}
 use Rattle.er_trace.specs.declared.record.Record.TheVariants.{Run, Close, Back}
 use Rattle.er_text.specs.declared.causes.Cause.{Cause}
 use Rattle.er_text.specs.declared.causes.Cause.TheVariants.{TooManyActions, TooDeep}
-use Rattle.er_history.specs.History.{told, begins, running, action_begun, event_begun, Action}
+use Rattle.er_history.specs.History.{told, begins, running, action_at, action_begun, event_begun, Action}
 use Rattle.er_history.specs.Naming.{misplaced_now, naming_now, room, most_actions, first_cause, too_many_actions, too_deep}
-use Rattle.er_history.proofs.HistoryLemmas.{EachIsAnEvent}
+use Rattle.er_history.proofs.HistoryLemmas.{EachIsAnEvent, action_at_among, event_below, told_before}
 use Rattle.er_history.proofs.NamedLemmas.{NoneInline, none_inline, none_closing, never_deep, number_is, each_named}
 use Rattle.er_page.specs.declared.latest.LatestByDocument.{LatestByDocument}
 use Rattle.er_page.specs.declared.latest.Role.{Role}
@@ -172,6 +172,16 @@ first_page page is = ∣ record { list = []; stands = is } ∣₁
 
 pub begun_of_count : (page : Page) (action count : ℕ) → ∥ IsSomePage page ∥₁ → ((h : List Record) → IsPage page h → count ≡ length (told h).actions) → action < count → ∥ HasBegun page action ∥₁
 begun_of_count page action count some is below = ∥∥₁_map some (λ one. record { list = one.list; stands = one.stands; begun = omega (arith, is one.list one.stands) })
+
+-- the event of an action has begun with it
+pub event_has_begun : (page : Page) (action event : ℕ) → ∥ HasBegun page action ∥₁ → ((h : List Record) → IsPage page h → Some event ≡ event_of h action) → ∥ HasBegun page event ∥₁
+event_has_begun page action event some is = ∥∥₁_map some (λ one. record { list = one.list; stands = one.stands; begun = below one.list (action_at action (told one.list).actions) refl (is one.list one.stands) })
+  where
+    below : (h : List Record) (o : Option Action) → action_at action (told h).actions ≡ o → Some event ≡ option_map (λ (a : Action). a.event.number) o → event < length (told h).actions
+    below h None at e = absurd (cc)
+    below h (Some a) at e =
+        let same : event ≡ a.event.number = cc in
+        omega (arith, same, event_below (told h).actions a (told_before h) (action_at_among action (told h).actions a at).0)
 
 pub event_of_itself : (page : Page) (event found : ℕ) → ∥ IsSomePage page ∥₁ → ((h : List Record) → IsPage page h → Some found ≡ event_of h event) → found ≡ event → ∥ HasEvent page event ∥₁
 event_of_itself page event found some is same = ∥∥₁_map some (λ one. record { list = one.list; stands = one.stands; first = sym (is one.list one.stands) ∙ ap Some same })

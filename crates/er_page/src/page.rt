@@ -1,4 +1,6 @@
-//! The page that a list of accepted records stands for.
+//! The page that a list of accepted records stands for: which record may come next, and how it is taken.
+//!
+//! What a rule may ask of a page stands in `look_ups`, whose head lists the look-ups by what they are asked of.
 
 ghost use Rattle.std.specs.Prelude.{◌≡◌, List, [], ◌∷◌, None, IfOk, OnOk, OnErr};
 ghost use Rattle.er_trace.specs.declared.record.Record.{Record};

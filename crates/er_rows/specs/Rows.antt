@@ -10,7 +10,7 @@ use Rattle.er_trace.specs.declared.record.Loc.TheVariants.{Var, Elem}
 use Rattle.er_trace.specs.Trace.{text}
 use Rattle.er_history.specs.Sound.{cause}
 use Rattle.er_graph.specs.Rules.{rules_now}
-use Rattle.er_run.specs.Races.{same_bytes}
+use Rattle.er_history.specs.Rules.{same_bytes}
 use Rattle.er_run.specs.Answer.{IsRefused}
 use Rattle.er_run.specs.Report.{report, refusal}
 

@@ -1,2 +1,1 @@
 pub mod RulesLemmas
-pub mod ScanLemmas

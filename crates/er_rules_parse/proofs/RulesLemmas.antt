@@ -1,21 +1,19 @@
 -- The rules of parsing, read off the records.
-use Rattle.std.proofs.Common.{◌≡◌, ℕ, ◌<◌, ◌≤◌, Bool, true, false, List, ◌++◌, length, take, Option, Some, None, option_map, refl, sym, ap, ◌∙◌, arith}
+use Rattle.std.proofs.Common.{◌≡◌, ℕ, ◌<◌, Bool, true, false, List, length, Option, Some, None, refl, sym, ap, ◌∙◌, arith}
 use Rattle.std.specs.Prelude.{not, ◌&&◌, ◌||◌, ◌==◌, nat_lt}
 use Rattle.std.proofs.lemmas.Bool.{ne_eqb, lt-ltb}
-use Rattle.std.proofs.lemmas.List.{append-nil}
 use Rattle.er_trace.specs.declared.record.Record.{Record}
 use Rattle.er_trace.specs.declared.record.Record.TheVariants.{Parse, ParseFrame, Exec, Back}
-use Rattle.er_history.specs.History.{told, begins, event_begun, what_begun, Action, Event, History, What, ParseStep}
-use Rattle.er_history.specs.Rules.{Rule, any_holds, made_by, both_made, of_made, parse_rules, parse_steps_in_order, document_before_its_steps}
+use Rattle.er_history.specs.History.{told, begins, event_begun, what_begun, Entry, History, What, ParseStep}
+use Rattle.er_history.specs.Rules.{Rule, any_holds, made_by, both_made, parse_rules, parse_steps_in_order, document_before_its_steps}
 use Rattle.er_history.specs.Edges.{up_to, path}
-use Rattle.er_history.specs.Naming.{naming_now, IsNamedNow}
-use Rattle.er_history.specs.Handed.{HasHanded, HasHandedSome}
+use Rattle.er_history.specs.Naming.{naming_now}
 use Rattle.er_history.specs.Sound.{IsSound}
-use Rattle.er_history.proofs.HistoryLemmas.{goes_on, actions_are_numbered}
-use Rattle.er_history.proofs.NamedLemmas.{none_inline, not_back, sound_is_named_now}
-use Rattle.er_history.proofs.EventLemmas.{HasForm, IsOther, form_begun, found_by_number, has_first}
-use Rattle.er_history.proofs.HandedLemmas.{found_among, Tells, none_found, take_whole, all_are_handed, some_are_sources, action_stands}
-use Rattle.er_page.specs.LookUps.{event_of, begin_of}
+use Rattle.er_history.proofs.HistoryLemmas.{goes_on, event_new}
+use Rattle.er_history.proofs.NamedLemmas.{not_resumed, sound_is_named_now}
+use Rattle.er_history.proofs.EventLemmas.{event_with, HasForm, IsOther, form_begun, has_first}
+use Rattle.er_history.proofs.HandedLemmas.{Tells, IsTestOf}
+use Rattle.er_page.proofs.ScanLemmas.{said_of_first, nothing_said}
 use Rattle.er_rules_parse.specs.Steps.{has_rule, step_of, of_one_document, is_maker, declares, leads, precedes}
 
 -- what the rules ask of an event
@@ -27,9 +25,6 @@ step_in _ = None
 abbrev pub maker_in : What → Option ℕ
 maker_in (ParseStep d m) = m
 maker_in _ = None
-
-abbrev pub event_with : ℕ → What → Event
-event_with n w = record { number = n; what = w }
 
 -- each rule by what it asks
 
@@ -73,10 +68,6 @@ declares_begun t u (Exec e) new = refl
 declares_begun t u (Back p) new = absurd (cc)
 declares_begun t u y new = other_maker (what_begun t y) u (form_begun t y)
 
-number_begun : (t : History) (y : Record) → goes_on y ≡ false → (event_begun t y).number ≡ length t.actions
-number_begun t (Back p) new = absurd (cc)
-number_begun t y new = refl
-
 -- the rules together, over plain truth values
 rules_are : (lt same first second : Bool) (p q : Bool) → lt ≡ true → same ≡ false → first ≡ (lt && p) → second ≡ q → (not same && (first || (second || false))) ≡ (p || q)
 rules_are true false true second p q a b c d = rw (sym c) refl
@@ -98,17 +89,14 @@ rules_lead t joined k w x y below form new =
     rules_are (nat_lt k n) (k == n) _ _ (of_one_document x y) (declares t.entries k y) lt apart first second
 
 -- what the look-ups say of an action is what the rules say of its event
-pub rules_tell : (h : List Record) (joined : ℕ → ℕ → Bool) (y : Record) → goes_on y ≡ false → Tells (precedes h y) parse_rules joined (told h) y
+rules_tell : (h : List Record) (joined : ℕ → ℕ → Bool) (y : Record) → goes_on y ≡ false → Tells (precedes h y) parse_rules joined (told h) y
 rules_tell h joined y new = λ a among.
     let t = told h in
     let piece = has_first h a among in
-    let event : event_of h a.number ≡ Some a.event.number = ap (option_map (λ (c : Action). c.event.number)) (found_by_number t.actions a (actions_are_numbered h) among) in
-    let begin : begin_of h a.event.number ≡ Some piece.first.begin = ap (option_map (λ (c : Action). c.begin)) piece.found in
-    let said : precedes h y a.number ≡ leads t.entries a.event.number piece.first.begin y =
-    ap (of_made (λ (u : ℕ). of_made (λ (x : Record). leads t.entries u x y) (begin_of h u))) event ∙ ap (of_made (λ (x : Record). leads t.entries a.event.number x y)) begin in
     let told_paths : ℕ → ℕ → Bool = up_to (event_begun t y).number joined in
-    said ∙ (sym (rules_lead t told_paths a.event.number a.event.what piece.first.begin y piece.below piece.form new)
-    ∙ (λ i. any_holds parse_rules told_paths a.event (event_with (sym (number_begun t y new) i) (event_begun t y).what)))
+    said_of_first h (λ (u : ℕ) (x : Record). leads t.entries u x y) a among
+    ∙ (sym (rules_lead t told_paths a.event.number a.event.what piece.first.begin y piece.below piece.form new)
+    ∙ (λ i. any_holds parse_rules told_paths a.event (event_with (sym (event_new t y new) i) (event_begun t y).what)))
 
 -- no record of another form is preceded
 
@@ -116,55 +104,23 @@ one_step : (o : Option ℕ) → both_made (λ (c : ℕ) (d : ℕ). c == d) o Non
 one_step None = refl
 one_step (Some d) = refl
 
-no_lead : (t : History) (u : ℕ) (x y : Record) → has_rule y ≡ false → leads t.entries u x y ≡ false
-no_lead t u x (Parse d e k) none = absurd (cc)
-no_lead t u x (ParseFrame d e f) none = absurd (cc)
-no_lead t u x y none = ap (λ b. b || false) (one_step (step_of x))
-
-never_made : {A : Type 0} → (test : A → Bool) (o : Option A) → ((x : A) → test x ≡ false) → of_made test o ≡ false
-never_made test None never = refl
-never_made test (Some x) never = never x
-
-none_precedes : (h : List Record) (y : Record) → has_rule y ≡ false → (k : ℕ) → precedes h y k ≡ false
-none_precedes h y none k = never_made (λ (u : ℕ). of_made (λ (x : Record). leads (told h).entries u x y) (begin_of h u)) (event_of h k)
-    (λ u. never_made (λ (x : Record). leads (told h).entries u x y) (begin_of h u) (λ x. no_lead (told h) u x y none))
+no_lead : (entries : List Entry) (y : Record) → has_rule y ≡ false → (u : ℕ) (x : Record) → leads entries u x y ≡ false
+no_lead entries (Parse d e k) without u x = absurd (cc)
+no_lead entries (ParseFrame d e f) without u x = absurd (cc)
+no_lead entries y without u x = ap (λ b. b || false) (one_step (step_of x))
 
 no_note : (y : Record) → begins y ≡ false → has_rule y ≡ false
 no_note (Parse d e k) note = absurd (cc)
 no_note (ParseFrame d e f) note = absurd (cc)
 no_note y note = refl
 
--- what is handed
-
-begins_new : (h : List Record) (y : Record) → IsNamedNow h → naming_now h y ≡ None → goes_on y ≡ false
-begins_new h (Back p) named is = absurd (not_back h p (none_inline h named) is)
-begins_new h y named is = refl
-
-pub handed : (table : List (ℕ × Rule)) (h : List Record) (y : Record) (old new : List ℕ) → IsSound table h → naming_now h y ≡ None
-    → new ≡ old ++ found_among (precedes h y) (told h).actions → HasHanded parse_rules (path table h) (told h) y old new
-handed table h y old new sound is grown =
-    let fresh = begins_new h y (sound_is_named_now table h sound) is in
+-- so the scan goes by the rules of parsing
+pub scanned : (table : List (ℕ × Rule)) (h : List Record) (y : Record) → IsSound table h → naming_now h y ≡ None → IsTestOf parse_rules table h y (precedes h y) (has_rule y)
+scanned table h y sound is =
+    let new = not_resumed h y (sound_is_named_now table h sound) is in
     record {
-      handed = found_among (precedes h y) (told h).actions;
-      grown = grown;
-      are_handed = all_are_handed (precedes h y) parse_rules (path table h) (told h) y (rules_tell h (path table h) y fresh) (action_stands table h) fresh
-          (λ note. none_found (precedes h y) (told h).actions (none_precedes h y (no_note y note)));
+      tells = rules_tell h (path table h) y new;
+      new = new;
+      none = λ without. nothing_said h (λ (u : ℕ) (x : Record). leads (told h).entries u x y) (no_lead (told h).entries y without);
+      note = no_note y;
     }
-
--- where all actions were gone through
-pub handed_all : (table : List (ℕ × Rule)) (h : List Record) (y : Record) (n : ℕ) (old new : List ℕ) → IsSound table h → naming_now h y ≡ None → length (told h).actions ≤ n
-    → new ≡ old ++ found_among (precedes h y) (take n (told h).actions) → HasHanded parse_rules (path table h) (told h) y old new
-handed_all table h y n old new sound is whole grown = handed table h y old new sound is (grown ∙ ap (λ l. old ++ found_among (precedes h y) l) (take_whole n (told h).actions whole))
-
-pub handed_nothing : (table : List (ℕ × Rule)) (h : List Record) (y : Record) (old : List ℕ) → IsSound table h → naming_now h y ≡ None → has_rule y ≡ false
-    → HasHanded parse_rules (path table h) (told h) y old old
-handed_nothing table h y old sound is none = handed table h y old old sound is
-    (sym (append-nil old) ∙ ap (λ l. old ++ l) (sym (none_found (precedes h y) (told h).actions (none_precedes h y none))))
-
-pub handed_some : (table : List (ℕ × Rule)) (h : List Record) (y : Record) (n : ℕ) (old new : List ℕ) → IsSound table h → naming_now h y ≡ None
-    → new ≡ old ++ found_among (precedes h y) (take n (told h).actions) → HasHandedSome parse_rules (path table h) (told h) y old new
-handed_some table h y n old new sound is grown = record {
-  handed = found_among (precedes h y) (take n (told h).actions);
-  grown = grown;
-  sources = some_are_sources (precedes h y) parse_rules (path table h) (told h) y n (rules_tell h (path table h) y (begins_new h y (sound_is_named_now table h sound) is));
-}

@@ -1,5 +1,5 @@
 -- Which records lead back by the rules of scripts, in a sound list.
-use Rattle.std.proofs.Common.{◌≡◌, ℕ, Bool, true, false, List, [], ◌∷◌, length, Option, Some, None, option_map, refl, sym, ap, ◌∙◌, arith, inl, inr}
+use Rattle.std.proofs.Common.{◌≡◌, ℕ, Bool, true, false, List, length, Option, Some, None, option_map, refl, sym, ap, ◌∙◌, arith}
 use Rattle.std.specs.Prelude.{◌==◌, ◌&&◌, ◌||◌, nat_lt}
 use Rattle.std.specs.List.{list_any}
 use Rattle.er_trace.specs.declared.record.Record.{Record}
@@ -14,7 +14,7 @@ use Rattle.er_history.specs.Laws.{Among}
 use Rattle.er_history.specs.Facts.{WhatIs}
 use Rattle.er_history.proofs.HistoryLemmas.{EachIsAnEvent}
 use Rattle.er_history.proofs.NamedLemmas.{sound_is_named_now, now_is_named, each_named}
-use Rattle.er_history.proofs.OrderLemmas.{events_began, none_passes, any_either}
+use Rattle.er_history.proofs.OrderLemmas.{events_began, none_passes, any_same, any_under, any_either}
 use Rattle.er_history.proofs.ExactLemmas.{facts_are_exact}
 use Rattle.er_history.proofs.EventLemmas.{IsOther, form_begun}
 use Rattle.er_page.specs.LookUps.{newest_by, event_in, script_in, is_step_of, is_run_of, element_made, script_run, last_parse}
@@ -23,7 +23,7 @@ use Rattle.er_rules_script.specs.Scripts.{is_parsed_before}
 use Rattle.er_rules_script.specs.Against.{has_deferred_run, is_blocking_late, is_deferred_late, is_run_late, LateRecordsLeadBack}
 use Rattle.er_rules_script.proofs.RulesLemmas.{rules_hold, holds_apart}
 use Rattle.er_rules_script.proofs.SoundLemmas.{NoneLeadBack, none_leads_back, run_after, deferred_descend}
-use Rattle.er_rules_script.proofs.LastLemmas.{event_passes, any_newest, any_last, begins_after, events_descend}
+use Rattle.er_page.proofs.NewestLemmas.{event_passes, any_newest, any_last, begins_after, events_descend}
 use Rattle.er_rules_script.proofs.BackLemmas.{parsed_after, comes_late, from_step, from_other, from_unmade, from_run}
 
 -- what the look-ups say
@@ -60,16 +60,6 @@ passed_is h y (Some a) named e =
         → (is_deferred y && parsed_after y.piece w) ≡ (is_deferred y && of_made (λ (last : ℕ). is_parsed_before (Some y) (element_made h last)) (script_run w))
     by (ScriptRun f made) is ran = of_script f made is.0 ran
     by w is ran = absurd (cc)
-
--- tests of all actions
-
-any_same : (f g : Action → Bool) (actions : List Action) → ((i : Action) → Among i actions → f i ≡ g i) → list_any f actions ≡ list_any g actions
-any_same f g [] same = refl
-any_same f g (a ∷ older) same = (λ k. same a (inl refl) k || any_same f g older (λ i among. same i (inr among)) k)
-
-any_under : (b : Bool) (f : Action → Bool) (actions : List Action) → list_any (λ i. b && f i) actions ≡ (b && list_any f actions)
-any_under true f actions = refl
-any_under false f actions = none_passes (λ i. false) actions (λ i among. refl)
 
 static_blocks : (s k q r : Bool) → ((s && k) && (q || r)) ≡ ((s && k) && ((s && q) || r))
 static_blocks false k q r = refl

@@ -1,32 +1,23 @@
 -- The rules between events, read off the records that began them.
-use Rattle.std.proofs.Common.{◌≡◌, ℕ, Bool, true, false, List, ◌++◌, length, take, Option, Some, None, refl, sym, ap, ◌∙◌, arith}
-use Rattle.std.proofs.Math.Seq.{take-length}
+use Rattle.std.proofs.Common.{◌≡◌, ℕ, Bool, true, false, List, length, Option, Some, None, refl, sym, ap, ◌∙◌, arith}
 use Rattle.std.specs.Prelude.{not, ◌==◌, ◌&&◌, ◌||◌, nat_lt}
 use Rattle.std.specs.List.{list_any}
 use Rattle.std.proofs.lemmas.Bool.{ne_eqb, lt-ltb}
-use Rattle.std.proofs.lemmas.List.{append-nil}
 use Rattle.er_trace.specs.declared.record.Record.{Record}
 use Rattle.er_trace.specs.declared.record.Record.TheVariants.{Parse, ParseFrame, Exec, Back}
 use Rattle.er_trace.specs.declared.record.Kind.{Kind}
 use Rattle.er_trace.specs.declared.record.Kind.TheVariants as kinds
-use Rattle.er_history.specs.History.{Element, What, ParseStep, ScriptRun, Event, Action, Entry, History, told, begins, first_to, makes_element, what_begun, action_begun}
+use Rattle.er_history.specs.History.{Element, What, ParseStep, ScriptRun, Entry, History, told, begins, first_to, makes_element, what_begun}
 use Rattle.er_history.specs.Rules.{Rule, of_made, has_kind, is_blocking, is_deferred, script_rules}
-use Rattle.er_history.specs.Edges.{up_to, is_ruled, path}
+use Rattle.er_history.specs.Edges.{up_to, path}
 use Rattle.er_history.specs.Naming.{naming_now, IsNamedNow}
-use Rattle.er_history.specs.Laws.{Among}
-use Rattle.er_history.specs.Handed.{HasHanded, HasHandedSome}
 use Rattle.er_history.specs.Sound.{IsSound}
-use Rattle.er_history.proofs.HistoryLemmas.{goes_on, actions_are_numbered}
-use Rattle.er_history.proofs.NamedLemmas.{none_inline, not_back, now_is_named, sound_is_named_now}
+use Rattle.er_history.proofs.NamedLemmas.{none_inline, not_back, not_resumed, now_is_named, sound_is_named_now}
 use Rattle.er_history.proofs.MakersLemmas.{ElementBelow, element_below}
-use Rattle.er_history.proofs.ExactLemmas.{facts_are_exact}
-use Rattle.er_history.proofs.EventLemmas.{IsOther, IsBegunAs, form_begun, known_by, found_by_number, has_first}
-use Rattle.er_history.proofs.HandedLemmas.{Tells, found_among, none_found, some_are_sources, all_are_handed, action_stands}
-use Rattle.er_page.specs.LookUps.{event_of, begin_of}
+use Rattle.er_history.proofs.EventLemmas.{event_with, IsOther, IsBegunAs, form_begun, has_first, begun_as}
+use Rattle.er_history.proofs.HandedLemmas.{Tells, IsTestOf}
+use Rattle.er_page.proofs.ScanLemmas.{said_of_first, nothing_said}
 use Rattle.er_rules_script.specs.Scripts.{has_rule, leads, precedes, blocks, defers, is_of_document, is_made_by, runs_blocking, runs_before, leads_to_run}
-
-abbrev pub event_with : ℕ → What → Event
-event_with n w = record { number = n; what = w }
 
 -- the rules from an event to another
 abbrev pub rules_hold : (ℕ → ℕ → Bool) → ℕ → ℕ → What → What → Bool
@@ -142,79 +133,38 @@ leads_is t joined u x y w below is = to_other joined u (length t.actions) w (wha
 pub holds_apart : (u n : ℕ) (b : Bool) → (u ≡ n → ⊥) → (not (u == n) && b) ≡ b
 holds_apart u n b apart = rw (ne_eqb u n apart) refl
 
--- an edge of the group to the action that a record begins
-pub ruled_is : (h : List Record) (y : Record) (joined : ℕ → ℕ → Bool) (i : Action) → IsNamedNow h → naming_now h y ≡ None → Among i (told h).actions
-    → precedes h y i.number ≡ is_ruled script_rules joined i (action_begun (told h) y)
-ruled_is h (Back p) joined i named is among = absurd (not_back h p (none_inline h named) is)
-ruled_is h y joined i named is among =
-    let acts = (told h).actions in
+-- what the look-ups say of an action is what the rules say of its event
+rules_tell : (h : List Record) (joined : ℕ → ℕ → Bool) (y : Record) → IsNamedNow h → naming_now h y ≡ None → Tells (precedes h y) script_rules joined (told h) y
+rules_tell h joined (Back p) named is i among = absurd (not_back h p (none_inline h named) is)
+rules_tell h joined y named is i among =
+    let n = length (told h).actions in
     let first = has_first h i among in
-    let begun : IsBegunAs (told h).entries first.first.begin i.event.what = known_by (told h).entries first.first.begin i.event.what first.form (facts_are_exact h i (now_is_named h named) among) in
-    let n = length acts in
-    rw (found_by_number acts i (actions_are_numbered h) among, first.found)
-    (sym (leads_is (told h) (up_to n joined) i.event.number first.first.begin y i.event.what (element_below h) begun)
+    let begun : IsBegunAs (told h).entries first.first.begin i.event.what = begun_as h i (now_is_named h named) among in
+    said_of_first h (λ (u : ℕ) (x : Record). leads (told h).entries u x y) i among
+    ∙ (sym (leads_is (told h) (up_to n joined) i.event.number first.first.begin y i.event.what (element_below h) begun)
     ∙ sym (holds_apart i.event.number n (rules_hold (up_to n joined) i.event.number n i.event.what (what_begun (told h) y)) (λ e. omega (arith, e, first.below))))
 
 -- no rule speaks of the record
 
-no_lead : (entries : List Entry) (u : ℕ) (x y : Record) → has_rule y ≡ false → leads entries u x y ≡ false
-no_lead entries u x (Parse d e k) without = absurd (cc)
-no_lead entries u x (ParseFrame d e f) without = absurd (cc)
-no_lead entries u x (Exec e) without = absurd (cc)
-no_lead entries u x y without = refl
+no_lead : (entries : List Entry) (y : Record) → has_rule y ≡ false → (u : ℕ) (x : Record) → leads entries u x y ≡ false
+no_lead entries (Parse d e k) without u x = absurd (cc)
+no_lead entries (ParseFrame d e f) without u x = absurd (cc)
+no_lead entries (Exec e) without u x = absurd (cc)
+no_lead entries y without u x = refl
 
-none_precedes : (h : List Record) (y : Record) (k : ℕ) → has_rule y ≡ false → precedes h y k ≡ false
-none_precedes h y k without = of_event (event_of h k)
-  where
-    of_begin : (u : ℕ) (o : Option Record) → of_made (λ (x : Record). leads (told h).entries u x y) o ≡ false
-    of_begin u None = refl
-    of_begin u (Some x) = no_lead (told h).entries u x y without
-
-    of_event : (o : Option ℕ) → of_made (λ (u : ℕ). of_made (λ (x : Record). leads (told h).entries u x y) (begin_of h u)) o ≡ false
-    of_event None = refl
-    of_event (Some u) = of_begin u (begin_of h u)
-
--- a record that begins no action has no rule
-no_note : (x : Record) → begins x ≡ false → has_rule x ≡ false
+no_note : (y : Record) → begins y ≡ false → has_rule y ≡ false
 no_note (Parse d e k) note = absurd (cc)
 no_note (ParseFrame d e f) note = absurd (cc)
 no_note (Exec e) note = absurd (cc)
-no_note x note = refl
+no_note y note = refl
 
--- what is handed
-
-begins_new : (table : List (ℕ × Rule)) (h : List Record) (x : Record) → IsSound table h → naming_now h x ≡ None → goes_on x ≡ false
-begins_new table h (Back p) sound is = absurd (not_back h p (none_inline h (sound_is_named_now table h sound)) is)
-begins_new table h x sound is = refl
-
-rules_tell : (table : List (ℕ × Rule)) (h : List Record) (x : Record) → IsSound table h → naming_now h x ≡ None → Tells (precedes h x) script_rules (path table h) (told h) x
-rules_tell table h x sound is a among = ruled_is h x (path table h) a (sound_is_named_now table h sound) is among
-
-pub handed : (table : List (ℕ × Rule)) (h : List Record) (x : Record) (old new : List ℕ) → IsSound table h → naming_now h x ≡ None
-    → new ≡ old ++ found_among (precedes h x) (told h).actions → HasHanded script_rules (path table h) (told h) x old new
-handed table h x old new sound is e = record {
-  handed = found_among (precedes h x) (told h).actions;
-  grown = e;
-  are_handed = all_are_handed (precedes h x) script_rules (path table h) (told h) x (rules_tell table h x sound is) (action_stands table h) (begins_new table h x sound is)
-      (λ note. none_found (precedes h x) (told h).actions (λ k. none_precedes h x k (no_note x note)));
-}
-
--- when all actions have been gone through
-pub handed_all : (table : List (ℕ × Rule)) (h : List Record) (x : Record) (old new : List ℕ) (count : ℕ) → IsSound table h → naming_now h x ≡ None → count ≡ length (told h).actions
-    → new ≡ old ++ found_among (precedes h x) (take count (told h).actions) → HasHanded script_rules (path table h) (told h) x old new
-handed_all table h x old new count sound is whole e =
-    handed table h x old new sound is (e ∙ ap (λ l. old ++ found_among (precedes h x) l) (ap (λ n. take n (told h).actions) whole ∙ take-length (told h).actions))
-
--- when memory ran out behind the newest
-pub handed_some : (table : List (ℕ × Rule)) (h : List Record) (x : Record) (old last new : List ℕ) (back : ℕ) → IsSound table h → naming_now h x ≡ None
-    → last ≡ old ++ found_among (precedes h x) (take back (told h).actions) → new ≡ last → HasHandedSome script_rules (path table h) (told h) x old new
-handed_some table h x old last new back sound is e kept = record {
-  handed = found_among (precedes h x) (take back (told h).actions);
-  grown = kept ∙ e;
-  sources = some_are_sources (precedes h x) script_rules (path table h) (told h) x back (rules_tell table h x sound is);
-}
-
--- when no rule speaks of the record
-pub handed_nothing : (table : List (ℕ × Rule)) (h : List Record) (x : Record) (old : List ℕ) → IsSound table h → naming_now h x ≡ None → has_rule x ≡ false → HasHanded script_rules (path table h) (told h) x old old
-handed_nothing table h x old sound is without =
-    handed table h x old old sound is (sym (ap (λ l. old ++ l) (none_found (precedes h x) (told h).actions (λ k. none_precedes h x k without)) ∙ append-nil old))
+-- so the scan goes by the rules of scripts
+pub scanned : (table : List (ℕ × Rule)) (h : List Record) (y : Record) → IsSound table h → naming_now h y ≡ None → IsTestOf script_rules table h y (precedes h y) (has_rule y)
+scanned table h y sound is =
+    let named = sound_is_named_now table h sound in
+    record {
+      tells = rules_tell h (path table h) y named is;
+      new = not_resumed h y named is;
+      none = λ without. nothing_said h (λ (u : ℕ) (x : Record). leads (told h).entries u x y) (no_lead (told h).entries y without);
+      note = no_note y;
+    }

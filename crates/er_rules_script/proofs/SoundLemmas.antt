@@ -1,25 +1,19 @@
 -- The runs of scripts in a sound list: no rule of scripts leads from a later event to an earlier one, so deferred scripts ran as they were parsed.
-use Rattle.std.proofs.Common.{◌≡◌, ℕ, ◌≤◌, Bool, true, false, List, [], ◌∷◌, Option, Some, None, refl, sym, ap, ◌∙◌, arith, inl, inr}
+use Rattle.std.proofs.Common.{◌≡◌, ℕ, ◌≤◌, Bool, true, false, List, [], ◌∷◌, Some, None, refl, sym, ap, ◌∙◌, arith}
 use Rattle.std.specs.Prelude.{◌==◌, ◌&&◌, ◌||◌, nat_lt, if◌then◌else◌}
-use Rattle.std.specs.List.{list_any}
 use Rattle.std.proofs.lemmas.Bool.{eqb-true, eq-eqb, le-ltb, ltb-false}
-use Rattle.er_text.specs.declared.causes.Cause.{Cause}
-use Rattle.er_text.specs.declared.causes.Cause.TheVariants.{OutOfOrder}
 use Rattle.er_trace.specs.declared.record.Record.{Record}
-use Rattle.er_trace.specs.declared.record.Record.TheVariants.{Back}
-use Rattle.er_history.specs.History.{What, ScriptRun, Event, Action, told, begins, or_else, event_begun, action_begun}
+use Rattle.er_history.specs.History.{What, ScriptRun, Action, told, begins, event_begun, action_begun}
 use Rattle.er_history.specs.Rules.{Rule, is_blocking, is_deferred, script_rules, any_holds}
-use Rattle.er_history.specs.Edges.{path}
-use Rattle.er_history.specs.Naming.{naming_now, room}
 use Rattle.er_history.specs.Laws.{Among}
 use Rattle.er_history.specs.Handed.{HasGroup}
-use Rattle.er_history.specs.Sound.{out_of_order, IsSound}
+use Rattle.er_history.specs.Sound.{IsSound}
 use Rattle.er_history.proofs.HistoryLemmas.{EachIsAnEvent, events_before, event_below}
-use Rattle.er_history.proofs.NamedLemmas.{none_inline, not_back, sound_is_named_now}
-use Rattle.er_history.proofs.DeclaredLemmas.{or_none}
+use Rattle.er_history.proofs.NamedLemmas.{no_cause, not_resumed, sound_is_named_now}
+use Rattle.er_history.proofs.OrderLemmas.{leads_nowhere}
 use Rattle.er_page.specs.LookUps.{is_run_of}
 use Rattle.er_rules_script.proofs.RulesLemmas.{rules_hold, to_run, holds_apart}
-use Rattle.er_rules_script.proofs.LastLemmas.{FailsBefore}
+use Rattle.er_page.proofs.NewestLemmas.{FailsBefore}
 use Rattle.er_rules_script.proofs.BackLemmas.{parsed_after}
 
 -- no rule leads back among the actions of a sound list
@@ -32,48 +26,12 @@ abbrev pub NoneLeadBack : List Action → Type 0
 NoneLeadBack [] = Unit {0}
 NoneLeadBack (a ∷ older) = ((i : Action) → Among i older → any_holds script_rules paths_unasked a.event i.event ≡ false) × NoneLeadBack older
 
-one_of : {A : Type 0} → (o p : Option A) → or_else o p ≡ None → (o ≡ None) × (p ≡ None)
-one_of None p e = (refl, e)
-one_of (Some x) p e = absurd (cc)
-
-ordered : (b : Bool) (o : Option Cause) → (if b then Some OutOfOrder else o) ≡ None → b ≡ false
-ordered true o e = absurd (cc)
-ordered false o e = refl
-
-pub sound_parts : (table : List (ℕ × Rule)) (h : List Record) (x : Record) → IsSound table (x ∷ h) → (naming_now h x ≡ None) × (out_of_order table h x ≡ false)
-sound_parts table h x sound =
-    let parts = one_of (naming_now h x) (if out_of_order table h x then Some OutOfOrder else room h x) sound.0 in
-    (parts.0, ordered (out_of_order table h x) (room h x) parts.1)
-
-none_among : (f : Action → Bool) (actions : List Action) → list_any f actions ≡ false → (i : Action) → Among i actions → f i ≡ false
-none_among f [] e i among = absurd among
-none_among f (a ∷ older) e i (inl same) = ap f same ∙ (or_none (f a) (list_any f older) e).0
-none_among f (a ∷ older) e i (inr deeper) = none_among f older (or_none (f a) (list_any f older) e).1 i deeper
-
--- where the table does not hold, no rule of the group does
-in_group : (table : List (ℕ × Rule)) (joined : ℕ → ℕ → Bool) (u v : Event) → HasGroup table script_rules → any_holds table joined u v ≡ false → any_holds script_rules joined u v ≡ false
-in_group table joined u v group e = by (any_holds script_rules joined u v) (any_holds table joined u v) (group joined u v) e
-  where
-    by : (b c : Bool) → (b ≡ true → c ≡ true) → c ≡ false → b ≡ false
-    by true c f e = absurd (let g = f refl in cc)
-    by false c f e = refl
-
-begun_leads_nowhere : (table : List (ℕ × Rule)) (h : List Record) (x : Record) → HasGroup table script_rules → IsSound table h → naming_now h x ≡ None → out_of_order table h x ≡ false → begins x ≡ true
-    → (i : Action) → Among i (told h).actions → any_holds script_rules paths_unasked (event_begun (told h) x) i.event ≡ false
-begun_leads_nowhere table h (Back p) group sound is order b i among = absurd (not_back h p (none_inline h (sound_is_named_now table h sound)) is)
-begun_leads_nowhere table h x group sound is order b i among =
-    let v : Event = event_begun (told h) x in
-    in_group table (path table h) v i.event group (none_among (λ (c : Action). any_holds table (path table h) v c.event) (told h).actions (under (begins x) _ b order) i among)
-  where
-    under : (b c : Bool) → b ≡ true → (b && c) ≡ false → c ≡ false
-    under true c e f = f
-    under false c e f = absurd (cc)
-
 pub none_leads_back : (table : List (ℕ × Rule)) (h : List Record) → HasGroup table script_rules → IsSound table h → NoneLeadBack (told h).actions
 none_leads_back table [] group sound = tt
 none_leads_back table (x ∷ h) group sound =
-    let parts = sound_parts table h x sound in
-    step (begins x) (begun_leads_nowhere table h x group sound.1 parts.0 parts.1) (none_leads_back table h group sound.1)
+    let parts = no_cause table h x sound.0 in
+    let new = not_resumed h x (sound_is_named_now table h sound.1) parts.named in
+    step (begins x) (leads_nowhere table script_rules h x group new parts.ordered) (none_leads_back table h group sound.1)
   where
     step : (b : Bool) → (b ≡ true → (i : Action) → Among i (told h).actions → any_holds script_rules paths_unasked (event_begun (told h) x) i.event ≡ false) → NoneLeadBack (told h).actions
         → NoneLeadBack (if b then action_begun (told h) x ∷ (told h).actions else (told h).actions)

@@ -10,7 +10,8 @@ use Rattle.er_trace.specs.declared.record.Loc.TheVariants.{Var, Elem, Slot}
 use Rattle.er_trace.specs.declared.record.Mode.{Mode}
 use Rattle.er_trace.specs.declared.record.Mode.TheVariants as modes
 use Rattle.er_run.specs.declared.accesses.Kept.{Kept}
-use Rattle.er_run.specs.Races.{same_bytes, same_loc, same_mode, repeats}
+use Rattle.er_history.specs.Rules.{same_bytes}
+use Rattle.er_run.specs.Races.{same_loc, same_mode, repeats}
 
 pub same_bytes_pointwise : (xs ys : List ℕ) → same_bytes xs ys ≡ bytes_eq xs ys
 same_bytes_pointwise [] [] = refl

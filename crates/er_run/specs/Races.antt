@@ -10,13 +10,9 @@ use Rattle.er_trace.specs.declared.record.Loc.TheVariants.{Var, Elem, Slot}
 use Rattle.er_run.specs.declared.accesses.Kept.{Kept}
 use Rattle.er_run.specs.declared.accesses.Race.{Race}
 use Rattle.er_history.specs.History.{Action, Entry, told}
+use Rattle.er_history.specs.Rules.{same_bytes}
 use Rattle.er_history.specs.Edges.{path}
 use Rattle.er_graph.specs.Rules.{rules_now}
-
-abbrev pub same_bytes : List ℕ → List ℕ → Bool
-same_bytes [] [] = true
-same_bytes (x ∷ xs) (y ∷ ys) = (x == y) && same_bytes xs ys
-same_bytes _ _ = false
 
 abbrev pub same_loc : Loc → Loc → Bool
 same_loc (Var o n) (Var p m) = (o == p) && same_bytes n m

@@ -2,6 +2,7 @@
 
 ghost use Rattle.std.specs.Prelude.{◌≡◌, ℕ, List};
 ghost use Rattle.std.specs.Bool.{Decides};
+ghost use Rattle.er_history.specs.Rules as table;
 ghost use Rattle.er_run.specs.Races as spec;
 ghost use Rattle.er_run.specs.declared.accesses.Kept as accesses;
 ghost use Rattle.er_trace.specs.declared.record.Loc as locations;
@@ -53,7 +54,7 @@ pub(crate) fn same_loc(a: &Loc, b: &Loc) -> bool
 
 #[tactic(auto, using(crate::proofs::Sameness::same_bytes_pointwise))]
 fn same_name(a: &Name, b: &Name) -> bool
-    ensures { result ≡ spec.same_bytes a.now b.now }
+    ensures { result ≡ table.same_bytes a.now b.now }
 {
     a.bytes() == b.bytes()
 }
@@ -70,7 +71,7 @@ fn is_write(mode: Mode) -> bool
 /// The tests of the definitions say what they are named for.
 #[tactic(auto, using(crate::proofs::Sameness::same_bytes_decides, crate::proofs::Sameness::same_loc_decides, crate::proofs::Sameness::repeats_decides))]
 pub fn laws_of_sameness()
-    ensures bytes { (a b : List ℕ) → Decides (spec.same_bytes a b) (a ≡ b) }
+    ensures bytes { (a b : List ℕ) → Decides (table.same_bytes a b) (a ≡ b) }
     ensures locations { (a b : locations.Loc) → Decides (spec.same_loc a b) (a ≡ b) }
     ensures repeats { (x y : accesses.Kept) → Decides (spec.repeats x y) ((x.action ≡ y.action) × ((x.mode ≡ y.mode) × (x.loc ≡ y.loc))) }
 {}

@@ -1,4 +1,4 @@
-use Rattle.er_rules_script.proofs.ScanLemmas.{event_has_begun}
+use Rattle.er_page.proofs.PageLemmas.{event_has_begun}
 use Rattle.er_rules_script.proofs.predecessors.put_source.Goals as goal
 
 pub begin_of-begin-requires : goal.begin_of-begin-requires

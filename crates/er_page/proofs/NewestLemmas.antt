@@ -7,7 +7,7 @@ use Rattle.er_history.specs.History.{What, Action}
 use Rattle.er_history.specs.Rules.{of_made}
 use Rattle.er_history.specs.Laws.{Among}
 use Rattle.er_history.proofs.HistoryLemmas.{EachIsAnEvent, events_before, event_below}
-use Rattle.er_history.proofs.OrderLemmas.{none_passes}
+use Rattle.er_history.proofs.OrderLemmas.{none_passes, not_both}
 use Rattle.er_page.specs.LookUps.{newest_by, event_in}
 
 abbrev pub event_passes : (What → Bool) → Action → Bool
@@ -42,10 +42,6 @@ any_last test other (a ∷ older) fails = step (test a.event.what) (other a) fai
 abbrev pub begins_after : ℕ → Action → Bool
 begins_after p i = nat_lt p i.event.number
 
-and_false : (b c : Bool) → c ≡ false → (b && c) ≡ false
-and_false true c e = e
-and_false false c e = refl
-
 -- no event begins after a later one
 pub events_descend : (test : What → Bool) (p : ℕ) (actions : List Action) → EachIsAnEvent actions → FailsBefore test (begins_after p) actions
 events_descend test p [] each = tt
@@ -55,4 +51,4 @@ events_descend test p (a ∷ older) each = (none, events_descend test p older ea
     none passes e i among =
         let before = event_below older i (events_before older each.2) among in
         let late : a.event.number ≤ p = ltb-false p a.event.number e in
-        and_false (test i.event.what) (begins_after p i) (le-ltb p i.event.number (omega (arith, before, late, each.1)))
+        not_both (test i.event.what) (begins_after p i) (le-ltb p i.event.number (omega (arith, before, late, each.1)))
