@@ -6,6 +6,8 @@ ghost use Rattle.er_rows.specs.Rows.{TimeoutsThatRace, TimeoutsInOrder, EqualDel
 #[cfg(test)]
 mod faults;
 #[cfg(test)]
+mod graph;
+#[cfg(test)]
 mod large;
 #[cfg(test)]
 mod row;
