@@ -82,7 +82,7 @@ element_maker_below h number m e = of (first_to (makes_element number) (told h).
 
 pub timeout_of : (n number : ℕ) (place : ℕ) (action : Option Action) (read : Record) (y : Timeout) → RunsBelow n action
     → makes_timeout number (record { read = read; place = place; action = action }) ≡ Some y → y.maker < n
-timeout_of n number place (Some a) (Set t d) y below is = set_below (t == number) (record { delay = d; place = place; maker = a.event.number }) below.1 is
+timeout_of n number place (Some a) (Set t d) y below is = set_below (t == number) (record { delay = d; place = place; maker = a.event.number; piece = a.number }) below.1 is
   where
     set_below : (b : Bool) (x : Timeout) → x.maker < n → (if b then Some x else None) ≡ Some y → y.maker < n
     set_below true x below e = let same : x ≡ y = cc in subst (λ (z : Timeout). z.maker < n) same below

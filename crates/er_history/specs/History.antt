@@ -19,11 +19,12 @@ pub record Element : Type 0 where
   pub maker : ℕ
   pub piece : ℕ
 
--- A timeout: its delay, the place of its record in the list, and the event that set it.
+-- A timeout: its delay, the place of its record in the list, and the event and the piece that set it.
 pub record Timeout : Type 0 where
   pub delay : ℕ
   pub place : ℕ
   pub maker : ℕ
+  pub piece : ℕ
 
 -- What a dispatch delivers, with the event that made its target. Document 0 has none.
 pub data Delivery : Type 0 where
@@ -133,7 +134,7 @@ abbrev pub makes_timeout : ℕ → Entry → Option Timeout
 makes_timeout number entry = by entry.action entry.read
   where
     by : Option Action → Record → Option Timeout
-    by (Some a) (Set t n) = if t == number then Some (record { delay = n; place = entry.place; maker = a.event.number }) else None
+    by (Some a) (Set t n) = if t == number then Some (record { delay = n; place = entry.place; maker = a.event.number; piece = a.number }) else None
     by _ _ = None
 
 abbrev pub declares_document : ℕ → Record → Bool

@@ -2,6 +2,8 @@ pub mod Edges
 pub mod Facts
 pub mod Handed
 pub mod History
+pub mod Kinds
+pub mod Latest
 pub mod Laws
 pub mod Naming
 pub mod Rules

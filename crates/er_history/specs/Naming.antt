@@ -157,23 +157,10 @@ first_cause (c ∷ cs) = if c.0 then Some c.1 else first_cause cs
 abbrev pub naming : List Record → Record → Option Cause
 naming h x = first_cause ((unknown h x, Unknown) ∷ (again h x, Again) ∷ (not_script (told h) x, NotScript) ∷ (misplaced (told h) x, Misplaced) ∷ [])
 
--- Until inline dispatches are built, one that is neither unknown nor again is misplaced.
-abbrev pub misplaced_now : History → Record → Bool
-misplaced_now h (Inline p e n) = true
-misplaced_now h x = misplaced h x
-
-abbrev pub naming_now : List Record → Record → Option Cause
-naming_now h x = first_cause ((unknown h x, Unknown) ∷ (again h x, Again) ∷ (not_script (told h) x, NotScript) ∷ (misplaced_now (told h) x, Misplaced) ∷ [])
-
 -- naming refuses no record of the list after those before it
 abbrev pub IsNamed : List Record → Type 0
 IsNamed [] = Unit {0}
 IsNamed (x ∷ h) = (naming h x ≡ None) × IsNamed h
-
--- the same until inline dispatches are built
-abbrev pub IsNamedNow : List Record → Type 0
-IsNamedNow [] = Unit {0}
-IsNamedNow (x ∷ h) = (naming_now h x ≡ None) × IsNamedNow h
 
 abbrev pub most_actions : ℕ
 most_actions = 16384

@@ -8,7 +8,7 @@ use Rattle.er_trace.specs.declared.record.Record.TheVariants.{Back}
 use Rattle.er_history.specs.History.{History, Action, begins, event_begun, or_else, told}
 use Rattle.er_history.specs.Rules.{Rule, any_holds}
 use Rattle.er_history.specs.Edges.{path}
-use Rattle.er_history.specs.Naming.{naming_now, room, IsNamed}
+use Rattle.er_history.specs.Naming.{naming, room, IsNamed}
 
 -- One of the rules holds from the event that the record begins to one that has begun. `back` begins no event.
 abbrev pub leads_back : List (ℕ × Rule) → (ℕ → ℕ → Bool) → History → Record → Bool
@@ -20,7 +20,7 @@ out_of_order table h x = leads_back table (path table h) (told h) x
 
 -- the first cause for which the record is refused after the earlier ones: by naming and nesting, by order, or by room
 abbrev pub cause : List (ℕ × Rule) → List Record → Record → Option Cause
-cause table h x = or_else (naming_now h x) (if out_of_order table h x then Some OutOfOrder else room h x)
+cause table h x = or_else (naming h x) (if out_of_order table h x then Some OutOfOrder else room h x)
 
 -- each record has no cause after those before it
 abbrev pub IsSound : List (ℕ × Rule) → List Record → Type 0

@@ -1,0 +1,4 @@
+pub mod AnyTimers
+pub mod Enough
+pub mod HandedPieces
+pub mod Hands

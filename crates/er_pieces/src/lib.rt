@@ -1,0 +1,63 @@
+//! The pieces of events: how they follow one another where dispatches are nested, and which of them stand for all that must come before a record.
+//!
+//! Definitions and their laws; no state. What each group of rules hands for a record is a list in `specs/HandedPieces.antt`: latest pieces alone. The laws say that these are sources of edges, and enough of them, for every table that has the steady rules: those that are the same in every version of the format.
+#![tactic(auto)]
+
+ghost use Rattle.er_history.specs.Rules.{rules};
+ghost use Rattle.er_pieces.specs.AnyTimers.{HandsTimersBy};
+ghost use Rattle.er_pieces.specs.Enough.{EnoughParse, EnoughScript, EnoughLoad, EnoughDispatch, EnoughTimer, EnoughRequest, EnoughPieces, HasSteady, NestedFactsHold};
+ghost use Rattle.er_pieces.specs.Hands.{HandsParse, HandsScript, HandsLoad, HandsTimer, HandsRequest, DispatchHandsSources, DispatchHandsNothing};
+
+/// Given the two laws of nested pieces, the latest pieces that each group of rules hands suffice.
+#[tactic(auto, using(crate::proofs::EnoughParse::enough_parse, crate::proofs::EnoughScript::enough_script, crate::proofs::EnoughLoad::enough_load))]
+pub fn latest_pieces_of_parsing_and_loading_suffice()
+    ensures parsing { EnoughParse }
+    ensures scripts { EnoughScript }
+    ensures loads { EnoughLoad }
+{}
+
+/// The same for dispatches, timers and requests.
+#[tactic(auto, using(crate::proofs::EnoughDispatch::enough_dispatch, crate::proofs::EnoughTimer::enough_timer, crate::proofs::EnoughRequest::enough_request))]
+pub fn latest_pieces_of_events_suffice()
+    ensures dispatches { EnoughDispatch }
+    ensures timers { EnoughTimer }
+    ensures requests { EnoughRequest }
+{}
+
+/// The pieces that the rules of dispatches hand suffice for the two rules on pieces.
+#[tactic(auto, using(crate::proofs::EnoughPieces::enough_pieces))]
+pub fn handed_pieces_suffice_around_inline_dispatches()
+    ensures { EnoughPieces }
+{}
+
+/// The table of all rules has those that are the same in every version.
+#[tactic(auto, using(crate::proofs::SteadyLemmas::all_rules_are_steady))]
+pub fn all_rules_have_the_steady_ones()
+    ensures { HasSteady rules }
+{}
+
+/// What is handed is sources too, and nothing for a record that begins no action.
+pub fn latest_pieces_of_parsing_and_loading_are_handed()
+    ensures parsing { HandsParse }
+    ensures scripts { HandsScript }
+    ensures loads { HandsLoad }
+{}
+
+/// The same for dispatches, timers and requests.
+#[tactic(auto, using(crate::proofs::HandsDispatch::dispatch_hands_nothing))]
+pub fn latest_pieces_of_events_are_handed()
+    ensures dispatches { DispatchHandsSources }
+    ensures nothing { DispatchHandsNothing }
+    ensures timers { HandsTimer }
+    ensures requests { HandsRequest }
+{}
+
+/// The two laws of nested pieces: the source of an edge to the piece that `back` begins has a path to the running action, and close pieces of one target and type are joined in recorded order.
+pub fn nested_facts_hold()
+    ensures { NestedFactsHold }
+{}
+
+/// The latest pieces that the rules of timers hand are sources and enough, by whatever rule a version has in place of rule 19.
+pub fn latest_pieces_of_timers_are_handed_in_each_version()
+    ensures { HandsTimersBy }
+{}
