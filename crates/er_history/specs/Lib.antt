@@ -5,6 +5,7 @@ pub mod History
 pub mod Kinds
 pub mod Latest
 pub mod Laws
+pub mod LookUps
 pub mod Naming
 pub mod Rules
 pub mod Sound

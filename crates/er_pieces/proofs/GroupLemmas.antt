@@ -11,7 +11,8 @@ use Rattle.er_history.specs.Edges.{path}
 use Rattle.er_history.specs.Laws.{Among}
 use Rattle.er_history.specs.Latest.{newest, latest_of_each}
 use Rattle.er_history.specs.Kinds.{is_begin_of, is_handler_of}
-use Rattle.er_pieces.specs.HandedPieces.{greater, group_of, greatest_group, runs_or_begin, group_handed}
+use Rattle.er_history.specs.Latest.{greater, group_of, greatest_group}
+use Rattle.er_pieces.specs.HandedPieces.{runs_or_begin, group_handed}
 use Rattle.er_pieces.specs.Enough.{IsSteady}
 use Rattle.er_history.proofs.HistoryLemmas.{and_left, actions_are_numbered}
 use Rattle.er_pieces.proofs.PathLemmas.{both, and_right, path_on, piece_path, Reaches, reach_each, reach_newest}

@@ -11,7 +11,8 @@ use Rattle.er_history.specs.Edges.{around_inline, of_one_event, is_ruled, up_to}
 use Rattle.er_history.specs.Laws.{Among, IsNumbered}
 use Rattle.er_history.specs.Latest.{number_of, newest, latest_of}
 use Rattle.er_history.specs.Kinds.{closes, is_begin_of, is_handler_of}
-use Rattle.er_pieces.specs.HandedPieces.{greater, group_of, greatest_group, runs_or_begin, group_handed}
+use Rattle.er_history.specs.Latest.{greater, group_of, greatest_group}
+use Rattle.er_pieces.specs.HandedPieces.{runs_or_begin, group_handed}
 use Rattle.er_pieces.specs.Hands.{DispatchHandsSources, DispatchHandsNothing}
 use Rattle.er_history.proofs.HistoryLemmas.{actions_are_numbered, told_before, event_below}
 use Rattle.er_history.proofs.NamedLemmas.{none_holds}

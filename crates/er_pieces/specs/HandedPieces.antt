@@ -1,10 +1,10 @@
 -- The pieces that each group of rules hands for a record: latest pieces alone. Lists of records stand newest first.
-use Rattle.std.specs.Prelude.{ℕ, Bool, true, false, ◌==◌, ◌&&◌, nat_lt, if◌then◌else◌, List, [], ◌∷◌, ◌++◌, Option, Some, None}
+use Rattle.std.specs.Prelude.{ℕ, Bool, true, false, ◌==◌, nat_lt, if◌then◌else◌, List, [], ◌∷◌, ◌++◌, Option, Some, None}
 use Rattle.er_trace.specs.declared.record.Record.{Record}
 use Rattle.er_trace.specs.declared.record.Record.TheVariants.{Parse, ParseFrame, Exec, Timer, Tick, Dcl, Load, Eload, Fire, Wfire, Reply, Inline, Run, Close, Back}
-use Rattle.er_history.specs.History.{Form, Kinded, Framing, Element, Timeout, FireAt, WindowFire, What, HandlerOf, Event, Action, History, first_to, makes_element, makes_timeout, maker_by, element_maker, declares_document, declares_handler, declares_interval, declares_request, event_begun, running}
+use Rattle.er_history.specs.History.{Form, Kinded, Framing, Element, Timeout, FireAt, WindowFire, Event, Action, History, first_to, makes_element, makes_timeout, maker_by, element_maker, declares_document, declares_handler, declares_interval, declares_request, event_begun, running}
 use Rattle.er_history.specs.Rules.{is_blocking, is_deferred, is_dcl_of, same_target, timers_of_one_event_in_order}
-use Rattle.er_history.specs.Latest.{newest, number_of, latest_piece, latest_of, latest_of_each}
+use Rattle.er_history.specs.Latest.{newest, number_of, latest_piece, latest_of, latest_of_each, greatest_group}
 use Rattle.er_history.specs.Kinds.{is_step_of, is_run_of, is_static_async, runs_element, is_tick_of, closes, is_load_of, is_reply_of, is_static_load_of, is_begin_of, is_handler_of}
 
 -- the latest parse step of the document, and the latest piece of the event that declared it
@@ -62,21 +62,6 @@ timer_handed h _ = []
 abbrev pub request_handed : History → Record → List ℕ
 request_handed h (Reply p r) = latest_of (maker_by (declares_request r) h.entries) h.actions ++ newest (closes (is_reply_of r)) h.actions
 request_handed h _ = []
-
--- the greatest group that passes of the handlers of the dispatch that ran
-
-abbrev pub greater : Option ℕ → Option ℕ → Option ℕ
-greater None o = o
-greater (Some g) None = Some g
-greater (Some g) (Some k) = if nat_lt g k then Some k else Some g
-
-abbrev pub group_of : ℕ → (ℕ → Bool) → What → Option ℕ
-group_of p test (HandlerOf q g x m) = if (q.number == p) && test g then Some g else None
-group_of p test _ = None
-
-abbrev pub greatest_group : ℕ → (ℕ → Bool) → List Action → Option ℕ
-greatest_group p test [] = None
-greatest_group p test (a ∷ older) = greater (group_of p test a.event.what) (greatest_group p test older)
 
 -- the runs of that group, or the begin where there is none
 abbrev pub runs_or_begin : ℕ → List Action → Option ℕ → List ℕ

@@ -80,7 +80,7 @@ impl Mode {
 }
 
 /// A logical location. Its number declares nothing and needs no declaration.
-#[derive(Drop)]
+#[derive(PartialEq, Eq, Hash, Drop)]
 pub enum Loc {
     /// A variable of an object.
     Var(u32, Name),
