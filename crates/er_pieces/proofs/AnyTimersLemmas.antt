@@ -34,12 +34,12 @@ three rule joined u v e =
     elim (or_cases (set_before_timer joined u v) _ e) [
       | inl set ↦ inl set
       | inr rest ↦ elim (or_cases (rule joined u v) _ rest) [
-          | inl other ↦ inr (inl other)
-          | inr rest ↦ elim (or_cases (ticks_in_order joined u v) false rest) [
-              | inl tick ↦ inr (inr tick)
-              | inr none ↦ absurd (never none)
-            ]
+        | inl other ↦ inr (inl other)
+        | inr rest ↦ elim (or_cases (ticks_in_order joined u v) false rest) [
+          | inl tick ↦ inr (inr tick)
+          | inr none ↦ absurd (never none)
         ]
+      ]
     ]
 
 -- to a timeout
@@ -50,9 +50,9 @@ reach_timeout_by rule only table h n t None i among e =
     elim (three rule (up_to n (path table h)) i.event (event_with n (TimeoutRun t None)) e) [
       | inl set ↦ absurd (never set)
       | inr rest ↦ elim rest [
-          | inl other ↦ let is = only (up_to n (path table h)) i.event (event_with n (TimeoutRun t None)) other in absurd (none_made is.0 is.1 is.2)
-          | inr tick ↦ absurd (never tick)
-        ]
+        | inl other ↦ let is = only (up_to n (path table h)) i.event (event_with n (TimeoutRun t None)) other in absurd (none_made is.0 is.1 is.2)
+        | inr tick ↦ absurd (never tick)
+      ]
     ]
   where
     none_made : (s : ℕ) (x : Timeout) → TimeoutRun t None ≡ TimeoutRun s (Some x) → ⊥
@@ -64,9 +64,9 @@ reach_timeout_by rule only table h n t (Some x) i among e =
     elim (three rule (up_to n (path table h)) i.event v e) [
       | inl set ↦ reach_left (path table h) i.number (latest_piece x.maker acts) (latest_of_each test acts) (reach_latest table h i x.maker among (sym (eqb-true x.maker i.event.number set)))
       | inr rest ↦ elim rest [
-          | inl other ↦ reach_right (path table h) i.number (latest_piece x.maker acts) (latest_of_each test acts) (reach_each table h test i among other)
-          | inr tick ↦ absurd (never tick)
-        ]
+        | inl other ↦ reach_right (path table h) i.number (latest_piece x.maker acts) (latest_of_each test acts) (reach_each table h test i among other)
+        | inr tick ↦ absurd (never tick)
+      ]
     ]
 
 -- to a callback of an interval
@@ -76,13 +76,13 @@ tick_told joined u n k m e = by u.what e
   where
     by : (w : What) → ticks_in_order joined (event_with u.number w) (event_with n (TickRun k m)) ≡ true → (made_by m (event_with u.number w) ≡ true) ⊎ (is_tick_of k (event_with u.number w) ≡ true)
     by (TickRun j l) e = elim (or_cases (made_by m (event_with u.number (TickRun j l))) _ e) [
-          | inl made ↦ inl made
-          | inr earlier ↦ inr (eq-eqb j k (sym (eqb-true k j (and_right _ _ earlier))))
-        ]
+      | inl made ↦ inl made
+      | inr earlier ↦ inr (eq-eqb j k (sym (eqb-true k j (and_right _ _ earlier))))
+    ]
     by w e = elim (or_cases (made_by m (event_with u.number w)) false e) [
-          | inl made ↦ inl made
-          | inr none ↦ absurd (never none)
-        ]
+      | inl made ↦ inl made
+      | inr none ↦ absurd (never none)
+    ]
 
 -- to no other event
 
@@ -91,9 +91,9 @@ only_timed rule only joined u n z e =
     elim (three rule joined u (event_with n z) e) [
       | inl set ↦ set_told z set
       | inr rest ↦ elim rest [
-          | inl other ↦ let is = only joined u (event_with n z) other in subst IsTimed (sym is.2) tt
-          | inr tick ↦ tick_only z tick
-        ]
+        | inl other ↦ let is = only joined u (event_with n z) other in subst IsTimed (sym is.2) tt
+        | inr tick ↦ tick_only z tick
+      ]
     ]
   where
     set_told : (z : What) → set_before_timer joined u (event_with n z) ≡ true → IsTimed z
@@ -116,14 +116,14 @@ enough_by rule only table has facts h (Tick k) steady named = λ i among ruled.
     let to : (made_by m i.event ≡ true) ⊎ (is_tick_of k i.event ≡ true) = elim (three rule (up_to n (path table h)) i.event v (and_right _ _ ruled)) [
       | inl set ↦ absurd (never set)
       | inr rest ↦ elim rest [
-          | inl other ↦ let is = only (up_to n (path table h)) i.event v other in absurd (no_timeout m k is.0 is.1 is.2)
-          | inr tick ↦ tick_told (up_to n (path table h)) i.event n k m tick
-        ]
+        | inl other ↦ let is = only (up_to n (path table h)) i.event v other in absurd (no_timeout m k is.0 is.1 is.2)
+        | inr tick ↦ tick_told (up_to n (path table h)) i.event n k m tick
+      ]
     ] in
     elim to [
       | inl made ↦ reach_left (path table h) i.number (latest_of m acts) (newest (is_tick_of k) acts) (reach_maker table h i m among made)
       | inr tick ↦ reach_right (path table h) i.number (latest_of m acts) (newest (is_tick_of k) acts)
-        (reach_newest (path table h) (is_tick_of k) acts i (actions_are_numbered h) among tick (λ a other f le. ticks_join table h steady k i a among other tick f le))
+          (reach_newest (path table h) (is_tick_of k) acts i (actions_are_numbered h) among tick (λ a other f le. ticks_join table h steady k i a among other tick f le))
     ]
   where
     no_timeout : (m : Option ℕ) (k t : ℕ) (x : Timeout) → TickRun k m ≡ TimeoutRun t (Some x) → ⊥

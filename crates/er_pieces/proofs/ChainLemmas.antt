@@ -32,15 +32,15 @@ pub chain : (table : List (ℕ × Rule)) (h : List Record) → IsSteady table h 
 chain table h steady i a first last clear free le leads =
     elim (place_cases i.event.number a.event.number) [
       | inl before ↦
-        let up = event_before (told h).actions a (told_before h) last in
-        leads before (pieces_before h steady.named i a first last before (omega (arith, free))) up.1
+          let up = event_before (told h).actions a (told_before h) last in
+          leads before (pieces_before h steady.named i a first last before (omega (arith, free))) up.1
       | inr rest ↦ elim rest [
-          | inl same ↦ piece_path table h i a first last same le
-          | inr after ↦
+        | inl same ↦ piece_path table h i a first last same le
+        | inr after ↦
             let up = event_before (told h).actions i (told_before h) first in
             let gone = pieces_before h steady.named a i last first after (omega (arith, clear)) in
             absurd (omega (arith, le, gone, up.1))
-        ]
+      ]
     ]
 
 -- the maker of something

@@ -71,21 +71,21 @@ pub record Clear (b n : ℕ) (actions : List Action) (stack : List Open) : Type 
 pub clear_more : (b n : ℕ) (h : List Record) (x : Record) → IsNamed h → misplaced (told h) x ≡ false → n < length (told h).actions → Clear b n (told h).actions (told h).stack → Clear b n (told (x ∷ h)).actions (told (x ∷ h)).stack
 clear_more b n h x is placed began clear = record {
   pieces = λ a among le. elim (among_cases h x a among) [
-      | inl now ↦ subst (λ (c : Action). (c.event.number < b) ⊎ (n ≤ c.event.number)) (sym now.1) piece
-      | inr older ↦ clear.pieces a older le
-    ];
+    | inl now ↦ subst (λ (c : Action). (c.event.number < b) ⊎ (n ≤ c.event.number)) (sym now.1) piece
+    | inr older ↦ clear.pieces a older le
+  ];
   serves = λ a d among le serves. elim (among_cases h x a among) [
-      | inl now ↦ served d (subst (λ (c : Action). n ≤ c.event.number) now.1 le) (subst (λ (c : Action). Serves c.event.what d) now.1 serves)
-      | inr older ↦ clear.serves a d older le serves
-    ];
+    | inl now ↦ served d (subst (λ (c : Action). n ≤ c.event.number) now.1 le) (subst (λ (c : Action). Serves c.event.what d) now.1 serves)
+    | inr older ↦ clear.serves a d older le serves
+  ];
   opens = λ o on. elim (stack_from (told h).stack (dispatch_begun (told h).entries (length (told h).actions) x) x o on) [
-      | inl from ↦ subst (λ (d : Dispatch). (d.begin < b) ⊎ (n ≤ d.begin)) from.2 (clear.opens from.0 from.1)
-      | inr begun ↦ let at = dispatch_at (told h).entries (length (told h).actions) x o.dispatch begun in inr (omega arith)
-    ];
+    | inl from ↦ subst (λ (d : Dispatch). (d.begin < b) ⊎ (n ≤ d.begin)) from.2 (clear.opens from.0 from.1)
+    | inr begun ↦ let at = dispatch_at (told h).entries (length (told h).actions) x o.dispatch begun in inr (omega arith)
+  ];
   inlines = λ o on inline. elim (stack_from (told h).stack (dispatch_begun (told h).entries (length (told h).actions) x) x o on) [
-      | inl from ↦ subst (λ (d : Dispatch). (d.begin < b) ⊎ (n < d.begin)) from.2 (clear.inlines from.0 from.1 (ap is_inline from.2 ∙ inline))
-      | inr begun ↦ let at = dispatch_at (told h).entries (length (told h).actions) x o.dispatch begun in inr (omega arith)
-    ];
+    | inl from ↦ subst (λ (d : Dispatch). (d.begin < b) ⊎ (n < d.begin)) from.2 (clear.inlines from.0 from.1 (ap is_inline from.2 ∙ inline))
+    | inr begun ↦ let at = dispatch_at (told h).entries (length (told h).actions) x o.dispatch begun in inr (omega arith)
+  ];
 }
   where
     -- an event that goes on
@@ -102,7 +102,7 @@ clear_more b n h x is placed began clear = record {
         elim (event_is h x is placed) [
           | inl new ↦ inr (omega (arith, new.1))
           | inr back ↦ subst (λ (y : Record). ((event_begun (told h) y).number < b) ⊎ (n ≤ (event_begun (told h) y).number)) (sym back.1)
-            (subst (λ (e : Event). (e.number < b) ⊎ (n ≤ e.number)) (sym back.2.event) (of_back back.0 back.2))
+              (subst (λ (e : Event). (e.number < b) ⊎ (n ≤ e.number)) (sym back.2.event) (of_back back.0 back.2))
         ]
       where
         of_back : (p : ℕ) (is : Resumed h p) → (is.caller.piece.event.number < b) ⊎ (n ≤ is.caller.piece.event.number)

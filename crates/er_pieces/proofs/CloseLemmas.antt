@@ -94,9 +94,9 @@ gone (x ∷ h) named c d o among is on same =
         elim (open_from (told h).stack (dispatch_begun (told h).entries (length (told h).actions) x) x o on) [
           | inl before ↦ rest c d o older is before same
           | inr other ↦ elim other [
-              | inl closing ↦ closing
-              | inr begun ↦ absurd (not_again h x d o.dispatch named.1 none (served_begun h named.1 c d older (subst (λ (w : What). Serves w d) (sym is) refl)) begun same)
-            ]
+            | inl closing ↦ closing
+            | inr begun ↦ absurd (not_again h x d o.dispatch named.1 none (served_begun h named.1 c d older (subst (λ (w : What). Serves w d) (sym is) refl)) begun same)
+          ]
         ]
 
     newest : (x : Record) → NoneHolds h x → (event_begun (told h) x).what ≡ CloseOf d → On o (told (x ∷ h)).stack → Rest → o.closing ≡ true
@@ -147,13 +147,13 @@ one_close (x ∷ h) named a b d e first second is also same =
     let placed = (none_holds h x named.0).placed in
     elim (among_cases h x a first) [
       | inl now ↦ elim (among_cases h x b second) [
-          | inl other ↦ ap (λ (c : Action). c.event) (now.1 ∙ sym other.1)
-          | inr older ↦ ap (λ (c : Action). c.event) now.1 ∙ newest x b d e placed (ap (λ (c : Action). c.event.what) (sym now.1) ∙ is) older also same (one_close h named.1)
-        ]
+        | inl other ↦ ap (λ (c : Action). c.event) (now.1 ∙ sym other.1)
+        | inr older ↦ ap (λ (c : Action). c.event) now.1 ∙ newest x b d e placed (ap (λ (c : Action). c.event.what) (sym now.1) ∙ is) older also same (one_close h named.1)
+      ]
       | inr earlier ↦ elim (among_cases h x b second) [
-          | inl now ↦ sym (ap (λ (c : Action). c.event) now.1 ∙ newest x a e d placed (ap (λ (c : Action). c.event.what) (sym now.1) ∙ also) earlier is (sym same) (one_close h named.1))
-          | inr older ↦ one_close h named.1 a b d e earlier older is also same
-        ]
+        | inl now ↦ sym (ap (λ (c : Action). c.event) now.1 ∙ newest x a e d placed (ap (λ (c : Action). c.event.what) (sym now.1) ∙ also) earlier is (sym same) (one_close h named.1))
+        | inr older ↦ one_close h named.1 a b d e earlier older is also same
+      ]
     ]
   where
     Rest : Type 0

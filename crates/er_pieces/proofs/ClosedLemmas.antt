@@ -35,17 +35,17 @@ closed_before table h steady c d e among is begun plain before =
     elim (place_cases c.number e.begin) [
       | inl lt ↦ lt
       | inr rest ↦
-        let since : e.begin ≤ c.number = elim rest [
-          | inl same ↦ omega (arith, same)
-          | inr more ↦ omega (arith, more)
-        ] in
-        elim (clear.pieces c among (omega (arith, since, begun.own))) [
-          | inl under ↦ absurd (omega (arith, under, none))
-          | inr own ↦ elim (clear.serves c d among own (serves_close _ d is)) [
+          let since : e.begin ≤ c.number = elim rest [
+            | inl same ↦ omega (arith, same)
+            | inr more ↦ omega (arith, more)
+          ] in
+          elim (clear.pieces c among (omega (arith, since, begun.own))) [
+            | inl under ↦ absurd (omega (arith, under, none))
+            | inr own ↦ elim (clear.serves c d among own (serves_close _ d is)) [
               | inl under ↦ absurd (omega (arith, under, none))
               | inr later ↦ absurd (omega (arith, later, before, begun.own))
             ]
-        ]
+          ]
     ]
   where
     clear : Clear (bound begun.begin.event) begun.begin.event.number (told h).actions (told h).stack

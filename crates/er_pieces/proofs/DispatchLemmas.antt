@@ -176,7 +176,7 @@ closing_closed (x ∷ h) named o on e =
     elim (closing_from (told h).stack (dispatch_begun (told h).entries (length (told h).actions) x) x o on e) [
       | inl before ↦ closed_more h x o.dispatch (closing_closed h named.1 o before e)
       | inr now ↦ subst (λ (y : Record). HasClosed (told (y ∷ h)).actions o.dispatch) (sym now.3)
-        (subst (HasClosed (told (Close now.0 ∷ h)).actions) now.5 (closes_now h now.0 now.1 now.2 (subst (λ (y : Record). misplaced (told h) y ≡ false) now.3 placed) now.4))
+          (subst (HasClosed (told (Close now.0 ∷ h)).actions) now.5 (closes_now h now.0 now.1 now.2 (subst (λ (y : Record). misplaced (told h) y ≡ false) now.3 placed) now.4))
     ]
 
 -- each dispatch that has begun is open or closed
@@ -235,13 +235,13 @@ open_or_closed (x ∷ h) named d begun =
         elim (stack_to (told h).stack (dispatch_begun (told h).entries (length (told h).actions) x) x is.0 is.1) [
           | inl stays ↦ inl (stays.0, stays.1, stays.2 ∙ is.2)
           | inr goes ↦ elim goes [
-              | inl closes ↦ inr (subst (HasClosed (told (x ∷ h)).actions) is.2 (subst (λ (y : Record). HasClosed (told (y ∷ h)).actions is.0.dispatch) (sym closes.2)
+            | inl closes ↦ inr (subst (HasClosed (told (x ∷ h)).actions) is.2 (subst (λ (y : Record). HasClosed (told (y ∷ h)).actions is.0.dispatch) (sym closes.2)
                 (closes_now h closes.0 is.0 closes.1 (subst (λ (y : Record). misplaced (told h) y ≡ false) closes.2 placed) closes.3)))
-              | inr leaves ↦
+            | inr leaves ↦
                 let back = resumed h leaves.0 named.1 (subst (λ (y : Record). misplaced (told h) y ≡ false) leaves.2 placed) in
                 let same : back.on_top.top ≡ is.0 = heads (sym back.on_top.is ∙ leaves.3) in
                 inr (closed_more h x d (subst (HasClosed (told h).actions) is.2 (closing_closed h named.1 is.0 is.1 (ap (λ (o : Open). o.closing) (sym same) ∙ back.on_top.closes))))
-            ]
+          ]
         ]
 
     newest : (x : Record) → misplaced (told h) x ≡ false → (event_begun (told h) x).what ≡ BeginOf d → (HasBegun (told h).actions d → IsOpen (told h).stack d ⊎ HasClosed (told h).actions d)

@@ -77,15 +77,15 @@ leads_to joined u n z e =
     elim (or_cases (target_before_dispatch joined u v) _ e) [
       | inl is ↦ told_14 joined u n z is
       | inr rest ↦ elim (or_cases (registered_before_run joined u v) _ rest) [
-          | inl is ↦ told_15 joined u n z is
-          | inr rest ↦ elim (or_cases (dispatch_in_order joined u v) _ rest) [
-              | inl is ↦ told_16 joined u n z is
-              | inr rest ↦ elim (or_cases (dispatches_of_one_type_in_order joined u v) false rest) [
-                  | inl is ↦ told_17 joined u n z is
-                  | inr none ↦ absurd (never none)
-                ]
-            ]
+        | inl is ↦ told_15 joined u n z is
+        | inr rest ↦ elim (or_cases (dispatch_in_order joined u v) _ rest) [
+          | inl is ↦ told_16 joined u n z is
+          | inr rest ↦ elim (or_cases (dispatches_of_one_type_in_order joined u v) false rest) [
+            | inl is ↦ told_17 joined u n z is
+            | inr none ↦ absurd (never none)
+          ]
         ]
+      ]
     ]
 
 -- one target and type

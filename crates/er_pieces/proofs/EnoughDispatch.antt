@@ -27,9 +27,9 @@ reach_like : (table : List (ℕ × Rule)) (h : List Record) → IsSteady table h
     → Reaches (path table h) i.number (newest (closes (λ y. same_target y z)) (told h).actions)
 reach_like table h steady facts z i among e =
     reach_newest (path table h) (closes (λ y. same_target y z)) (told h).actions i (actions_are_numbered h) among e (λ a other f le.
-        let p = close_is (λ y. same_target y z) i e in
-        let q = close_is (λ y. same_target y z) a f in
-        facts.closes h i a p.dispatch q.dispatch steady among other p.is q.is (targets_meet p.dispatch.delivers q.dispatch.delivers z p.passes q.passes) le)
+    let p = close_is (λ y. same_target y z) i e in
+    let q = close_is (λ y. same_target y z) a f in
+    facts.closes h i a p.dispatch q.dispatch steady among other p.is q.is (targets_meet p.dispatch.delivers q.dispatch.delivers z p.passes q.passes) le)
 
 -- the maker plays no part
 fire_like : (e : ℕ) (n : List ℕ) (m : Option ℕ) (y : Delivery) → same_target y (FireAt e n m) ≡ true → same_target y (FireAt e n None) ≡ true
@@ -74,7 +74,7 @@ enough_dispatch table facts h (Fire p e n) steady named ordered = λ i among rul
     elim (leads_to (up_to (length acts) (path table h)) i.event (length acts) (BeginOf (record { number = p; begin = length acts; delivers = FireAt e n m })) (and_right _ _ ruled)) [
       | inl made ↦ reach_left (path table h) i.number (latest_of m acts) like (reach_maker table h i m among made)
       | inr closed ↦ reach_right (path table h) i.number (latest_of m acts) like
-        (reach_like table h steady facts (FireAt e n None) i among (closes_more (λ y. same_target y (FireAt e n m)) (λ y. same_target y (FireAt e n None)) i.event (fire_like e n m) closed))
+          (reach_like table h steady facts (FireAt e n None) i among (closes_more (λ y. same_target y (FireAt e n m)) (λ y. same_target y (FireAt e n None)) i.event (fire_like e n m) closed))
     ]
 enough_dispatch table facts h (Inline p e n) steady named ordered = λ i among ruled.
     let acts = (told h).actions in
@@ -84,7 +84,7 @@ enough_dispatch table facts h (Inline p e n) steady named ordered = λ i among r
     (elim (leads_to (up_to (length acts) (path table h)) i.event (length acts) (BeginOf (record { number = p; begin = length acts; delivers = InlineAt e n m })) (and_right _ _ ruled)) [
       | inl made ↦ reach_left (path table h) i.number (latest_of m acts) like (reach_maker table h i m among made)
       | inr closed ↦ reach_right (path table h) i.number (latest_of m acts) like
-        (reach_like table h steady facts (FireAt e n None) i among (closes_more (λ y. same_target y (InlineAt e n m)) (λ y. same_target y (FireAt e n None)) i.event (inline_like e n m) closed))
+          (reach_like table h steady facts (FireAt e n None) i among (closes_more (λ y. same_target y (InlineAt e n m)) (λ y. same_target y (FireAt e n None)) i.event (inline_like e n m) closed))
     ])
 enough_dispatch table facts h (Wfire p d n) steady named ordered = λ i among ruled.
     let acts = (told h).actions in
@@ -93,7 +93,7 @@ enough_dispatch table facts h (Wfire p d n) steady named ordered = λ i among ru
     elim (leads_to (up_to (length acts) (path table h)) i.event (length acts) (BeginOf (record { number = p; begin = length acts; delivers = WindowFire d n m })) (and_right _ _ ruled)) [
       | inl made ↦ reach_left (path table h) i.number (latest_of m acts) like (reach_maker table h i m among made)
       | inr closed ↦ reach_right (path table h) i.number (latest_of m acts) like
-        (reach_like table h steady facts (WindowFire d n None) i among (closes_more (λ y. same_target y (WindowFire d n m)) (λ y. same_target y (WindowFire d n None)) i.event (window_like d n m) closed))
+          (reach_like table h steady facts (WindowFire d n None) i among (closes_more (λ y. same_target y (WindowFire d n m)) (λ y. same_target y (WindowFire d n None)) i.event (window_like d n m) closed))
     ]
 enough_dispatch table facts h (Dcl p d) steady named ordered = λ i among ruled.
     let acts = (told h).actions in
@@ -130,7 +130,7 @@ enough_dispatch table facts h (Run p g x) steady named ordered = λ i among rule
     let what : what_begun (told h) (Run p g x) ≡ HandlerOf top.top.dispatch g x m = rw top.found refl in
     let group : List ℕ = group_handed p (λ k. nat_lt k g) acts in
     elim (leads_to (up_to (length acts) (path table h)) i.event (length acts) (HandlerOf top.top.dispatch g x m)
-        (subst (λ z. Holds (up_to (length acts) (path table h)) i.event (event_with (length acts) z)) what (and_right _ _ ruled))) [
+    (subst (λ z. Holds (up_to (length acts) (path table h)) i.event (event_with (length acts) z)) what (and_right _ _ ruled))) [
       | inl made ↦ reach_left (path table h) i.number (latest_of m acts) group (reach_maker table h i m among made)
       | inr ran ↦ reach_right (path table h) i.number (latest_of m acts) group (reach_group table h steady p (λ k. nat_lt k g) i among (subst (λ q. Ran q (λ k. nat_lt k g) i.event) top.number ran))
     ]
@@ -139,7 +139,7 @@ enough_dispatch table facts h (Close p) steady named ordered = λ i among ruled.
     let top = top_is false p (told h).stack (none_holds h (Close p) named).placed in
     let what : what_begun (told h) (Close p) ≡ CloseOf top.top.dispatch = rw top.found refl in
     let ran = leads_to (up_to (length acts) (path table h)) i.event (length acts) (CloseOf top.top.dispatch)
-        (subst (λ z. Holds (up_to (length acts) (path table h)) i.event (event_with (length acts) z)) what (and_right _ _ ruled)) in
+    (subst (λ z. Holds (up_to (length acts) (path table h)) i.event (event_with (length acts) z)) what (and_right _ _ ruled)) in
     reach_group table h steady p (λ k. true) i among (subst (λ q. Ran q (λ k. true) i.event) top.number ran)
 enough_dispatch table facts h (Back p) steady named ordered = λ i c among runs ruled. back_enough table dispatch_rules h p facts steady.has.dispatch steady named i c among runs ruled
 enough_dispatch table facts h x steady named ordered = λ i among ruled.

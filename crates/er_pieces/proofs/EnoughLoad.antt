@@ -46,8 +46,8 @@ reach_dcl table h steady none d i among is =
         elim (open_or_closed h steady.named is.0 begun) [
           | inl open_now ↦ absurd (none_open (told h).stack open_now.0 none open_now.1)
           | inr closed ↦ reach_some (path table h) (closes (is_dcl_of d)) (told h).actions i.number closed.close (actions_are_numbered h) closed.among (ap (λ w. closes (is_dcl_of d) (event_with closed.close.event.number w)) closed.is ∙ is.1)
-            (λ a other f. let q = close_is (is_dcl_of d) a f in
-                to a q.dispatch other (same_dcl h steady.named d is.0 q.dispatch begun (served_begun h steady.named a q.dispatch other (serves_close _ q.dispatch q.is)) is.1 q.passes) q.is)
+              (λ a other f. let q = close_is (is_dcl_of d) a f in
+              to a q.dispatch other (same_dcl h steady.named d is.0 q.dispatch begun (served_begun h steady.named a q.dispatch other (serves_close _ q.dispatch q.is)) is.1 q.passes) q.is)
         ]
 
     by : (w : What) → i.event.what ≡ w → Serves w is.0 → HasBegun (told h).actions is.0 → Reaches (path table h) i.number (newest (closes (is_dcl_of d)) (told h).actions)
@@ -69,9 +69,9 @@ reach_static table h steady d i among e =
     elim (static_script run.made run.passes (ran_script h steady.named i run.element (Some run.made) among run.is)) [
       | inl blocks ↦ reach_left (path table h) i.number parsed async (reach_parsed table h steady d i among (inr (inl (runs_as is_blocking d run.element run.made i.event run.is blocks run.doc))))
       | inr other ↦ elim other [
-          | inl defers ↦ reach_left (path table h) i.number parsed async (reach_parsed table h steady d i among (inr (inr (runs_as is_deferred d run.element run.made i.event run.is defers run.doc))))
-          | inr is_async ↦ reach_right (path table h) i.number parsed async (reach_each table h (is_run_of is_static_async d) i among (runs_as is_static_async d run.element run.made i.event run.is is_async run.doc))
-        ]
+        | inl defers ↦ reach_left (path table h) i.number parsed async (reach_parsed table h steady d i among (inr (inr (runs_as is_deferred d run.element run.made i.event run.is defers run.doc))))
+        | inr is_async ↦ reach_right (path table h) i.number parsed async (reach_each table h (is_run_of is_static_async d) i among (runs_as is_static_async d run.element run.made i.event run.is is_async run.doc))
+      ]
     ]
 
 -- the run of the element
@@ -86,9 +86,9 @@ run_of_element e u is = by u.what refl is
 reach_element : (table : List (ℕ × Rule)) (h : List Record) → IsSteady table h → (e : ℕ) (i : Action) → Among i (told h).actions → runs_element e i.event ≡ true → Reaches (path table h) i.number (newest (runs_element e) (told h).actions)
 reach_element table h steady e i among is =
     reach_newest (path table h) (runs_element e) (told h).actions i (actions_are_numbered h) among is (λ a other f le.
-        let p = run_of_element e i.event is in
-        let q = run_of_element e a.event f in
-        piece_path table h i a among other (ap (λ (u : Event). u.number) (one_run h steady.named i a e p.0 q.0 among other p.1 q.1)) le)
+    let p = run_of_element e i.event is in
+    let q = run_of_element e a.event f in
+    piece_path table h i a among other (ap (λ (u : Event). u.number) (one_run h steady.named i a e p.0 q.0 among other p.1 q.1)) le)
 
 -- load of the inner document
 
@@ -144,9 +144,9 @@ reach_eload table h steady e (Some x) i among is =
     elim is [
       | inl made ↦ reach_left (path table h) i.number (maker ++ run) inner (reach_left (path table h) i.number maker run (reach_latest table h i x.maker among (sym (eqb-true x.maker i.event.number made))))
       | inr rest ↦ elim rest [
-          | inl runs ↦ reach_left (path table h) i.number (maker ++ run) inner (reach_right (path table h) i.number maker run (reach_element table h steady e i among runs))
-          | inr loads ↦ reach_right (path table h) i.number (maker ++ run) inner (reach_inner table h steady x i among loads)
-        ]
+        | inl runs ↦ reach_left (path table h) i.number (maker ++ run) inner (reach_right (path table h) i.number maker run (reach_element table h steady e i among runs))
+        | inr loads ↦ reach_right (path table h) i.number (maker ++ run) inner (reach_inner table h steady x i among loads)
+      ]
     ]
 
 no_begin : (w : What) (d : Dispatch) → Serves w d → IsBegin w → ⊥
@@ -166,14 +166,14 @@ enough_load table facts h (Load p d) steady named ordered = λ i among ruled.
     let loads : List ℕ = latest_of_each (closes (is_static_load_of d)) acts in
     elim (to_load (up_to (length acts) (path table h)) i.event (length acts) p (length acts) (LoadOf d (maker_by (declares_document d) (told h).entries)) (and_right _ _ ruled)) [
       | inl of_dcl ↦ reach_left joined i.number (dcl ++ parsed ++ async) loads (reach_left joined i.number (dcl ++ parsed) async (reach_left joined i.number dcl parsed
-        (reach_dcl table h steady (none_holds h (Load p d) named).placed d i among of_dcl)))
+          (reach_dcl table h steady (none_holds h (Load p d) named).placed d i among of_dcl)))
       | inr rest ↦ elim rest [
-          | inl step ↦ reach_left joined i.number (dcl ++ parsed ++ async) loads (reach_left joined i.number (dcl ++ parsed) async (reach_right joined i.number dcl parsed (reach_parsed table h steady d i among (inl step))))
-          | inr rest ↦ elim rest [
-              | inl run ↦ reach_left joined i.number (dcl ++ parsed ++ async) loads (moved joined i.number dcl parsed async (reach_right joined i.number dcl (parsed ++ async) (reach_static table h steady d i among run)))
-              | inr static ↦ reach_right joined i.number (dcl ++ parsed ++ async) loads (reach_each table h (closes (is_static_load_of d)) i among static)
-            ]
+        | inl step ↦ reach_left joined i.number (dcl ++ parsed ++ async) loads (reach_left joined i.number (dcl ++ parsed) async (reach_right joined i.number dcl parsed (reach_parsed table h steady d i among (inl step))))
+        | inr rest ↦ elim rest [
+          | inl run ↦ reach_left joined i.number (dcl ++ parsed ++ async) loads (moved joined i.number dcl parsed async (reach_right joined i.number dcl (parsed ++ async) (reach_static table h steady d i among run)))
+          | inr static ↦ reach_right joined i.number (dcl ++ parsed ++ async) loads (reach_each table h (closes (is_static_load_of d)) i among static)
         ]
+      ]
     ]
   where
     moved : (joined : ℕ → ℕ → Bool) (n : ℕ) (ks ms ns : List ℕ) → Reaches joined n (ks ++ (ms ++ ns)) → Reaches joined n (ks ++ ms ++ ns)

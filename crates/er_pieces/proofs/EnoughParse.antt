@@ -67,9 +67,9 @@ to_steps joined u n z e =
     elim (or_cases (parse_steps_in_order joined u (event_with n z)) (document_before_its_steps joined u (event_with n z) || false) (and_right _ _ e)) [
       | inl first ↦ by u.what z first
       | inr rest ↦ elim (or_cases (document_before_its_steps joined u (event_with n z)) false rest) [
-          | inl second ↦ made z second
-          | inr none ↦ absurd (cc)
-        ]
+        | inl second ↦ made z second
+        | inr none ↦ absurd (cc)
+      ]
     ]
   where
     by : (w z : What) → parse_steps_in_order joined (event_with u.number w) (event_with n z) ≡ true → IsStep z
@@ -95,9 +95,9 @@ reach_steps table h steady joined n d i among e =
     elim (or_cases (parse_steps_in_order joined i.event v) (document_before_its_steps joined i.event v || false) (and_right _ _ e)) [
       | inl first ↦ reach_left (path table h) i.number (newest (is_step_of d) acts) (latest_of m acts) (reach_step table h steady d i among (steps_told joined i.event n d m first))
       | inr rest ↦ elim (or_cases (document_before_its_steps joined i.event v) false rest) [
-          | inl second ↦ reach_right (path table h) i.number (newest (is_step_of d) acts) (latest_of m acts) (reach_maker table h i m among second)
-          | inr none ↦ absurd (cc)
-        ]
+        | inl second ↦ reach_right (path table h) i.number (newest (is_step_of d) acts) (latest_of m acts) (reach_maker table h i m among second)
+        | inr none ↦ absurd (cc)
+      ]
     ]
 
 pub enough_parse : EnoughParse

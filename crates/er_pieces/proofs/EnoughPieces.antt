@@ -84,15 +84,15 @@ reach_back : (table : List (ℕ × Rule)) (h : List Record) (p : ℕ) → IsStea
 reach_back table h p steady named i among e =
     elim (or_cases (around_inline i (action_begun (told h) (Back p))) _ e) [
       | inl around ↦
-        let close = closes_inline p i (action_begun (told h) (Back p)) around in
-        let event = one_close h steady.named i runs.piece close.0 d among runs.among close.1 closes_it (close.2 ∙ sym back.on_top.number) in
-        reach_running (path table h) i.number acts runs (piece_path table h i runs.piece among runs.among (ap (λ (u : Event). u.number) event) last)
+          let close = closes_inline p i (action_begun (told h) (Back p)) around in
+          let event = one_close h steady.named i runs.piece close.0 d among runs.among close.1 closes_it (close.2 ∙ sym back.on_top.number) in
+          reach_running (path table h) i.number acts runs (piece_path table h i runs.piece among runs.among (ap (λ (u : Event). u.number) event) last)
       | inr one ↦
-        let event : i.event.number ≡ back.caller.piece.event.number = eqb-true i.event.number _ one ∙ ap (λ (u : Event). u.number) back.event in
-        reach_running (path table h) i.number acts runs
-        (path_on table h i.number back.caller.piece.number runs.piece.number (piece_path table h i back.caller.piece among back.caller.among event (earlier event))
-        (path_on table h back.caller.piece.number begun.begin.number runs.piece.number (caller_path table h steady d back.inline back.caller begun)
-        (begin_path table h steady begun.begin runs.piece d d begun.among runs.among begun.is (serves_close _ d closes_it) refl)))
+          let event : i.event.number ≡ back.caller.piece.event.number = eqb-true i.event.number _ one ∙ ap (λ (u : Event). u.number) back.event in
+          reach_running (path table h) i.number acts runs
+          (path_on table h i.number back.caller.piece.number runs.piece.number (piece_path table h i back.caller.piece among back.caller.among event (earlier event))
+          (path_on table h back.caller.piece.number begun.begin.number runs.piece.number (caller_path table h steady d back.inline back.caller begun)
+          (begin_path table h steady begun.begin runs.piece d d begun.among runs.among begun.is (serves_close _ d closes_it) refl)))
     ]
   where
     acts : List Action
@@ -122,10 +122,10 @@ reach_back table h p steady named i among e =
         elim (lt_or_le back.caller.piece.number i.number) [
           | inr le ↦ le
           | inl lt ↦
-            let since = within h steady.named back.on_top.top i (top_on back.on_top) among (let b = back.caller.before in omega (arith, b, lt)) in
-            let up = event_before acts back.caller.piece (told_before h) back.caller.among in
-            let b = back.caller.before in
-            absurd (omega (arith, since, event, up.1, b))
+              let since = within h steady.named back.on_top.top i (top_on back.on_top) among (let b = back.caller.before in omega (arith, b, lt)) in
+              let up = event_before acts back.caller.piece (told_before h) back.caller.among in
+              let b = back.caller.before in
+              absurd (omega (arith, since, event, up.1, b))
         ]
 
 pub enough_pieces : EnoughPieces
@@ -134,12 +134,12 @@ enough_pieces table h (Inline p e n) steady named begin i among edge =
     let b : Action = action_begun (told h) (Inline p e n) in
     elim (or_cases (around_inline i b) (of_one_event i b) edge) [
       | inl around ↦
-        let runs = runs_some acts i (actions_are_numbered h) among in
-        let next : i.number + 1 ≡ length acts = eqb-true (i.number + 1) (length acts) around in
-        let last = runs.last in
-        let same : i.number ≡ runs.piece.number = omega (arith, next, last) in
-        reach_right (path table h) i.number _ (number_of (running acts))
-        (reach_running (path table h) i.number acts runs (piece_path table h i runs.piece among runs.among (ap (λ (c : Action). c.event.number) (same_action acts i runs.piece (actions_are_numbered h) among runs.among same)) (omega (arith, same))))
+          let runs = runs_some acts i (actions_are_numbered h) among in
+          let next : i.number + 1 ≡ length acts = eqb-true (i.number + 1) (length acts) around in
+          let last = runs.last in
+          let same : i.number ≡ runs.piece.number = omega (arith, next, last) in
+          reach_right (path table h) i.number _ (number_of (running acts))
+          (reach_running (path table h) i.number acts runs (piece_path table h i runs.piece among runs.among (ap (λ (c : Action). c.event.number) (same_action acts i runs.piece (actions_are_numbered h) among runs.among same)) (omega (arith, same))))
       | inr one ↦ absurd (not_of_one h i b among refl one)
     ]
 enough_pieces table h (Back p) steady named begin i among edge = reach_back table h p steady named i among edge

@@ -49,20 +49,20 @@ replies_join : (table : List (ℕ × Rule)) (h : List Record) → IsSteady table
 replies_join table h steady r i a first last e f le =
     elim (place_cases one.dispatch.begin two.dispatch.begin) [
       | inl less ↦
-        let earlier = closed_before table h steady i one.dispatch two.dispatch first one.is has_two (reply_plain r two.dispatch two.passes) less in
-        let up = event_before (told h).actions i (told_before h) first in
-        path_on table h i.number has_two.begin.number a.number
-        (ruled_path table request_rules h i has_two.begin steady.has.requests first has_two.among (omega (arith, earlier, has_two.number))
-        (reply_leads i.event has_two.begin.event r one.dispatch two.dispatch (omega (arith, earlier, has_two.own, up.1)) one.is has_two.is one.passes two.passes))
-        (begin_path table h steady has_two.begin a two.dispatch two.dispatch has_two.among last has_two.is (serves_close a.event.what two.dispatch two.is) refl)
+          let earlier = closed_before table h steady i one.dispatch two.dispatch first one.is has_two (reply_plain r two.dispatch two.passes) less in
+          let up = event_before (told h).actions i (told_before h) first in
+          path_on table h i.number has_two.begin.number a.number
+          (ruled_path table request_rules h i has_two.begin steady.has.requests first has_two.among (omega (arith, earlier, has_two.number))
+          (reply_leads i.event has_two.begin.event r one.dispatch two.dispatch (omega (arith, earlier, has_two.own, up.1)) one.is has_two.is one.passes two.passes))
+          (begin_path table h steady has_two.begin a two.dispatch two.dispatch has_two.among last has_two.is (serves_close a.event.what two.dispatch two.is) refl)
       | inr rest ↦ elim rest [
-          | inl same ↦ piece_path table h i a first last (ap (λ (u : Event). u.number) (one_close h steady.named i a one.dispatch two.dispatch first last one.is two.is (one_number same))) le
-          | inr more ↦
+        | inl same ↦ piece_path table h i a first last (ap (λ (u : Event). u.number) (one_close h steady.named i a one.dispatch two.dispatch first last one.is two.is (one_number same))) le
+        | inr more ↦
             let earlier = closed_before table h steady a two.dispatch one.dispatch last two.is has_one (reply_plain r one.dispatch one.passes) more in
             let after = begin_first table h steady i one.dispatch first (serves_close i.event.what one.dispatch one.is) in
             let up = event_before (told h).actions i (told_before h) first in
             absurd (omega (arith, earlier, after, up.1, le))
-        ]
+      ]
     ]
   where
     one : CloseIs (is_reply_of r) i
@@ -125,7 +125,7 @@ enough_request table facts h (Reply p r) steady named ordered = λ i among ruled
     elim (to_reply (up_to (length acts) (path table h)) i.event (length acts) p (length acts) r m (one_rule _ (and_right _ _ ruled))) [
       | inl made ↦ reach_left (path table h) i.number (latest_of m acts) (newest (closes (is_reply_of r)) acts) (reach_maker table h i m among made)
       | inr closed ↦ reach_right (path table h) i.number (latest_of m acts) (newest (closes (is_reply_of r)) acts)
-        (reach_newest (path table h) (closes (is_reply_of r)) acts i (actions_are_numbered h) among closed (λ a other f le. replies_join table h steady r i a among other closed f le))
+          (reach_newest (path table h) (closes (is_reply_of r)) acts i (actions_are_numbered h) among closed (λ a other f le. replies_join table h steady r i a among other closed f le))
     ]
 enough_request table facts h (Back p) steady named ordered = λ i c among runs ruled. back_enough table request_rules h p facts steady.has.requests steady named i c among runs ruled
 enough_request table facts h (Run p g y) steady named ordered = λ i among ruled.

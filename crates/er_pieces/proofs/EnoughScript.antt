@@ -56,9 +56,9 @@ to_run joined u n s y e = by u.what e
         elim (or_cases (y.maker == u.number) _ e) [
           | inl maker ↦ inl (eqb-true y.maker u.number maker)
           | inr rest ↦ elim (or_cases (is_deferred y && (y.doc == c)) false rest) [
-              | inl step ↦ inr (sure (is_deferred y) (y.doc == c) step, inl (eq-eqb c y.doc (sym (eqb-true y.doc c (and_right (is_deferred y) _ step)))))
-              | inr none ↦ absurd (cc)
-            ]
+            | inl step ↦ inr (sure (is_deferred y) (y.doc == c) step, inl (eq-eqb c y.doc (sym (eqb-true y.doc c (and_right (is_deferred y) _ step)))))
+            | inr none ↦ absurd (cc)
+          ]
         ]
       where
         sure : (a b : Bool) → (a && b) ≡ true → a ≡ true
@@ -73,12 +73,12 @@ to_run joined u n s y e = by u.what e
         elim (or_cases (y.maker == u.number) _ e) [
           | inl maker ↦ inl (eqb-true y.maker u.number maker)
           | inr rest ↦ elim (or_cases (is_blocking x && (is_deferred y && (x.doc == y.doc))) _ rest) [
-              | inl blocks ↦ inr (sure (is_blocking x) (is_deferred y) (x.doc == y.doc) blocks, inr (inl (run_with (is_blocking x) (is_deferred y) x.doc y.doc blocks)))
-              | inr last ↦ elim (or_cases (is_deferred x && (is_deferred y && ((x.doc == y.doc) && nat_lt x.piece y.piece))) false last) [
-                  | inl defers ↦ inr (sure (is_deferred x) (is_deferred y) _ defers, inr (inr (without (is_deferred x) (is_deferred y) (x.doc == y.doc) (nat_lt x.piece y.piece) defers)))
-                  | inr none ↦ absurd (cc)
-                ]
+            | inl blocks ↦ inr (sure (is_blocking x) (is_deferred y) (x.doc == y.doc) blocks, inr (inl (run_with (is_blocking x) (is_deferred y) x.doc y.doc blocks)))
+            | inr last ↦ elim (or_cases (is_deferred x && (is_deferred y && ((x.doc == y.doc) && nat_lt x.piece y.piece))) false last) [
+              | inl defers ↦ inr (sure (is_deferred x) (is_deferred y) _ defers, inr (inr (without (is_deferred x) (is_deferred y) (x.doc == y.doc) (nat_lt x.piece y.piece) defers)))
+              | inr none ↦ absurd (cc)
             ]
+          ]
         ]
       where
         sure : (a b c : Bool) → (a && (b && c)) ≡ true → b ≡ true
@@ -136,7 +136,7 @@ reach_run table h steady joined n s (Some y) i among e =
     elim (to_run joined i.event n s y e) [
       | inl maker ↦ reach_left (path table h) i.number (latest_piece y.maker acts) (if is_deferred y then parsed_handed (told h) y.doc else []) (reach_latest table h i y.maker among (sym maker))
       | inr parsed ↦ reach_right (path table h) i.number (latest_piece y.maker acts) (if is_deferred y then parsed_handed (told h) y.doc else [])
-        (ap (λ b. list_any (λ k. path table h i.number k) (if b then parsed_handed (told h) y.doc else [])) parsed.0 ∙ reach_parsed table h steady y.doc i among parsed.1)
+          (ap (λ b. list_any (λ k. path table h i.number k) (if b then parsed_handed (told h) y.doc else [])) parsed.0 ∙ reach_parsed table h steady y.doc i among parsed.1)
     ]
 
 pub enough_script : EnoughScript

@@ -30,9 +30,9 @@ Holds joined u v = list_any (λ (r : ℕ × Rule). r.1 joined u v) timer_rules �
 
 no_timeout : (joined : ℕ → ℕ → Bool) (u : Event) (n t : ℕ) → Holds joined u (event_with n (TimeoutRun t None)) → ⊥
 no_timeout joined u n t e = elim (or_cases (timers_of_one_event_in_order joined u (event_with n (TimeoutRun t None))) false e) [
-      | inl holds ↦ by u.what holds
-      | inr none ↦ never none
-    ]
+  | inl holds ↦ by u.what holds
+  | inr none ↦ never none
+]
   where
     by : (w : What) → timers_of_one_event_in_order joined (event_with u.number w) (event_with n (TimeoutRun t None)) ≡ true → ⊥
     by (TimeoutRun s None) e = never (and_right _ _ e)
@@ -49,9 +49,9 @@ reach_timeout table h joined n t (Some x) i among e =
     elim (or_cases (x.maker == i.event.number) _ e) [
       | inl maker ↦ reach_left (path table h) i.number (latest_piece x.maker acts) (latest_of_each test acts) (reach_latest table h i x.maker among (sym (eqb-true x.maker i.event.number maker)))
       | inr rest ↦ elim (or_cases (timers_of_one_event_in_order joined i.event v) false rest) [
-          | inl fired ↦ reach_right (path table h) i.number (latest_piece x.maker acts) (latest_of_each test acts) (reach_each table h test i among fired)
-          | inr none ↦ absurd (never none)
-        ]
+        | inl fired ↦ reach_right (path table h) i.number (latest_piece x.maker acts) (latest_of_each test acts) (reach_each table h test i among fired)
+        | inr none ↦ absurd (never none)
+      ]
     ]
 
 -- callbacks of an interval
@@ -95,9 +95,9 @@ to_tick joined u n k m e = by u.what e
         last : (b c : Bool) → made_by m (event_with u.number (TickRun i l)) ≡ b → (c && false || (b || (c && (k == i)) || false)) ≡ true → (b ≡ true) ⊎ ((i == k) ≡ true)
         last true c same e = inl refl
         last false true same e = elim (or_cases (k == i) false e) [
-              | inl is ↦ inr (eq-eqb i k (sym (eqb-true k i is)))
-              | inr none ↦ absurd (never none)
-            ]
+          | inl is ↦ inr (eq-eqb i k (sym (eqb-true k i is)))
+          | inr none ↦ absurd (never none)
+        ]
         last false false same e = absurd (cc)
     by (TimeoutRun s l) e = inl (other (made_by m (event_with u.number (TimeoutRun s l))) (recorded u (event_with n (TickRun k m))) e)
       where
@@ -146,7 +146,7 @@ enough_timer table has facts h (Tick k) steady named ordered = λ i among ruled.
     elim (to_tick (up_to (length acts) (path table h)) i.event (length acts) k m (and_right _ _ ruled)) [
       | inl made ↦ reach_left (path table h) i.number (latest_of m acts) (newest (is_tick_of k) acts) (reach_maker table h i m among made)
       | inr tick ↦ reach_right (path table h) i.number (latest_of m acts) (newest (is_tick_of k) acts)
-        (reach_newest (path table h) (is_tick_of k) acts i (actions_are_numbered h) among tick (λ a other f le. ticks_join table h steady k i a among other tick f le))
+          (reach_newest (path table h) (is_tick_of k) acts i (actions_are_numbered h) among tick (λ a other f le. ticks_join table h steady k i a among other tick f le))
     ]
 enough_timer table has facts h (Back p) steady named ordered = λ i c among runs ruled. back_enough table timer_rules h p facts has steady named i c among runs ruled
 enough_timer table has facts h (Run p g y) steady named ordered = λ i among ruled.

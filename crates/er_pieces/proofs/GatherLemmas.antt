@@ -69,8 +69,8 @@ held_more table h x a [] below held = tt
 held_more table h x a (o ∷ rest) below held = (
   λ still_open. let level = held.0 still_open in (level.0, λ i from to. served_more table h x o.dispatch i (level.1 i from to)),
   λ s among before.
-    let lt = below o (inl refl) in
-    held_more table h x s rest (λ q on. below q (inr on)) (held.1 s (older_one h x s o.dispatch.begin (omega (arith, lt)) among before) before),
+      let lt = below o (inl refl) in
+      held_more table h x s rest (λ q on. below q (inr on)) (held.1 s (older_one h x s o.dispatch.begin (omega (arith, lt)) among before) before),
 )
 
 -- the piece with a number
@@ -82,9 +82,9 @@ number_cases i n le =
     elim (place_cases i n) [
       | inl lt ↦ inl lt
       | inr rest ↦ elim rest [
-          | inl same ↦ inr same
-          | inr more ↦ absurd (omega (arith, le, more))
-        ]
+        | inl same ↦ inr same
+        | inr more ↦ absurd (omega (arith, le, more))
+      ]
     ]
 
 -- a piece that begins its event, and no close, gathers
@@ -106,8 +106,8 @@ pub close_gathers : (table : List (ℕ × Rule)) (h : List Record) → IsSteady 
 close_gathers table h steady b d among is served i from to =
     elim (number_cases i b.number to) [
       | inl less ↦
-        let one = served i (subst (λ w. since_of b.event.number w ≤ i) is from) less in
-        path_on table h i one.0.number b.number one.3 (by one.0.event.what refl one.0 one.1 one.2)
+          let one = served i (subst (λ w. since_of b.event.number w ≤ i) is from) less in
+          path_on table h i one.0.number b.number one.3 (by one.0.event.what refl one.0 one.1 one.2)
       | inr same ↦ subst (λ n. path table h n b.number ≡ true) (sym same) (action_stands table h b among)
     ]
   where
@@ -126,14 +126,14 @@ back_gathers table h b s r d among called closed event before is next le first s
     elim (number_cases i b.number to) [
       | inr same ↦ subst (λ n. path table h n b.number ≡ true) (sym same) (action_stands table h b among)
       | inl less ↦ elim (place_cases i d.begin) [
-          | inl under ↦
+        | inl under ↦
             path_on table h i s.number b.number (first i (subst (λ (e : Event). since e ≤ i) event from) (omega (arith, under, before)))
             (piece_path table h s b called among (ap (λ (e : Event). e.number) (sym event)) (omega (arith, before, le, next)))
-          | inr rest ↦
+        | inr rest ↦
             let since_begin : d.begin ≤ i = elim rest [
               | inl same ↦ omega (arith, same)
               | inr more ↦ omega (arith, more)
             ] in
             path_on table h i r.number b.number (second i (subst (λ w. since_of r.event.number w ≤ i) (sym is) since_begin) (omega (arith, less, next))) last
-        ]
+      ]
     ]

@@ -163,14 +163,14 @@ reach_group table h steady p test i among ran = by (greatest_group p test (told 
         let group : two.group ≡ g = eqb-true two.group g two.passes in
         elim (place_cases one.group g) [
           | inl less ↦
-            reach_on table h i.number run.0.number (latest_of_each (is_handler_of p (λ k. k == g)) acts)
-            (handler_to_later table h steady i run.0 one.dispatch two.dispatch one.group two.group one.handler two.handler one.maker two.maker among run.1 one.is two.is (one.number ∙ sym two.number) (omega (arith, less, group)))
-            (reach_each table h (is_handler_of p (λ k. k == g)) run.0 run.1 run.2)
+              reach_on table h i.number run.0.number (latest_of_each (is_handler_of p (λ k. k == g)) acts)
+              (handler_to_later table h steady i run.0 one.dispatch two.dispatch one.group two.group one.handler two.handler one.maker two.maker among run.1 one.is two.is (one.number ∙ sym two.number) (omega (arith, less, group)))
+              (reach_each table h (is_handler_of p (λ k. k == g)) run.0 run.1 run.2)
           | inr rest ↦ elim rest [
-              | inl same ↦ reach_each table h (is_handler_of p (λ k. k == g)) i among
+            | inl same ↦ reach_each table h (is_handler_of p (λ k. k == g)) i among
                 (ap (λ w. is_handler_of p (λ k. k == g) (event_with i.event.number w)) one.is ∙ both (one.dispatch.number == p) _ (eq-eqb one.dispatch.number p one.number) (eq-eqb one.group g same))
-              | inr more ↦ absurd (omega (arith, more, bounds.2, greatest))
-            ]
+            | inr more ↦ absurd (omega (arith, more, bounds.2, greatest))
+          ]
         ]
       where
         some_number : {m n : ℕ} → Some m ≡ Some n → m ≡ n

@@ -134,7 +134,7 @@ begin_sources h joined b q z m event made like =
     each_both (Edged joined b) acts (latest_of m acts) (newest (closes (λ y. same_target y z)) acts)
     (each_made (Edged joined b) m acts (λ i among e. ruled h joined b new i among (at_14 j i.event b.event (made i.event e))))
     (each_newest (Edged joined b) (closes (λ y. same_target y z)) acts (λ i among e. ruled h joined b new i among (at_17 j i.event b.event
-        (subst (λ (v : Event). dispatches_of_one_type_in_order j i.event v ≡ true) (sym event) (like_leads j i.event (length acts) q z (event_below acts i (told_before h) among) like e)))))
+    (subst (λ (v : Event). dispatches_of_one_type_in_order j i.event v ≡ true) (sym event) (like_leads j i.event (length acts) q z (event_below acts i (told_before h) among) like e)))))
 
 document_sources : (h : List Record) (joined : ℕ → ℕ → Bool) (b : Action) (m : Option ℕ) → b.event.number ≡ length (told h).actions
     → ((u : Event) → made_by m u ≡ true → target_before_dispatch (up_to b.event.number joined) u b.event ≡ true) → Each (Edged joined b) (told h).actions (latest_of m (told h).actions)
@@ -168,7 +168,7 @@ dispatch_hands_sources table h (Run p g x) joined steady named =
     each_both (Edged joined b) acts (latest_of m acts) (group_handed p (λ k. nat_lt k g) acts)
     (each_made (Edged joined b) m acts (λ i among e. ruled h joined b refl i among (at_15 j i.event b.event (subst (λ (v : Event). registered_before_run j i.event v ≡ true) (sym event) e))))
     (group_ran h (Edged joined b) p (λ k. nat_lt k g) (λ i among ran. ruled h joined b refl i among (at_16 j i.event b.event
-        (subst (λ (v : Event). dispatch_in_order j i.event v ≡ true) (sym event) (ran_to_run j i.event (length acts) p g x top.top.dispatch m top.number ran)))))
+    (subst (λ (v : Event). dispatch_in_order j i.event v ≡ true) (sym event) (ran_to_run j i.event (length acts) p g x top.top.dispatch m top.number ran)))))
 dispatch_hands_sources table h (Close p) joined steady named =
     let acts = (told h).actions in
     let b : Action = action_begun (told h) (Close p) in
@@ -176,13 +176,13 @@ dispatch_hands_sources table h (Close p) joined steady named =
     let event : b.event ≡ event_with (length acts) (CloseOf top.top.dispatch) = rw top.found refl in
     let j = up_to (length acts) joined in
     group_ran h (Edged joined b) p (λ k. true) (λ i among ran. ruled h joined b refl i among (at_16 j i.event b.event
-        (subst (λ (v : Event). dispatch_in_order j i.event v ≡ true) (sym event) (ran_to_close j i.event (length acts) p top.top.dispatch top.number ran))))
+    (subst (λ (v : Event). dispatch_in_order j i.event v ≡ true) (sym event) (ran_to_close j i.event (length acts) p top.top.dispatch top.number ran))))
 dispatch_hands_sources table h (Back p) joined steady named =
     let acts = (told h).actions in
     let b : Action = action_begun (told h) (Back p) in
     let back = resumed h p steady.named (none_holds h (Back p) named).placed in
     each_running (Edged joined b) acts (λ i runs among. or_right (is_ruled dispatch_rules joined i b) _ (or_left (around_inline i b) _
-        (closes_it i b back.on_top.top.dispatch (ap what_of (sym runs) ∙ close_runs h steady.named p back.on_top) back.inline back.on_top.number)))
+    (closes_it i b back.on_top.top.dispatch (ap what_of (sym runs) ∙ close_runs h steady.named p back.on_top) back.inline back.on_top.number)))
   where
     closes_it : (i b : Action) (d : Dispatch) → i.event.what ≡ CloseOf d → is_inline d ≡ true → d.number ≡ p → around_inline i (record { number = b.number; begin = Back p; event = b.event }) ≡ true
     closes_it i b d is inline number =

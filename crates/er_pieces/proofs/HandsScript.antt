@@ -58,10 +58,10 @@ blocking_sources : (table : List (ℕ × Rule)) (h : List Record) → IsSteady t
 blocking_sources table h steady joined d m =
     let acts = (told h).actions in
     each_newest (λ i. any_holds script_rules joined i.event (event_with (length acts) (ParseStep d m)) ≡ true) (is_run_of is_blocking d) acts (λ i among e.
-        let run = run_is h steady.named is_blocking d i among e in
-        let below = event_below acts i (told_before h) among in
-        let piece = (element_below h run.element run.made run.found).1 in
-        blocking_leads i.event (event_with (length acts) (ParseStep d m)) run.element d run.made (λ same. absurd (omega (arith, same, below))) run.is run.passes run.doc (eq-eqb d d refl) piece joined)
+    let run = run_is h steady.named is_blocking d i among e in
+    let below = event_below acts i (told_before h) among in
+    let piece = (element_below h run.element run.made run.found).1 in
+    blocking_leads i.event (event_with (length acts) (ParseStep d m)) run.element d run.made (λ same. absurd (omega (arith, same, below))) run.is run.passes run.doc (eq-eqb d d refl) piece joined)
 
 -- before a run
 
@@ -96,12 +96,12 @@ run_sources table h e steady named ordered joined (Some y) found =
         elim (place_cases run.made.piece y.piece) [
           | inl less ↦ less
           | inr rest ↦ elim rest [
-              | inl same ↦ absurd (ran_twice i among run (one_element h run.element e run.made y first second same))
-              | inr more ↦ absurd (clash (any_holds script_rules (path table h) (event_begun (told h) (Exec e)) i.event)
+            | inl same ↦ absurd (ran_twice i among run (one_element h run.element e run.made y first second same))
+            | inr more ↦ absurd (clash (any_holds script_rules (path table h) (event_begun (told h) (Exec e)) i.event)
                 (leads_nowhere table script_rules h (Exec e) steady.has.script refl ordered refl i among)
                 (subst (λ w. any_holds script_rules (path table h) (event_with (length (told h).actions) (ScriptRun e w)) i.event ≡ true) (sym found)
                 (deferred_leads v i.event e run.element y run.made (λ same. apart i among (sym same)) refl run.is defers run.passes (sym run.doc) more (path table h))))
-            ]
+          ]
         ]
       where
         ran_twice : (i : Action) → Among i acts → (run : RunIs h is_deferred y.doc i) → run.element ≡ e → ⊥
@@ -116,11 +116,11 @@ run_sources table h e steady named ordered joined (Some y) found =
         (each_both S acts (newest (is_step_of y.doc) acts) (newest (is_run_of is_blocking y.doc) acts)
         (each_newest S (is_step_of y.doc) acts (λ i among is. step_leads joined i.event (length (told h).actions) e y.doc y (below i among) is defers refl))
         (each_newest S (is_run_of is_blocking y.doc) acts (λ i among is.
-            let run = run_is h steady.named is_blocking y.doc i among is in
-            run_leads joined i.event (length (told h).actions) e run.element run.made y (below i among) run.is run.passes defers run.doc)))
+        let run = run_is h steady.named is_blocking y.doc i among is in
+        run_leads joined i.event (length (told h).actions) e run.element run.made y (below i among) run.is run.passes defers run.doc)))
         (each_newest S (is_run_of is_deferred y.doc) acts (λ i among is.
-            let run = run_is h steady.named is_deferred y.doc i among is in
-            deferred_leads i.event v run.element e run.made y (apart i among) run.is refl run.passes defers run.doc (later defers i among run) joined))
+        let run = run_is h steady.named is_deferred y.doc i among is in
+        deferred_leads i.event v run.element e run.made y (apart i among) run.is refl run.passes defers run.doc (later defers i among run) joined))
 
     step : (b : Bool) → is_deferred y ≡ b → Each S acts (if b then parsed_handed (told h) y.doc else [])
     step true defers = parsed defers

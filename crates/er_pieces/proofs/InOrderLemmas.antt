@@ -63,15 +63,15 @@ not_late table group (x ∷ h) has free named ordered a b first second joined e 
     let placed = (none_holds h x named.0).placed in
     elim (among_cases h x a first) [
       | inl now ↦ elim (among_cases h x b second) [
-          | inl other ↦ absurd (not_itself group joined a.event b.event (ap (λ (c : Action). c.event.number) (now.1 ∙ sym other.1)) e)
-          | inr older ↦ subst (λ (u : Event). u.number < b.event.number) (sym (ap (λ (c : Action). c.event) now.1))
+        | inl other ↦ absurd (not_itself group joined a.event b.event (ap (λ (c : Action). c.event.number) (now.1 ∙ sym other.1)) e)
+        | inr older ↦ subst (λ (u : Event). u.number < b.event.number) (sym (ap (λ (c : Action). c.event) now.1))
             (from placed now.0 b older (ap (λ (u : Event). any_holds group joined u b.event) (sym (ap (λ (c : Action). c.event) now.1)) ∙ e) rest)
-        ]
+      ]
       | inr earlier ↦ elim (among_cases h x b second) [
-          | inl now ↦ subst (λ (v : Event). a.event.number < v.number) (sym (ap (λ (c : Action). c.event) now.1))
+        | inl now ↦ subst (λ (v : Event). a.event.number < v.number) (sym (ap (λ (c : Action). c.event) now.1))
             (to placed a earlier (ap (λ (v : Event). any_holds group joined a.event v) (sym (ap (λ (c : Action). c.event) now.1)) ∙ e) rest)
-          | inr older ↦ rest a b earlier older joined e
-        ]
+        | inr older ↦ rest a b earlier older joined e
+      ]
     ]
   where
     Rest : Type 0
@@ -82,9 +82,9 @@ not_late table group (x ∷ h) has free named ordered a b first second joined e 
         elim (event_is h x named.1 placed) [
           | inl new ↦ absurd (let none = leads_nowhere table group h x has new.0 ordered.0 begin b older in let same = free joined (path table h) (event_begun (told h) x) b.event in cc)
           | inr back ↦
-            let event : event_begun (told h) x ≡ back.2.caller.piece.event = ap (event_begun (told h)) back.1 ∙ back.2.event in
-            subst (λ (u : Event). u.number < b.event.number) (sym event)
-            (rest back.2.caller.piece b back.2.caller.among older joined (ap (λ (u : Event). any_holds group joined u b.event) (sym event) ∙ e))
+              let event : event_begun (told h) x ≡ back.2.caller.piece.event = ap (event_begun (told h)) back.1 ∙ back.2.event in
+              subst (λ (u : Event). u.number < b.event.number) (sym event)
+              (rest back.2.caller.piece b back.2.caller.among older joined (ap (λ (u : Event). any_holds group joined u b.event) (sym event) ∙ e))
         ]
 
     to : misplaced (told h) x ≡ false → (a : Action) → Among a (told h).actions → any_holds group joined a.event (event_begun (told h) x) ≡ true → Rest → a.event.number < (event_begun (told h) x).number
@@ -92,9 +92,9 @@ not_late table group (x ∷ h) has free named ordered a b first second joined e 
         elim (event_is h x named.1 placed) [
           | inl new ↦ let below = event_below (told h).actions a (told_before h) older in omega (arith, new.1)
           | inr back ↦
-            let event : event_begun (told h) x ≡ back.2.caller.piece.event = ap (event_begun (told h)) back.1 ∙ back.2.event in
-            subst (λ (v : Event). a.event.number < v.number) (sym event)
-            (rest a back.2.caller.piece older back.2.caller.among joined (ap (λ (v : Event). any_holds group joined a.event v) (sym event) ∙ e))
+              let event : event_begun (told h) x ≡ back.2.caller.piece.event = ap (event_begun (told h)) back.1 ∙ back.2.event in
+              subst (λ (v : Event). a.event.number < v.number) (sym event)
+              (rest a back.2.caller.piece older back.2.caller.among joined (ap (λ (v : Event). any_holds group joined a.event v) (sym event) ∙ e))
         ]
 
 -- the pieces of an event are before those of a later one that is clear of it
@@ -104,9 +104,9 @@ pieces_before h named a b first last before clear =
     elim (lt_or_le a.number b.event.number) [
       | inl lt ↦ lt
       | inr le ↦ elim (is.pieces a first le) [
-          | inl under ↦ absurd (omega (arith, under, clear))
-          | inr since ↦ absurd (omega (arith, since, before))
-        ]
+        | inl under ↦ absurd (omega (arith, under, clear))
+        | inr since ↦ absurd (omega (arith, since, before))
+      ]
     ]
 
 -- a rule that leads to an event that is clear of the other is a path between their pieces

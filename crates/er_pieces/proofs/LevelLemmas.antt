@@ -19,15 +19,15 @@ within (x ∷ h) named o a on among le =
     let placed = (none_holds h x named.0).placed in
     elim (stack_from (told h).stack (dispatch_begun (told h).entries (length (told h).actions) x) x o on) [
       | inl from ↦ elim (among_cases h x a among) [
-          | inl now ↦ subst (λ (c : Action). o.dispatch.begin ≤ c.event.number) (sym now.1) (newest x on placed from (within h named.1))
-          | inr older ↦ subst (λ (d : Dispatch). d.begin ≤ a.event.number) from.2 (within h named.1 from.0 a from.1 older (subst (λ (d : Dispatch). d.begin ≤ a.number) (sym from.2) le))
-        ]
+        | inl now ↦ subst (λ (c : Action). o.dispatch.begin ≤ c.event.number) (sym now.1) (newest x on placed from (within h named.1))
+        | inr older ↦ subst (λ (d : Dispatch). d.begin ≤ a.event.number) from.2 (within h named.1 from.0 a from.1 older (subst (λ (d : Dispatch). d.begin ≤ a.number) (sym from.2) le))
+      ]
       | inr begun ↦
-        let at = dispatch_at (told h).entries (length (told h).actions) x o.dispatch begun in
-        elim (among_cases h x a among) [
-          | inl now ↦ subst (λ (c : Action). o.dispatch.begin ≤ c.event.number) (sym now.1) (first x placed begun at)
-          | inr older ↦ absurd (omega (arith, at, le, among_below (told h).actions a (actions_are_numbered h) older))
-        ]
+          let at = dispatch_at (told h).entries (length (told h).actions) x o.dispatch begun in
+          elim (among_cases h x a among) [
+            | inl now ↦ subst (λ (c : Action). o.dispatch.begin ≤ c.event.number) (sym now.1) (first x placed begun at)
+            | inr older ↦ absurd (omega (arith, at, le, among_below (told h).actions a (actions_are_numbered h) older))
+          ]
     ]
   where
     From : Type 0
@@ -112,9 +112,9 @@ level_next h (Inline p y n) placed named level = (
   (λ e. absurd (cc)),
   (λ e. absurd (cc)),
   λ c among before.
-    let b : Action = action_begun (told h) (Inline p y n) in
-    subst (λ w. Level (b ∷ (told h).actions) w (told h).stack) (just_before (told h).actions b c (actions_are_numbered h) refl among before)
-    (level_more b (told h).actions (what_of (running (told h).actions)) (told h).stack refl (below h) level),
+      let b : Action = action_begun (told h) (Inline p y n) in
+      subst (λ w. Level (b ∷ (told h).actions) w (told h).stack) (just_before (told h).actions b c (actions_are_numbered h) refl among before)
+      (level_more b (told h).actions (what_of (running (told h).actions)) (told h).stack refl (below h) level),
 )
   where
     below : (h : List Record) (o : Open) → On o (told h).stack → o.dispatch.begin ≤ length (told h).actions
@@ -147,7 +147,7 @@ level_next h (Back p) placed named level =
     let b : Action = action_begun (told h) (Back p) in
     let back = resumed h p named placed in
     let grown = subst (Level (b ∷ (told h).actions) (what_of (running (told h).actions))) back.on_top.is
-        (level_more b (told h).actions (what_of (running (told h).actions)) (told h).stack refl (λ o on. let lt = opens_below h o on in omega arith) level) in
+    (level_more b (told h).actions (what_of (running (told h).actions)) (told h).stack refl (λ o on. let lt = opens_below h o on in omega arith) level) in
     subst (λ s. Level (b ∷ (told h).actions) b.event.what (stack_after s None (Back p))) (sym back.on_top.is)
     (subst (λ (e : Event). Level (b ∷ (told h).actions) e.what back.on_top.below) (sym back.event) (grown.2 back.caller.piece (inr back.caller.among) back.caller.before))
 level_next h _ placed named level = level

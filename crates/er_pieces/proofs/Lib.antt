@@ -37,3 +37,5 @@ pub mod NestedLemmas
 pub mod NestedLaws
 pub mod AnyTimersLemmas
 pub mod NewestLemmas
+pub mod ContractLemmas
+pub mod LookUpLemmas

@@ -126,50 +126,50 @@ to_load joined u n p b (DclOf d m) e =
         elim (or_cases (static_loads_before_load joined u (begin_with n p b y)) _ e) [
           | inl is ↦ f (told_11 joined u n p b y is)
           | inr rest ↦ elim (or_cases (inner_load_before_frame_load joined u (begin_with n p b y)) false rest) [
-              | inl is ↦ g (told_13 joined u n p b y is)
-              | inr none ↦ never none
-            ]
+            | inl is ↦ g (told_13 joined u n p b y is)
+            | inr none ↦ never none
+          ]
         ]
 to_load joined u n p b (LoadOf d m) e =
     let v : Event = begin_with n p b (LoadOf d m) in
     elim (or_cases (dcl_before_load joined u v) _ e) [
       | inl is ↦ inl (told_9 joined u n p b d m is)
       | inr rest ↦ elim (or_cases (parsed_before_load joined u v) _ rest) [
-          | inl is ↦ elim (told_10 joined u n p b d m is) [
-              | inl step ↦ inr (inl step)
-              | inr run ↦ inr (inr (inl run))
-            ]
-          | inr rest ↦ elim (or_cases (static_loads_before_load joined u v) _ rest) [
-              | inl is ↦ inr (inr (inr (told_11 joined u n p b (LoadOf d m) is)))
-              | inr rest ↦ elim (or_cases (inner_load_before_frame_load joined u v) false rest) [
-                  | inl is ↦ absurd (told_13 joined u n p b (LoadOf d m) is)
-                  | inr none ↦ absurd (never none)
-                ]
-            ]
+        | inl is ↦ elim (told_10 joined u n p b d m is) [
+          | inl step ↦ inr (inl step)
+          | inr run ↦ inr (inr (inl run))
         ]
+        | inr rest ↦ elim (or_cases (static_loads_before_load joined u v) _ rest) [
+          | inl is ↦ inr (inr (inr (told_11 joined u n p b (LoadOf d m) is)))
+          | inr rest ↦ elim (or_cases (inner_load_before_frame_load joined u v) false rest) [
+            | inl is ↦ absurd (told_13 joined u n p b (LoadOf d m) is)
+            | inr none ↦ absurd (never none)
+          ]
+        ]
+      ]
     ]
 to_load joined u n p b (EloadOf s made) e =
     let v : Event = begin_with n p b (EloadOf s made) in
     elim (or_cases (static_loads_before_load joined u v) _ e) [
       | inl is ↦ absurd (told_11 joined u n p b (EloadOf s made) is)
       | inr rest ↦ elim (or_cases (element_before_its_load joined u v) _ rest) [
-          | inl is ↦ elim (told_12 joined u n p b s made is) [
-              | inl maker ↦ inl maker
-              | inr run ↦ inr (inl run)
-            ]
-          | inr rest ↦ elim (or_cases (inner_load_before_frame_load joined u v) false rest) [
-              | inl is ↦ inr (inr (told_13 joined u n p b (EloadOf s made) is))
-              | inr none ↦ absurd (never none)
-            ]
+        | inl is ↦ elim (told_12 joined u n p b s made is) [
+          | inl maker ↦ inl maker
+          | inr run ↦ inr (inl run)
         ]
+        | inr rest ↦ elim (or_cases (inner_load_before_frame_load joined u v) false rest) [
+          | inl is ↦ inr (inr (told_13 joined u n p b (EloadOf s made) is))
+          | inr none ↦ absurd (never none)
+        ]
+      ]
     ]
 to_load joined u n p b y e =
     elim (or_cases (static_loads_before_load joined u (begin_with n p b y)) _ e) [
       | inl is ↦ absurd (told_11 joined u n p b y is)
       | inr rest ↦ elim (or_cases (inner_load_before_frame_load joined u (begin_with n p b y)) false rest) [
-          | inl is ↦ absurd (told_13 joined u n p b y is)
-          | inr none ↦ absurd (never none)
-        ]
+        | inl is ↦ absurd (told_13 joined u n p b y is)
+        | inr none ↦ absurd (never none)
+      ]
     ]
 
 -- and to nothing else
@@ -186,9 +186,9 @@ only_begin joined u n z e = by u.what z e
         elim (or_cases (static_loads_before_load joined u v) _ e) [
           | inl is ↦ f is
           | inr rest ↦ elim (or_cases (inner_load_before_frame_load joined u v) false rest) [
-              | inl is ↦ g is
-              | inr none ↦ never none
-            ]
+            | inl is ↦ g is
+            | inr none ↦ never none
+          ]
         ]
 
     by : (w z : What) → Holds joined (event_with u.number w) (event_with n z) → IsBegin z

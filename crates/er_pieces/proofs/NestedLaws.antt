@@ -37,11 +37,11 @@ pub closes_in_order : (table : List (ℕ × Rule)) → ClosesInOrder table
 closes_in_order table h i j p q steady first last is also same le =
     elim (lt_or_le i.number q.begin) [
       | inl before ↦
-        let up = event_before (told h).actions i (told_before h) first in
-        path_on table h i.number begun.begin.number j.number
-        (ruled_path table dispatch_rules h i begun.begin steady.has.dispatch first begun.among (let at = begun.number in omega (arith, before, at))
-        (λ joined. close_leads joined i.event begun.begin.event p q (let at = begun.own in omega (arith, before, at, up.1)) is begun.is same))
-        (begin_path table h steady begun.begin j q q begun.among last begun.is (serves_close _ q also) refl)
+          let up = event_before (told h).actions i (told_before h) first in
+          path_on table h i.number begun.begin.number j.number
+          (ruled_path table dispatch_rules h i begun.begin steady.has.dispatch first begun.among (let at = begun.number in omega (arith, before, at))
+          (λ joined. close_leads joined i.event begun.begin.event p q (let at = begun.own in omega (arith, before, at, up.1)) is begun.is same))
+          (begin_path table h steady begun.begin j q q begun.among last begun.is (serves_close _ q also) refl)
       | inr since_begin ↦ (good table h steady).gathers j last i.number (subst (λ w. since_of j.event.number w ≤ i.number) (sym also) since_begin) le
     ]
   where
@@ -62,20 +62,20 @@ pub back_follows_close : (table : List (ℕ × Rule)) → BackFollowsClose table
 back_follows_close table h p i c steady named first runs ruled =
     elim (lt_or_le i.number s.event.number) [
       | inl before ↦
-        let f = events_have_first_pieces h s back.caller.among in
-        let same : b.event ≡ f.0.event = back.event ∙ sym f.3 in
-        let up = event_before (told h).actions s (told_before h) back.caller.among in
-        let at = f.2 in
-        path_on table h i.number f.0.number c.number
-        (edge_path table h i f.0 first f.1 (both (nat_lt i.number f.0.number) _ (less_is i.number f.0.number (omega (arith, before, at)))
-        (or_left (is_ruled table (path table h) i f.0) _ (ap (λ (v : Event). any_holds table (up_to v.number (path table h)) i.event v) (sym same) ∙ ruled))))
-        (path_on table h f.0.number s.number c.number (piece_path table h f.0 s f.1 back.caller.among (ap (λ (v : Event). v.number) f.3) (omega (arith, at, up.1))) called)
+          let f = events_have_first_pieces h s back.caller.among in
+          let same : b.event ≡ f.0.event = back.event ∙ sym f.3 in
+          let up = event_before (told h).actions s (told_before h) back.caller.among in
+          let at = f.2 in
+          path_on table h i.number f.0.number c.number
+          (edge_path table h i f.0 first f.1 (both (nat_lt i.number f.0.number) _ (less_is i.number f.0.number (omega (arith, before, at)))
+          (or_left (is_ruled table (path table h) i f.0) _ (ap (λ (v : Event). any_holds table (up_to v.number (path table h)) i.event v) (sym same) ∙ ruled))))
+          (path_on table h f.0.number s.number c.number (piece_path table h f.0 s f.1 back.caller.among (ap (λ (v : Event). v.number) f.3) (omega (arith, at, up.1))) called)
       | inr behind ↦ elim (lt_or_le s.number i.number) [
-          | inr within ↦
+        | inr within ↦
             let from = since_before table h steady s back.caller.among in
             path_on table h i.number s.number c.number ((good table h steady).gathers s back.caller.among i.number (omega (arith, from, behind)) within) called
-          | inl past ↦ (good table h steady).gathers c running_one i.number (subst (λ w. since_of c.event.number w ≤ i.number) (sym closed) (let before = back.caller.before in omega (arith, past, before))) last
-        ]
+        | inl past ↦ (good table h steady).gathers c running_one i.number (subst (λ w. since_of c.event.number w ≤ i.number) (sym closed) (let before = back.caller.before in omega (arith, past, before))) last
+      ]
     ]
   where
     b : Action

@@ -39,13 +39,13 @@ longer h x begin = step (begins x) begin
 next_good : (table : List (ℕ × Rule)) (h : List Record) (x : Record) → begins x ≡ true → Good table h → Gathers table (x ∷ h) (action_begun (told h) x) → Held table (x ∷ h) (action_begun (told h) x) (told (x ∷ h)).stack → Good table (x ∷ h)
 next_good table h x begin good gathers held = record {
   gathers = λ a among. elim (among_cases h x a among) [
-      | inl now ↦ subst (Gathers table (x ∷ h)) (sym now.1) gathers
-      | inr older ↦ gathers_more table h x a older (good.gathers a older)
-    ];
+    | inl now ↦ subst (Gathers table (x ∷ h)) (sym now.1) gathers
+    | inr older ↦ gathers_more table h x a older (good.gathers a older)
+  ];
   held = λ a among last. elim (among_cases h x a among) [
-      | inl now ↦ subst (λ (c : Action). Held table (x ∷ h) c (told (x ∷ h)).stack) (sym now.1) held
-      | inr older ↦ absurd (let below = among_below (told h).actions a (actions_are_numbered h) older in let more = longer h x begin in omega (arith, below, last, more))
-    ];
+    | inl now ↦ subst (λ (c : Action). Held table (x ∷ h) c (told (x ∷ h)).stack) (sym now.1) held
+    | inr older ↦ absurd (let below = among_below (told h).actions a (actions_are_numbered h) older in let more = longer h x begin in omega (arith, below, last, more))
+  ];
 }
 
 -- on an empty stack
@@ -84,8 +84,8 @@ good_inline table h p y n good =
     let b : Action = action_begun (told h) x in
     next_good table h x refl good (gathers_alone table (x ∷ h) b (inl refl) refl)
     (held_begun table (x ∷ h) b _ (told h).stack (inl refl) refl refl (λ s among before.
-        let older = older_one h x s (length (told h).actions) (omega arith) among before in
-        held_more table h x s (told h).stack (opens_below h) (good.held s older before)))
+    let older = older_one h x s (length (told h).actions) (omega arith) among before in
+    held_more table h x s (told h).stack (opens_below h) (good.held s older before)))
 
 -- a handler runs
 good_run : (table : List (ℕ × Rule)) (h : List Record) (p g y : ℕ) → misplaced (told h) (Run p g y) ≡ false → Good table h → Good table (Run p g y ∷ h)
@@ -194,16 +194,18 @@ good_back table h p steady placed good =
     moved [] held = tt
     moved (o ∷ rest) held = (
       λ still_open.
-        let level = held.0 still_open in
-        let within : IsWithin b.event.what o.dispatch = subst (λ (e : Event). IsWithin e.what o.dispatch) (sym back.event) level.0 in
-        (within, λ i from to. elim (lt_or_le s.number i) [
-          | inr le ↦ level.1 i from le
-          | inl lt ↦
-            let up = event_before (told h).actions s (told_before h) back.caller.among in
-            let at = ap (λ (e : Event). e.number) back.event in
-            let is = own b.event.what o.dispatch b.event.number within in
-            (b, inl refl, within, gathers i (omega (arith, lt, up.1, at, is)) to)
-        ]),
+          let level = held.0 still_open in
+          let within : IsWithin b.event.what o.dispatch = subst (λ (e : Event). IsWithin e.what o.dispatch) (sym back.event) level.0 in (
+            within,
+            λ i from to. elim (lt_or_le s.number i) [
+              | inr le ↦ level.1 i from le
+              | inl lt ↦
+                  let up = event_before (told h).actions s (told_before h) back.caller.among in
+                  let at = ap (λ (e : Event). e.number) back.event in
+                  let is = own b.event.what o.dispatch b.event.number within in
+                  (b, inl refl, within, gathers i (omega (arith, lt, up.1, at, is)) to)
+            ],
+          ),
       held.1,
     )
 

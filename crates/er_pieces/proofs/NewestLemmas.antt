@@ -70,7 +70,7 @@ newest_is_latest h test a found = ap number_of (go (told h).actions (λ b among.
         step false t rest e =
             let is = found_in older e in
             let other : (b.event.number == a.event.number) ≡ false = ne_eqb b.event.number a.event.number (λ same.
-                clash (test b.event) t (ap test (same_event h b a (within b (inl refl)) (within a (inr is.0)) same) ∙ is.1)) in
+            clash (test b.event) t (ap test (same_event h b a (within b (inl refl)) (within a (inr is.0)) same) ∙ is.1)) in
             ap (λ k. if k then Some b else newest_by test older) t ∙ (rest e ∙ ap (λ k. if k then Some b else newest_by (λ (u : Event). u.number == a.event.number) older) (sym other))
 
 -- a parse step is one piece, so its number is that of its event

@@ -36,13 +36,13 @@ begun_once test once (x ∷ h) named a b first second e f =
     let new = (none_holds h x named.0).new in
     elim (among_cases h x a first) [
       | inl now ↦ elim (among_cases h x b second) [
-          | inl other ↦ now.1 ∙ sym other.1
-          | inr older ↦ absurd (clash (list_any test h) (once h x new (ap (λ (c : Action). test c.begin) (sym now.1) ∙ e)) (begun_in test h b older f))
-        ]
+        | inl other ↦ now.1 ∙ sym other.1
+        | inr older ↦ absurd (clash (list_any test h) (once h x new (ap (λ (c : Action). test c.begin) (sym now.1) ∙ e)) (begun_in test h b older f))
+      ]
       | inr earlier ↦ elim (among_cases h x b second) [
-          | inl now ↦ absurd (clash (list_any test h) (once h x new (ap (λ (c : Action). test c.begin) (sym now.1) ∙ f)) (begun_in test h a earlier e))
-          | inr older ↦ begun_once test once h named.1 a b earlier older e f
-        ]
+        | inl now ↦ absurd (clash (list_any test h) (once h x new (ap (λ (c : Action). test c.begin) (sym now.1) ∙ f)) (begun_in test h a earlier e))
+        | inr older ↦ begun_once test once h named.1 a b earlier older e f
+      ]
     ]
 
 -- the forms that begin once
@@ -115,9 +115,9 @@ begun_by (x ∷ h) named a among own =
         elim (event_is h (Back p) named.1 placed) [
           | inl new ↦ absurd (let f = new.0 in cc)
           | inr back ↦
-            let event : (event_begun (told h) (Back p)).number ≡ back.2.caller.piece.event.number = ap (λ (y : Record). (event_begun (told h) y).number) back.1 ∙ ap (λ (e : Event). e.number) back.2.event in
-            let up = event_before (told h).actions back.2.caller.piece (told_before h) back.2.caller.among in
-            absurd (omega (arith, event, own, up.0, up.1))
+              let event : (event_begun (told h) (Back p)).number ≡ back.2.caller.piece.event.number = ap (λ (y : Record). (event_begun (told h) y).number) back.1 ∙ ap (λ (e : Event). e.number) back.2.event in
+              let up = event_before (told h).actions back.2.caller.piece (told_before h) back.2.caller.among in
+              absurd (omega (arith, event, own, up.0, up.1))
         ]
     newest x placed own = begun_now h x placed
 

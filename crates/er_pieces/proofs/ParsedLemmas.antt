@@ -25,7 +25,7 @@ reach_parsed table h steady d i among is =
     elim is [
       | inl step ↦ reach_left (path table h) i.number (steps ++ blocking) deferred (reach_left (path table h) i.number steps blocking (reach_step table h steady d i among step))
       | inr run ↦ elim run [
-          | inl blocks ↦ reach_left (path table h) i.number (steps ++ blocking) deferred (reach_right (path table h) i.number steps blocking (reach_blocking table h steady d i among blocks))
-          | inr defers ↦ reach_right (path table h) i.number (steps ++ blocking) deferred (reach_deferred table h steady d i among defers)
-        ]
+        | inl blocks ↦ reach_left (path table h) i.number (steps ++ blocking) deferred (reach_right (path table h) i.number steps blocking (reach_blocking table h steady d i among blocks))
+        | inr defers ↦ reach_right (path table h) i.number (steps ++ blocking) deferred (reach_deferred table h steady d i among defers)
+      ]
     ]

@@ -98,21 +98,21 @@ pub blocking_join : (table : List (ℕ × Rule)) (h : List Record) → IsSteady 
     → is_run_of is_blocking d i.event ≡ true → is_run_of is_blocking d a.event ≡ true → i.number ≤ a.number → path table h i.number a.number ≡ true
 blocking_join table h steady d i a first last e f le =
     chain table h steady i a first last (run_bound i.event one.element (Some one.made) one.is) (run_bound a.event two.element (Some two.made) two.is) le (λ before earlier up.
-      elim (place_cases one.made.piece two.made.piece) [
-        | inl less ↦
+    elim (place_cases one.made.piece two.made.piece) [
+      | inl less ↦
           path_on table h i.number step_two.step.number a.number
           (rule_path table script_rules h steady steady.has.script script_asks_none i step_two.step first step_two.among (let b = step_bound two.made.doc step_two.step.event step_two.steps in omega arith)
           (step_behind table h steady d i first one step_two.step step_two.among (subst (λ c. is_step_of c step_two.step.event ≡ true) two.doc step_two.steps) (omega (arith, less, step_two.own))))
           (step_joins_run table h steady a two.element two.made last two.is step_two)
-        | inr rest ↦ elim rest [
-            | inl same ↦ absurd (not_one before same)
-            | inr more ↦
-              let late = not_late table script_rules h steady.has.script script_asks_none steady.named steady.ordered a step_one.step last step_one.among (λ k j. false)
-              (step_behind table h steady d a last two step_one.step step_one.among (subst (λ c. is_step_of c step_one.step.event ≡ true) one.doc step_one.steps) (omega (arith, more, step_one.own)) (λ k j. false)) in
-              let began = step_before_run table h steady i one.element one.made first one.is step_one in
-              absurd (omega (arith, late, began, step_one.own, before))
-          ]
-      ])
+      | inr rest ↦ elim rest [
+        | inl same ↦ absurd (not_one before same)
+        | inr more ↦
+            let late = not_late table script_rules h steady.has.script script_asks_none steady.named steady.ordered a step_one.step last step_one.among (λ k j. false)
+            (step_behind table h steady d a last two step_one.step step_one.among (subst (λ c. is_step_of c step_one.step.event ≡ true) one.doc step_one.steps) (omega (arith, more, step_one.own)) (λ k j. false)) in
+            let began = step_before_run table h steady i one.element one.made first one.is step_one in
+            absurd (omega (arith, late, began, step_one.own, before))
+      ]
+    ])
   where
     one : RunIs h is_blocking d i
     one = run_is h steady.named is_blocking d i first e
@@ -137,18 +137,18 @@ pub deferred_join : (table : List (ℕ × Rule)) (h : List Record) → IsSteady 
     → is_run_of is_deferred d i.event ≡ true → is_run_of is_deferred d a.event ≡ true → i.number ≤ a.number → path table h i.number a.number ≡ true
 deferred_join table h steady d i a first last e f le =
     chain table h steady i a first last (run_bound i.event one.element (Some one.made) one.is) clear le (λ before earlier up.
-      elim (place_cases one.made.piece two.made.piece) [
-        | inl less ↦
+    elim (place_cases one.made.piece two.made.piece) [
+      | inl less ↦
           rule_path table script_rules h steady steady.has.script script_asks_none i a first last (omega (arith, clear))
           (deferred_leads i.event a.event one.element two.element one.made two.made (λ same. absurd (omega (arith, same, before))) one.is two.is one.passes two.passes (one.doc ∙ sym two.doc) less)
-        | inr rest ↦ elim rest [
-            | inl same ↦ absurd (not_one before same)
-            | inr more ↦
-              let late = not_late table script_rules h steady.has.script script_asks_none steady.named steady.ordered a i last first (λ k j. false)
-              (deferred_leads a.event i.event two.element one.element two.made one.made (λ same. absurd (omega (arith, same, before))) two.is one.is two.passes one.passes (two.doc ∙ sym one.doc) more (λ k j. false)) in
-              absurd (omega (arith, late, before))
-          ]
-      ])
+      | inr rest ↦ elim rest [
+        | inl same ↦ absurd (not_one before same)
+        | inr more ↦
+            let late = not_late table script_rules h steady.has.script script_asks_none steady.named steady.ordered a i last first (λ k j. false)
+            (deferred_leads a.event i.event two.element one.element two.made one.made (λ same. absurd (omega (arith, same, before))) two.is one.is two.passes one.passes (two.doc ∙ sym one.doc) more (λ k j. false)) in
+            absurd (omega (arith, late, before))
+      ]
+    ])
   where
     one : RunIs h is_deferred d i
     one = run_is h steady.named is_deferred d i first e

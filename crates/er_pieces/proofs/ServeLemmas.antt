@@ -91,9 +91,9 @@ handler_to_close table h steady a b d e g x m first last is also same =
     rule_path table dispatch_rules h steady steady.has.dispatch dispatch_asks_none a b first last
     (serving_clear table h steady a b d e first last (serves_handler _ d g x m is) (serves_close _ e also) same)
     (leads_in a.event b.event (apart_by h a b first last (λ one. two (sym is ∙ (one ∙ also)))) (λ joined.
-        ap (λ w. dispatch_in_order joined (event_with a.event.number w) b.event) is
-        ∙ (ap (λ w. dispatch_in_order joined (event_with a.event.number (HandlerOf d g x m)) (event_with b.event.number w)) also
-        ∙ eq-eqb d.number e.number same)))
+    ap (λ w. dispatch_in_order joined (event_with a.event.number w) b.event) is
+    ∙ (ap (λ w. dispatch_in_order joined (event_with a.event.number (HandlerOf d g x m)) (event_with b.event.number w)) also
+    ∙ eq-eqb d.number e.number same)))
   where
     two : HandlerOf d g x m ≡ CloseOf e → ⊥
     two f = cc
@@ -104,9 +104,9 @@ handler_to_later table h steady a b d e g k x y m l first last is also same less
     rule_path table dispatch_rules h steady steady.has.dispatch dispatch_asks_none a b first last
     (serving_clear table h steady a b d e first last (serves_handler _ d g x m is) (serves_handler _ e k y l also) same)
     (leads_in a.event b.event (apart_by h a b first last (λ one. two (sym is ∙ (one ∙ also)))) (λ joined.
-        ap (λ w. dispatch_in_order joined (event_with a.event.number w) b.event) is
-        ∙ (ap (λ w. dispatch_in_order joined (event_with a.event.number (HandlerOf d g x m)) (event_with b.event.number w)) also
-        ∙ both (d.number == e.number) _ (eq-eqb d.number e.number same) (less_is g k less))))
+    ap (λ w. dispatch_in_order joined (event_with a.event.number w) b.event) is
+    ∙ (ap (λ w. dispatch_in_order joined (event_with a.event.number (HandlerOf d g x m)) (event_with b.event.number w)) also
+    ∙ both (d.number == e.number) _ (eq-eqb d.number e.number same) (less_is g k less))))
   where
     two : HandlerOf d g x m ≡ HandlerOf e k y l → ⊥
     two f = let groups : g ≡ k = cc in omega (arith, groups, less)

@@ -30,7 +30,7 @@ each_both S actions ks ms first second = λ k e.
 
 -- the newest that passes
 
-newest_passes : (test : Event → Bool) (actions : List Action) (a : Action) → newest_by test actions ≡ Some a → Among a actions × (test a.event ≡ true)
+pub newest_passes : (test : Event → Bool) (actions : List Action) (a : Action) → newest_by test actions ≡ Some a → Among a actions × (test a.event ≡ true)
 newest_passes test [] a e = absurd (cc)
 newest_passes test (b ∷ older) a e = step (test b.event) refl (newest_passes test older a) e
   where

@@ -31,9 +31,9 @@ lt_or_le k n =
     elim (place_cases k n) [
       | inl lt ↦ inl lt
       | inr rest ↦ inr (elim rest [
-          | inl is ↦ omega (arith, is)
-          | inr lt ↦ omega (arith, lt)
-        ])
+        | inl is ↦ omega (arith, is)
+        | inr lt ↦ omega (arith, lt)
+      ])
     ]
 
 clear_trivially : (n : ℕ) (actions : List Action) (stack : List Open) → Clear (n + 1) n actions stack
@@ -42,9 +42,9 @@ clear_trivially n actions stack = record {
   serves = λ a d among le serves. split d.begin;
   opens = λ o on. split o.dispatch.begin;
   inlines = λ o on inline. elim (lt_or_le o.dispatch.begin (n + 1)) [
-      | inl lt ↦ inl lt
-      | inr le ↦ inr (omega (arith, le))
-    ];
+    | inl lt ↦ inl lt
+    | inr le ↦ inr (omega (arith, le))
+  ];
 }
   where
     split : (k : ℕ) → (k < n + 1) ⊎ (n ≤ k)
@@ -78,13 +78,13 @@ starts : (b : ℕ) (h : List Record) (x : Record) → begins x ≡ true → (eve
     → Clear b (length (told h).actions) (told (x ∷ h)).actions (told (x ∷ h)).stack
 starts b h x begin number serves opens inlines = record {
   pieces = λ a among le. elim (among_cases h x a among) [
-      | inl now ↦ subst (λ (c : Action). (c.event.number < b) ⊎ (length (told h).actions ≤ c.event.number)) (sym now.1) (inr (omega (arith, number)))
-      | inr older ↦ absurd (omega (arith, le, among_below (told h).actions a (actions_are_numbered h) older))
-    ];
+    | inl now ↦ subst (λ (c : Action). (c.event.number < b) ⊎ (length (told h).actions ≤ c.event.number)) (sym now.1) (inr (omega (arith, number)))
+    | inr older ↦ absurd (omega (arith, le, among_below (told h).actions a (actions_are_numbered h) older))
+  ];
   serves = λ a d among le is. elim (among_cases h x a among) [
-      | inl now ↦ serves d (subst (λ (c : Action). Serves c.event.what d) now.1 is)
-      | inr older ↦ absurd (omega (arith, le, event_below (told h).actions a (told_before h) older))
-    ];
+    | inl now ↦ serves d (subst (λ (c : Action). Serves c.event.what d) now.1 is)
+    | inr older ↦ absurd (omega (arith, le, event_below (told h).actions a (told_before h) older))
+  ];
   opens = opens;
   inlines = inlines;
 }
@@ -175,5 +175,5 @@ is_clear (x ∷ h) is v among =
         elim (event_is h x is.1 placed) [
           | inl new ↦ subst (λ n. Clear (bound (event_begun (told h) x)) n (told (x ∷ h)).actions (told (x ∷ h)).stack) (sym new.1) (clear_now h x placed begin new.0)
           | inr back ↦ subst (λ (e : Event). Clear (bound e) e.number (told (x ∷ h)).actions (told (x ∷ h)).stack) (sym (ap (event_begun (told h)) back.1 ∙ back.2.event))
-            (grown back.2.caller.piece back.2.caller.among placed (rest back.2.caller.piece back.2.caller.among))
+              (grown back.2.caller.piece back.2.caller.among placed (rest back.2.caller.piece back.2.caller.among))
         ]

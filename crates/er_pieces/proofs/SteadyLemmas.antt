@@ -28,7 +28,7 @@ all_rules_are_steady =
       script = has_first five request_rules script_rules (has_first four timer_rules script_rules (has_first three dispatch_rules script_rules (has_first two load_rules script_rules (has_second parse_rules script_rules script_rules (has_itself script_rules)))));
       load = has_first five request_rules load_rules (has_first four timer_rules load_rules (has_first three dispatch_rules load_rules (has_second two load_rules load_rules (has_itself load_rules))));
       dispatch = has_first five request_rules dispatch_rules (has_first four timer_rules dispatch_rules (has_second three dispatch_rules dispatch_rules (has_itself dispatch_rules)));
-      timeouts = has_first five request_rules timeouts (has_second four timer_rules timeouts ( has_first timeouts rest timeouts (has_itself timeouts)));
+      timeouts = has_first five request_rules timeouts (has_second four timer_rules timeouts (has_first timeouts rest timeouts (has_itself timeouts)));
       ticks = has_first five request_rules ticks (has_second four timer_rules ticks (has_second ((18, set_before_timer) ∷ (19, timers_of_one_event_in_order) ∷ []) ticks ticks (has_itself ticks)));
       requests = has_second five request_rules request_rules (has_itself request_rules);
     }

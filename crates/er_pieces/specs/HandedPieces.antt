@@ -1,5 +1,5 @@
 -- The pieces that each group of rules hands for a record: latest pieces alone. Lists of records stand newest first.
-use Rattle.std.specs.Prelude.{ℕ, Bool, true, false, ◌==◌, nat_lt, if◌then◌else◌, List, [], ◌∷◌, ◌++◌, Option, Some, None}
+use Rattle.std.specs.Prelude.{ℕ, Bool, true, false, ◌==◌, nat_lt, if◌then◌else◌, List, [], ◌++◌, Option, Some, None}
 use Rattle.er_trace.specs.declared.record.Record.{Record}
 use Rattle.er_trace.specs.declared.record.Record.TheVariants.{Parse, ParseFrame, Exec, Timer, Tick, Dcl, Load, Eload, Fire, Wfire, Reply, Inline, Run, Close, Back}
 use Rattle.er_history.specs.History.{Form, Kinded, Framing, Element, Timeout, FireAt, WindowFire, Event, Action, History, first_to, makes_element, makes_timeout, maker_by, element_maker, declares_document, declares_handler, declares_interval, declares_request, event_begun, running}

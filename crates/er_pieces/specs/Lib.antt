@@ -1,4 +1,5 @@
 pub mod AnyTimers
+pub mod Contract
 pub mod Enough
 pub mod HandedPieces
 pub mod Hands
