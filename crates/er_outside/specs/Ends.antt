@@ -1,5 +1,6 @@
 -- What a source gives and a sink takes. The bytes of an end are told (`Some`) or not (`None`).
-use Rattle.std.specs.Prelude.{◌≡◌, ◌⊎◌, ℕ, ◌<◌, List, [], ◌++◌, length, take, Option, None, option_map, IfSome}
+use Rattle.std.specs.Prelude.{◌≡◌, ◌⊎◌, ℕ, ◌<◌, ◌≤◌, List, [], ◌++◌, length, take, Option, None, option_map, IfSome, Result, OnOk, OnErr}
+use Rattle.er_outside.specs.declared.ends.Failed.{Failed}
 
 -- the bytes of an end that does not tell them
 abbrev pub untold : Option (List ℕ)
@@ -28,3 +29,12 @@ Rose old new = (old < new) ⊎ (new ≡ last_count)
 -- a proper front of the bytes that are due came
 unfoldable pub GetsPart : Option (List ℕ) → List ℕ → Option (List ℕ) → Type 0
 GetsPart old due new = (n : ℕ) × (n < length due) × Gets old (take n due) new
+
+-- What writing the bytes that are due comes to, by what the sink got and counted before and after:
+-- all of them came and no fault, or a proper front of them and a fault.
+pub record Puts {S : Type 0} (got : S → Option (List ℕ)) (faults : S → ℕ) (old : S) (due : List ℕ) (new : S) (result : Result Unit Failed) : Type 0 where
+  pub whole : OnOk result (Gets (got old) due (got new))
+  pub stands : OnOk result (faults new ≡ faults old)
+  pub part : OnErr result (GetsPart (got old) due (got new))
+  pub cause : OnErr result (Rose (faults old) (faults new))
+  pub count : faults old ≤ faults new

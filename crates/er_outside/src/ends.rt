@@ -1,7 +1,9 @@
 //! The two traits of the outside, and what they answer when they fail.
 
-ghost use Rattle.std.specs.Prelude.{◌≡◌, ℕ, ◌<◌, ◌≤◌, List, length, take, Option, OnErr, IfOk};
+ghost use Rattle.std.specs.Prelude.{◌≡◌, ℕ, ◌<◌, ◌≤◌, List, length, take, Option, OnErr, IfOk, OnOk};
 ghost use Rattle.er_outside.specs.Ends.{Gives, Gets, IsSpent, Rose};
+
+use std::alloc::{AllocError, AllocFailed};
 
 /// A read or a write that failed.
 #[derive(Clone, Copy, Debug, PartialEq, Eq)]
@@ -11,11 +13,23 @@ pub struct Failed;
 #[derive(Clone, Copy, Debug, PartialEq, Eq)]
 pub struct NoMemory;
 
+impl From<AllocError> for NoMemory {
+    fn from(_: AllocError) -> NoMemory {
+        NoMemory
+    }
+}
+
+impl<T: Drop> From<AllocFailed<T>> for NoMemory {
+    fn from(_: AllocFailed<T>) -> NoMemory {
+        NoMemory
+    }
+}
+
 /// Where bytes come from.
 pub trait Source {
     /// The bytes still to come, where the source tells them.
     ghost left: { Self → Option (List ℕ) };
-    /// How many reads have failed. It stands still at its type's end.
+    /// How many reads have failed. Nothing else changes it, and it stands still at its type's end.
     ghost faults: { Self → ℕ };
 
     /// Fills a front of the buffer, and answers how many bytes it placed.
@@ -26,14 +40,15 @@ pub trait Source {
         ensures end { IfOk result (λ n. n ≡ 0 → 0 < length buf.new → IsSpent (left self.new)) }
         ensures kept { OnErr result (left self.new ≡ left self.old) }
         ensures cause { OnErr result (Rose (faults self.old) (faults self.new)) }
-        ensures count { faults self.old ≤ faults self.new };
+        ensures count { faults self.old ≤ faults self.new }
+        ensures stands { OnOk result (faults self.new ≡ faults self.old) };
 }
 
 /// Where bytes go.
 pub trait Sink {
     /// The bytes taken so far, where the sink tells them.
     ghost got: { Self → Option (List ℕ) };
-    /// How many writes have failed. It stands still at its type's end.
+    /// How many writes have failed. Nothing else changes it, and it stands still at its type's end.
     ghost faults: { Self → ℕ };
 
     /// Takes a front of the piece, and answers its length: at least one byte of a piece that is not empty.
@@ -43,5 +58,6 @@ pub trait Sink {
         ensures some { IfOk result (λ n. 0 < length piece.now → 0 < n) }
         ensures kept { OnErr result (got self.new ≡ got self.old) }
         ensures cause { OnErr result (Rose (faults self.old) (faults self.new)) }
-        ensures count { faults self.old ≤ faults self.new };
+        ensures count { faults self.old ≤ faults self.new }
+        ensures stands { OnOk result (faults self.new ≡ faults self.old) };
 }

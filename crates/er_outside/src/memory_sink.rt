@@ -1,6 +1,6 @@
 //! A sink into memory, whose calls fail where they are told to.
 
-ghost use Rattle.std.specs.Prelude.{◌≡◌, ◌↔◌, ◌⊎◌, ◌<◌, ◌≤◌, ◌-◌, ◌++◌, [], ℕ, min, length, take, Contains, Some, IfOk, OnErr, IsErr};
+ghost use Rattle.std.specs.Prelude.{◌≡◌, ◌↔◌, ◌⊎◌, ◌<◌, ◌≤◌, ◌-◌, ◌++◌, [], ℕ, min, length, take, Contains, Some, IfOk, OnOk, OnErr, IsErr};
 ghost use Rattle.er_outside.specs.Ends.{Gets, Rose};
 ghost use Rattle.er_outside.specs.Memory.{next_call, one_more};
 
@@ -48,11 +48,8 @@ impl MemorySink {
         requires { 0 < most }
         ensures { IfOk result (λ s. s ≡ record { got = []; room = room; most = most; failing = failing.items; calls = 0; faults = 0 }) }
     {
-        let Ok(bytes) = Vec::with_capacity(alloc, room as usize) else {
-            return Err(NoMemory);
-        };
         Ok(MemorySink {
-            bytes,
+            bytes: Vec::with_capacity(alloc, room as usize)?,
             room,
             most,
             calls: Calls::new(failing),
@@ -96,6 +93,7 @@ impl Sink for MemorySink {
         ensures kept { OnErr result (Some self.new.got ≡ Some self.old.got) }
         ensures cause { OnErr result (Rose self.old.faults self.new.faults) }
         ensures count { self.old.faults ≤ self.new.faults }
+        ensures stands { OnOk result (self.new.faults ≡ self.old.faults) }
         ensures fails { IsErr result ↔ ((0 < length piece.now) × (Contains self.old.failing (next_call self.old.calls) ⊎ (self.old.room ≤ length self.old.got))) }
         ensures amount { IfOk result (λ n. n ≡ min self.old.most (min (length piece.now) (self.old.room - length self.old.got))) }
         ensures after { IfOk result (λ n. self.new ≡ record self.old { got = self.old.got ++ take n piece.now; calls = next_call self.old.calls }) }

@@ -1,6 +1,6 @@
 //! A source over bytes in memory, whose calls fail where they are told to.
 
-ghost use Rattle.std.specs.Prelude.{◌≡◌, ◌↔◌, ◌<◌, ◌≤◌, ℕ, min, length, take, drop, Contains, Some, IfOk, OnErr, IsErr};
+ghost use Rattle.std.specs.Prelude.{◌≡◌, ◌↔◌, ◌<◌, ◌≤◌, ℕ, min, length, take, drop, Contains, Some, IfOk, OnOk, OnErr, IsErr};
 ghost use Rattle.er_outside.specs.Ends.{Gives, IsSpent, Rose};
 ghost use Rattle.er_outside.specs.Memory.{next_call, one_more};
 
@@ -78,6 +78,7 @@ impl Source for MemorySource {
         ensures kept { OnErr result (Some self.new.left ≡ Some self.old.left) }
         ensures cause { OnErr result (Rose self.old.faults self.new.faults) }
         ensures count { self.old.faults ≤ self.new.faults }
+        ensures stands { OnOk result (self.new.faults ≡ self.old.faults) }
         ensures fails { IsErr result ↔ Contains self.old.failing (next_call self.old.calls) }
         ensures amount { IfOk result (λ n. n ≡ min self.old.most (min (length buf.old) (length self.old.left))) }
         ensures rest { IfOk result (λ n. drop n buf.new ≡ drop n buf.old) }

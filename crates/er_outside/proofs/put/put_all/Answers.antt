@@ -1,4 +1,4 @@
-use Rattle.std.proofs.Common.{arith}
+use Rattle.std.proofs.Common.{arith, ◌∙◌}
 use Rattle.std.proofs.lemmas.Grind.{common_steps}
 use Rattle.er_outside.proofs.Puts.{gets_more}
 use Rattle.er_outside.proofs.put.put_all.Goals as goal
@@ -7,5 +7,5 @@ pub loop-done-preserved : goal.loop-done-preserved
 loop-done-preserved g c = record {
   within = grind (arith, common_steps);
   came = gets_more _ _ _ _ _ _ c.loop-done.invariant.within c.loop-done.invariant.came c.in_ok-done.ensures.got;
-  counted = omega (arith, c.loop-done.invariant.counted, c.write.ensures.count);
+  stands = c.in_ok-done.ensures.stands ∙ c.loop-done.invariant.stands;
 }
