@@ -3,7 +3,7 @@
 
 ghost use Rattle.std.specs.Prelude.{◌≡◌, ◌≢◌, ℕ, ◌+◌, ◌*◌, ◌≤◌, ◌<◌, List, ◌∷◌, ◌++◌, length, take, IfOk, IsOkAnd, MatchOption, IfSome, Some, OnOk, OnErr, slice_index};
 ghost use Rattle.std.specs.Iterator.{YieldsFirst, item_count};
-ghost use Rattle.er_outside.specs.Ends.{Gets, GetsPart, Rose};
+ghost use Rattle.er_outside.specs.Ends.{Puts};
 ghost use Rattle.er_text.specs.Name.{IsName, most_name, stands_for_itself, hex_digit, byte_spelling, name_spelling};
 
 use crate::numbers::BadToken;
@@ -205,10 +205,7 @@ fn spell_name(name: &[u8], buffer: &mut [u8]) -> usize
 pub fn put_name<K: Sink>(sink: &mut K, name: &[u8]) -> Result<(), Failed>
     requires some { 0 < length name.now }
     requires few { length name.now ≤ most_name }
-    ensures whole { OnOk result (Gets (K.got sink.old) (name_spelling name.now) (K.got sink.new)) }
-    ensures part { OnErr result (GetsPart (K.got sink.old) (name_spelling name.now) (K.got sink.new)) }
-    ensures cause { OnErr result (Rose (K.faults sink.old) (K.faults sink.new)) }
-    ensures count { K.faults sink.old ≤ K.faults sink.new }
+    ensures puts { Puts K.got K.faults sink.old (name_spelling name.now) sink.new result }
 {
     let mut buffer = [0; MOST_SPELLING];
     let end = spell_name(name, &mut buffer);

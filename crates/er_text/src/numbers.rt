@@ -1,7 +1,7 @@
 //! Numbers: decimal, without a sign and without leading zeros, and below 2 ^ 32.
 
 ghost use Rattle.std.specs.Prelude.{◌≡◌, ℕ, ◌≤◌, IfOk, OnOk, OnErr, Ok, length, decimal};
-ghost use Rattle.er_outside.specs.Ends.{Gets, GetsPart, Rose};
+ghost use Rattle.er_outside.specs.Ends.{Puts};
 ghost use Rattle.std.specs.Option.{SomeIff};
 ghost use Rattle.std.specs.Str.Parse.{AllDigits, digits_value};
 ghost use Rattle.er_text.specs.Number.{IsNumber};
@@ -57,10 +57,7 @@ pub fn read_number(word: &[u8]) -> Result<u32, BadToken>
 
 /// Writes a number in decimal. It takes no memory.
 pub fn put_number<K: Sink>(sink: &mut K, n: u64) -> Result<(), Failed>
-    ensures whole { OnOk result (Gets (K.got sink.old) (decimal n) (K.got sink.new)) }
-    ensures part { OnErr result (GetsPart (K.got sink.old) (decimal n) (K.got sink.new)) }
-    ensures cause { OnErr result (Rose (K.faults sink.old) (K.faults sink.new)) }
-    ensures count { K.faults sink.old ≤ K.faults sink.new }
+    ensures puts { Puts K.got K.faults sink.old (decimal n) sink.new result }
 {
     let mut buffer = Buffer::new();
     put_all(sink, buffer.format(n).as_bytes())

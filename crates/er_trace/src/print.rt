@@ -2,7 +2,7 @@
 
 ghost use Rattle.std.specs.Prelude.{ℕ, ◌≤◌, List, [], ◌∷◌, map, decimal, OnOk, OnErr, codes};
 ghost use Rattle.std.specs.List.{AllByRecursion};
-ghost use Rattle.er_outside.specs.Ends.{Gets, GetsPart, Rose};
+ghost use Rattle.er_outside.specs.Ends.{Puts};
 ghost use Rattle.er_text.specs.Name.{IsName};
 ghost use Rattle.er_trace.specs.Items.{IsItem, item_spelling, items_spelling, Word, Number, Named};
 ghost use Rattle.er_trace.specs.Spelling.{loc_spelling, loc_items, mode_word, spelling, IsLoc, IsRecord};
@@ -23,10 +23,7 @@ enum Token<'a> {
 
 fn put_token<K: Sink>(sink: &mut K, token: &Token) -> Result<(), Failed>
     requires { IsItem (token_item token.now) }
-    ensures whole { OnOk result (Gets (K.got sink.old) (item_spelling (token_item token.now)) (K.got sink.new)) }
-    ensures part { OnErr result (GetsPart (K.got sink.old) (item_spelling (token_item token.now)) (K.got sink.new)) }
-    ensures cause { OnErr result (Rose (K.faults sink.old) (K.faults sink.new)) }
-    ensures count { K.faults sink.old ≤ K.faults sink.new }
+    ensures puts { Puts K.got K.faults sink.old (item_spelling (token_item token.now)) sink.new result }
 {
     match token {
         Token::Text(word) => put_all(sink, word.as_bytes()),
@@ -39,10 +36,7 @@ fn put_token<K: Sink>(sink: &mut K, token: &Token) -> Result<(), Failed>
 #[tactic(auto, using(crate::proofs::PrintLaws::after_byte, er_outside::proofs::Puts::composes))]
 fn put_next<K: Sink>(sink: &mut K, token: &Token) -> Result<(), Failed>
     requires { IsItem (token_item token.now) }
-    ensures whole { OnOk result (Gets (K.got sink.old) (32 ∷ item_spelling (token_item token.now)) (K.got sink.new)) }
-    ensures part { OnErr result (GetsPart (K.got sink.old) (32 ∷ item_spelling (token_item token.now)) (K.got sink.new)) }
-    ensures cause { OnErr result (Rose (K.faults sink.old) (K.faults sink.new)) }
-    ensures count { K.faults sink.old ≤ K.faults sink.new }
+    ensures puts { Puts K.got K.faults sink.old (32 ∷ item_spelling (token_item token.now)) sink.new result }
 {
     put_all(sink, b" ")?;
     put_token(sink, token)
@@ -52,10 +46,7 @@ fn put_next<K: Sink>(sink: &mut K, token: &Token) -> Result<(), Failed>
 #[tactic(auto, using(crate::proofs::PrintLaws::tokens_writes, crate::proofs::PrintLaws::token_fits, er_outside::proofs::Puts::composes))]
 fn put_tokens<K: Sink>(sink: &mut K, word: &str, later: &[Token]) -> Result<(), Failed>
     requires { AllByRecursion IsItem (map token_item later.now) }
-    ensures whole { OnOk result (Gets (K.got sink.old) (tokens_spelling word.now later.now) (K.got sink.new)) }
-    ensures part { OnErr result (GetsPart (K.got sink.old) (tokens_spelling word.now later.now) (K.got sink.new)) }
-    ensures cause { OnErr result (Rose (K.faults sink.old) (K.faults sink.new)) }
-    ensures count { K.faults sink.old ≤ K.faults sink.new }
+    ensures puts { Puts K.got K.faults sink.old (tokens_spelling word.now later.now) sink.new result }
 {
     put_all(sink, word.as_bytes())?;
     for token in later {
@@ -65,28 +56,19 @@ fn put_tokens<K: Sink>(sink: &mut K, word: &str, later: &[Token]) -> Result<(), 
 }
 
 fn put_one<K: Sink>(sink: &mut K, word: &str, a: u32) -> Result<(), Failed>
-    ensures whole { OnOk result (Gets (K.got sink.old) (items_spelling (Word word.now ∷ Number a ∷ [])) (K.got sink.new)) }
-    ensures part { OnErr result (GetsPart (K.got sink.old) (items_spelling (Word word.now ∷ Number a ∷ [])) (K.got sink.new)) }
-    ensures cause { OnErr result (Rose (K.faults sink.old) (K.faults sink.new)) }
-    ensures count { K.faults sink.old ≤ K.faults sink.new }
+    ensures puts { Puts K.got K.faults sink.old (items_spelling (Word word.now ∷ Number a ∷ [])) sink.new result }
 {
     put_tokens(sink, word, &[Token::Number(a)])
 }
 
 fn put_two<K: Sink>(sink: &mut K, word: &str, a: u32, b: u32) -> Result<(), Failed>
-    ensures whole { OnOk result (Gets (K.got sink.old) (items_spelling (Word word.now ∷ Number a ∷ Number b ∷ [])) (K.got sink.new)) }
-    ensures part { OnErr result (GetsPart (K.got sink.old) (items_spelling (Word word.now ∷ Number a ∷ Number b ∷ [])) (K.got sink.new)) }
-    ensures cause { OnErr result (Rose (K.faults sink.old) (K.faults sink.new)) }
-    ensures count { K.faults sink.old ≤ K.faults sink.new }
+    ensures puts { Puts K.got K.faults sink.old (items_spelling (Word word.now ∷ Number a ∷ Number b ∷ [])) sink.new result }
 {
     put_tokens(sink, word, &[Token::Number(a), Token::Number(b)])
 }
 
 fn put_three<K: Sink>(sink: &mut K, word: &str, a: u32, b: u32, c: u32) -> Result<(), Failed>
-    ensures whole { OnOk result (Gets (K.got sink.old) (items_spelling (Word word.now ∷ Number a ∷ Number b ∷ Number c ∷ [])) (K.got sink.new)) }
-    ensures part { OnErr result (GetsPart (K.got sink.old) (items_spelling (Word word.now ∷ Number a ∷ Number b ∷ Number c ∷ [])) (K.got sink.new)) }
-    ensures cause { OnErr result (Rose (K.faults sink.old) (K.faults sink.new)) }
-    ensures count { K.faults sink.old ≤ K.faults sink.new }
+    ensures puts { Puts K.got K.faults sink.old (items_spelling (Word word.now ∷ Number a ∷ Number b ∷ Number c ∷ [])) sink.new result }
 {
     put_tokens(
         sink,
@@ -103,10 +85,7 @@ fn put_two_and_name<K: Sink>(
     name: &Name,
 ) -> Result<(), Failed>
     ensures name { IsName name.now }
-    ensures whole { OnOk result (Gets (K.got sink.old) (items_spelling (Word word.now ∷ Number a ∷ Number b ∷ Named name.now ∷ [])) (K.got sink.new)) }
-    ensures part { OnErr result (GetsPart (K.got sink.old) (items_spelling (Word word.now ∷ Number a ∷ Number b ∷ Named name.now ∷ [])) (K.got sink.new)) }
-    ensures cause { OnErr result (Rose (K.faults sink.old) (K.faults sink.new)) }
-    ensures count { K.faults sink.old ≤ K.faults sink.new }
+    ensures puts { Puts K.got K.faults sink.old (items_spelling (Word word.now ∷ Number a ∷ Number b ∷ Named name.now ∷ [])) sink.new result }
 {
     put_tokens(
         sink,
@@ -126,10 +105,7 @@ fn put_made<K: Sink>(
     element: u32,
     kind: &str,
 ) -> Result<(), Failed>
-    ensures whole { OnOk result (Gets (K.got sink.old) (items_spelling (Word word.now ∷ Number doc ∷ Number element ∷ Word kind.now ∷ [])) (K.got sink.new)) }
-    ensures part { OnErr result (GetsPart (K.got sink.old) (items_spelling (Word word.now ∷ Number doc ∷ Number element ∷ Word kind.now ∷ [])) (K.got sink.new)) }
-    ensures cause { OnErr result (Rose (K.faults sink.old) (K.faults sink.new)) }
-    ensures count { K.faults sink.old ≤ K.faults sink.new }
+    ensures puts { Puts K.got K.faults sink.old (items_spelling (Word word.now ∷ Number doc ∷ Number element ∷ Word kind.now ∷ [])) sink.new result }
 {
     put_tokens(
         sink,
@@ -149,10 +125,7 @@ fn put_frame<K: Sink>(
     element: u32,
     inner: u32,
 ) -> Result<(), Failed>
-    ensures whole { OnOk result (Gets (K.got sink.old) (items_spelling (Word word.now ∷ Number doc ∷ Number element ∷ Word (codes "frame") ∷ Number inner ∷ [])) (K.got sink.new)) }
-    ensures part { OnErr result (GetsPart (K.got sink.old) (items_spelling (Word word.now ∷ Number doc ∷ Number element ∷ Word (codes "frame") ∷ Number inner ∷ [])) (K.got sink.new)) }
-    ensures cause { OnErr result (Rose (K.faults sink.old) (K.faults sink.new)) }
-    ensures count { K.faults sink.old ≤ K.faults sink.new }
+    ensures puts { Puts K.got K.faults sink.old (items_spelling (Word word.now ∷ Number doc ∷ Number element ∷ Word (codes "frame") ∷ Number inner ∷ [])) sink.new result }
 {
     put_tokens(
         sink,
@@ -168,10 +141,7 @@ fn put_frame<K: Sink>(
 
 fn put_located<K: Sink>(sink: &mut K, word: &str, number: u32, name: &Name) -> Result<(), Failed>
     ensures name { IsName name.now }
-    ensures whole { OnOk result (Gets (K.got sink.old) (items_spelling (Word word.now ∷ Number number ∷ Named name.now ∷ [])) (K.got sink.new)) }
-    ensures part { OnErr result (GetsPart (K.got sink.old) (items_spelling (Word word.now ∷ Number number ∷ Named name.now ∷ [])) (K.got sink.new)) }
-    ensures cause { OnErr result (Rose (K.faults sink.old) (K.faults sink.new)) }
-    ensures count { K.faults sink.old ≤ K.faults sink.new }
+    ensures puts { Puts K.got K.faults sink.old (items_spelling (Word word.now ∷ Number number ∷ Named name.now ∷ [])) sink.new result }
 {
     put_tokens(
         sink,
@@ -183,10 +153,7 @@ fn put_located<K: Sink>(sink: &mut K, word: &str, number: u32, name: &Name) -> R
 /// Writes the location as it is spelled. Any location can be printed (`fits`).
 pub fn print_loc<K: Sink>(loc: &Loc, sink: &mut K) -> Result<(), Failed>
     ensures fits { IsLoc loc.now }
-    ensures whole { OnOk result (Gets (K.got sink.old) (loc_spelling loc.now) (K.got sink.new)) }
-    ensures part { OnErr result (GetsPart (K.got sink.old) (loc_spelling loc.now) (K.got sink.new)) }
-    ensures cause { OnErr result (Rose (K.faults sink.old) (K.faults sink.new)) }
-    ensures count { K.faults sink.old ≤ K.faults sink.new }
+    ensures puts { Puts K.got K.faults sink.old (loc_spelling loc.now) sink.new result }
 {
     match loc {
         Loc::Var(object, name) => put_located(sink, "var", *object, name),
@@ -203,10 +170,7 @@ fn put_access<'a, K: Sink>(
     name: &'a Name,
 ) -> Result<(), Failed>
     ensures name { IsName name.now }
-    ensures whole { OnOk result (Gets (K.got sink.old) (items_spelling (Word word.now ∷ Word place.now ∷ Number number ∷ Named name.now ∷ [])) (K.got sink.new)) }
-    ensures part { OnErr result (GetsPart (K.got sink.old) (items_spelling (Word word.now ∷ Word place.now ∷ Number number ∷ Named name.now ∷ [])) (K.got sink.new)) }
-    ensures cause { OnErr result (Rose (K.faults sink.old) (K.faults sink.new)) }
-    ensures count { K.faults sink.old ≤ K.faults sink.new }
+    ensures puts { Puts K.got K.faults sink.old (items_spelling (Word word.now ∷ Word place.now ∷ Number number ∷ Named name.now ∷ [])) sink.new result }
 {
     put_tokens(
         sink,
@@ -221,10 +185,7 @@ fn put_access<'a, K: Sink>(
 
 fn print_access<K: Sink>(mode: Mode, loc: &Loc, sink: &mut K) -> Result<(), Failed>
     ensures fits { IsLoc loc.now }
-    ensures whole { OnOk result (Gets (K.got sink.old) (items_spelling (Word (mode_word mode) ∷ loc_items loc.now)) (K.got sink.new)) }
-    ensures part { OnErr result (GetsPart (K.got sink.old) (items_spelling (Word (mode_word mode) ∷ loc_items loc.now)) (K.got sink.new)) }
-    ensures cause { OnErr result (Rose (K.faults sink.old) (K.faults sink.new)) }
-    ensures count { K.faults sink.old ≤ K.faults sink.new }
+    ensures puts { Puts K.got K.faults sink.old (items_spelling (Word (mode_word mode) ∷ loc_items loc.now)) sink.new result }
 {
     let word = mode.word();
     match loc {
@@ -239,10 +200,7 @@ fn print_access<K: Sink>(mode: Mode, loc: &Loc, sink: &mut K) -> Result<(), Fail
 /// (its clause `exact`).
 pub fn print_record<K: Sink>(rec: &Record, sink: &mut K) -> Result<(), Failed>
     ensures fits { IsRecord rec.now }
-    ensures whole { OnOk result (Gets (K.got sink.old) (spelling rec.now) (K.got sink.new)) }
-    ensures part { OnErr result (GetsPart (K.got sink.old) (spelling rec.now) (K.got sink.new)) }
-    ensures cause { OnErr result (Rose (K.faults sink.old) (K.faults sink.new)) }
-    ensures count { K.faults sink.old ≤ K.faults sink.new }
+    ensures puts { Puts K.got K.faults sink.old (spelling rec.now) sink.new result }
 {
     match rec {
         Record::Parse { doc, element, kind } => put_made(
