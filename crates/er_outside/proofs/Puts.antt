@@ -1,11 +1,9 @@
 -- What a sequence of reads or writes does, from what each of them does.
-use Rattle.std.specs.Prelude.{Result, IsErr}
-use Rattle.std.proofs.Common.{Ok, Err, ◌∙◌, ◌≡◌, ℕ, ◌+◌, ◌-◌, ◌<◌, ◌≤◌, inl, inr, List, [], ◌++◌, length, take, drop, Option, Some, None, refl, append-nil, length-append, arith}
+use Rattle.std.proofs.Common.{◌≡◌, ℕ, ◌+◌, ◌-◌, ◌<◌, ◌≤◌, inl, inr, List, [], ◌++◌, length, take, drop, Option, Some, None, refl, append-nil, length-append, arith}
 use Rattle.std.proofs.lemmas.List.{take-append-le}
 use Rattle.std.proofs.lemmas.Grind.{common_steps}
 use Rattle.std.proofs.Math.Seq.{take-append-add, take-add}
-use Rattle.er_outside.specs.Ends.{Gives, Gets, GetsPart, Puts, Rose, last_count}
-use Rattle.er_outside.specs.declared.ends.Failed.{Failed}
+use Rattle.er_outside.specs.Ends.{Gives, Gets, GetsPart, Rose, last_count}
 
 -- nothing changes nothing
 pub gets_nothing : (old : Option (List ℕ)) → Gets old [] old
@@ -65,35 +63,5 @@ gets_more old mid new piece done n within first second =
     let e : take (done + n) piece ≡ take done piece ++ take n (drop done piece) = take-add done n piece in
     rw e (gets_again old mid new (take done piece) (take n (drop done piece)) first (rw rest at second))
 
--- one write after another
-pub puts_again : {S : Type 0} (got : S → Option (List ℕ)) (faults : S → ℕ) (old mid new : S) (a b : List ℕ) (u : Unit {0}) (r : Result Unit Failed)
-    → Puts got faults old a mid (Ok u) → Puts got faults mid b new r → Puts got faults old (a ++ b) new r
-puts_again got faults old mid new a b u (Ok v) first second = record {
-  whole = gets_again (got old) (got mid) (got new) a b first.whole second.whole;
-  stands = second.stands ∙ first.stands;
-  part = tt;
-  cause = tt;
-  count = omega (arith, first.count, second.count);
-}
-puts_again got faults old mid new a b u (Err e) first second = record {
-  whole = tt;
-  stands = tt;
-  part = gets_part_later (got old) (got mid) (got new) a b first.whole second.part;
-  cause = rose_later (faults old) (faults mid) (faults new) first.count second.cause;
-  count = omega (arith, first.count, second.count);
-}
-
--- the first write fails
-pub puts_stopped : {S : Type 0} (got : S → Option (List ℕ)) (faults : S → ℕ) (old new : S) (a b : List ℕ) (e : Failed) (r : Result Unit Failed)
-    → Puts got faults old a new (Err e) → IsErr r → Puts got faults old (a ++ b) new r
-puts_stopped got faults old new a b e (Ok u) first is = absurd (grind arith)
-puts_stopped got faults old new a b e (Err d) first is = record {
-  whole = tt;
-  stands = tt;
-  part = gets_part_first (got old) (got new) a b first.part;
-  cause = first.cause;
-  count = first.count;
-}
-
 -- what makes a sequence of writes, and of reads
-pub ruleset composes = (gets_nothing, gets_nothing_back, gets_again, gets_part_later, gets_part_first, gives_nothing, gives_nothing_back, gives_again, rose_later, puts_again, puts_stopped)
+pub ruleset composes = (gets_nothing, gets_nothing_back, gets_again, gets_part_later, gets_part_first, gives_nothing, gives_nothing_back, gives_again, rose_later)

@@ -74,7 +74,7 @@ reads_more word count b rest later h small e = record {
       ∙ ap (λ front. front ++ later) (sym (name_spelling-append h.done (b ∷ []) ∙ ap (λ one. name_spelling h.done ++ one) (append-nil (byte_spelling b)))));
 }
 
-pub reads_all : (word : List ℕ) (count : ℕ) (rest : List ℕ) → ReadsBytes word count rest → length rest ≡ 0 → 0 < count → count ≤ 255 → IsNameWord word count
+pub reads_all : (word : List ℕ) (count : ℕ) (rest : List ℕ) → ReadsBytes word count rest → length rest ≡ 0 → 0 < count → count ≤ most_name → IsNameWord word count
 reads_all word count rest h end some few =
     let nothing : rest ≡ [] = grind (arith, common_steps) in
     let e : word ≡ name_spelling h.done = (h.same ∙ ap (λ r. name_spelling h.done ++ r) nothing) ∙ append-nil (name_spelling h.done) in

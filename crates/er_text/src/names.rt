@@ -161,7 +161,7 @@ pub fn read_name(word: &[u8]) -> Result<NameWord<'_>, BadToken>
 }
 
 /// How many bytes the longest spelling of a name has: three for each of its bytes.
-const MOST_SPELLING: usize = 765;
+const MOST_SPELLING: usize = 3 * MOST_NAME;
 
 /// The hexadecimal digit of a number below 16, in upper case.
 fn digit_of(n: u8) -> u8
@@ -205,7 +205,7 @@ fn spell_name(name: &[u8], buffer: &mut [u8]) -> usize
 pub fn put_name<K: Sink>(sink: &mut K, name: &[u8]) -> Result<(), Failed>
     requires some { 0 < length name.now }
     requires few { length name.now ≤ most_name }
-    ensures puts { Puts K.got K.faults sink.old (name_spelling name.now) sink.new result }
+    ensures { Puts K.got K.faults sink.old (name_spelling name.now) sink.new result }
 {
     let mut buffer = [0; MOST_SPELLING];
     let end = spell_name(name, &mut buffer);

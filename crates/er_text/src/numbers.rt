@@ -57,7 +57,7 @@ pub fn read_number(word: &[u8]) -> Result<u32, BadToken>
 
 /// Writes a number in decimal. It takes no memory.
 pub fn put_number<K: Sink>(sink: &mut K, n: u64) -> Result<(), Failed>
-    ensures puts { Puts K.got K.faults sink.old (decimal n) sink.new result }
+    ensures { Puts K.got K.faults sink.old (decimal n) sink.new result }
 {
     let mut buffer = Buffer::new();
     put_all(sink, buffer.format(n).as_bytes())

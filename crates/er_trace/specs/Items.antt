@@ -17,7 +17,7 @@ item_spelling (Named name) = name_spelling name
 abbrev pub items_spelling : List Item → List ℕ
 items_spelling items = joined (map item_spelling items)
 
--- what has a spelling: a number below 2 ^ 32, a name of 1 to 255 bytes
+-- what has a spelling: a number below 2 ^ 32, a name of 1 to `most_name` bytes
 abbrev pub IsItem : Item → Type 0
 IsItem (Word bytes) = Unit {0}
 IsItem (Number n) = n < 2 ^ 32

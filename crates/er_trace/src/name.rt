@@ -14,7 +14,7 @@ use std::alloc::Global;
 use std::hash::{Hash, Hasher};
 use std::marker::Model;
 
-/// A name: 1 to 255 bytes of any value. A contract sees it as the list of its bytes.
+/// A name: 1 to `MOST_NAME` bytes of any value. A contract sees it as the list of its bytes.
 #[derive(Drop)]
 pub struct Name {
     bytes: Vec<u8>,
@@ -38,10 +38,8 @@ impl Name {
         requires few { length bytes.now ≤ most_name }
         ensures { IfOk result (λ name. name ≡ bytes.now) }
     {
-        match Vec::from_slice(alloc, bytes) {
-            Ok(bytes) => Ok(Name { bytes }),
-            Err(_) => Err(NoMemory),
-        }
+        let bytes = Vec::from_slice(alloc, bytes)?;
+        Ok(Name { bytes })
     }
 
     /// The name that is spelled so.
@@ -50,9 +48,7 @@ impl Name {
     {
         let mut bytes = Vec::new(alloc);
         for byte in word.bytes() {
-            let Ok(()) = bytes.push(byte) else {
-                return Err(NoMemory);
-            };
+            bytes.push(byte)?;
         }
         Ok(Name { bytes })
     }

@@ -23,7 +23,7 @@ enum Token<'a> {
 
 fn put_token<K: Sink>(sink: &mut K, token: &Token) -> Result<(), Failed>
     requires { IsItem (token_item token.now) }
-    ensures puts { Puts K.got K.faults sink.old (item_spelling (token_item token.now)) sink.new result }
+    ensures { Puts K.got K.faults sink.old (item_spelling (token_item token.now)) sink.new result }
 {
     match token {
         Token::Text(word) => put_all(sink, word.as_bytes()),
@@ -36,7 +36,7 @@ fn put_token<K: Sink>(sink: &mut K, token: &Token) -> Result<(), Failed>
 #[tactic(auto, using(crate::proofs::PrintLaws::after_byte, er_outside::proofs::Puts::composes))]
 fn put_next<K: Sink>(sink: &mut K, token: &Token) -> Result<(), Failed>
     requires { IsItem (token_item token.now) }
-    ensures puts { Puts K.got K.faults sink.old (32 ∷ item_spelling (token_item token.now)) sink.new result }
+    ensures { Puts K.got K.faults sink.old (32 ∷ item_spelling (token_item token.now)) sink.new result }
 {
     put_all(sink, b" ")?;
     put_token(sink, token)
@@ -46,7 +46,7 @@ fn put_next<K: Sink>(sink: &mut K, token: &Token) -> Result<(), Failed>
 #[tactic(auto, using(crate::proofs::PrintLaws::tokens_writes, crate::proofs::PrintLaws::token_fits, er_outside::proofs::Puts::composes))]
 fn put_tokens<K: Sink>(sink: &mut K, word: &str, later: &[Token]) -> Result<(), Failed>
     requires { AllByRecursion IsItem (map token_item later.now) }
-    ensures puts { Puts K.got K.faults sink.old (tokens_spelling word.now later.now) sink.new result }
+    ensures { Puts K.got K.faults sink.old (tokens_spelling word.now later.now) sink.new result }
 {
     put_all(sink, word.as_bytes())?;
     for token in later {
@@ -56,19 +56,19 @@ fn put_tokens<K: Sink>(sink: &mut K, word: &str, later: &[Token]) -> Result<(), 
 }
 
 fn put_one<K: Sink>(sink: &mut K, word: &str, a: u32) -> Result<(), Failed>
-    ensures puts { Puts K.got K.faults sink.old (items_spelling (Word word.now ∷ Number a ∷ [])) sink.new result }
+    ensures { Puts K.got K.faults sink.old (items_spelling (Word word.now ∷ Number a ∷ [])) sink.new result }
 {
     put_tokens(sink, word, &[Token::Number(a)])
 }
 
 fn put_two<K: Sink>(sink: &mut K, word: &str, a: u32, b: u32) -> Result<(), Failed>
-    ensures puts { Puts K.got K.faults sink.old (items_spelling (Word word.now ∷ Number a ∷ Number b ∷ [])) sink.new result }
+    ensures { Puts K.got K.faults sink.old (items_spelling (Word word.now ∷ Number a ∷ Number b ∷ [])) sink.new result }
 {
     put_tokens(sink, word, &[Token::Number(a), Token::Number(b)])
 }
 
 fn put_three<K: Sink>(sink: &mut K, word: &str, a: u32, b: u32, c: u32) -> Result<(), Failed>
-    ensures puts { Puts K.got K.faults sink.old (items_spelling (Word word.now ∷ Number a ∷ Number b ∷ Number c ∷ [])) sink.new result }
+    ensures { Puts K.got K.faults sink.old (items_spelling (Word word.now ∷ Number a ∷ Number b ∷ Number c ∷ [])) sink.new result }
 {
     put_tokens(
         sink,
@@ -105,7 +105,7 @@ fn put_made<K: Sink>(
     element: u32,
     kind: &str,
 ) -> Result<(), Failed>
-    ensures puts { Puts K.got K.faults sink.old (items_spelling (Word word.now ∷ Number doc ∷ Number element ∷ Word kind.now ∷ [])) sink.new result }
+    ensures { Puts K.got K.faults sink.old (items_spelling (Word word.now ∷ Number doc ∷ Number element ∷ Word kind.now ∷ [])) sink.new result }
 {
     put_tokens(
         sink,
@@ -125,7 +125,7 @@ fn put_frame<K: Sink>(
     element: u32,
     inner: u32,
 ) -> Result<(), Failed>
-    ensures puts { Puts K.got K.faults sink.old (items_spelling (Word word.now ∷ Number doc ∷ Number element ∷ Word (codes "frame") ∷ Number inner ∷ [])) sink.new result }
+    ensures { Puts K.got K.faults sink.old (items_spelling (Word word.now ∷ Number doc ∷ Number element ∷ Word (codes "frame") ∷ Number inner ∷ [])) sink.new result }
 {
     put_tokens(
         sink,
