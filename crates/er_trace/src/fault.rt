@@ -1,5 +1,8 @@
 //! Why a line or a trace was not read.
 
+ghost use Rattle.std.specs.Prelude.{◌≡◌};
+
+use er_outside::NoMemory;
 use er_text::Cause;
 use thiserror::Error;
 
@@ -10,6 +13,16 @@ pub enum LineFault {
     BadRecord,
     #[error("out of memory")]
     NoMemory,
+}
+
+impl From<NoMemory> for LineFault {
+    ghost use Rattle.er_trace.specs.declared.fault.LineFault.TheVariants as faults;
+
+    ghost from_gives = { λ _ fault. fault ≡ faults.NoMemory };
+
+    fn from(_: NoMemory) -> LineFault {
+        LineFault::NoMemory
+    }
 }
 
 /// Why a trace was not read to its end.

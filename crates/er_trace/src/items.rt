@@ -72,10 +72,8 @@ fn last_name(alloc: Global, words: &mut Words) -> Result<Name, LineFault>
     let Some(word) = last_word(words) else {
         return Err(LineFault::BadRecord);
     };
-    match Name::of_word(alloc, &word) {
-        Ok(name) => Ok(name),
-        Err(_) => Err(LineFault::NoMemory),
-    }
+    let name = Name::of_word(alloc, &word)?;
+    Ok(name)
 }
 
 /// The number and the name that are all that is left.
@@ -86,10 +84,8 @@ pub fn number_and_name(alloc: Global, words: &mut Words) -> Result<(u32, Name), 
     let Some(a) = number(words) else {
         return Err(LineFault::BadRecord);
     };
-    match last_name(alloc, words) {
-        Ok(name) => Ok((a, name)),
-        Err(fault) => Err(fault),
-    }
+    let name = last_name(alloc, words)?;
+    Ok((a, name))
 }
 
 /// The two numbers and the name that are all that is left.
@@ -100,8 +96,6 @@ pub fn two_numbers_and_name(alloc: Global, words: &mut Words) -> Result<(u32, u3
     let Some(a) = number(words) else {
         return Err(LineFault::BadRecord);
     };
-    match number_and_name(alloc, words) {
-        Ok((b, name)) => Ok((a, b, name)),
-        Err(fault) => Err(fault),
-    }
+    let (b, name) = number_and_name(alloc, words)?;
+    Ok((a, b, name))
 }

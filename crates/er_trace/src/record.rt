@@ -185,12 +185,12 @@ pub enum Record {
     On {
         handler: u32,
     },
-    /// Sets a timeout. The delay is in milliseconds.
+    /// Sets a timeout. The delay is in any unit, one for the whole trace.
     Set {
         timeout: u32,
         delay: u32,
     },
-    /// Sets an interval. The delay is in milliseconds.
+    /// Sets an interval. The delay is in the same unit.
     Every {
         interval: u32,
         delay: u32,
