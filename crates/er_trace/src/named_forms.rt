@@ -18,42 +18,36 @@ pub fn fire_form(alloc: Global, words: &mut Words) -> Result<Record, LineFault>
     ensures read { IfOk result (λ x. GoesOn Head.Fire x words.old) }
     ensures exact { (x : Record) → GoesOn Head.Fire x words.old → (result ≡ Ok x) ⊎ (result ≡ Err LineFault.NoMemory) }
 {
-    match two_numbers_and_name(alloc, words) {
-        Ok((dispatch, element, name)) => Ok(Record::Fire {
-            dispatch,
-            element,
-            name,
-        }),
-        Err(fault) => Err(fault),
-    }
+    let (dispatch, element, name) = two_numbers_and_name(alloc, words)?;
+    Ok(Record::Fire {
+        dispatch,
+        element,
+        name,
+    })
 }
 
 pub fn wfire_form(alloc: Global, words: &mut Words) -> Result<Record, LineFault>
     ensures read { IfOk result (λ x. GoesOn Head.Wfire x words.old) }
     ensures exact { (x : Record) → GoesOn Head.Wfire x words.old → (result ≡ Ok x) ⊎ (result ≡ Err LineFault.NoMemory) }
 {
-    match two_numbers_and_name(alloc, words) {
-        Ok((dispatch, doc, name)) => Ok(Record::Wfire {
-            dispatch,
-            doc,
-            name,
-        }),
-        Err(fault) => Err(fault),
-    }
+    let (dispatch, doc, name) = two_numbers_and_name(alloc, words)?;
+    Ok(Record::Wfire {
+        dispatch,
+        doc,
+        name,
+    })
 }
 
 pub fn inline_form(alloc: Global, words: &mut Words) -> Result<Record, LineFault>
     ensures read { IfOk result (λ x. GoesOn Head.Inline x words.old) }
     ensures exact { (x : Record) → GoesOn Head.Inline x words.old → (result ≡ Ok x) ⊎ (result ≡ Err LineFault.NoMemory) }
 {
-    match two_numbers_and_name(alloc, words) {
-        Ok((dispatch, element, name)) => Ok(Record::Inline {
-            dispatch,
-            element,
-            name,
-        }),
-        Err(fault) => Err(fault),
-    }
+    let (dispatch, element, name) = two_numbers_and_name(alloc, words)?;
+    Ok(Record::Inline {
+        dispatch,
+        element,
+        name,
+    })
 }
 
 /// The location that is all that is left.
@@ -64,10 +58,7 @@ fn location(alloc: Global, words: &mut Words) -> Result<Loc, LineFault>
     let Some(word) = words.next() else {
         return Err(LineFault::BadRecord);
     };
-    let (number, name) = match number_and_name(alloc, words) {
-        Ok(pair) => pair,
-        Err(fault) => return Err(fault),
-    };
+    let (number, name) = number_and_name(alloc, words)?;
     if is_word(word, "var") {
         return Ok(Loc::Var(number, name));
     }
@@ -84,8 +75,6 @@ pub fn access_form(alloc: Global, mode: Mode, words: &mut Words) -> Result<Recor
     ensures read { IfOk result (λ x. GoesOn (mode_head mode) x words.old) }
     ensures exact { (x : Record) → GoesOn (mode_head mode) x words.old → (result ≡ Ok x) ⊎ (result ≡ Err LineFault.NoMemory) }
 {
-    match location(alloc, words) {
-        Ok(loc) => Ok(Record::Access { mode, loc }),
-        Err(fault) => Err(fault),
-    }
+    let loc = location(alloc, words)?;
+    Ok(Record::Access { mode, loc })
 }
