@@ -1,5 +1,5 @@
 -- The bytes that stand between words and at the end of a line.
-use Rattle.std.specs.Prelude.{ℕ, List, Bool, not, ◌==◌}
+use Rattle.std.specs.Prelude.{ℕ, List, Bool, not, ◌==◌, filter, length}
 use Rattle.std.specs.List.{list_all}
 
 abbrev pub space : ℕ
@@ -18,3 +18,7 @@ has_no_space word = lacks space word
 
 abbrev pub has_no_lf : List ℕ → Bool
 has_no_lf line = lacks line_end line
+
+-- how many LFs the bytes have
+abbrev pub count_of_lf : List ℕ → ℕ
+count_of_lf bytes = length (filter (λ b. b == line_end) bytes)

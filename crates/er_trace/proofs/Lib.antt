@@ -7,3 +7,4 @@ pub mod PrintLaws
 pub mod OneRecord
 pub mod OneTrace
 pub mod WholeLaws
+pub mod LinesBefore

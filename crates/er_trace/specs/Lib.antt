@@ -1,5 +1,6 @@
 pub mod Items
 pub mod Spelling
+pub mod Kinds
 pub mod Heads
 pub mod Tokens
 pub mod Trace

@@ -1,12 +1,13 @@
 //! Laws of the definitions that the contracts cite. Each is a function that does nothing, whose
 //! contract is the law.
 
-ghost use Rattle.std.specs.Prelude.{◌≡◌, ℕ, List};
+ghost use Rattle.std.specs.Prelude.{◌≡◌, ℕ, ◌+◌, List};
 ghost use Rattle.std.specs.List.{AllByRecursion};
+ghost use Rattle.er_text.specs.Bytes.{count_of_lf};
 ghost use Rattle.er_text.specs.declared.causes.Cause.{Cause};
 ghost use Rattle.er_trace.specs.declared.record.Record.{Record};
 ghost use Rattle.er_trace.specs.Spelling.{spelling, IsRecord};
-ghost use Rattle.er_trace.specs.Trace.{Place, line_number, records_before, text, IsTrace, Refuses};
+ghost use Rattle.er_trace.specs.Trace.{Place, line_number, records_before, bytes_before, text, IsPlace, IsTrace, Refuses};
 
 /// One spelling has one record.
 pub fn one_record()
@@ -25,4 +26,9 @@ pub fn one_cause()
     ensures before { (bytes : List ℕ) (p q : Place) (c d : Cause) → Refuses bytes p c → Refuses bytes q d → records_before p ≡ records_before q }
     ensures cause { (bytes : List ℕ) (p q : Place) (c d : Cause) → Refuses bytes p c → Refuses bytes q d → c ≡ d }
     ensures never { (records : List Record) (p : Place) (c : Cause) → IsTrace records → ¬ Refuses (text records) p c }
+{}
+
+/// The number of a line is one more than that of the LFs before it.
+pub fn line_of_a_place()
+    ensures { (p : Place) → IsPlace p → line_number p ≡ count_of_lf (bytes_before p) + 1 }
 {}

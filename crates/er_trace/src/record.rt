@@ -60,6 +60,20 @@ impl NewKind {
     }
 }
 
+impl From<NewKind> for Kind {
+    ghost use Rattle.er_trace.specs.Kinds.{kind_of};
+
+    ghost from_gives = { λ made kind. kind ≡ kind_of made };
+
+    fn from(made: NewKind) -> Kind {
+        match made {
+            NewKind::Plain => Kind::Plain,
+            NewKind::Async => Kind::Async,
+            NewKind::Image => Kind::Image,
+        }
+    }
+}
+
 /// Whether an access reads or writes.
 #[derive(Clone, Copy, Debug, PartialEq, Eq)]
 pub enum Mode {

@@ -1,0 +1,48 @@
+-- The number of a line, by the LFs before it.
+use Rattle.std.proofs.Common.{◌≡◌, ℕ, ◌+◌, List, [], ◌∷◌, ◌++◌, length, true, refl, ap, ◌∙◌, arith}
+use Rattle.std.specs.List.{AllByRecursion}
+use Rattle.std.proofs.lemmas.Grind.{common_steps}
+use Rattle.er_text.specs.Bytes.{count_of_lf, has_no_lf}
+use Rattle.er_trace.specs.declared.record.Record.{Record}
+use Rattle.er_trace.specs.Spelling.{spelling, IsRecord}
+use Rattle.er_trace.specs.Trace.{Place, Start, After, Ended, IsPlace, line, lines, text, header, end_word, line_number, bytes_before}
+use Rattle.er_trace.proofs.RecordLaws.{spelling_has_no_lf}
+
+count_of_both : (a b : List ℕ) → count_of_lf (a ++ b) ≡ count_of_lf a + count_of_lf b
+count_of_both [] b = grind (arith, common_steps)
+count_of_both (x ∷ a) b = grind (arith, common_steps, count_of_both a b)
+
+count_of_none : (a : List ℕ) → has_no_lf a ≡ true → count_of_lf a ≡ 0
+count_of_none [] clear = refl
+count_of_none (x ∷ a) clear = grind (arith, common_steps, count_of_none a)
+
+-- a line has one, at its end
+count_of_line : (a : List ℕ) → has_no_lf a ≡ true → count_of_lf (line a) ≡ 1
+count_of_line a clear =
+    let e : count_of_lf (line a) ≡ count_of_lf a + 1 = count_of_both a (10 ∷ []) in
+    let none : count_of_lf a ≡ 0 = count_of_none a clear in
+    omega (arith, e, none)
+
+count_of_lines : (records : List Record) → AllByRecursion IsRecord records → count_of_lf (lines records) ≡ length records
+count_of_lines [] each = refl
+count_of_lines (x ∷ records) each =
+    let e : count_of_lf (lines (x ∷ records)) ≡ count_of_lf (line (spelling x)) + count_of_lf (lines records) = count_of_both (line (spelling x)) (lines records) in
+    let one : count_of_lf (line (spelling x)) ≡ 1 = count_of_line (spelling x) (spelling_has_no_lf x each.0) in
+    let later : count_of_lf (lines records) ≡ length records = count_of_lines records each.1 in
+    omega (arith, e, one, later)
+
+count_of_header : (records : List Record) → AllByRecursion IsRecord records → count_of_lf (line header ++ lines records) ≡ length records + 1
+count_of_header records each =
+    let e : count_of_lf (line header ++ lines records) ≡ 1 + count_of_lf (lines records) = count_of_both (line header) (lines records) in
+    let later : count_of_lf (lines records) ≡ length records = count_of_lines records each in
+    omega (arith, e, later)
+
+pub line_of_a_place : (p : Place) → IsPlace p → line_number p ≡ count_of_lf (bytes_before p) + 1
+line_of_a_place Start is = refl
+line_of_a_place (After records) is =
+    let e : count_of_lf (line header ++ lines records) ≡ length records + 1 = count_of_header records is.each in
+    omega (arith, e)
+line_of_a_place (Ended records) is =
+    let e : count_of_lf ((line header ++ lines records) ++ line end_word) ≡ count_of_lf (line header ++ lines records) + 1 = count_of_both (line header ++ lines records) (line end_word) in
+    let before : count_of_lf (line header ++ lines records) ≡ length records + 1 = count_of_header records is.each in
+    omega (arith, e, before)
