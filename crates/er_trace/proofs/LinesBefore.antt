@@ -1,11 +1,11 @@
 -- The number of a line, by the LFs before it.
-use Rattle.std.proofs.Common.{◌≡◌, ℕ, ◌+◌, List, [], ◌∷◌, ◌++◌, length, true, refl, ap, ◌∙◌, arith}
+use Rattle.std.proofs.Common.{◌≡◌, ℕ, ◌+◌, List, [], ◌∷◌, ◌++◌, length, true, refl, arith}
 use Rattle.std.specs.List.{AllByRecursion}
 use Rattle.std.proofs.lemmas.Grind.{common_steps}
 use Rattle.er_text.specs.Bytes.{count_of_lf, has_no_lf}
 use Rattle.er_trace.specs.declared.record.Record.{Record}
 use Rattle.er_trace.specs.Spelling.{spelling, IsRecord}
-use Rattle.er_trace.specs.Trace.{Place, Start, After, Ended, IsPlace, line, lines, text, header, end_word, line_number, bytes_before}
+use Rattle.er_trace.specs.Trace.{Place, Start, After, Ended, IsPlace, line, lines, header, end_word, line_number, bytes_before}
 use Rattle.er_trace.proofs.RecordLaws.{spelling_has_no_lf}
 
 count_of_both : (a b : List ℕ) → count_of_lf (a ++ b) ≡ count_of_lf a + count_of_lf b

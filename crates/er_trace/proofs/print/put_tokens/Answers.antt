@@ -1,5 +1,4 @@
 use Rattle.std.proofs.Common.{arith}
-use Rattle.std.proofs.lemmas.Grind.{common_steps}
 use Rattle.er_outside.specs.Ends.{GetsPart}
 use Rattle.er_outside.proofs.Puts.{composes}
 use Rattle.er_trace.specs.Tokens.{tokens_spelling}
@@ -11,9 +10,9 @@ returns-in_err-put_next g c = record {
   whole = grind arith;
   stands = grind arith;
   part =
-  on_err c.from_residual-in_err-put_next.result (GetsPart (g.K.Sink.got c.args.sink.now) (tokens_spelling c.args.word.now c.args.later.now) (g.K.Sink.got c.put_next.new.sink))
-  (tokens_part_later (g.K.Sink.got c.args.sink.now) (g.K.Sink.got c.loop-token.sink) (g.K.Sink.got c.put_next.new.sink) c.args.word.now c.args.later.now c.loop-token.token-index _
-  c.loop-token-test.true (same_token c.args.later.now c.loop-token.token-index _ c.loop-token-test.true) c.loop-token.invariant.whole c.in_err-put_next.ensures.part);
+      on_err c.from_residual-in_err-put_next.result (GetsPart (g.K.Sink.got c.args.sink.now) (tokens_spelling c.args.word.now c.args.later.now) (g.K.Sink.got c.put_next.new.sink))
+      (tokens_part_later (g.K.Sink.got c.args.sink.now) (g.K.Sink.got c.loop-token.sink) (g.K.Sink.got c.put_next.new.sink) c.args.word.now c.args.later.now c.loop-token.token-index _
+      c.loop-token-test.true (same_token c.args.later.now c.loop-token.token-index _ c.loop-token-test.true) c.loop-token.invariant.whole c.in_err-put_next.ensures.part);
   cause = grind (arith, composes);
   count = grind arith;
 }
