@@ -9,8 +9,9 @@ use Rattle.er_trace.specs.declared.record.Loc.{Loc}
 use Rattle.er_trace.specs.declared.record.Mode.{Mode}
 use Rattle.er_history.specs.History.{told, or_else, first_to, maker_by, running, actions_after, Action}
 use Rattle.er_names.specs.declared.names.Names.{Names}
+use Rattle.er_names.specs.declared.tables.Tables.{Tables}
 use Rattle.er_history.specs.LookUps.{fired_with}
-use Rattle.er_names.specs.Names.{MakersAre, FirstsAre, NamesAre}
+use Rattle.er_names.specs.Names.{MakersAre, FirstsAre, TablesAre, NamesAre}
 use Rattle.er_names.proofs.NamesLemmas.{elements_more, timeouts_more}
 use Rattle.er_names.proofs.RankLemmas.{ranked_more}
 
@@ -34,25 +35,30 @@ firsts_same test gives found h x nothing none stands = record {
   known = λ k. rw (none k) (stands.known k);
 }
 
--- where an action runs
+tables_same : (tables : Tables) (h : List Record) (m : Mode) (l : Loc) (a : Action) → running (actions_after (told h) (Access m l)) ≡ Some a
+    → TablesAre tables h → TablesAre tables (Access m l ∷ h)
+tables_same tables h m l a runs stands = record {
+  elements = elements_more _ _ None h (Access m l) a (λ k. sym (or_none (get nat_eq tables.elements k))) stands.elements (record { made = λ k place. refl; known = λ k. refl }) runs;
+  timeouts = timeouts_more _ _ None h (Access m l) a (λ k. sym (or_none (get nat_eq tables.timeouts k))) stands.timeouts (record { placed = λ k place. refl; made = λ k place. refl; known = λ k. refl }) runs;
+  ranked = ranked_more _ _ None h (Access m l) a _ _ (λ k. sym (or_none (get nat_eq tables.timeouts k))) (omega arith) tt stands.ranked (record { placed = λ k place. refl; made = λ k place. refl; known = λ k. refl }) tt runs;
+  documents = makers_same _ _ h (Access m l) (λ k. refl) stands.documents;
+  handlers = makers_same _ _ h (Access m l) (λ k. refl) stands.handlers;
+  intervals = makers_same _ _ h (Access m l) (λ k. refl) stands.intervals;
+  requests = makers_same _ _ h (Access m l) (λ k. refl) stands.requests;
+  runs = makers_same _ _ h (Access m l) (λ k. refl) stands.runs;
+  callbacks = makers_same _ _ h (Access m l) (λ k. refl) stands.callbacks;
+  begins = makers_same _ _ h (Access m l) (λ k. refl) stands.begins;
+  closes = makers_same _ _ h (Access m l) (λ k. refl) stands.closes;
+  frames = firsts_same _ _ _ h (Access m l) (λ k. refl) (λ k. refl) stands.frames;
+  dcls = firsts_same _ _ _ h (Access m l) (λ k. refl) (λ k. refl) stands.dcls;
+  loads = firsts_same _ _ _ h (Access m l) (λ k. refl) (λ k. refl) stands.loads;
+  eloads = firsts_same _ _ _ h (Access m l) (λ k. refl) (λ k. refl) stands.eloads;
+}
+
+-- where an action runs, an access leaves what the names stand for
 pub names_same : (names : Names) (h : List Record) (m : Mode) (l : Loc) (a : Action) → running (actions_after (told h) (Access m l)) ≡ Some a
     → NamesAre names h → NamesAre names (Access m l ∷ h)
 names_same names h m l a runs stands = record {
-      elements = elements_more _ _ None h (Access m l) a (λ k. sym (or_none (get nat_eq names.elements k))) stands.elements (record { made = λ k place. refl; known = λ k. refl }) runs;
-      timeouts = timeouts_more _ _ None h (Access m l) a (λ k. sym (or_none (get nat_eq names.timeouts k))) stands.timeouts (record { placed = λ k place. refl; made = λ k place. refl; known = λ k. refl }) runs;
-      ranked = ranked_more _ _ None h (Access m l) a _ _ (λ k. sym (or_none (get nat_eq names.timeouts k))) (omega arith) tt stands.ranked (record { placed = λ k place. refl; made = λ k place. refl; known = λ k. refl }) tt runs;
-      documents = makers_same _ _ h (Access m l) (λ k. refl) stands.documents;
-      handlers = makers_same _ _ h (Access m l) (λ k. refl) stands.handlers;
-      intervals = makers_same _ _ h (Access m l) (λ k. refl) stands.intervals;
-      requests = makers_same _ _ h (Access m l) (λ k. refl) stands.requests;
-      runs = makers_same _ _ h (Access m l) (λ k. refl) stands.runs;
-      callbacks = makers_same _ _ h (Access m l) (λ k. refl) stands.callbacks;
-      begins = makers_same _ _ h (Access m l) (λ k. refl) stands.begins;
-      closes = makers_same _ _ h (Access m l) (λ k. refl) stands.closes;
-      frames = firsts_same _ _ _ h (Access m l) (λ k. refl) (λ k. refl) stands.frames;
-      dcls = firsts_same _ _ _ h (Access m l) (λ k. refl) (λ k. refl) stands.dcls;
-      loads = firsts_same _ _ _ h (Access m l) (λ k. refl) (λ k. refl) stands.loads;
-      eloads = firsts_same _ _ _ h (Access m l) (λ k. refl) (λ k. refl) stands.eloads;
-      fired = record { all = λ u. stands.fired.all u ∙ sym (append-nil (fired_with h u)) };
+  tables = tables_same names.tables h m l a runs stands.tables;
+  fired = record { all = λ u. stands.fired.all u ∙ sym (append-nil (fired_with h u)) };
 }
-

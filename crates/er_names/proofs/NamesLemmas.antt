@@ -1,12 +1,16 @@
 -- How a table comes to stand for one record more.
-use Rattle.std.proofs.Common.{◌≡◌, ℕ, Bool, true, false, List, ◌∷◌, length, Option, Some, None, option_map, is_some, refl, sym, ap, subst, ◌∙◌}
-use Rattle.std.specs.Prelude.{◌||◌}
+use Rattle.std.proofs.Common.{◌≡◌, ℕ, Bool, true, false, List, [], ◌∷◌, length, Option, Some, None, option_map, is_some, refl, sym, ap, subst, ◌∙◌}
+use Rattle.std.specs.Prelude.{◌||◌, ◌==◌, if◌then◌else◌}
 use Rattle.er_trace.specs.declared.record.Record.{Record}
+use Rattle.er_trace.specs.declared.record.Record.TheVariants.{Timer}
+use Rattle.er_history.specs.History as history
 use Rattle.er_history.specs.History.{told, or_else, first_to, makes_element, makes_timeout, running, actions_after, Action, Entry}
+use Rattle.er_history.specs.LookUps.{timeout_made, fires_of}
 use Rattle.er_names.specs.declared.names.Element.{Element}
 use Rattle.er_names.specs.declared.names.Timeout.{Timeout}
 use Rattle.er_names.specs.Tables.{noted_in}
-use Rattle.er_names.specs.Names.{ElementsAre, TimeoutsAre, ElementGiven, SettingGiven, element_of, setting_of, setting}
+use Rattle.er_names.specs.Fired.{timer_found, timers_of}
+use Rattle.er_names.specs.Names.{Setting, ElementsAre, TimeoutsAre, ElementGiven, SettingGiven, element_of, setting_of, setting}
 
 pub map_or_else : {A B : Type 0} (f : A → B) (o p : Option A) → option_map f (or_else o p) ≡ or_else (option_map f o) (option_map f p)
 map_or_else f None p = refl
@@ -51,13 +55,19 @@ timeouts_more old new pair h x a more stands given runs = record {
   known = λ k. known_more (new k) (old k) (noted_in k pair) _ _ (more k) (stands.known k) (given.known k);
 }
 
--- what the names find of a timer's timeout is what the list says of it
+-- what is found of a timer's timeout is what the list says of it
 pub timer_fires : (h : List Record) (x : Record) (found : ℕ → Option Timeout) (timer : Option (ℕ × ℕ)) → TimeoutsAre found h → timer ≡ timer_found found x → (u : ℕ) → timers_of u timer ≡ fires_of h u x
-timer_fires h (Timer t) found timer stands e u = ap (timers_of u) e ∙ by (found t) (timeout_made h t) (stands.made t)
+timer_fires h (Timer t) found timer stands e u = ap (timers_of u) e ∙ (by_setting (found t) ∙ (ap of (stands.made t) ∙ sym (by_list (timeout_made h t) refl)))
   where
-    by : (o : Option Timeout) (p : Option history.Timeout) → option_map setting_of o ≡ option_map setting p → timers_of u (option_map (λ (x : Timeout). (x.maker, t)) o) ≡ fires_by u t p
-    by None None e = refl
-    by None (Some p) e = cc
-    by (Some o) None e = cc
-    by (Some o) (Some p) e = ap (λ (m : ℕ). if m == u then t ∷ [] else []) (cc : o.maker ≡ p.maker)
+    of : Option Setting → List ℕ
+    of None = []
+    of (Some s) = if s.maker == u then t ∷ [] else []
+
+    by_setting : (o : Option Timeout) → timers_of u (option_map (λ (x : Timeout). (x.maker, t)) o) ≡ of (option_map setting_of o)
+    by_setting None = refl
+    by_setting (Some x) = refl
+
+    by_list : (o : Option history.Timeout) → timeout_made h t ≡ o → fires_of h u (Timer t) ≡ of (option_map setting o)
+    by_list None e = rw e refl
+    by_list (Some x) e = rw e refl
 timer_fires h _ found timer stands e u = ap (timers_of u) e

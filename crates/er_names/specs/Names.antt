@@ -12,6 +12,7 @@ use Rattle.er_names.specs.declared.names.Element.{Element}
 use Rattle.er_names.specs.declared.names.Timeout.{Timeout}
 use Rattle.er_names.specs.declared.names.Names.{Names}
 use Rattle.er_names.specs.declared.names.Now.{Now}
+use Rattle.er_names.specs.declared.tables.Tables.{Tables}
 use Rattle.er_names.specs.Fired.{FiredAre, HasPlaceFor, timer_found}
 use Rattle.er_names.specs.Tables.{noted_in}
 use Rattle.er_history.specs.LookUps.{place_of, before, closes_dispatch, makes_frame, begins_dcl, begins_load, begins_eload}
@@ -86,41 +87,49 @@ pub record IsRankedByPlace (found : ℕ → Option Timeout) (count : ℕ) (h : L
   pub under : (k : ℕ) → IsUnder count (length (told h).entries) (pairs k)
 
 -- each table answers what the list says
+pub record TablesAre (tables : Tables) (h : List Record) : Type 0 where
+  pub elements : ElementsAre (get nat_eq tables.elements) h
+  pub timeouts : TimeoutsAre (get nat_eq tables.timeouts) h
+  pub ranked : IsRankedByPlace (get nat_eq tables.timeouts) (index_map_len tables.timeouts) h
+  pub documents : MakersAre declares_document (get nat_eq tables.documents) h
+  pub handlers : MakersAre declares_handler (get nat_eq tables.handlers) h
+  pub intervals : MakersAre declares_interval (get nat_eq tables.intervals) h
+  pub requests : MakersAre declares_request (get nat_eq tables.requests) h
+  pub runs : MakersAre runs_script (get nat_eq tables.runs) h
+  pub callbacks : MakersAre fires_timeout (get nat_eq tables.callbacks) h
+  pub begins : MakersAre begins_dispatch (get nat_eq tables.begins) h
+  pub closes : MakersAre closes_dispatch (get nat_eq tables.closes) h
+  pub frames : FirstsAre declares_document makes_frame (get nat_eq tables.frames) h
+  pub dcls : FirstsAre is_dcl begins_dcl (get nat_eq tables.dcls) h
+  pub loads : FirstsAre is_load begins_load (get nat_eq tables.loads) h
+  pub eloads : FirstsAre is_eload begins_eload (get nat_eq tables.eloads) h
+
+-- each table answers what the list says, and so does the table of what has fired
 pub record NamesAre (names : Names) (h : List Record) : Type 0 where
-  pub elements : ElementsAre (get nat_eq names.elements) h
-  pub timeouts : TimeoutsAre (get nat_eq names.timeouts) h
-  pub ranked : IsRankedByPlace (get nat_eq names.timeouts) (index_map_len names.timeouts) h
-  pub documents : MakersAre declares_document (get nat_eq names.documents) h
-  pub handlers : MakersAre declares_handler (get nat_eq names.handlers) h
-  pub intervals : MakersAre declares_interval (get nat_eq names.intervals) h
-  pub requests : MakersAre declares_request (get nat_eq names.requests) h
-  pub runs : MakersAre runs_script (get nat_eq names.runs) h
-  pub callbacks : MakersAre fires_timeout (get nat_eq names.callbacks) h
-  pub begins : MakersAre begins_dispatch (get nat_eq names.begins) h
-  pub closes : MakersAre closes_dispatch (get nat_eq names.closes) h
-  pub frames : FirstsAre declares_document makes_frame (get nat_eq names.frames) h
-  pub dcls : FirstsAre is_dcl begins_dcl (get nat_eq names.dcls) h
-  pub loads : FirstsAre is_load begins_load (get nat_eq names.loads) h
-  pub eloads : FirstsAre is_eload begins_eload (get nat_eq names.eloads) h
+  pub tables : TablesAre names.tables h
   pub fired : FiredAre names.fired h
 
--- each table has room for one number more, and so has the list of a timeout that fires
-pub record HasRoom (names : Names) (x : Record) : Type 0 where
-  pub elements : 0 < spare names.elements
-  pub timeouts : 0 < spare names.timeouts
-  pub documents : 0 < spare names.documents
-  pub handlers : 0 < spare names.handlers
-  pub intervals : 0 < spare names.intervals
-  pub requests : 0 < spare names.requests
-  pub runs : 0 < spare names.runs
-  pub callbacks : 0 < spare names.callbacks
-  pub begins : 0 < spare names.begins
-  pub closes : 0 < spare names.closes
-  pub frames : 0 < spare names.frames
-  pub dcls : 0 < spare names.dcls
-  pub loads : 0 < spare names.loads
-  pub eloads : 0 < spare names.eloads
-  pub fired : HasPlaceFor names.fired (timer_found (get nat_eq names.timeouts) x)
+-- each table has room for one number more
+pub record HasRoom (tables : Tables) : Type 0 where
+  pub elements : 0 < spare tables.elements
+  pub timeouts : 0 < spare tables.timeouts
+  pub documents : 0 < spare tables.documents
+  pub handlers : 0 < spare tables.handlers
+  pub intervals : 0 < spare tables.intervals
+  pub requests : 0 < spare tables.requests
+  pub runs : 0 < spare tables.runs
+  pub callbacks : 0 < spare tables.callbacks
+  pub begins : 0 < spare tables.begins
+  pub closes : 0 < spare tables.closes
+  pub frames : 0 < spare tables.frames
+  pub dcls : 0 < spare tables.dcls
+  pub loads : 0 < spare tables.loads
+  pub eloads : 0 < spare tables.eloads
+
+-- and so has the list of a timeout whose callback the record begins
+pub record HasRoomFor (names : Names) (x : Record) : Type 0 where
+  pub tables : HasRoom names.tables
+  pub fired : HasPlaceFor names.fired (timer_found (get nat_eq names.tables.timeouts) x)
 
 -- the action that runs when the record has been read, and its event
 pub record IsNow (h : List Record) (x : Record) (now : Now) : Type 0 where

@@ -25,3 +25,4 @@ mod made;
 pub mod names;
 mod naming;
 mod table;
+mod tables;

@@ -24,21 +24,21 @@ impl Names {
     pub fn maker_of_document(&self, doc: u32) -> Option<u32>
         ensures { Answers self.now (λ h. says.maker_of_document h doc) result }
     {
-        self.documents.get(&doc).copied()
+        self.tables.documents.get(&doc).copied()
     }
 
     /// The event that registered the handler.
     pub fn maker_of_handler(&self, handler: u32) -> Option<u32>
         ensures { Answers self.now (λ h. says.maker_of_handler h handler) result }
     {
-        self.handlers.get(&handler).copied()
+        self.tables.handlers.get(&handler).copied()
     }
 
     /// The event that set the timeout.
     pub fn maker_of_timeout(&self, timeout: u32) -> Option<u32>
         ensures { Answers self.now (λ h. says.maker_of_timeout h timeout) result }
     {
-        let found = self.timeouts.get(&timeout)?;
+        let found = self.tables.timeouts.get(&timeout)?;
         Some(found.maker)
     }
 
@@ -46,14 +46,14 @@ impl Names {
     pub fn maker_of_interval(&self, interval: u32) -> Option<u32>
         ensures { Answers self.now (λ h. says.maker_of_interval h interval) result }
     {
-        self.intervals.get(&interval).copied()
+        self.tables.intervals.get(&interval).copied()
     }
 
     /// The event that sent the request.
     pub fn maker_of_request(&self, request: u32) -> Option<u32>
         ensures { Answers self.now (λ h. says.maker_of_request h request) result }
     {
-        self.requests.get(&request).copied()
+        self.tables.requests.get(&request).copied()
     }
 }
 
@@ -117,14 +117,14 @@ impl Names {
     pub fn run_of(&self, element: u32) -> Option<u32>
         ensures { Answers self.now (λ h. says.run_of h element) result }
     {
-        self.runs.get(&element).copied()
+        self.tables.runs.get(&element).copied()
     }
 
     /// The dispatch of the element's first load event.
     pub fn eload_of(&self, element: u32) -> Option<u32>
         ensures { Answers self.now (λ h. says.eload_of h element) result }
     {
-        self.eloads.get(&element).copied()
+        self.tables.eloads.get(&element).copied()
     }
 }
 
@@ -134,21 +134,21 @@ impl Names {
     pub fn frame_of(&self, doc: u32) -> Option<u32>
         ensures { Answers self.now (λ h. says.frame_of h doc) result }
     {
-        self.frames.get(&doc).copied()
+        self.tables.frames.get(&doc).copied()
     }
 
     /// The dispatch of DOMContentLoaded of the document.
     pub fn dcl_of(&self, doc: u32) -> Option<u32>
         ensures { Answers self.now (λ h. says.dcl_of h doc) result }
     {
-        self.dcls.get(&doc).copied()
+        self.tables.dcls.get(&doc).copied()
     }
 
     /// The dispatch of load of the document's window.
     pub fn load_of(&self, doc: u32) -> Option<u32>
         ensures { Answers self.now (λ h. says.load_of h doc) result }
     {
-        self.loads.get(&doc).copied()
+        self.tables.loads.get(&doc).copied()
     }
 }
 
@@ -158,7 +158,7 @@ impl Names {
     pub fn delay_of(&self, timeout: u32) -> Option<u32>
         ensures { Answers self.now (λ h. says.delay_of h timeout) result }
     {
-        let found = self.timeouts.get(&timeout)?;
+        let found = self.tables.timeouts.get(&timeout)?;
         Some(found.delay)
     }
 
@@ -166,7 +166,7 @@ impl Names {
     pub fn setting_piece(&self, timeout: u32) -> Option<u32>
         ensures { Answers self.now (λ h. setting_piece h timeout) result }
     {
-        let found = self.timeouts.get(&timeout)?;
+        let found = self.tables.timeouts.get(&timeout)?;
         Some(found.piece)
     }
 
@@ -174,7 +174,7 @@ impl Names {
     pub fn timer_event(&self, timeout: u32) -> Option<u32>
         ensures { Answers self.now (λ h. says.timer_event h timeout) result }
     {
-        self.callbacks.get(&timeout).copied()
+        self.tables.callbacks.get(&timeout).copied()
     }
 
     /// The timeouts set in the event that have fired, in order of firing.
@@ -196,9 +196,9 @@ impl Names {
 
     /// How many timeouts were set before this one.
     fn rank(&self, timeout: u32) -> Option<usize>
-        ensures { result ≡ option_map rank_of (get nat_eq self.now.timeouts timeout) }
+        ensures { result ≡ option_map rank_of (get nat_eq self.now.tables.timeouts timeout) }
     {
-        let found = self.timeouts.get(&timeout)?;
+        let found = self.tables.timeouts.get(&timeout)?;
         Some(found.rank)
     }
 
@@ -206,14 +206,13 @@ impl Names {
     pub fn begin_event(&self, dispatch: u32) -> Option<u32>
         ensures { Answers self.now (λ h. says.begin_event h dispatch) result }
     {
-        self.begins.get(&dispatch).copied()
+        self.tables.begins.get(&dispatch).copied()
     }
 
     /// The close of the dispatch.
     pub fn close_event(&self, dispatch: u32) -> Option<u32>
         ensures { Answers self.now (λ h. says.close_event h dispatch) result }
     {
-        self.closes.get(&dispatch).copied()
+        self.tables.closes.get(&dispatch).copied()
     }
 }
-

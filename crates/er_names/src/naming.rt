@@ -28,14 +28,14 @@ impl Names {
             Record::Eload { element, .. } => !self.has_element(*element),
             Record::Fire { element, .. } => !self.has_element(*element),
             Record::Inline { element, .. } => !self.has_element(*element),
-            Record::Timer { timeout } => !self.timeouts.contains_key(timeout),
-            Record::Tick { interval } => !self.intervals.contains_key(interval),
-            Record::Reply { request, .. } => !self.requests.contains_key(request),
+            Record::Timer { timeout } => !self.tables.timeouts.contains_key(timeout),
+            Record::Tick { interval } => !self.tables.intervals.contains_key(interval),
+            Record::Reply { request, .. } => !self.tables.requests.contains_key(request),
             Record::Run {
                 dispatch,
                 handler,
                 ..
-            } => !self.has_begun(*dispatch) || !self.handlers.contains_key(handler),
+            } => !self.has_begun(*dispatch) || !self.tables.handlers.contains_key(handler),
             Record::Close { dispatch } => !self.has_begun(*dispatch),
             Record::Back { dispatch } => !self.has_begun(*dispatch),
             _ => false,
@@ -51,25 +51,25 @@ impl Names {
             Record::New { element, .. } => self.has_element(*element),
             Record::ParseFrame { element, inner, .. } => self.has_frame(*element, *inner),
             Record::NewFrame { element, inner, .. } => self.has_frame(*element, *inner),
-            Record::Exec { element } => self.runs.contains_key(element),
-            Record::Timer { timeout } => self.callbacks.contains_key(timeout),
+            Record::Exec { element } => self.tables.runs.contains_key(element),
+            Record::Timer { timeout } => self.tables.callbacks.contains_key(timeout),
             Record::Dcl { dispatch, doc } => {
-                self.has_begun(*dispatch) || self.dcls.contains_key(doc)
+                self.has_begun(*dispatch) || self.tables.dcls.contains_key(doc)
             }
             Record::Load { dispatch, doc } => {
-                self.has_begun(*dispatch) || self.loads.contains_key(doc)
+                self.has_begun(*dispatch) || self.tables.loads.contains_key(doc)
             }
             Record::Eload { dispatch, element } => {
-                self.has_begun(*dispatch) || self.eloads.contains_key(element)
+                self.has_begun(*dispatch) || self.tables.eloads.contains_key(element)
             }
             Record::Fire { dispatch, .. } => self.has_begun(*dispatch),
             Record::Wfire { dispatch, .. } => self.has_begun(*dispatch),
             Record::Reply { dispatch, .. } => self.has_begun(*dispatch),
             Record::Inline { dispatch, .. } => self.has_begun(*dispatch),
-            Record::On { handler } => self.handlers.contains_key(handler),
-            Record::Set { timeout, .. } => self.timeouts.contains_key(timeout),
-            Record::Every { interval, .. } => self.intervals.contains_key(interval),
-            Record::Send { request } => self.requests.contains_key(request),
+            Record::On { handler } => self.tables.handlers.contains_key(handler),
+            Record::Set { timeout, .. } => self.tables.timeouts.contains_key(timeout),
+            Record::Every { interval, .. } => self.tables.intervals.contains_key(interval),
+            Record::Send { request } => self.tables.requests.contains_key(request),
             _ => false,
         }
     }
@@ -88,20 +88,20 @@ impl Names {
     pub fn element(&self, element: u32) -> Option<Element>
         ensures { Answers self.now (λ h. element_made h element) (option_map element_of result) }
     {
-        self.elements.get(&element).copied()
+        self.tables.elements.get(&element).copied()
     }
 
     /// Document 0 is known from the start.
     fn knows_document(&self, doc: u32) -> bool
         ensures { Answers self.now (λ h. naming.knows_document h doc) result }
     {
-        doc == 0 || self.documents.contains_key(&doc)
+        doc == 0 || self.tables.documents.contains_key(&doc)
     }
 
     fn has_element(&self, element: u32) -> bool
         ensures { Answers self.now (list_any (naming.declares_element element)) result }
     {
-        self.elements.contains_key(&element)
+        self.tables.elements.contains_key(&element)
     }
 
     /// Whether the element or the document is declared.
@@ -114,7 +114,7 @@ impl Names {
     fn has_begun(&self, dispatch: u32) -> bool
         ensures { Answers self.now (list_any (naming.begins_dispatch dispatch)) result }
     {
-        self.begins.contains_key(&dispatch)
+        self.tables.begins.contains_key(&dispatch)
     }
 }
 

@@ -1,6 +1,6 @@
 use Rattle.std.proofs.Common.{rules}
 use Rattle.er_names.proofs.RankLemmas.{none_ranked}
-use Rattle.er_names.proofs.names.Names.new.Goals as goal
+use Rattle.er_names.proofs.tables.Tables.new.Goals as goal
 
 pub returns : goal.returns
 returns c = record {
@@ -19,5 +19,4 @@ returns c = record {
   dcls = search rules;
   loads = search rules;
   eloads = search rules;
-  fired = search rules;
 }
