@@ -8,7 +8,7 @@ use Rattle.er_history.specs.History.{told, or_else, first_to, makes_element, mak
 use Rattle.er_history.specs.LookUps.{timeout_made, fires_of}
 use Rattle.er_names.specs.declared.names.Element.{Element}
 use Rattle.er_names.specs.declared.names.Timeout.{Timeout}
-use Rattle.er_names.specs.Tables.{noted_in}
+use Rattle.er_names.specs.Noted.{noted_in}
 use Rattle.er_names.specs.Fired.{timer_found, timers_of}
 use Rattle.er_names.specs.Names.{Setting, ElementsAre, TimeoutsAre, ElementGiven, SettingGiven, element_of, setting_of, setting}
 

@@ -7,8 +7,8 @@ use Rattle.er_trace.specs.declared.record.Record.{Record}
 use Rattle.er_history.specs.History as history
 use Rattle.er_history.specs.History.{told, or_else, first_to, makes_timeout, running, actions_after, Action, Entry}
 use Rattle.er_names.specs.declared.names.Timeout.{Timeout}
-use Rattle.er_names.specs.Tables.{noted_in}
-use Rattle.er_names.specs.Names.{SettingGiven, IsRanked, IsRankedByPlace, IsUnder, rank_of}
+use Rattle.er_names.specs.Noted.{noted_in}
+use Rattle.er_names.specs.Names.{SettingGiven, HasRank, IsRankedByPlace, IsUnder, rank_of}
 use Rattle.er_history.specs.LookUps.{place_of, before}
 use Rattle.er_names.proofs.NamesLemmas.{map_or_else, entry_more}
 
@@ -53,7 +53,7 @@ place_pair : (m n : ℕ) (o : Option Timeout) → option_map (λ (t : Timeout). 
 place_pair m n None = refl
 place_pair m n (Some t) = refl
 
-rank_pair : (k m n : ℕ) (pair : Option (ℕ × Timeout)) → IsRanked pair m → option_map rank_of (noted_in k pair) ≡ option_map rank (pair_of m n (noted_in k pair))
+rank_pair : (k m n : ℕ) (pair : Option (ℕ × Timeout)) → HasRank pair m → option_map rank_of (noted_in k pair) ≡ option_map rank (pair_of m n (noted_in k pair))
 rank_pair k m n None is = refl
 rank_pair k m n (Some p) is = step (p.0 == k)
   where
@@ -81,7 +81,7 @@ counted_at k m more old (Some p) counted none t is = step (p.0 == k) refl is
 
 pub ranked_more : (old new : ℕ → Option Timeout) (pair : Option (ℕ × Timeout)) (h : List Record) (x : Record) (a : Action) (count more : ℕ)
     → ((k : ℕ) → new k ≡ or_else (old k) (noted_in k pair)) → count ≤ more → IfSome pair (λ p. old p.0 ≡ None → count < more)
-    → IsRankedByPlace old count h → SettingGiven pair x a → IsRanked pair count → running (actions_after (told h) x) ≡ Some a → IsRankedByPlace new more (x ∷ h)
+    → IsRankedByPlace old count h → SettingGiven pair x a → HasRank pair count → running (actions_after (told h) x) ≡ Some a → IsRankedByPlace new more (x ∷ h)
 ranked_more old new pair h x a count more found longer counted stands given is runs =
     let n = length (told h).entries in
     record {

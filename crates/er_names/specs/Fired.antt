@@ -27,9 +27,9 @@ timers_of u None = []
 timers_of u (Some p) = if p.0 == u then p.1 ∷ [] else []
 
 -- the list of this event has room for one timeout more
-abbrev pub HasPlace : Fired → ℕ → Type 0
-HasPlace fired event = IsSomeAnd (get nat_eq fired.lists event) (λ list. vec_len list < vec_capacity list)
+abbrev pub ListHasPlace : Fired → ℕ → Type 0
+ListHasPlace fired event = IsSomeAnd (get nat_eq fired.lists event) (λ list. vec_len list < vec_capacity list)
 
 abbrev pub HasPlaceFor : Fired → Option (ℕ × ℕ) → Type 0
 HasPlaceFor fired None = Unit {0}
-HasPlaceFor fired (Some p) = HasPlace fired p.0
+HasPlaceFor fired (Some p) = ListHasPlace fired p.0

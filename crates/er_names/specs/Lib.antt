@@ -1,4 +1,4 @@
 pub mod Fired
 pub mod LookUps
 pub mod Names
-pub mod Tables
+pub mod Noted

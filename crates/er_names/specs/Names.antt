@@ -1,5 +1,5 @@
 -- What the tables of names stand for. Lists of records stand newest first.
-use Rattle.std.specs.Prelude.{◌≡◌, ℕ, ◌<◌, Bool, List, length, Option, Some, None, is_some, option_map, nat_eq}
+use Rattle.std.specs.Prelude.{◌≡◌, ℕ, ◌<◌, Bool, List, ◌∷◌, length, Option, Some, None, is_some, option_map, nat_eq}
 use Rattle.std.specs.List.{list_any}
 use Rattle.indexmap.specs.IndexMap.{get, spare, index_map_len}
 use Rattle.er_trace.specs.declared.record.Record.{Record}
@@ -14,7 +14,7 @@ use Rattle.er_names.specs.declared.names.Names.{Names}
 use Rattle.er_names.specs.declared.names.Now.{Now}
 use Rattle.er_names.specs.declared.tables.Tables.{Tables}
 use Rattle.er_names.specs.Fired.{FiredAre, HasPlaceFor, timer_found}
-use Rattle.er_names.specs.Tables.{noted_in}
+use Rattle.er_names.specs.Noted.{noted_in}
 use Rattle.er_history.specs.LookUps.{place_of, before, closes_dispatch, makes_frame, begins_dcl, begins_load, begins_eload}
 
 abbrev pub form_of : Form → history.Form
@@ -66,9 +66,9 @@ pub record SettingGiven (pair : Option (ℕ × Timeout)) (x : Record) (a : Actio
   pub known : (k : ℕ) → is_some (noted_in k pair) ≡ sets_timeout k x
 
 -- its rank is this
-abbrev pub IsRanked : Option (ℕ × Timeout) → ℕ → Type 0
-IsRanked None rank = Unit {0}
-IsRanked (Some p) rank = p.1.rank ≡ rank
+abbrev pub HasRank : Option (ℕ × Timeout) → ℕ → Type 0
+HasRank None rank = Unit {0}
+HasRank (Some p) rank = p.1.rank ≡ rank
 
 abbrev pub rank_of : Timeout → ℕ
 rank_of t = t.rank
@@ -110,7 +110,7 @@ pub record NamesAre (names : Names) (h : List Record) : Type 0 where
   pub fired : FiredAre names.fired h
 
 -- each table has room for one number more
-pub record HasRoom (tables : Tables) : Type 0 where
+pub record HaveSpare (tables : Tables) : Type 0 where
   pub elements : 0 < spare tables.elements
   pub timeouts : 0 < spare tables.timeouts
   pub documents : 0 < spare tables.documents
@@ -128,7 +128,7 @@ pub record HasRoom (tables : Tables) : Type 0 where
 
 -- and so has the list of a timeout whose callback the record begins
 pub record HasRoomFor (names : Names) (x : Record) : Type 0 where
-  pub tables : HasRoom names.tables
+  pub tables : HaveSpare names.tables
   pub fired : HasPlaceFor names.fired (timer_found (get nat_eq names.tables.timeouts) x)
 
 -- the action that runs when the record has been read, and its event
@@ -137,6 +137,18 @@ pub record IsNow (h : List Record) (x : Record) (now : Now) : Type 0 where
   pub runs : running (actions_after (told h) x) ≡ Some running_action
   pub action : now.action ≡ running_action.number
   pub event : now.event ≡ running_action.event.number
+
+-- what stood for a list stands for it still
+abbrev pub Keeps : {X : Type 0} → (X → List Record → Type 0) → X → X → Type 0
+Keeps Are old new = (h : List Record) → Are old h → Are new h
+
+-- what stood for a list stands for the list with this record, if this action runs after it
+abbrev pub Takes : {X : Type 0} → (X → List Record → Type 0) → X → X → Record → Now → Type 0
+Takes Are old new x now = (h : List Record) → Are old h → IsNow h x now → Are new (x ∷ h)
+
+-- the same whichever action runs
+abbrev pub TakesAny : {X : Type 0} → (X → List Record → Type 0) → X → X → Record → Type 0
+TakesAny Are old new x = (h : List Record) → Are old h → Are new (x ∷ h)
 
 -- for every list that the names stand for, the result is what is said of the list
 abbrev pub Answers : {A : Type 0} → Names → (List Record → A) → A → Type 0

@@ -4,7 +4,7 @@ ghost use Rattle.std.specs.Prelude.{◌≡◌, ℕ, ◌<◌, List, [], ◌∷◌
 ghost use Rattle.indexmap.specs.IndexMap.{get};
 ghost use Rattle.er_trace.specs.declared.record.Record.{Record};
 ghost use Rattle.er_history.specs.LookUps.{fired_with, fires_of};
-ghost use Rattle.er_names.specs.Fired.{FiredAre, HasPlace, HasPlaceFor, items_of, timers_of};
+ghost use Rattle.er_names.specs.Fired.{FiredAre, ListHasPlace, HasPlaceFor, items_of, timers_of};
 
 use er_outside::NoMemory;
 use indexmap::IndexMap;
@@ -78,7 +78,7 @@ impl Fired {
     fn make_place(&mut self, event: u32) -> Result<(), NoMemory>
         requires there { IsSome (get nat_eq self.old.lists event) }
         ensures kept { (u : ℕ) → items_of (get nat_eq self.new.lists u) ≡ items_of (get nat_eq self.old.lists u) }
-        ensures room { OnOk result (HasPlace self.new event) }
+        ensures room { OnOk result (ListHasPlace self.new event) }
     {
         let Some(list) = self.lists.get_mut(&event) else {
             unreachable!()
@@ -90,7 +90,7 @@ impl Fired {
     }
 
     fn put(&mut self, event: u32, timeout: u32)
-        requires room { HasPlace self.old event }
+        requires room { ListHasPlace self.old event }
         ensures { (u : ℕ) → items_of (get nat_eq self.new.lists u) ≡ items_of (get nat_eq self.old.lists u) ++ timers_of u (Some (event, timeout)) }
     {
         let Some(list) = self.lists.get_mut(&event) else {

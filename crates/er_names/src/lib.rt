@@ -19,10 +19,10 @@
 #![tactic(auto)]
 
 mod fired;
-mod keys;
+mod firsts;
 pub mod look_ups;
 mod made;
 pub mod names;
 mod naming;
-mod table;
+mod notes;
 mod tables;

@@ -1,15 +1,42 @@
-//! The element or the timeout that a record makes.
+//! The element or the timeout that a record makes, and how it is noted.
 
-ghost use Rattle.std.specs.Prelude.{◌≡◌, ℕ};
+ghost use Rattle.std.specs.Prelude.{◌≡◌, ℕ, ◌<◌, List, ◌∷◌, nat_eq};
+ghost use Rattle.indexmap.specs.IndexMap.{get, spare, index_map_len};
+ghost use Rattle.er_trace.specs.declared.record.Record.{Record};
 ghost use Rattle.er_history.specs.History as history;
-ghost use Rattle.er_names.specs.Names.{ElementGiven, SettingGiven, IsRanked};
+ghost use Rattle.er_names.specs.Names.{ElementsAre, TimeoutsAre, ElementGiven, SettingGiven, HasRank, IsRankedByPlace, IsNow, Takes};
 
+use crate::firsts::note_pair;
 use crate::names::{Element, Form, Now, Timeout};
 use er_trace::record::{Kind, NewKind, Record};
+use indexmap::IndexMap;
+
+/// Notes the element that the record makes.
+pub(crate) fn note_element(table: &mut IndexMap<u32, Element>, rec: &Record, now: Now)
+    requires room { 0 < spare table.old }
+    ensures { Takes ElementsAre (get nat_eq table.old) (get nat_eq table.new) rec.now now }
+{
+    let pair = element_in(rec, now);
+    note_pair(table, pair);
+}
+
+/// Notes the timeout that the record sets.
+pub(crate) fn note_timeout(table: &mut IndexMap<u32, Timeout>, rec: &Record, now: Now)
+    requires room { 0 < spare table.old }
+    ensures set { Takes TimeoutsAre (get nat_eq table.old) (get nat_eq table.new) rec.now now }
+    ensures ranked { (h : List Record)
+        → IsRankedByPlace (get nat_eq table.old) (index_map_len table.old) h
+        → IsNow h rec.now now
+        → IsRankedByPlace (get nat_eq table.new) (index_map_len table.new) (rec.now ∷ h) }
+{
+    let pair = timeout_in(rec, now, table.len());
+    note_pair(table, pair);
+}
 
 /// The element that a record makes where this action runs.
-pub(crate) fn element_in(rec: &Record, now: Now) -> Option<(u32, Element)>
-    ensures { (a : history.Action) → now.action ≡ a.number → now.event ≡ a.event.number → ElementGiven result rec.now a }
+fn element_in(rec: &Record, now: Now) -> Option<(u32, Element)>
+    ensures { (a : history.Action) → now.action ≡ a.number → now.event ≡ a.event.number
+        → ElementGiven result rec.now a }
 {
     match rec {
         Record::Parse { doc, element, kind } => {
@@ -36,9 +63,10 @@ pub(crate) fn element_in(rec: &Record, now: Now) -> Option<(u32, Element)>
 }
 
 /// The timeout that a record sets where this action runs, and so many timeouts were set before.
-pub(crate) fn timeout_in(rec: &Record, now: Now, rank: usize) -> Option<(u32, Timeout)>
-    ensures made { (a : history.Action) → now.action ≡ a.number → now.event ≡ a.event.number → SettingGiven result rec.now a }
-    ensures ranked { IsRanked result rank }
+fn timeout_in(rec: &Record, now: Now, rank: usize) -> Option<(u32, Timeout)>
+    ensures set { (a : history.Action) → now.action ≡ a.number → now.event ≡ a.event.number
+        → SettingGiven result rec.now a }
+    ensures ranked { HasRank result rank }
 {
     match rec {
         Record::Set { timeout, delay } => Some((

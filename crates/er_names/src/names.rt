@@ -1,8 +1,7 @@
 //! What the records have declared, started and finished, and how one record more is taken.
 
-ghost use Rattle.std.specs.Prelude.{List, [], ◌∷◌, OnOk};
-ghost use Rattle.er_trace.specs.declared.record.Record.{Record};
-ghost use Rattle.er_names.specs.Names.{NamesAre, HasRoomFor, IsNow};
+ghost use Rattle.std.specs.Prelude.{[], OnOk};
+ghost use Rattle.er_names.specs.Names.{NamesAre, HasRoomFor, Keeps, Takes};
 
 use crate::fired::Fired;
 use crate::tables::Tables;
@@ -63,7 +62,7 @@ impl Names {
 
     /// Makes room for what the record declares, starts or finishes.
     pub fn make_room(&mut self, rec: &Record) -> Result<(), NoMemory>
-        ensures kept { (h : List Record) → NamesAre self.old h → NamesAre self.new h }
+        ensures kept { Keeps NamesAre self.old self.new }
         ensures room { OnOk result (HasRoomFor self.new rec.now) }
     {
         self.tables.make_room()?;
@@ -74,7 +73,7 @@ impl Names {
     /// Takes the record, after which this action runs.
     pub fn take(&mut self, rec: &Record, now: Now)
         requires room { HasRoomFor self.old rec.now }
-        ensures { (h : List Record) → NamesAre self.old h → IsNow h rec.now now → NamesAre self.new (rec.now ∷ h) }
+        ensures { Takes NamesAre self.old self.new rec.now now }
     {
         let timer = self.tables.timer_in(rec);
         self.tables.take(rec, now);

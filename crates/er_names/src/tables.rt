@@ -1,15 +1,17 @@
 //! The tables of what the records have declared, started and finished, and how they take one record more.
 
-ghost use Rattle.std.specs.Prelude.{◌≡◌, ℕ, List, [], ◌∷◌, OnOk, nat_eq};
-ghost use Rattle.er_trace.specs.declared.record.Record.{Record};
+ghost use Rattle.std.specs.Prelude.{◌≡◌, ℕ, [], OnOk, nat_eq};
 ghost use Rattle.indexmap.specs.IndexMap.{get};
 ghost use Rattle.er_names.specs.Fired.{timer_found};
-ghost use Rattle.er_names.specs.Names.{TablesAre, HasRoom, IsNow};
+ghost use Rattle.er_names.specs.Names.{TablesAre, HaveSpare, Keeps, Takes};
 
-use crate::keys;
-use crate::made::element_in;
+use crate::firsts::make_room;
+use crate::made::{note_element, note_timeout};
 use crate::names::{Element, Now, Timeout};
-use crate::table::{make_room, note_element, note_first, note_maker, note_timeout};
+use crate::notes::{
+    note_begin, note_callback, note_close, note_dcl, note_document, note_eload, note_frame,
+    note_handler, note_interval, note_load, note_request, note_run,
+};
 use er_outside::NoMemory;
 use er_trace::record::Record;
 use indexmap::IndexMap;
@@ -68,9 +70,9 @@ impl Tables {
 
     /// Makes room for what one record more declares, starts or finishes.
     pub(crate) fn make_room(&mut self) -> Result<(), NoMemory>
-        ensures kept { (h : List Record) → TablesAre self.old h → TablesAre self.new h }
+        ensures kept { Keeps TablesAre self.old self.new }
         ensures timeouts { (k : ℕ) → get nat_eq self.new.timeouts k ≡ get nat_eq self.old.timeouts k }
-        ensures room { OnOk result (HasRoom self.new) }
+        ensures room { OnOk result (HaveSpare self.new) }
     {
         make_room(&mut self.elements)?;
         make_room(&mut self.timeouts)?;
@@ -90,23 +92,23 @@ impl Tables {
 
     /// Takes a record, after which this action runs.
     pub(crate) fn take(&mut self, rec: &Record, now: Now)
-        requires room { HasRoom self.old }
-        ensures { (h : List Record) → TablesAre self.old h → IsNow h rec.now now → TablesAre self.new (rec.now ∷ h) }
+        requires room { HaveSpare self.old }
+        ensures { Takes TablesAre self.old self.new rec.now now }
     {
-        note_element(&mut self.elements, element_in(rec, now));
+        note_element(&mut self.elements, rec, now);
         note_timeout(&mut self.timeouts, rec, now);
-        note_maker(&mut self.documents, keys::document_in(rec), now.event);
-        note_maker(&mut self.handlers, keys::handler_in(rec), now.event);
-        note_maker(&mut self.intervals, keys::interval_in(rec), now.event);
-        note_maker(&mut self.requests, keys::request_in(rec), now.event);
-        note_maker(&mut self.runs, keys::run_in(rec), now.event);
-        note_maker(&mut self.callbacks, keys::callback_in(rec), now.event);
-        note_maker(&mut self.begins, keys::begun_in(rec), now.event);
-        note_maker(&mut self.closes, keys::closed_in(rec), now.event);
-        note_first(&mut self.frames, keys::frame_in(rec));
-        note_first(&mut self.dcls, keys::dcl_in(rec));
-        note_first(&mut self.loads, keys::load_in(rec));
-        note_first(&mut self.eloads, keys::eload_in(rec));
+        note_document(&mut self.documents, rec, now);
+        note_handler(&mut self.handlers, rec, now);
+        note_interval(&mut self.intervals, rec, now);
+        note_request(&mut self.requests, rec, now);
+        note_run(&mut self.runs, rec, now);
+        note_callback(&mut self.callbacks, rec, now);
+        note_begin(&mut self.begins, rec, now);
+        note_close(&mut self.closes, rec, now);
+        note_frame(&mut self.frames, rec);
+        note_dcl(&mut self.dcls, rec);
+        note_load(&mut self.loads, rec);
+        note_eload(&mut self.eloads, rec);
     }
 
     /// The timeout whose callback the record begins, behind the event that set it.

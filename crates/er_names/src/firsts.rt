@@ -1,16 +1,13 @@
-//! Tables from numbers to what was noted first under them.
+//! Tables from numbers to what was noted first under them: one way to note for all of them.
 
 ghost use Rattle.std.specs.Prelude.{◌≡◌, ℕ, ◌<◌, ◌≤◌, Bool, List, ◌∷◌, Option, Some, None, nat_eq, is_some, OnOk, IfSome};
 ghost use Rattle.indexmap.specs.IndexMap.{get, spare, index_map_len};
 ghost use Rattle.er_trace.specs.declared.record.Record.{Record};
 ghost use Rattle.er_history.specs.History.{told, or_else, running, actions_after, Action};
-ghost use Rattle.er_names.specs.Tables.{noted, noted_in, is_number};
-ghost use Rattle.er_names.specs.Names.{MakersAre, FirstsAre, ElementsAre, TimeoutsAre, ElementGiven, IsRankedByPlace};
+ghost use Rattle.er_names.specs.Noted.{noted, noted_in, is_number};
+ghost use Rattle.er_names.specs.Names.{MakersAre, FirstsAre};
 
-use crate::made::timeout_in;
-use crate::names::{Element, Now, Timeout};
 use er_outside::NoMemory;
-use er_trace::record::Record;
 use indexmap::IndexMap;
 
 /// Makes room for one number more.
@@ -76,37 +73,5 @@ pub(crate) fn note_first(table: &mut IndexMap<u32, u32>, pair: Option<(u32, u32)
         → ((k : ℕ) → is_some (noted_in k pair) ≡ test k x)
         → FirstsAre test gives (get nat_eq table.new) (x ∷ h) }
 {
-    note_pair(table, pair);
-}
-
-/// Notes the element that a record makes, if it makes one.
-pub(crate) fn note_element(table: &mut IndexMap<u32, Element>, pair: Option<(u32, Element)>)
-    requires room { 0 < spare table.old }
-    ensures { (h : List Record) (x : Record) (a : Action)
-        → ElementsAre (get nat_eq table.old) h
-        → ElementGiven pair x a
-        → running (actions_after (told h) x) ≡ Some a
-        → ElementsAre (get nat_eq table.new) (x ∷ h) }
-{
-    note_pair(table, pair);
-}
-
-/// Notes the timeout that a record sets where this action runs, if it sets one.
-pub(crate) fn note_timeout(table: &mut IndexMap<u32, Timeout>, rec: &Record, now: Now)
-    requires room { 0 < spare table.old }
-    ensures made { (h : List Record) (a : Action)
-        → TimeoutsAre (get nat_eq table.old) h
-        → running (actions_after (told h) rec.now) ≡ Some a
-        → now.action ≡ a.number
-        → now.event ≡ a.event.number
-        → TimeoutsAre (get nat_eq table.new) (rec.now ∷ h) }
-    ensures ranked { (h : List Record) (a : Action)
-        → IsRankedByPlace (get nat_eq table.old) (index_map_len table.old) h
-        → running (actions_after (told h) rec.now) ≡ Some a
-        → now.action ≡ a.number
-        → now.event ≡ a.event.number
-        → IsRankedByPlace (get nat_eq table.new) (index_map_len table.new) (rec.now ∷ h) }
-{
-    let pair = timeout_in(rec, now, table.len());
     note_pair(table, pair);
 }
