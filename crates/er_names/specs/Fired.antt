@@ -12,9 +12,12 @@ abbrev pub items_of : {A : Type 0} → Option (Vec ℕ A) → List ℕ
 items_of None = []
 items_of (Some v) = v.items
 
+abbrev pub items_at : Fired → ℕ → List ℕ
+items_at fired u = items_of (get nat_eq fired.lists u)
+
 -- under each event the timeouts that it set and that have fired
 pub record FiredAre (fired : Fired) (h : List Record) : Type 0 where
-  pub all : (u : ℕ) → items_of (get nat_eq fired.lists u) ≡ fired_with h u
+  pub all : (u : ℕ) → items_at fired u ≡ fired_with h u
 
 -- the timeout whose callback the record begins, behind the event that set it
 abbrev pub timer_found : (ℕ → Option Timeout) → Record → Option (ℕ × ℕ)
@@ -28,7 +31,8 @@ timers_of u (Some p) = if p.0 == u then p.1 ∷ [] else []
 
 -- the list of this event has room for one timeout more
 abbrev pub ListHasPlace : Fired → ℕ → Type 0
-ListHasPlace fired event = IsSomeAnd (get nat_eq fired.lists event) (λ list. vec_len list < vec_capacity list)
+ListHasPlace fired event =
+    IsSomeAnd (get nat_eq fired.lists event) (λ list. vec_len list < vec_capacity list)
 
 abbrev pub HasPlaceFor : Fired → Option (ℕ × ℕ) → Type 0
 HasPlaceFor fired None = Unit {0}

@@ -4,7 +4,7 @@ ghost use Rattle.std.specs.Prelude.{◌≡◌, ℕ, ◌<◌, List, [], ◌∷◌
 ghost use Rattle.indexmap.specs.IndexMap.{get};
 ghost use Rattle.er_trace.specs.declared.record.Record.{Record};
 ghost use Rattle.er_history.specs.LookUps.{fired_with, fires_of};
-ghost use Rattle.er_names.specs.Fired.{FiredAre, ListHasPlace, HasPlaceFor, items_of, timers_of};
+ghost use Rattle.er_names.specs.Fired.{FiredAre, ListHasPlace, HasPlaceFor, items_at, timers_of};
 
 use er_outside::NoMemory;
 use indexmap::IndexMap;
@@ -53,7 +53,10 @@ impl Fired {
     /// Takes a timeout that fires, with the event that set it, if there is one.
     pub(crate) fn take(&mut self, timer: Option<(u32, u32)>)
         requires room { HasPlaceFor self.old timer }
-        ensures { (h : List Record) (x : Record) → FiredAre self.old h → ((u : ℕ) → timers_of u timer ≡ fires_of h u x) → FiredAre self.new (x ∷ h) }
+        ensures { (h : List Record) (x : Record)
+            → FiredAre self.old h
+            → ((u : ℕ) → timers_of u timer ≡ fires_of h u x)
+            → FiredAre self.new (x ∷ h) }
     {
         if let Some((event, timeout)) = timer {
             self.put(event, timeout);
@@ -62,7 +65,7 @@ impl Fired {
 
     /// Gives the event a list, if it has none.
     fn make_list(&mut self, event: u32) -> Result<(), NoMemory>
-        ensures kept { (u : ℕ) → items_of (get nat_eq self.new.lists u) ≡ items_of (get nat_eq self.old.lists u) }
+        ensures kept { (u : ℕ) → items_at self.new u ≡ items_at self.old u }
         ensures there { OnOk result (IsSome (get nat_eq self.new.lists event)) }
     {
         if self.lists.contains_key(&event) {
@@ -77,7 +80,7 @@ impl Fired {
     /// Makes room in the event's list.
     fn make_place(&mut self, event: u32) -> Result<(), NoMemory>
         requires there { IsSome (get nat_eq self.old.lists event) }
-        ensures kept { (u : ℕ) → items_of (get nat_eq self.new.lists u) ≡ items_of (get nat_eq self.old.lists u) }
+        ensures kept { (u : ℕ) → items_at self.new u ≡ items_at self.old u }
         ensures room { OnOk result (ListHasPlace self.new event) }
     {
         let Some(list) = self.lists.get_mut(&event) else {
@@ -91,7 +94,8 @@ impl Fired {
 
     fn put(&mut self, event: u32, timeout: u32)
         requires room { ListHasPlace self.old event }
-        ensures { (u : ℕ) → items_of (get nat_eq self.new.lists u) ≡ items_of (get nat_eq self.old.lists u) ++ timers_of u (Some (event, timeout)) }
+        ensures { (u : ℕ)
+            → items_at self.new u ≡ items_at self.old u ++ timers_of u (Some (event, timeout)) }
     {
         let Some(list) = self.lists.get_mut(&event) else {
             unreachable!()

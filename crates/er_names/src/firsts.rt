@@ -25,9 +25,11 @@ pub(crate) fn make_room<V>(table: &mut IndexMap<u32, V>) -> Result<(), NoMemory>
 /// Notes a value under a number. The first that was noted stays.
 pub(crate) fn note<V: Copy + Drop>(table: &mut IndexMap<u32, V>, number: u32, value: V)
     requires room { 0 < spare table.old }
-    ensures found { (k : ℕ) → get nat_eq table.new k ≡ or_else (get nat_eq table.old k) (noted k number value) }
+    ensures found { (k : ℕ)
+        → get nat_eq table.new k ≡ or_else (get nat_eq table.old k) (noted k number value) }
     ensures longer { index_map_len table.old ≤ index_map_len table.new }
-    ensures counted { get nat_eq table.old number ≡ None → index_map_len table.old < index_map_len table.new }
+    ensures counted { get nat_eq table.old number ≡ None
+        → index_map_len table.old < index_map_len table.new }
 {
     if table.contains_key(&number) {
         return;
@@ -40,9 +42,11 @@ pub(crate) fn note<V: Copy + Drop>(table: &mut IndexMap<u32, V>, number: u32, va
 /// Notes a pair of a number and a value, if there is one.
 pub(crate) fn note_pair<V: Copy + Drop>(table: &mut IndexMap<u32, V>, pair: Option<(u32, V)>)
     requires room { 0 < spare table.old }
-    ensures found { (k : ℕ) → get nat_eq table.new k ≡ or_else (get nat_eq table.old k) (noted_in k pair) }
+    ensures found { (k : ℕ)
+        → get nat_eq table.new k ≡ or_else (get nat_eq table.old k) (noted_in k pair) }
     ensures longer { index_map_len table.old ≤ index_map_len table.new }
-    ensures counted { IfSome pair (λ p. get nat_eq table.old p.0 ≡ None → index_map_len table.old < index_map_len table.new) }
+    ensures counted { IfSome pair (λ p. get nat_eq table.old p.0 ≡ None
+        → index_map_len table.old < index_map_len table.new) }
 {
     if let Some((number, value)) = pair {
         note(table, number, value);
@@ -67,7 +71,8 @@ pub(crate) fn note_maker(table: &mut IndexMap<u32, u32>, number: Option<u32>, ev
 /// Notes the first number that a record gives under another, if it gives one.
 pub(crate) fn note_first(table: &mut IndexMap<u32, u32>, pair: Option<(u32, u32)>)
     requires room { 0 < spare table.old }
-    ensures { (test : ℕ → Record → Bool) (gives : ℕ → Record → Option ℕ) (h : List Record) (x : Record)
+    ensures { (test : ℕ → Record → Bool) (gives : ℕ → Record → Option ℕ)
+        (h : List Record) (x : Record)
         → FirstsAre test gives (get nat_eq table.old) h
         → ((k : ℕ) → noted_in k pair ≡ gives k x)
         → ((k : ℕ) → is_some (noted_in k pair) ≡ test k x)

@@ -83,7 +83,13 @@ fn timeout_in(rec: &Record, now: Now, rank: usize) -> Option<(u32, Timeout)>
 }
 
 fn made(doc: u32, form: Form, is_static: bool, now: Now) -> Element
-    ensures { result ≡ record { doc = doc; form = form; is_static = is_static; maker = now.event; piece = now.action } }
+    ensures { result ≡ record {
+      doc = doc;
+      form = form;
+      is_static = is_static;
+      maker = now.event;
+      piece = now.action;
+    } }
 {
     Element {
         doc,

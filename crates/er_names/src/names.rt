@@ -1,7 +1,7 @@
 //! What the records have declared, started and finished, and how one record more is taken.
 
 ghost use Rattle.std.specs.Prelude.{[], OnOk};
-ghost use Rattle.er_names.specs.Names.{NamesAre, HasRoomFor, Keeps, Takes};
+ghost use Rattle.er_names.specs.Names.{NamesAre, HasRoom, Keeps, Takes};
 
 use crate::fired::Fired;
 use crate::tables::Tables;
@@ -16,7 +16,8 @@ pub enum Form {
     Framing(u32),
 }
 
-/// An element: its document, its form, whether a parse step made it, and the event and the piece that made it.
+/// An element: its document, its form, whether a parse step made it,
+/// and the event and the piece that made it.
 #[derive(Clone, Copy)]
 pub struct Element {
     pub doc: u32,
@@ -63,7 +64,7 @@ impl Names {
     /// Makes room for what the record declares, starts or finishes.
     pub fn make_room(&mut self, rec: &Record) -> Result<(), NoMemory>
         ensures kept { Keeps NamesAre self.old self.new }
-        ensures room { OnOk result (HasRoomFor self.new rec.now) }
+        ensures room { OnOk result (HasRoom self.new rec.now) }
     {
         self.tables.make_room()?;
         let timer = self.tables.timer_in(rec);
@@ -72,7 +73,7 @@ impl Names {
 
     /// Takes the record, after which this action runs.
     pub fn take(&mut self, rec: &Record, now: Now)
-        requires room { HasRoomFor self.old rec.now }
+        requires room { HasRoom self.old rec.now }
         ensures { Takes NamesAre self.old self.new rec.now now }
     {
         let timer = self.tables.timer_in(rec);

@@ -6,7 +6,7 @@ ghost use Rattle.er_trace.specs.declared.record.Record.{Record};
 ghost use Rattle.er_history.specs.History.{told};
 ghost use Rattle.er_history.specs.LookUps.{element_made};
 ghost use Rattle.er_history.specs.Naming as naming;
-ghost use Rattle.er_names.specs.Names.{NamesAre, Answers, element_of};
+ghost use Rattle.er_names.specs.Names.{Answers, declares_either, element_of};
 
 use crate::names::{Element, Form, Names};
 use er_trace::record::{Kind, Record};
@@ -38,7 +38,11 @@ impl Names {
             } => !self.has_begun(*dispatch) || !self.tables.handlers.contains_key(handler),
             Record::Close { dispatch } => !self.has_begun(*dispatch),
             Record::Back { dispatch } => !self.has_begun(*dispatch),
-            _ => false,
+            Record::On { .. } => false,
+            Record::Set { .. } => false,
+            Record::Every { .. } => false,
+            Record::Send { .. } => false,
+            Record::Access { .. } => false,
         }
     }
 
@@ -70,7 +74,11 @@ impl Names {
             Record::Set { timeout, .. } => self.tables.timeouts.contains_key(timeout),
             Record::Every { interval, .. } => self.tables.intervals.contains_key(interval),
             Record::Send { request } => self.tables.requests.contains_key(request),
-            _ => false,
+            Record::Tick { .. } => false,
+            Record::Run { .. } => false,
+            Record::Close { .. } => false,
+            Record::Back { .. } => false,
+            Record::Access { .. } => false,
         }
     }
 
@@ -106,7 +114,7 @@ impl Names {
 
     /// Whether the element or the document is declared.
     fn has_frame(&self, element: u32, inner: u32) -> bool
-        ensures { Answers self.now (λ h. list_any (naming.declares_element element) h || naming.knows_document h inner) result }
+        ensures { Answers self.now (declares_either element inner) result }
     {
         self.has_element(element) || self.knows_document(inner)
     }

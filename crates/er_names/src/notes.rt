@@ -16,8 +16,8 @@ use indexmap::IndexMap;
 /// Notes the document that the record declares.
 pub(crate) fn note_document(table: &mut IndexMap<u32, u32>, rec: &Record, now: Now)
     requires room { 0 < spare table.old }
-    ensures { Takes (MakersAre declares_document) (get nat_eq table.old) (get nat_eq table.new)
-        rec.now now }
+    ensures { Takes (MakersAre declares_document)
+        (get nat_eq table.old) (get nat_eq table.new) rec.now now }
 {
     note_maker(table, document_in(rec), now.event);
 }
@@ -35,8 +35,8 @@ fn document_in(rec: &Record) -> Option<u32>
 /// Notes the handler that it registers.
 pub(crate) fn note_handler(table: &mut IndexMap<u32, u32>, rec: &Record, now: Now)
     requires room { 0 < spare table.old }
-    ensures { Takes (MakersAre declares_handler) (get nat_eq table.old) (get nat_eq table.new)
-        rec.now now }
+    ensures { Takes (MakersAre declares_handler)
+        (get nat_eq table.old) (get nat_eq table.new) rec.now now }
 {
     note_maker(table, handler_in(rec), now.event);
 }
@@ -53,8 +53,8 @@ fn handler_in(rec: &Record) -> Option<u32>
 /// Notes the interval that it sets.
 pub(crate) fn note_interval(table: &mut IndexMap<u32, u32>, rec: &Record, now: Now)
     requires room { 0 < spare table.old }
-    ensures { Takes (MakersAre declares_interval) (get nat_eq table.old) (get nat_eq table.new)
-        rec.now now }
+    ensures { Takes (MakersAre declares_interval)
+        (get nat_eq table.old) (get nat_eq table.new) rec.now now }
 {
     note_maker(table, interval_in(rec), now.event);
 }
@@ -71,8 +71,8 @@ fn interval_in(rec: &Record) -> Option<u32>
 /// Notes the request that it sends.
 pub(crate) fn note_request(table: &mut IndexMap<u32, u32>, rec: &Record, now: Now)
     requires room { 0 < spare table.old }
-    ensures { Takes (MakersAre declares_request) (get nat_eq table.old) (get nat_eq table.new)
-        rec.now now }
+    ensures { Takes (MakersAre declares_request)
+        (get nat_eq table.old) (get nat_eq table.new) rec.now now }
 {
     note_maker(table, request_in(rec), now.event);
 }
@@ -89,8 +89,8 @@ fn request_in(rec: &Record) -> Option<u32>
 /// Notes the run of a script that it begins.
 pub(crate) fn note_run(table: &mut IndexMap<u32, u32>, rec: &Record, now: Now)
     requires room { 0 < spare table.old }
-    ensures { Takes (MakersAre runs_script) (get nat_eq table.old) (get nat_eq table.new)
-        rec.now now }
+    ensures { Takes (MakersAre runs_script)
+        (get nat_eq table.old) (get nat_eq table.new) rec.now now }
 {
     note_maker(table, run_in(rec), now.event);
 }
@@ -108,8 +108,8 @@ fn run_in(rec: &Record) -> Option<u32>
 /// Notes the callback of a timeout that it begins.
 pub(crate) fn note_callback(table: &mut IndexMap<u32, u32>, rec: &Record, now: Now)
     requires room { 0 < spare table.old }
-    ensures { Takes (MakersAre fires_timeout) (get nat_eq table.old) (get nat_eq table.new)
-        rec.now now }
+    ensures { Takes (MakersAre fires_timeout)
+        (get nat_eq table.old) (get nat_eq table.new) rec.now now }
 {
     note_maker(table, callback_in(rec), now.event);
 }
@@ -127,8 +127,8 @@ fn callback_in(rec: &Record) -> Option<u32>
 /// Notes the begin of a dispatch.
 pub(crate) fn note_begin(table: &mut IndexMap<u32, u32>, rec: &Record, now: Now)
     requires room { 0 < spare table.old }
-    ensures { Takes (MakersAre begins_dispatch) (get nat_eq table.old) (get nat_eq table.new)
-        rec.now now }
+    ensures { Takes (MakersAre begins_dispatch)
+        (get nat_eq table.old) (get nat_eq table.new) rec.now now }
 {
     note_maker(table, begun_in(rec), now.event);
 }
@@ -152,8 +152,8 @@ fn begun_in(rec: &Record) -> Option<u32>
 /// Notes the close of a dispatch.
 pub(crate) fn note_close(table: &mut IndexMap<u32, u32>, rec: &Record, now: Now)
     requires room { 0 < spare table.old }
-    ensures { Takes (MakersAre closes_dispatch) (get nat_eq table.old) (get nat_eq table.new)
-        rec.now now }
+    ensures { Takes (MakersAre closes_dispatch)
+        (get nat_eq table.old) (get nat_eq table.new) rec.now now }
 {
     note_maker(table, closed_in(rec), now.event);
 }
@@ -171,8 +171,8 @@ fn closed_in(rec: &Record) -> Option<u32>
 /// Notes the frame element of a document that it declares.
 pub(crate) fn note_frame(table: &mut IndexMap<u32, u32>, rec: &Record)
     requires room { 0 < spare table.old }
-    ensures { TakesAny (FirstsAre declares_document makes_frame) (get nat_eq table.old) (get nat_eq table.new)
-        rec.now }
+    ensures { TakesAny (FirstsAre declares_document makes_frame)
+        (get nat_eq table.old) (get nat_eq table.new) rec.now }
 {
     note_first(table, frame_in(rec));
 }
@@ -192,8 +192,8 @@ fn frame_in(rec: &Record) -> Option<(u32, u32)>
 /// Notes the dispatch of DOMContentLoaded of a document that it begins.
 pub(crate) fn note_dcl(table: &mut IndexMap<u32, u32>, rec: &Record)
     requires room { 0 < spare table.old }
-    ensures { TakesAny (FirstsAre is_dcl begins_dcl) (get nat_eq table.old) (get nat_eq table.new)
-        rec.now }
+    ensures { TakesAny (FirstsAre is_dcl begins_dcl)
+        (get nat_eq table.old) (get nat_eq table.new) rec.now }
 {
     note_first(table, dcl_in(rec));
 }
@@ -212,8 +212,8 @@ fn dcl_in(rec: &Record) -> Option<(u32, u32)>
 /// Notes the dispatch of load of a document that it begins.
 pub(crate) fn note_load(table: &mut IndexMap<u32, u32>, rec: &Record)
     requires room { 0 < spare table.old }
-    ensures { TakesAny (FirstsAre is_load begins_load) (get nat_eq table.old) (get nat_eq table.new)
-        rec.now }
+    ensures { TakesAny (FirstsAre is_load begins_load)
+        (get nat_eq table.old) (get nat_eq table.new) rec.now }
 {
     note_first(table, load_in(rec));
 }
@@ -232,8 +232,8 @@ fn load_in(rec: &Record) -> Option<(u32, u32)>
 /// Notes the dispatch of an element's first load event that it begins.
 pub(crate) fn note_eload(table: &mut IndexMap<u32, u32>, rec: &Record)
     requires room { 0 < spare table.old }
-    ensures { TakesAny (FirstsAre is_eload begins_eload) (get nat_eq table.old) (get nat_eq table.new)
-        rec.now }
+    ensures { TakesAny (FirstsAre is_eload begins_eload)
+        (get nat_eq table.old) (get nat_eq table.new) rec.now }
 {
     note_first(table, eload_in(rec));
 }

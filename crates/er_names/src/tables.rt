@@ -71,7 +71,8 @@ impl Tables {
     /// Makes room for what one record more declares, starts or finishes.
     pub(crate) fn make_room(&mut self) -> Result<(), NoMemory>
         ensures kept { Keeps TablesAre self.old self.new }
-        ensures timeouts { (k : ℕ) → get nat_eq self.new.timeouts k ≡ get nat_eq self.old.timeouts k }
+        ensures timeouts { (k : ℕ)
+            → get nat_eq self.new.timeouts k ≡ get nat_eq self.old.timeouts k }
         ensures room { OnOk result (HaveSpare self.new) }
     {
         make_room(&mut self.elements)?;
