@@ -166,8 +166,8 @@ impl Names {
     pub fn setting_piece(&self, timeout: u32) -> Option<u32>
         ensures { Answers self.now (λ h. setting_piece h timeout) result }
     {
-        let found = self.tables.timeouts.get(&timeout)?;
-        Some(found.piece)
+        let set = self.tables.timeouts.get(&timeout)?;
+        Some(set.piece)
     }
 
     /// The event that is the callback of the timeout.
