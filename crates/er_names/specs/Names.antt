@@ -150,7 +150,7 @@ pub record HaveSpare (tables : Tables) : Type 0 where
   pub eloads : 0 < spare tables.eloads
 
 -- and so has the list of a timeout whose callback the record begins
-pub record HasRoom (names : Names) (x : Record) : Type 0 where
+pub record HasRoomFor (names : Names) (x : Record) : Type 0 where
   pub tables : HaveSpare names.tables
   pub fired : HasPlaceFor names.fired (timer_found (get nat_eq names.tables.timeouts) x)
 

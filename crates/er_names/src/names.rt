@@ -1,7 +1,7 @@
 //! What the records have declared, started and finished, and how one record more is taken.
 
 ghost use Rattle.std.specs.Prelude.{[], OnOk};
-ghost use Rattle.er_names.specs.Names.{NamesAre, HasRoom, Keeps, Takes};
+ghost use Rattle.er_names.specs.Names.{NamesAre, HasRoomFor, Keeps, Takes};
 
 use crate::fired::Fired;
 use crate::tables::Tables;
@@ -64,7 +64,7 @@ impl Names {
     /// Makes room for what the record declares, starts or finishes.
     pub fn make_room(&mut self, rec: &Record) -> Result<(), NoMemory>
         ensures kept { Keeps NamesAre self.old self.new }
-        ensures room { OnOk result (HasRoom self.new rec.now) }
+        ensures room { OnOk result (HasRoomFor self.new rec.now) }
     {
         self.tables.make_room()?;
         let timer = self.tables.timer_in(rec);
@@ -73,7 +73,7 @@ impl Names {
 
     /// Takes the record, after which this action runs.
     pub fn take(&mut self, rec: &Record, now: Now)
-        requires room { HasRoom self.old rec.now }
+        requires room { HasRoomFor self.old rec.now }
         ensures { Takes NamesAre self.old self.new rec.now now }
     {
         let timer = self.tables.timer_in(rec);
