@@ -1,0 +1,64 @@
+-- An access declares, starts and finishes nothing.
+use Rattle.std.proofs.Common.{◌≡◌, ℕ, Bool, false, List, [], ◌∷◌, length, Option, Some, None, refl, sym, ap, ◌∙◌, arith}
+use Rattle.std.specs.Prelude.{nat_eq}
+use Rattle.std.proofs.lemmas.List.{append-nil}
+use Rattle.indexmap.specs.IndexMap.{get}
+use Rattle.er_trace.specs.declared.record.Record.{Record}
+use Rattle.er_trace.specs.declared.record.Record.TheVariants.{Access}
+use Rattle.er_trace.specs.declared.record.Loc.{Loc}
+use Rattle.er_trace.specs.declared.record.Mode.{Mode}
+use Rattle.er_history.specs.History.{told, or_else, first_to, maker_by, running, actions_after, Action}
+use Rattle.er_names.specs.declared.names.Names.{Names}
+use Rattle.er_names.specs.declared.tables.Tables.{Tables}
+use Rattle.er_history.specs.LookUps.{fired_with}
+use Rattle.er_names.specs.Names.{MakersAre, FirstsAre, TablesAre, NamesAre}
+use Rattle.er_names.proofs.NamesLemmas.{elements_more, timeouts_more}
+use Rattle.er_names.proofs.RankLemmas.{ranked_more}
+
+or_none : {A : Type 0} (o : Option A) → or_else o None ≡ o
+or_none None = refl
+or_none (Some x) = refl
+
+makers_same : (test : ℕ → Record → Bool) (found : ℕ → Option ℕ) (h : List Record) (x : Record) → ((k : ℕ) → test k x ≡ false) → MakersAre test found h → MakersAre test found (x ∷ h)
+makers_same test found h x none stands = record {
+  made = λ k. stands.made k ∙ (sym (or_none (maker_by (test k) (told h).entries)) ∙ ap (or_else (maker_by (test k) (told h).entries)) (sym (no_maker k (length (told h).entries) _)));
+  known = λ k. rw (none k) (stands.known k);
+}
+  where
+    no_maker : (k place : ℕ) (o : Option Action) → maker_by (test k) (record { read = x; place = place; action = o } ∷ []) ≡ None
+    no_maker k place None = refl
+    no_maker k place (Some a) = rw (none k) refl
+
+firsts_same : (test : ℕ → Record → Bool) (gives : ℕ → Record → Option ℕ) (found : ℕ → Option ℕ) (h : List Record) (x : Record) → ((k : ℕ) → gives k x ≡ None) → ((k : ℕ) → test k x ≡ false) → FirstsAre test gives found h → FirstsAre test gives found (x ∷ h)
+firsts_same test gives found h x nothing none stands = record {
+  first = λ k. stands.first k ∙ (sym (or_none (first_to (gives k) h)) ∙ ap (or_else (first_to (gives k) h)) (sym (nothing k)));
+  known = λ k. rw (none k) (stands.known k);
+}
+
+tables_same : (tables : Tables) (h : List Record) (m : Mode) (l : Loc) (a : Action) → running (actions_after (told h) (Access m l)) ≡ Some a
+    → TablesAre tables h → TablesAre tables (Access m l ∷ h)
+tables_same tables h m l a runs stands = record {
+  elements = elements_more _ _ None h (Access m l) a (λ k. sym (or_none (get nat_eq tables.elements k))) stands.elements (record { made = λ k place. refl; known = λ k. refl }) runs;
+  timeouts = timeouts_more _ _ None h (Access m l) a (λ k. sym (or_none (get nat_eq tables.timeouts k))) stands.timeouts (record { placed = λ k place. refl; made = λ k place. refl; known = λ k. refl }) runs;
+  ranked = ranked_more _ _ None h (Access m l) a _ _ (λ k. sym (or_none (get nat_eq tables.timeouts k))) (omega arith) tt stands.ranked (record { placed = λ k place. refl; made = λ k place. refl; known = λ k. refl }) tt runs;
+  documents = makers_same _ _ h (Access m l) (λ k. refl) stands.documents;
+  handlers = makers_same _ _ h (Access m l) (λ k. refl) stands.handlers;
+  intervals = makers_same _ _ h (Access m l) (λ k. refl) stands.intervals;
+  requests = makers_same _ _ h (Access m l) (λ k. refl) stands.requests;
+  runs = makers_same _ _ h (Access m l) (λ k. refl) stands.runs;
+  callbacks = makers_same _ _ h (Access m l) (λ k. refl) stands.callbacks;
+  begins = makers_same _ _ h (Access m l) (λ k. refl) stands.begins;
+  closes = makers_same _ _ h (Access m l) (λ k. refl) stands.closes;
+  frames = firsts_same _ _ _ h (Access m l) (λ k. refl) (λ k. refl) stands.frames;
+  dcls = firsts_same _ _ _ h (Access m l) (λ k. refl) (λ k. refl) stands.dcls;
+  loads = firsts_same _ _ _ h (Access m l) (λ k. refl) (λ k. refl) stands.loads;
+  eloads = firsts_same _ _ _ h (Access m l) (λ k. refl) (λ k. refl) stands.eloads;
+}
+
+-- where an action runs, an access leaves what the names stand for
+pub names_same : (names : Names) (h : List Record) (m : Mode) (l : Loc) (a : Action) → running (actions_after (told h) (Access m l)) ≡ Some a
+    → NamesAre names h → NamesAre names (Access m l ∷ h)
+names_same names h m l a runs stands = record {
+  tables = tables_same names.tables h m l a runs stands.tables;
+  fired = record { all = λ u. stands.fired.all u ∙ sym (append-nil (fired_with h u)) };
+}

@@ -1,0 +1,3 @@
+pub mod AccessLemmas
+pub mod NamesLemmas
+pub mod RankLemmas

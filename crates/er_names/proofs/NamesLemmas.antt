@@ -1,0 +1,73 @@
+-- How a table comes to stand for one record more.
+use Rattle.std.proofs.Common.{◌≡◌, ℕ, Bool, true, false, List, [], ◌∷◌, length, Option, Some, None, option_map, is_some, refl, sym, ap, subst, ◌∙◌}
+use Rattle.std.specs.Prelude.{◌||◌, ◌==◌, if◌then◌else◌}
+use Rattle.er_trace.specs.declared.record.Record.{Record}
+use Rattle.er_trace.specs.declared.record.Record.TheVariants.{Timer}
+use Rattle.er_history.specs.History as history
+use Rattle.er_history.specs.History.{told, or_else, first_to, makes_element, makes_timeout, running, actions_after, Action, Entry}
+use Rattle.er_history.specs.LookUps.{timeout_made, fires_of}
+use Rattle.er_names.specs.declared.names.Element.{Element}
+use Rattle.er_names.specs.declared.names.Timeout.{Timeout}
+use Rattle.er_names.specs.Noted.{noted_in}
+use Rattle.er_names.specs.Fired.{timer_found, timers_of}
+use Rattle.er_names.specs.Names.{Setting, ElementsAre, TimeoutsAre, ElementGiven, SettingGiven, element_of, setting_of, setting}
+
+pub map_or_else : {A B : Type 0} (f : A → B) (o p : Option A) → option_map f (or_else o p) ≡ or_else (option_map f o) (option_map f p)
+map_or_else f None p = refl
+map_or_else f (Some x) p = refl
+
+pub known_more : {A : Type 0} (new old given : Option A) (b c : Bool) → new ≡ or_else old given → is_some old ≡ c → is_some given ≡ b → is_some new ≡ (b || c)
+known_more new None given b c e f g = ap is_some e ∙ (g ∙ step b c f)
+  where
+    step : (b c : Bool) → false ≡ c → b ≡ (b || c)
+    step true c f = refl
+    step false c f = f
+known_more new (Some x) given b c e f g = ap is_some e ∙ step b c f
+  where
+    step : (b c : Bool) → true ≡ c → true ≡ (b || c)
+    step true c f = refl
+    step false c f = f
+
+-- the entry of a record after which this action runs
+pub entry_more : {B : Type 0} (f : Entry → Option B) (h : List Record) (x : Record) (a : Action) (o made : Option B) → running (actions_after (told h) x) ≡ Some a
+    → o ≡ first_to f (told h).entries → made ≡ f (record { read = x; place = length (told h).entries; action = Some a })
+    → or_else o made ≡ first_to f (told (x ∷ h)).entries
+entry_more f h x a o made runs e g =
+    let Same : Option Action → Type 0 = λ r. or_else o made ≡ or_else (first_to f (told h).entries) (f (record { read = x; place = length (told h).entries; action = r })) in
+    subst Same (sym runs) (ap (λ q. or_else q made) e ∙ ap (or_else (first_to f (told h).entries)) g)
+
+pub elements_more : (old new : ℕ → Option Element) (pair : Option (ℕ × Element)) (h : List Record) (x : Record) (a : Action)
+    → ((k : ℕ) → new k ≡ or_else (old k) (noted_in k pair)) → ElementsAre old h → ElementGiven pair x a → running (actions_after (told h) x) ≡ Some a → ElementsAre new (x ∷ h)
+elements_more old new pair h x a more stands given runs = record {
+  made = λ k. ap (option_map element_of) (more k) ∙ (map_or_else element_of (old k) (noted_in k pair) ∙ entry_more (makes_element k) h x a (option_map element_of (old k)) (option_map element_of (noted_in k pair)) runs (stands.made k) (given.made k (length (told h).entries)));
+  known = λ k. known_more (new k) (old k) (noted_in k pair) _ _ (more k) (stands.known k) (given.known k);
+}
+
+pub timeouts_more : (old new : ℕ → Option Timeout) (pair : Option (ℕ × Timeout)) (h : List Record) (x : Record) (a : Action)
+    → ((k : ℕ) → new k ≡ or_else (old k) (noted_in k pair)) → TimeoutsAre old h → SettingGiven pair x a → running (actions_after (told h) x) ≡ Some a → TimeoutsAre new (x ∷ h)
+timeouts_more old new pair h x a more stands given runs = record {
+  made = λ k.
+      let entries = (told h).entries in
+      let entry : Entry = record { read = x; place = length entries; action = Some a } in
+      let due : or_else (first_to (makes_timeout k) entries) (makes_timeout k entry) ≡ first_to (makes_timeout k) (told (x ∷ h)).entries = entry_more (makes_timeout k) h x a _ _ runs refl refl in
+      ap (option_map setting_of) (more k) ∙ (map_or_else setting_of (old k) (noted_in k pair) ∙ (ap (λ o. or_else o (option_map setting_of (noted_in k pair))) (stands.made k)
+      ∙ (ap (or_else (option_map setting (first_to (makes_timeout k) entries))) (given.made k (length entries)) ∙ (sym (map_or_else setting (first_to (makes_timeout k) entries) (makes_timeout k entry)) ∙ ap (option_map setting) due))));
+  known = λ k. known_more (new k) (old k) (noted_in k pair) _ _ (more k) (stands.known k) (given.known k);
+}
+
+-- what is found of a timer's timeout is what the list says of it
+pub timer_fires : (h : List Record) (x : Record) (found : ℕ → Option Timeout) (timer : Option (ℕ × ℕ)) → TimeoutsAre found h → timer ≡ timer_found found x → (u : ℕ) → timers_of u timer ≡ fires_of h u x
+timer_fires h (Timer t) found timer stands e u = ap (timers_of u) e ∙ (by_setting (found t) ∙ (ap of (stands.made t) ∙ sym (by_list (timeout_made h t) refl)))
+  where
+    of : Option Setting → List ℕ
+    of None = []
+    of (Some s) = if s.maker == u then t ∷ [] else []
+
+    by_setting : (o : Option Timeout) → timers_of u (option_map (λ (x : Timeout). (x.maker, t)) o) ≡ of (option_map setting_of o)
+    by_setting None = refl
+    by_setting (Some x) = refl
+
+    by_list : (o : Option history.Timeout) → timeout_made h t ≡ o → fires_of h u (Timer t) ≡ of (option_map setting o)
+    by_list None e = rw e refl
+    by_list (Some x) e = rw e refl
+timer_fires h _ found timer stands e u = ap (timers_of u) e

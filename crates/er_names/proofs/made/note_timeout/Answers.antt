@@ -1,0 +1,17 @@
+use Rattle.std.proofs.Common.{subst}
+use Rattle.er_names.specs.Names.{HasRank}
+use Rattle.er_names.proofs.NamesLemmas.{timeouts_more}
+use Rattle.er_names.proofs.RankLemmas.{ranked_more}
+use Rattle.er_names.proofs.made.note_timeout.Goals as goal
+
+pub returns-clause-set : goal.returns-clause-set
+returns-clause-set c = λ h stands now.
+    let given = c.timeout_in-pair.ensures.set now.running_action now.action now.event in
+    timeouts_more _ _ c.timeout_in-pair.result h c.args.rec.now now.running_action c.note_pair.ensures.found stands given now.runs
+
+pub returns-clause-ranked : goal.returns-clause-ranked
+returns-clause-ranked c = λ h stands now.
+    let given = c.timeout_in-pair.ensures.set now.running_action now.action now.event in
+    let rank = subst (HasRank c.timeout_in-pair.result) c.len.ensures.len c.timeout_in-pair.ensures.ranked in
+    ranked_more _ _ c.timeout_in-pair.result h c.args.rec.now now.running_action _ _ c.note_pair.ensures.found c.note_pair.ensures.longer c.note_pair.ensures.counted
+    stands given rank now.runs

@@ -1,0 +1,22 @@
+use Rattle.std.proofs.Common.{rules}
+use Rattle.er_names.proofs.RankLemmas.{none_ranked}
+use Rattle.er_names.proofs.tables.Tables.new.Goals as goal
+
+pub returns : goal.returns
+returns c = record {
+  elements = search rules;
+  timeouts = search rules;
+  ranked = none_ranked _ _ (λ k. search rules);
+  documents = search rules;
+  handlers = search rules;
+  intervals = search rules;
+  requests = search rules;
+  runs = search rules;
+  callbacks = search rules;
+  begins = search rules;
+  closes = search rules;
+  frames = search rules;
+  dcls = search rules;
+  loads = search rules;
+  eloads = search rules;
+}

@@ -1,0 +1,4 @@
+pub mod Fired
+pub mod LookUps
+pub mod Names
+pub mod Noted

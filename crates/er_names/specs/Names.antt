@@ -1,0 +1,182 @@
+-- What the tables of names stand for. Lists of records stand newest first.
+use Rattle.std.specs.Prelude.{◌≡◌, ℕ, ◌<◌, ◌||◌, Bool, List, ◌∷◌, length, Option, Some, None, is_some, option_map, nat_eq}
+use Rattle.std.specs.List.{list_any}
+use Rattle.indexmap.specs.IndexMap.{get, spare, index_map_len}
+use Rattle.er_trace.specs.declared.record.Record.{Record}
+use Rattle.er_history.specs.History as history
+use Rattle.er_history.specs.History.{told, first_to, maker_by, makes_element, makes_timeout, declares_document, declares_handler, declares_interval, declares_request, running, actions_after, Action, Entry}
+use Rattle.er_history.specs.Naming.{knows_document, declares_element, sets_timeout, runs_script, fires_timeout, begins_dispatch, is_dcl, is_load, is_eload}
+use Rattle.er_names.specs.declared.names.Form.{Form}
+use Rattle.er_names.specs.declared.names.Form.TheVariants.{Kinded, Framing}
+use Rattle.er_names.specs.declared.names.Element.{Element}
+use Rattle.er_names.specs.declared.names.Timeout.{Timeout}
+use Rattle.er_names.specs.declared.names.Names.{Names}
+use Rattle.er_names.specs.declared.names.Now.{Now}
+use Rattle.er_names.specs.declared.tables.Tables.{Tables}
+use Rattle.er_names.specs.Fired.{FiredAre, HasPlaceFor, timer_found}
+use Rattle.er_names.specs.Noted.{noted_in}
+use Rattle.er_history.specs.LookUps.{place_of, before, closes_dispatch, makes_frame, begins_dcl, begins_load, begins_eload}
+
+-- one record more, where this action runs
+abbrev pub entry_of : Record → ℕ → Action → Entry
+entry_of x place a = record { read = x; place = place; action = Some a }
+
+abbrev pub form_of : Form → history.Form
+form_of (Kinded k) = history.Kinded k
+form_of (Framing f) = history.Framing f
+
+abbrev pub element_of : Element → history.Element
+element_of x = record {
+  doc = x.doc;
+  form = form_of x.form;
+  is_static = x.is_static;
+  maker = x.maker;
+  piece = x.piece;
+}
+
+-- a timeout but for the place of its record
+pub record Setting : Type 0 where
+  pub delay : ℕ
+  pub maker : ℕ
+  pub piece : ℕ
+
+abbrev pub setting_of : Timeout → Setting
+setting_of x = record { delay = x.delay; maker = x.maker; piece = x.piece }
+
+abbrev pub setting : history.Timeout → Setting
+setting x = record { delay = x.delay; maker = x.maker; piece = x.piece }
+
+-- Under each number stands the event whose piece holds the first record that passes the test,
+-- and something stands exactly where a record does.
+pub record MakersAre (test : ℕ → Record → Bool)
+    (found : ℕ → Option ℕ) (h : List Record) : Type 0 where
+  pub made : (k : ℕ) → found k ≡ maker_by (test k) (told h).entries
+  pub known : (k : ℕ) → is_some (found k) ≡ list_any (test k) h
+
+-- under each number what the first record that gives something gives
+pub record FirstsAre (test : ℕ → Record → Bool) (gives : ℕ → Record → Option ℕ)
+    (found : ℕ → Option ℕ) (h : List Record) : Type 0 where
+  pub first : (k : ℕ) → found k ≡ first_to (gives k) h
+  pub known : (k : ℕ) → is_some (found k) ≡ list_any (test k) h
+
+pub record ElementsAre (found : ℕ → Option Element) (h : List Record) : Type 0 where
+  pub made : (k : ℕ) → option_map element_of (found k) ≡ first_to (makes_element k) (told h).entries
+  pub known : (k : ℕ) → is_some (found k) ≡ list_any (declares_element k) h
+
+pub record TimeoutsAre (found : ℕ → Option Timeout) (h : List Record) : Type 0 where
+  pub made : (k : ℕ)
+      → option_map setting_of (found k)
+      ≡ option_map setting (first_to (makes_timeout k) (told h).entries)
+  pub known : (k : ℕ) → is_some (found k) ≡ list_any (sets_timeout k) h
+
+-- the pair is the element that the record makes where this action runs
+pub record ElementGiven (pair : Option (ℕ × Element)) (x : Record) (a : Action) : Type 0 where
+  pub made : (k place : ℕ)
+      → option_map element_of (noted_in k pair) ≡ makes_element k (entry_of x place a)
+  pub known : (k : ℕ) → is_some (noted_in k pair) ≡ declares_element k x
+
+-- the pair is the timeout that the record sets where this action runs, but for its place
+pub record SettingGiven (pair : Option (ℕ × Timeout)) (x : Record) (a : Action) : Type 0 where
+  pub placed : (k place : ℕ)
+      → option_map (λ (t : history.Timeout). t.place) (makes_timeout k (entry_of x place a))
+      ≡ option_map (λ (t : Timeout). place) (noted_in k pair)
+  pub made : (k place : ℕ)
+      → option_map setting_of (noted_in k pair)
+      ≡ option_map setting (makes_timeout k (entry_of x place a))
+  pub known : (k : ℕ) → is_some (noted_in k pair) ≡ sets_timeout k x
+
+-- its rank is this
+abbrev pub HasRank : Option (ℕ × Timeout) → ℕ → Type 0
+HasRank None rank = Unit {0}
+HasRank (Some p) rank = p.1.rank ≡ rank
+
+abbrev pub rank_of : Timeout → ℕ
+rank_of t = t.rank
+
+-- a rank and a place, if there are some, are below these
+abbrev pub IsUnder : ℕ → ℕ → Option (ℕ × ℕ) → Type 0
+IsUnder rank place None = Unit {0}
+IsUnder rank place (Some p) = (p.0 < rank) × (p.1 < place)
+
+-- Timeouts are ranked in the order of the places of their records.
+-- Each has a rank below the count of them, and a place in the list.
+pub record IsRankedByPlace (found : ℕ → Option Timeout) (count : ℕ) (h : List Record) : Type 0 where
+  pub pairs : ℕ → Option (ℕ × ℕ)
+  pub ranks : (k : ℕ) → option_map rank_of (found k) ≡ option_map (λ p. p.0) (pairs k)
+  pub places : (k : ℕ) → place_of h k ≡ option_map (λ p. p.1) (pairs k)
+  pub order : (k n : ℕ)
+      → before (option_map (λ p. p.0) (pairs k)) (option_map (λ p. p.0) (pairs n))
+      ≡ before (option_map (λ p. p.1) (pairs k)) (option_map (λ p. p.1) (pairs n))
+  pub under : (k : ℕ) → IsUnder count (length (told h).entries) (pairs k)
+
+-- each table answers what the list says
+pub record TablesAre (tables : Tables) (h : List Record) : Type 0 where
+  pub elements : ElementsAre (get nat_eq tables.elements) h
+  pub timeouts : TimeoutsAre (get nat_eq tables.timeouts) h
+  pub ranked : IsRankedByPlace (get nat_eq tables.timeouts) (index_map_len tables.timeouts) h
+  pub documents : MakersAre declares_document (get nat_eq tables.documents) h
+  pub handlers : MakersAre declares_handler (get nat_eq tables.handlers) h
+  pub intervals : MakersAre declares_interval (get nat_eq tables.intervals) h
+  pub requests : MakersAre declares_request (get nat_eq tables.requests) h
+  pub runs : MakersAre runs_script (get nat_eq tables.runs) h
+  pub callbacks : MakersAre fires_timeout (get nat_eq tables.callbacks) h
+  pub begins : MakersAre begins_dispatch (get nat_eq tables.begins) h
+  pub closes : MakersAre closes_dispatch (get nat_eq tables.closes) h
+  pub frames : FirstsAre declares_document makes_frame (get nat_eq tables.frames) h
+  pub dcls : FirstsAre is_dcl begins_dcl (get nat_eq tables.dcls) h
+  pub loads : FirstsAre is_load begins_load (get nat_eq tables.loads) h
+  pub eloads : FirstsAre is_eload begins_eload (get nat_eq tables.eloads) h
+
+-- each table answers what the list says, and so does the table of what has fired
+pub record NamesAre (names : Names) (h : List Record) : Type 0 where
+  pub tables : TablesAre names.tables h
+  pub fired : FiredAre names.fired h
+
+-- each table has room for one number more
+pub record HaveSpare (tables : Tables) : Type 0 where
+  pub elements : 0 < spare tables.elements
+  pub timeouts : 0 < spare tables.timeouts
+  pub documents : 0 < spare tables.documents
+  pub handlers : 0 < spare tables.handlers
+  pub intervals : 0 < spare tables.intervals
+  pub requests : 0 < spare tables.requests
+  pub runs : 0 < spare tables.runs
+  pub callbacks : 0 < spare tables.callbacks
+  pub begins : 0 < spare tables.begins
+  pub closes : 0 < spare tables.closes
+  pub frames : 0 < spare tables.frames
+  pub dcls : 0 < spare tables.dcls
+  pub loads : 0 < spare tables.loads
+  pub eloads : 0 < spare tables.eloads
+
+-- and so has the list of a timeout whose callback the record begins
+pub record HasRoomFor (names : Names) (x : Record) : Type 0 where
+  pub tables : HaveSpare names.tables
+  pub fired : HasPlaceFor names.fired (timer_found (get nat_eq names.tables.timeouts) x)
+
+-- the action that runs when the record has been read, and its event
+pub record IsNow (h : List Record) (x : Record) (now : Now) : Type 0 where
+  pub running_action : Action
+  pub runs : running (actions_after (told h) x) ≡ Some running_action
+  pub action : now.action ≡ running_action.number
+  pub event : now.event ≡ running_action.event.number
+
+-- what stood for a list stands for it still
+abbrev pub Keeps : {X : Type 0} → (X → List Record → Type 0) → X → X → Type 0
+Keeps Are old new = (h : List Record) → Are old h → Are new h
+
+-- what stood for a list stands for the list with this record, if this action runs after it
+abbrev pub Takes : {X : Type 0} → (X → List Record → Type 0) → X → X → Record → Now → Type 0
+Takes Are old new x now = (h : List Record) → Are old h → IsNow h x now → Are new (x ∷ h)
+
+-- the same whichever action runs
+abbrev pub TakesAny : {X : Type 0} → (X → List Record → Type 0) → X → X → Record → Type 0
+TakesAny Are old new x = (h : List Record) → Are old h → Are new (x ∷ h)
+
+-- the element or the document is declared
+abbrev pub declares_either : ℕ → ℕ → List Record → Bool
+declares_either element inner h = list_any (declares_element element) h || knows_document h inner
+
+-- for every list that the names stand for, the result is what is said of the list
+abbrev pub Answers : {A : Type 0} → Names → (List Record → A) → A → Type 0
+Answers names said result = (h : List Record) → NamesAre names h → result ≡ said h

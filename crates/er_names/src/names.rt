@@ -1,0 +1,83 @@
+//! What the records have declared, started and finished, and how one record more is taken.
+
+ghost use Rattle.std.specs.Prelude.{[], OnOk};
+ghost use Rattle.er_names.specs.Names.{NamesAre, HasRoomFor, Keeps, Takes};
+
+use crate::fired::Fired;
+use crate::tables::Tables;
+use er_outside::NoMemory;
+use er_trace::record::{Kind, Record};
+use std::alloc::Global;
+
+/// A kind, or the document in a frame element.
+#[derive(Clone, Copy)]
+pub enum Form {
+    Kinded(Kind),
+    Framing(u32),
+}
+
+/// An element: its document, its form, whether a parse step made it,
+/// and the event and the piece that made it.
+#[derive(Clone, Copy)]
+pub struct Element {
+    pub doc: u32,
+    pub form: Form,
+    pub is_static: bool,
+    pub maker: u32,
+    pub piece: u32,
+}
+
+/// A timeout: its delay, the event and the piece that set it, and how many were set before.
+#[derive(Clone, Copy)]
+pub(crate) struct Timeout {
+    pub(crate) delay: u32,
+    pub(crate) maker: u32,
+    pub(crate) piece: u32,
+    pub(crate) rank: usize,
+}
+
+/// The running action, and its event.
+#[derive(Clone, Copy)]
+pub struct Now {
+    pub action: u32,
+    pub event: u32,
+}
+
+/// What the records have declared, started and finished, by number.
+#[derive(Drop)]
+pub struct Names {
+    pub(crate) tables: Tables,
+    pub(crate) fired: Fired,
+}
+
+impl Names {
+    /// No name yet. It takes no memory.
+    pub fn new(alloc: Global) -> Self
+        ensures { NamesAre result [] }
+    {
+        Names {
+            tables: Tables::new(alloc),
+            fired: Fired::new(alloc),
+        }
+    }
+
+    /// Makes room for what the record declares, starts or finishes.
+    pub fn make_room(&mut self, rec: &Record) -> Result<(), NoMemory>
+        ensures kept { Keeps NamesAre self.old self.new }
+        ensures room { OnOk result (HasRoomFor self.new rec.now) }
+    {
+        self.tables.make_room()?;
+        let timer = self.tables.timer_in(rec);
+        self.fired.make_room(timer)
+    }
+
+    /// Takes the record, after which this action runs.
+    pub fn take(&mut self, rec: &Record, now: Now)
+        requires room { HasRoomFor self.old rec.now }
+        ensures { Takes NamesAre self.old self.new rec.now now }
+    {
+        let timer = self.tables.timer_in(rec);
+        self.tables.take(rec, now);
+        self.fired.take(timer);
+    }
+}

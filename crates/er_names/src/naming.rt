@@ -1,0 +1,141 @@
+//! Which records use or declare what, against what is known.
+
+ghost use Rattle.std.specs.Prelude.{◌≡◌, ℕ, ◌||◌, ◌==◌, Bool, List, Option, option_map, is_some, nat_eq};
+ghost use Rattle.std.specs.List.{list_any};
+ghost use Rattle.er_trace.specs.declared.record.Record.{Record};
+ghost use Rattle.er_history.specs.History.{told};
+ghost use Rattle.er_history.specs.LookUps.{element_made};
+ghost use Rattle.er_history.specs.Naming as naming;
+ghost use Rattle.er_names.specs.Names.{Answers, declares_either, element_of};
+
+use crate::names::{Element, Form, Names};
+use er_trace::record::{Kind, Record};
+
+impl Names {
+    /// Whether the record uses a number that no earlier record declared.
+    pub fn is_unknown(&self, rec: &Record) -> bool
+        ensures { Answers self.now (λ h. naming.unknown h rec.now) result }
+    {
+        match rec {
+            Record::Parse { doc, .. } => !self.knows_document(*doc),
+            Record::ParseFrame { doc, .. } => !self.knows_document(*doc),
+            Record::New { doc, .. } => !self.knows_document(*doc),
+            Record::NewFrame { doc, .. } => !self.knows_document(*doc),
+            Record::Dcl { doc, .. } => !self.knows_document(*doc),
+            Record::Load { doc, .. } => !self.knows_document(*doc),
+            Record::Wfire { doc, .. } => !self.knows_document(*doc),
+            Record::Exec { element } => !self.has_element(*element),
+            Record::Eload { element, .. } => !self.has_element(*element),
+            Record::Fire { element, .. } => !self.has_element(*element),
+            Record::Inline { element, .. } => !self.has_element(*element),
+            Record::Timer { timeout } => !self.tables.timeouts.contains_key(timeout),
+            Record::Tick { interval } => !self.tables.intervals.contains_key(interval),
+            Record::Reply { request, .. } => !self.tables.requests.contains_key(request),
+            Record::Run {
+                dispatch,
+                handler,
+                ..
+            } => !self.has_begun(*dispatch) || !self.tables.handlers.contains_key(handler),
+            Record::Close { dispatch } => !self.has_begun(*dispatch),
+            Record::Back { dispatch } => !self.has_begun(*dispatch),
+            Record::On { .. } => false,
+            Record::Set { .. } => false,
+            Record::Every { .. } => false,
+            Record::Send { .. } => false,
+            Record::Access { .. } => false,
+        }
+    }
+
+    /// Whether it declares or starts what was declared or started before.
+    pub fn is_again(&self, rec: &Record) -> bool
+        ensures { Answers self.now (λ h. naming.again h rec.now) result }
+    {
+        match rec {
+            Record::Parse { element, .. } => self.has_element(*element),
+            Record::New { element, .. } => self.has_element(*element),
+            Record::ParseFrame { element, inner, .. } => self.has_frame(*element, *inner),
+            Record::NewFrame { element, inner, .. } => self.has_frame(*element, *inner),
+            Record::Exec { element } => self.tables.runs.contains_key(element),
+            Record::Timer { timeout } => self.tables.callbacks.contains_key(timeout),
+            Record::Dcl { dispatch, doc } => {
+                self.has_begun(*dispatch) || self.tables.dcls.contains_key(doc)
+            }
+            Record::Load { dispatch, doc } => {
+                self.has_begun(*dispatch) || self.tables.loads.contains_key(doc)
+            }
+            Record::Eload { dispatch, element } => {
+                self.has_begun(*dispatch) || self.tables.eloads.contains_key(element)
+            }
+            Record::Fire { dispatch, .. } => self.has_begun(*dispatch),
+            Record::Wfire { dispatch, .. } => self.has_begun(*dispatch),
+            Record::Reply { dispatch, .. } => self.has_begun(*dispatch),
+            Record::Inline { dispatch, .. } => self.has_begun(*dispatch),
+            Record::On { handler } => self.tables.handlers.contains_key(handler),
+            Record::Set { timeout, .. } => self.tables.timeouts.contains_key(timeout),
+            Record::Every { interval, .. } => self.tables.intervals.contains_key(interval),
+            Record::Send { request } => self.tables.requests.contains_key(request),
+            Record::Tick { .. } => false,
+            Record::Run { .. } => false,
+            Record::Close { .. } => false,
+            Record::Back { .. } => false,
+            Record::Access { .. } => false,
+        }
+    }
+
+    /// Whether it runs an element that is no script.
+    pub fn is_not_script(&self, rec: &Record) -> bool
+        ensures { Answers self.now (λ h. naming.not_script (told h) rec.now) result }
+    {
+        match rec {
+            Record::Exec { element } => !is_script(self.element(*element)),
+            _ => false,
+        }
+    }
+
+    /// The element of this number.
+    pub fn element(&self, element: u32) -> Option<Element>
+        ensures { Answers self.now (λ h. element_made h element) (option_map element_of result) }
+    {
+        self.tables.elements.get(&element).copied()
+    }
+
+    /// Document 0 is known from the start.
+    fn knows_document(&self, doc: u32) -> bool
+        ensures { Answers self.now (λ h. naming.knows_document h doc) result }
+    {
+        doc == 0 || self.tables.documents.contains_key(&doc)
+    }
+
+    fn has_element(&self, element: u32) -> bool
+        ensures { Answers self.now (list_any (naming.declares_element element)) result }
+    {
+        self.tables.elements.contains_key(&element)
+    }
+
+    /// Whether the element or the document is declared.
+    fn has_frame(&self, element: u32, inner: u32) -> bool
+        ensures { Answers self.now (declares_either element inner) result }
+    {
+        self.has_element(element) || self.knows_document(inner)
+    }
+
+    fn has_begun(&self, dispatch: u32) -> bool
+        ensures { Answers self.now (list_any (naming.begins_dispatch dispatch)) result }
+    {
+        self.tables.begins.contains_key(&dispatch)
+    }
+}
+
+fn is_script(element: Option<Element>) -> bool
+    ensures { result ≡ naming.is_script (option_map element_of element) }
+{
+    match element {
+        Some(
+            Element {
+                form: Form::Kinded(kind),
+                ..
+            },
+        ) => !matches!(kind, Kind::Plain | Kind::Image),
+        _ => false,
+    }
+}

@@ -1,0 +1,250 @@
+//! What a record declares, starts or finishes, table by table.
+
+ghost use Rattle.std.specs.Prelude.{◌≡◌, ℕ, ◌<◌, is_some, nat_eq};
+ghost use Rattle.indexmap.specs.IndexMap.{get, spare};
+ghost use Rattle.er_history.specs.History.{declares_document, declares_handler, declares_interval, declares_request};
+ghost use Rattle.er_history.specs.Naming.{runs_script, fires_timeout, begins_dispatch, is_dcl, is_load, is_eload};
+ghost use Rattle.er_history.specs.LookUps.{closes_dispatch, makes_frame, begins_dcl, begins_load, begins_eload};
+ghost use Rattle.er_names.specs.Names.{MakersAre, FirstsAre, Takes, TakesAny};
+ghost use Rattle.er_names.specs.Noted.{noted_in, is_number};
+
+use crate::firsts::{note_first, note_maker};
+use crate::names::Now;
+use er_trace::record::Record;
+use indexmap::IndexMap;
+
+/// Notes the document that the record declares.
+pub(crate) fn note_document(table: &mut IndexMap<u32, u32>, rec: &Record, now: Now)
+    requires room { 0 < spare table.old }
+    ensures { Takes (MakersAre declares_document)
+        (get nat_eq table.old) (get nat_eq table.new) rec.now now }
+{
+    note_maker(table, document_in(rec), now.event);
+}
+
+fn document_in(rec: &Record) -> Option<u32>
+    ensures { (k : ℕ) → is_number k result ≡ declares_document k rec.now }
+{
+    match rec {
+        Record::ParseFrame { inner, .. } => Some(*inner),
+        Record::NewFrame { inner, .. } => Some(*inner),
+        _ => None,
+    }
+}
+
+/// Notes the handler that it registers.
+pub(crate) fn note_handler(table: &mut IndexMap<u32, u32>, rec: &Record, now: Now)
+    requires room { 0 < spare table.old }
+    ensures { Takes (MakersAre declares_handler)
+        (get nat_eq table.old) (get nat_eq table.new) rec.now now }
+{
+    note_maker(table, handler_in(rec), now.event);
+}
+
+fn handler_in(rec: &Record) -> Option<u32>
+    ensures { (k : ℕ) → is_number k result ≡ declares_handler k rec.now }
+{
+    match rec {
+        Record::On { handler } => Some(*handler),
+        _ => None,
+    }
+}
+
+/// Notes the interval that it sets.
+pub(crate) fn note_interval(table: &mut IndexMap<u32, u32>, rec: &Record, now: Now)
+    requires room { 0 < spare table.old }
+    ensures { Takes (MakersAre declares_interval)
+        (get nat_eq table.old) (get nat_eq table.new) rec.now now }
+{
+    note_maker(table, interval_in(rec), now.event);
+}
+
+fn interval_in(rec: &Record) -> Option<u32>
+    ensures { (k : ℕ) → is_number k result ≡ declares_interval k rec.now }
+{
+    match rec {
+        Record::Every { interval, .. } => Some(*interval),
+        _ => None,
+    }
+}
+
+/// Notes the request that it sends.
+pub(crate) fn note_request(table: &mut IndexMap<u32, u32>, rec: &Record, now: Now)
+    requires room { 0 < spare table.old }
+    ensures { Takes (MakersAre declares_request)
+        (get nat_eq table.old) (get nat_eq table.new) rec.now now }
+{
+    note_maker(table, request_in(rec), now.event);
+}
+
+fn request_in(rec: &Record) -> Option<u32>
+    ensures { (k : ℕ) → is_number k result ≡ declares_request k rec.now }
+{
+    match rec {
+        Record::Send { request } => Some(*request),
+        _ => None,
+    }
+}
+
+/// Notes the run of a script that it begins.
+pub(crate) fn note_run(table: &mut IndexMap<u32, u32>, rec: &Record, now: Now)
+    requires room { 0 < spare table.old }
+    ensures { Takes (MakersAre runs_script)
+        (get nat_eq table.old) (get nat_eq table.new) rec.now now }
+{
+    note_maker(table, run_in(rec), now.event);
+}
+
+/// The script element that it runs.
+fn run_in(rec: &Record) -> Option<u32>
+    ensures { (k : ℕ) → is_number k result ≡ runs_script k rec.now }
+{
+    match rec {
+        Record::Exec { element } => Some(*element),
+        _ => None,
+    }
+}
+
+/// Notes the callback of a timeout that it begins.
+pub(crate) fn note_callback(table: &mut IndexMap<u32, u32>, rec: &Record, now: Now)
+    requires room { 0 < spare table.old }
+    ensures { Takes (MakersAre fires_timeout)
+        (get nat_eq table.old) (get nat_eq table.new) rec.now now }
+{
+    note_maker(table, callback_in(rec), now.event);
+}
+
+/// The timeout whose callback it begins.
+fn callback_in(rec: &Record) -> Option<u32>
+    ensures { (k : ℕ) → is_number k result ≡ fires_timeout k rec.now }
+{
+    match rec {
+        Record::Timer { timeout } => Some(*timeout),
+        _ => None,
+    }
+}
+
+/// Notes the begin of a dispatch.
+pub(crate) fn note_begin(table: &mut IndexMap<u32, u32>, rec: &Record, now: Now)
+    requires room { 0 < spare table.old }
+    ensures { Takes (MakersAre begins_dispatch)
+        (get nat_eq table.old) (get nat_eq table.new) rec.now now }
+{
+    note_maker(table, begun_in(rec), now.event);
+}
+
+/// The dispatch that begins.
+fn begun_in(rec: &Record) -> Option<u32>
+    ensures { (k : ℕ) → is_number k result ≡ begins_dispatch k rec.now }
+{
+    match rec {
+        Record::Dcl { dispatch, .. } => Some(*dispatch),
+        Record::Load { dispatch, .. } => Some(*dispatch),
+        Record::Eload { dispatch, .. } => Some(*dispatch),
+        Record::Fire { dispatch, .. } => Some(*dispatch),
+        Record::Wfire { dispatch, .. } => Some(*dispatch),
+        Record::Reply { dispatch, .. } => Some(*dispatch),
+        Record::Inline { dispatch, .. } => Some(*dispatch),
+        _ => None,
+    }
+}
+
+/// Notes the close of a dispatch.
+pub(crate) fn note_close(table: &mut IndexMap<u32, u32>, rec: &Record, now: Now)
+    requires room { 0 < spare table.old }
+    ensures { Takes (MakersAre closes_dispatch)
+        (get nat_eq table.old) (get nat_eq table.new) rec.now now }
+{
+    note_maker(table, closed_in(rec), now.event);
+}
+
+/// The dispatch whose close begins.
+fn closed_in(rec: &Record) -> Option<u32>
+    ensures { (k : ℕ) → is_number k result ≡ closes_dispatch k rec.now }
+{
+    match rec {
+        Record::Close { dispatch } => Some(*dispatch),
+        _ => None,
+    }
+}
+
+/// Notes the frame element of a document that it declares.
+pub(crate) fn note_frame(table: &mut IndexMap<u32, u32>, rec: &Record)
+    requires room { 0 < spare table.old }
+    ensures { TakesAny (FirstsAre declares_document makes_frame)
+        (get nat_eq table.old) (get nat_eq table.new) rec.now }
+{
+    note_first(table, frame_in(rec));
+}
+
+/// A document, and the frame element that it is made with.
+fn frame_in(rec: &Record) -> Option<(u32, u32)>
+    ensures gives { (k : ℕ) → noted_in k result ≡ makes_frame k rec.now }
+    ensures tells { (k : ℕ) → is_some (noted_in k result) ≡ declares_document k rec.now }
+{
+    match rec {
+        Record::ParseFrame { element, inner, .. } => Some((*inner, *element)),
+        Record::NewFrame { element, inner, .. } => Some((*inner, *element)),
+        _ => None,
+    }
+}
+
+/// Notes the dispatch of DOMContentLoaded of a document that it begins.
+pub(crate) fn note_dcl(table: &mut IndexMap<u32, u32>, rec: &Record)
+    requires room { 0 < spare table.old }
+    ensures { TakesAny (FirstsAre is_dcl begins_dcl)
+        (get nat_eq table.old) (get nat_eq table.new) rec.now }
+{
+    note_first(table, dcl_in(rec));
+}
+
+/// A document, and its dispatch of DOMContentLoaded.
+fn dcl_in(rec: &Record) -> Option<(u32, u32)>
+    ensures gives { (k : ℕ) → noted_in k result ≡ begins_dcl k rec.now }
+    ensures tells { (k : ℕ) → is_some (noted_in k result) ≡ is_dcl k rec.now }
+{
+    match rec {
+        Record::Dcl { dispatch, doc } => Some((*doc, *dispatch)),
+        _ => None,
+    }
+}
+
+/// Notes the dispatch of load of a document that it begins.
+pub(crate) fn note_load(table: &mut IndexMap<u32, u32>, rec: &Record)
+    requires room { 0 < spare table.old }
+    ensures { TakesAny (FirstsAre is_load begins_load)
+        (get nat_eq table.old) (get nat_eq table.new) rec.now }
+{
+    note_first(table, load_in(rec));
+}
+
+/// A document, and its dispatch of load.
+fn load_in(rec: &Record) -> Option<(u32, u32)>
+    ensures gives { (k : ℕ) → noted_in k result ≡ begins_load k rec.now }
+    ensures tells { (k : ℕ) → is_some (noted_in k result) ≡ is_load k rec.now }
+{
+    match rec {
+        Record::Load { dispatch, doc } => Some((*doc, *dispatch)),
+        _ => None,
+    }
+}
+
+/// Notes the dispatch of an element's first load event that it begins.
+pub(crate) fn note_eload(table: &mut IndexMap<u32, u32>, rec: &Record)
+    requires room { 0 < spare table.old }
+    ensures { TakesAny (FirstsAre is_eload begins_eload)
+        (get nat_eq table.old) (get nat_eq table.new) rec.now }
+{
+    note_first(table, eload_in(rec));
+}
+
+/// An element, and its dispatch of the first load event.
+fn eload_in(rec: &Record) -> Option<(u32, u32)>
+    ensures gives { (k : ℕ) → noted_in k result ≡ begins_eload k rec.now }
+    ensures tells { (k : ℕ) → is_some (noted_in k result) ≡ is_eload k rec.now }
+{
+    match rec {
+        Record::Eload { dispatch, element } => Some((*element, *dispatch)),
+        _ => None,
+    }
+}
