@@ -1,6 +1,5 @@
 -- What the tables stand for: what came last among a list of actions. Lists of actions stand newest first.
 use Rattle.std.specs.Prelude.{◌≡◌, ℕ, ◌==◌, if◌then◌else◌, Bool, List, Option, Some, None, nat_eq, reverse}
-use Rattle.std.specs.List.Sorted.{IsStrictlyIncreasing}
 use Rattle.indexmap.specs.IndexMap.{get}
 use Rattle.er_history.specs.History.{Action, FireAt, WindowFire}
 use Rattle.er_history.specs.Rules.{is_blocking, is_deferred, same_target}
@@ -11,7 +10,7 @@ use Rattle.er_latest.specs.declared.latest.Latest.{Latest}
 use Rattle.er_latest.specs.declared.role.Role.{Role}
 use Rattle.er_latest.specs.declared.role.Now.{Now}
 use Rattle.er_latest.specs.Roles.{Kept, said_by, role_of, step_of, blocking_of, deferred_of, tick_of, reply_of, async_of, static_of, handler_of, dispatch_of, element_of, window_of}
-use Rattle.er_latest.specs.Tables.{by_name, items_of, pair_eq, greatest_in, HasPlace, HasPlaceNamed, HasRoom, HasRoomFor}
+use Rattle.er_latest.specs.Tables.{by_name, items_of, pair_eq, greatest_in, IsRising, HasPlace, HasPlaceNamed, HasRoom, HasRoomFor}
 
 -- the close of a dispatch of this type at the element, or at the window of the document
 
@@ -31,15 +30,15 @@ pub record LatestAre (latest : Latest) (actions : List Action) : Type 0 where
   pub replies : (r : ℕ) → get nat_eq latest.replies r ≡ event_in (newest_by (closes (is_reply_of r)) actions)
   pub asyncs : (d : ℕ) → items_of (get nat_eq latest.asyncs d) ≡ reverse (events_of_each (is_run_of is_static_async d) actions)
   pub statics : (d : ℕ) → items_of (get nat_eq latest.statics d) ≡ reverse (events_of_each (closes (is_static_load_of d)) actions)
-  pub runs : (p g : ℕ) → items_of (get pair_eq latest.runs (p, g)) ≡ reverse (events_of_each (is_handler_of p (λ k. k == g)) actions)
+  pub runs : (p : ℕ × ℕ) → items_of (get pair_eq latest.runs p) ≡ reverse (events_of_each (is_handler_of p.0 (λ k. k == p.1)) actions)
   pub groups : (p : ℕ) (test : ℕ → Bool) → greatest_in test (items_of (get nat_eq latest.groups p)) ≡ greatest_group p test actions
-  pub ordered : (p : ℕ) → IsStrictlyIncreasing (items_of (get nat_eq latest.groups p))
+  pub ordered : (p : ℕ) → IsRising (items_of (get nat_eq latest.groups p))
   pub elements : (e : ℕ) (n : List ℕ) → by_name latest.elements n e ≡ closes_at_element e n actions
   pub windows : (d : ℕ) (n : List ℕ) → by_name latest.windows n d ≡ closes_at_window d n actions
 
 -- the action is this one, and its event has this role
 pub record IsTold (role : Role) (now : Now) (a : Action) : Type 0 where
-  pub role : said_by role ≡ role_of a.event.what
+  pub says : said_by role ≡ role_of a.event.what
   pub action : now.action ≡ a.number
   pub event : now.event ≡ a.event.number
 

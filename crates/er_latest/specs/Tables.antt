@@ -1,10 +1,11 @@
 -- What tables answer, and what is put in them.
-use Rattle.std.specs.Prelude.{◌≡◌, ℕ, ◌<◌, Bool, true, ◌==◌, ◌&&◌, nat_lt, if◌then◌else◌, List, [], ◌∷◌, ◌++◌, Option, Some, None, IsSomeAnd, nat_eq, Vec, vec_len, vec_capacity}
+use Rattle.std.specs.Prelude.{◌≡◌, ℕ, ◌<◌, ◌≤◌, ◌-◌, Bool, ◌==◌, ◌&&◌, if◌then◌else◌, List, [], ◌∷◌, ◌++◌, Option, Some, None, IsSomeAnd, nat_eq, length, slice_index, Vec, vec_len, vec_capacity}
 use Rattle.std.specs.declared.hash.FoldHasher.{FoldHasher}
 use Rattle.std.specs.declared.hash.BuildHasherDefault.{BuildHasherDefault}
 use Rattle.std.specs.Cmp.Lexicographic.{pointwise}
 use Rattle.indexmap.specs.IndexMap.{IndexMap, get, spare}
 use Rattle.er_history.specs.Latest.{greater}
+use Rattle.er_latest.specs.declared.role.Now.{Now}
 
 abbrev pub Table : Type 0 → Type 0 → Type 0
 Table K V = IndexMap K V (BuildHasherDefault FoldHasher)
@@ -54,15 +55,34 @@ abbrev pub HasRoomFor : {K A : Type 0} → (K → K → Bool) → Table K (Vec �
 HasRoomFor eq lists None = Unit {0}
 HasRoomFor eq lists (Some k) = HasRoom (get eq lists k)
 
--- the list of key k once this number has been put at the end of that one, if any
-abbrev pub put_at_end : {K : Type 0} → (K → K → Bool) → Option K → ℕ → K → List ℕ → List ℕ
-put_at_end eq None value k old = old
-put_at_end eq (Some n) value k old = if eq n k then old ++ value ∷ [] else old
+-- the list of key k once this event has been put at the end of that one, if any, where the action is its first piece
+abbrev pub put_first : {K : Type 0} → (K → K → Bool) → Option K → Now → K → List ℕ → List ℕ
+put_first eq None now k old = old
+put_first eq (Some n) now k old = if (now.action == now.event) && eq n k then old ++ now.event ∷ [] else old
 
 abbrev pub pair_eq : ℕ × ℕ → ℕ × ℕ → Bool
 pair_eq p q = nat_eq p.0 q.0 && nat_eq p.1 q.1
 
 -- Groups: those of a dispatch that have run, each once, in order.
+
+abbrev pub IsBelowAll : ℕ → List ℕ → Type 0
+IsBelowAll g [] = Unit {0}
+IsBelowAll g (x ∷ xs) = (g < x) × IsBelowAll g xs
+
+-- each is less than those behind it
+abbrev pub IsRising : List ℕ → Type 0
+IsRising [] = Unit {0}
+IsRising (x ∷ xs) = IsBelowAll x xs × IsRising xs
+
+-- in a list that rises, those before the place are less than g, and no others
+pub record IsPlaceOf (g : ℕ) (xs : List ℕ) (place : ℕ) : Type 0 where
+  pub within : place ≤ length xs
+  pub others : (k : ℕ) → place ≤ k → k < length xs → g ≤ slice_index xs k
+  pub less : 0 < place → slice_index xs (place - 1) < g
+
+-- what stands just before the place
+abbrev pub just_before : ℕ → List ℕ → Option ℕ
+just_before place xs = if place == 0 then None else Some (slice_index xs (place - 1))
 
 -- the greatest of a list that passes
 abbrev pub greatest_in : (ℕ → Bool) → List ℕ → Option ℕ

@@ -1,25 +1,33 @@
 //! Lists of the groups of dispatches that have run, each group once, in order.
 
-ghost use Rattle.std.specs.Prelude.{◌≡◌, ℕ, ◌≤◌, ◌<◌, ◌-◌, Bool, true, nat_lt, nat_eq, if◌then◌else◌, Some, None, length, slice_index, vec_len, vec_capacity};
-ghost use Rattle.std.specs.List.Sorted.{IsStrictlyIncreasing};
+ghost use Rattle.std.specs.Prelude.{◌≡◌, ◌≢◌, ℕ, ◌≤◌, ◌<◌, ◌-◌, Bool, true, false, nat_lt, nat_eq, if◌then◌else◌, Some, None, length, slice_index, vec_len, vec_capacity};
 ghost use Rattle.indexmap.specs.IndexMap.{get};
 ghost use Rattle.er_history.specs.Latest.{greater};
-ghost use Rattle.er_latest.specs.Tables.{items_of, greatest_in, HasRoomFor, first_of, group_put};
+ghost use Rattle.er_latest.specs.Tables.{items_of, greatest_in, just_before, IsRising, IsPlaceOf, HasRoomFor, first_of, group_put};
 
 use indexmap::IndexMap;
 
 /// The greatest of the groups.
+#[tactic(auto, using(crate::proofs::GroupsLemmas::greatest_last))]
 pub(crate) fn greatest(groups: &[u32]) -> Option<u32>
-    ensures { IsStrictlyIncreasing groups.now → result ≡ greatest_in (λ k. true) groups.now }
+    ensures { IsRising groups.now → result ≡ greatest_in (λ k. true) groups.now }
 {
-    groups.last().copied()
+    before(groups, groups.len())
 }
 
 /// The greatest of the groups that are less than this one.
+#[tactic(auto, using(crate::proofs::GroupsLemmas::greatest_below))]
 pub(crate) fn below(groups: &[u32], group: u32) -> Option<u32>
-    ensures { IsStrictlyIncreasing groups.now → result ≡ greatest_in (λ k. nat_lt k group) groups.now }
+    ensures { IsRising groups.now → result ≡ greatest_in (λ k. nat_lt k group) groups.now }
 {
-    let place = place_of(groups, group);
+    before(groups, place_of(groups, group))
+}
+
+/// What stands just before a place.
+fn before(groups: &[u32], place: usize) -> Option<u32>
+    requires { place ≤ length groups.now }
+    ensures { result ≡ just_before place groups.now }
+{
     if place == 0 {
         return None;
     }
@@ -30,7 +38,7 @@ pub(crate) fn below(groups: &[u32], group: u32) -> Option<u32>
 pub(crate) fn put(lists: &mut IndexMap<u32, Vec<u32>>, handler: Option<(u32, u32)>)
     requires room { HasRoomFor nat_eq lists.old (first_of handler) }
     ensures greatest { (p : ℕ) (test : ℕ → Bool) → greatest_in test (items_of (get nat_eq lists.new p)) ≡ greater (group_put handler p test) (greatest_in test (items_of (get nat_eq lists.old p))) }
-    ensures ordered { (p : ℕ) → IsStrictlyIncreasing (items_of (get nat_eq lists.old p)) → IsStrictlyIncreasing (items_of (get nat_eq lists.new p)) }
+    ensures ordered { (p : ℕ) → IsRising (items_of (get nat_eq lists.old p)) → IsRising (items_of (get nat_eq lists.new p)) }
 {
     let Some((dispatch, group)) = handler else {
         return;
@@ -42,13 +50,14 @@ pub(crate) fn put(lists: &mut IndexMap<u32, Vec<u32>>, handler: Option<(u32, u32
 }
 
 /// Puts a group among others.
+#[tactic(auto, using(crate::proofs::GroupsLemmas::greatest_inserted, crate::proofs::GroupsLemmas::greatest_there, crate::proofs::GroupsLemmas::rising_inserted))]
 fn put_in(groups: &mut Vec<u32>, group: u32)
     requires room { vec_len groups.old < vec_capacity groups.old }
     ensures greatest { (test : ℕ → Bool) → greatest_in test groups.new.items ≡ greater (if test group then Some group else None) (greatest_in test groups.old.items) }
-    ensures ordered { IsStrictlyIncreasing groups.old.items → IsStrictlyIncreasing groups.new.items }
+    ensures ordered { IsRising groups.old.items → IsRising groups.new.items }
 {
     let place = place_of(groups.as_slice(), group);
-    if place < groups.len() && groups[place] == group {
+    if stands_at(groups.as_slice(), place, group) {
         return;
     }
     let Ok(()) = groups.insert(place, group) else {
@@ -56,11 +65,17 @@ fn put_in(groups: &mut Vec<u32>, group: u32)
     };
 }
 
+/// Whether the group stands at the place.
+fn stands_at(groups: &[u32], place: usize, group: u32) -> bool
+    ensures there { result ≡ true → (place < length groups.now) × (slice_index groups.now place ≡ group) }
+    ensures other { result ≡ false → place < length groups.now → slice_index groups.now place ≢ group }
+{
+    place < groups.len() && groups[place] == group
+}
+
 /// How many of the groups are less than this one. It is asked from the end, where the group of a handler that runs mostly is.
 fn place_of(groups: &[u32], group: u32) -> usize
-    ensures within { result ≤ length groups.now }
-    ensures above { (k : ℕ) → result ≤ k → k < length groups.now → group ≤ slice_index groups.now k }
-    ensures less { 0 < result → slice_index groups.now (result - 1) < group }
+    ensures { IsPlaceOf group groups.now result }
 {
     let mut place = groups.len();
     while place > 0 && groups[place - 1] >= group {

@@ -97,10 +97,8 @@ impl Latest {
         named::put(&mut self.elements, role.at_element(), now.action);
         named::put(&mut self.windows, role.at_window(), now.action);
         groups::put(&mut self.groups, role.handler());
-        if now.action == now.event {
-            lists::put(&mut self.asyncs, role.async_run(), now.event);
-            lists::put(&mut self.statics, role.static_load(), now.event);
-            lists::put(&mut self.runs, role.handler(), now.event);
-        }
+        lists::put(&mut self.asyncs, role.async_run(), now);
+        lists::put(&mut self.statics, role.static_load(), now);
+        lists::put(&mut self.runs, role.handler(), now);
     }
 }

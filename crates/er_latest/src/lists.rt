@@ -2,8 +2,9 @@
 
 ghost use Rattle.std.specs.Prelude.{◌≡◌, ℕ, IsSome, OnOk};
 ghost use Rattle.indexmap.specs.IndexMap.{get};
-ghost use Rattle.er_latest.specs.Tables.{items_of, HasRoom, HasRoomFor, put_at_end};
+ghost use Rattle.er_latest.specs.Tables.{items_of, HasRoom, HasRoomFor, put_first};
 
+use crate::role::Now;
 use er_outside::NoMemory;
 use indexmap::IndexMap;
 use std::alloc::Global;
@@ -35,22 +36,25 @@ pub(crate) fn make_room<K: Eq + Hash + Copy + Drop>(
     make_place(lists, key)
 }
 
-/// Puts a number at the end of the list of a key, if there is one.
+/// Puts an event at the end of the list of a key, if there is one, where the action is the event's first piece.
 pub(crate) fn put<K: Eq + Hash + Copy + Drop>(
     lists: &mut IndexMap<K, Vec<u32>>,
     key: Option<K>,
-    value: u32,
+    now: Now,
 )
     requires room { HasRoomFor K.eq lists.old key }
-    ensures { (k : K) → items_of (get K.eq lists.new k) ≡ put_at_end K.eq key value k (items_of (get K.eq lists.old k)) }
+    ensures { (k : K) → items_of (get K.eq lists.new k) ≡ put_first K.eq key now k (items_of (get K.eq lists.old k)) }
 {
+    if now.action != now.event {
+        return;
+    }
     let Some(key) = key else {
         return;
     };
     let Some(list) = lists.get_mut(&key) else {
         unreachable!()
     };
-    let Ok(()) = list.push(value) else {
+    let Ok(()) = list.push(now.event) else {
         unreachable!()
     };
 }
