@@ -1,5 +1,5 @@
 -- The groups of a dispatch that have run.
-use Rattle.std.proofs.Common.{◌≡◌, ℕ, ◌+◌, ◌<◌, ◌≤◌, Bool, true, false, List, [], ◌∷◌, ◌++◌, Option, Some, None, suc, zero, refl, sym, ap, inl, inr, ◌∙◌, arith, length, take, drop, slice_index}
+use Rattle.std.proofs.Common.{◌≡◌, ℕ, ◌<◌, ◌≤◌, Bool, true, false, List, [], ◌∷◌, ◌++◌, Option, Some, None, suc, zero, refl, sym, ap, ◌∙◌, arith, length, take, drop, slice_index}
 use Rattle.std.specs.Prelude.{nat_lt, if◌then◌else◌, max, ◌-◌, ◌≢◌}
 use Rattle.std.proofs.Math.Dec.{eqb-suc-zero}
 use Rattle.std.proofs.lemmas.Bool.{ltb-true, ltb-false, lt-ltb, le-ltb}

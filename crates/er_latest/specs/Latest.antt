@@ -1,5 +1,5 @@
 -- What the tables stand for: what came last among a list of actions. Lists of actions stand newest first.
-use Rattle.std.specs.Prelude.{◌≡◌, ℕ, ◌==◌, if◌then◌else◌, Bool, List, Option, Some, None, nat_eq, reverse}
+use Rattle.std.specs.Prelude.{◌≡◌, ℕ, ◌==◌, Bool, List, Option, None, nat_eq, reverse}
 use Rattle.indexmap.specs.IndexMap.{get}
 use Rattle.er_history.specs.History.{Action, FireAt, WindowFire}
 use Rattle.er_history.specs.Rules.{is_blocking, is_deferred, same_target}
@@ -10,7 +10,7 @@ use Rattle.er_latest.specs.declared.latest.Latest.{Latest}
 use Rattle.er_latest.specs.declared.role.Role.{Role}
 use Rattle.er_latest.specs.declared.role.Now.{Now}
 use Rattle.er_latest.specs.Roles.{Kept, said_by, role_of, step_of, blocking_of, deferred_of, tick_of, reply_of, async_of, static_of, handler_of, dispatch_of, element_of, window_of}
-use Rattle.er_latest.specs.Tables.{by_name, items_of, pair_eq, greatest_in, IsRising, HasPlace, HasPlaceNamed, HasRoom, HasRoomFor}
+use Rattle.er_latest.specs.Tables.{by_name, items_of, pair_eq, greatest_in, IsRising, HasPlace, HasPlaceNamed, HasRoomFor}
 
 -- the close of a dispatch of this type at the element, or at the window of the document
 
