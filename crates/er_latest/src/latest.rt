@@ -1,0 +1,104 @@
+//! What came last among the actions.
+
+ghost use Rattle.std.specs.Prelude.{◌≡◌, ℕ, List, [], ◌∷◌, OnOk};
+ghost use Rattle.er_history.specs.History.{Action};
+ghost use Rattle.er_latest.specs.Roles.{said_by};
+ghost use Rattle.er_latest.specs.Latest.{LatestAre, HasRoomOf, IsTold};
+
+use crate::role::{Now, Role};
+use crate::{groups, lists, named, newest};
+use er_outside::NoMemory;
+use er_trace::name::Name;
+use indexmap::IndexMap;
+use std::alloc::Global;
+
+/// What came last among the actions, by document, interval, request, dispatch and target.
+#[derive(Drop)]
+pub struct Latest {
+    /// The last parse step, by document.
+    pub(crate) steps: IndexMap<u32, u32>,
+    /// The last run of a blocking script, by document.
+    pub(crate) blocking: IndexMap<u32, u32>,
+    /// The last run of a deferred script, by document.
+    pub(crate) deferred: IndexMap<u32, u32>,
+    /// That script, by document.
+    pub(crate) scripts: IndexMap<u32, u32>,
+    /// The last tick, by interval.
+    pub(crate) ticks: IndexMap<u32, u32>,
+    /// The last close of a reply, by request.
+    pub(crate) replies: IndexMap<u32, u32>,
+    /// The runs of static async scripts, by document.
+    pub(crate) asyncs: IndexMap<u32, Vec<u32>>,
+    /// The closes of first load events of static elements that are not plain, by document.
+    pub(crate) statics: IndexMap<u32, Vec<u32>>,
+    /// The handlers that have run, by dispatch and group.
+    pub(crate) runs: IndexMap<(u32, u32), Vec<u32>>,
+    /// The groups that have run, in order, by dispatch.
+    pub(crate) groups: IndexMap<u32, Vec<u32>>,
+    /// The last piece of a close of a dispatch at an element, by type and element.
+    pub(crate) elements: IndexMap<Name, IndexMap<u32, u32>>,
+    /// The last piece of a close of a dispatch at a window, by type and document.
+    pub(crate) windows: IndexMap<Name, IndexMap<u32, u32>>,
+    pub(crate) alloc: Global,
+}
+
+impl Latest {
+    /// No action yet. It takes no memory.
+    pub fn new(alloc: Global) -> Self
+        ensures { LatestAre result [] }
+    {
+        Latest {
+            steps: IndexMap::new(alloc),
+            blocking: IndexMap::new(alloc),
+            deferred: IndexMap::new(alloc),
+            scripts: IndexMap::new(alloc),
+            ticks: IndexMap::new(alloc),
+            replies: IndexMap::new(alloc),
+            asyncs: IndexMap::new(alloc),
+            statics: IndexMap::new(alloc),
+            runs: IndexMap::new(alloc),
+            groups: IndexMap::new(alloc),
+            elements: IndexMap::new(alloc),
+            windows: IndexMap::new(alloc),
+            alloc,
+        }
+    }
+
+    /// Makes room for an event of this role. Look-ups answer what they did.
+    pub fn make_room(&mut self, role: &Role<'_>) -> Result<(), NoMemory>
+        ensures kept { (actions : List Action) → LatestAre self.old actions → LatestAre self.new actions }
+        ensures room { OnOk result (HasRoomOf self.new (said_by role.now)) }
+    {
+        newest::make_room(&mut self.steps, role.step())?;
+        newest::make_room(&mut self.blocking, role.blocking())?;
+        newest::make_room(&mut self.deferred, role.deferred())?;
+        newest::make_room(&mut self.scripts, role.deferred())?;
+        newest::make_room(&mut self.ticks, role.tick())?;
+        newest::make_room(&mut self.replies, role.reply())?;
+        lists::make_room(&mut self.asyncs, role.async_run(), self.alloc)?;
+        lists::make_room(&mut self.statics, role.static_load(), self.alloc)?;
+        lists::make_room(&mut self.runs, role.handler(), self.alloc)?;
+        lists::make_room(&mut self.groups, role.dispatch(), self.alloc)?;
+        named::make_room(&mut self.elements, role.at_element(), self.alloc)?;
+        named::make_room(&mut self.windows, role.at_window(), self.alloc)
+    }
+
+    /// Takes an action, with the role of its event.
+    pub fn take(&mut self, role: &Role<'_>, now: Now)
+        requires room { HasRoomOf self.old (said_by role.now) }
+        ensures { (actions : List Action) (a : Action) → LatestAre self.old actions → IsTold role.now now a → LatestAre self.new (a ∷ actions) }
+    {
+        newest::put(&mut self.steps, role.step(), now.event);
+        newest::put(&mut self.blocking, role.blocking(), now.event);
+        newest::put(&mut self.deferred, role.deferred(), now.event);
+        newest::put(&mut self.scripts, role.deferred(), role.script());
+        newest::put(&mut self.ticks, role.tick(), now.event);
+        newest::put(&mut self.replies, role.reply(), now.event);
+        named::put(&mut self.elements, role.at_element(), now.action);
+        named::put(&mut self.windows, role.at_window(), now.action);
+        groups::put(&mut self.groups, role.handler());
+        lists::put(&mut self.asyncs, role.async_run(), now);
+        lists::put(&mut self.statics, role.static_load(), now);
+        lists::put(&mut self.runs, role.handler(), now);
+    }
+}
