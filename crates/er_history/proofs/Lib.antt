@@ -1,3 +1,4 @@
+pub mod Computed
 pub mod HistoryLemmas
 pub mod FactsLemmas
 pub mod NamedLemmas

@@ -7,6 +7,7 @@ pub mod Latest
 pub mod Laws
 pub mod LookUps
 pub mod Naming
+pub mod Rows
 pub mod Rules
 pub mod Sound
 pub mod Unfinished

@@ -5,6 +5,7 @@
 ghost use Rattle.er_history.specs.Laws.{ActionsAreKept, ActionsAreNumbered, EdgesAreEdges, EdgesGoForward, EdgesJoinActions, EdgesStay, EntriesAreCounted, EventsBeginBefore, EventsHaveFirstPieces, PathsLeadOverEdges, PathsLeadOverActions, PathsStay};
 ghost use Rattle.er_history.specs.Facts.{FactsAreExact, FactsStay};
 ghost use Rattle.er_history.specs.Rules.{parse_rules, timer_rules, request_rules};
+ghost use Rattle.er_history.specs.Rows.{EachRule, LateRecords, NestedDispatches, RulesAreNumbered};
 ghost use Rattle.er_history.specs.Sound.{NeverLeadBack, SoundListsAreNamed};
 ghost use Rattle.er_history.specs.Unfinished.{StackIsUnfinished};
 
@@ -110,4 +111,18 @@ pub fn later_events_never_lead_back()
 #[tactic(auto, using(crate::proofs::UnfinishedLemmas::stack_is_unfinished))]
 pub fn stack_is_unfinished()
     ensures { StackIsUnfinished }
+{}
+
+/// The rules between events have the numbers 1 to 21.
+#[tactic(auto, using(crate::proofs::Computed::rules_are_numbered))]
+pub fn rules_are_numbered()
+    ensures { RulesAreNumbered }
+{}
+
+/// The edges of two small lists that reach each rule and each kind of piece, and the causes of records after a third.
+#[tactic(auto, using(crate::proofs::Computed::each_rule, crate::proofs::Computed::nested_dispatches, crate::proofs::Computed::late_records))]
+pub fn worked_edges()
+    ensures rules { EachRule }
+    ensures pieces { NestedDispatches }
+    ensures late { LateRecords }
 {}

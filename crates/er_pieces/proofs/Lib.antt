@@ -39,3 +39,6 @@ pub mod AnyTimersLemmas
 pub mod NewestLemmas
 pub mod ContractLemmas
 pub mod LookUpLemmas
+pub mod CountLemmas
+pub mod FiredLemmas
+pub mod CountLaws

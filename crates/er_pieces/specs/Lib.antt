@@ -1,5 +1,6 @@
 pub mod AnyTimers
 pub mod Contract
+pub mod Counts
 pub mod Enough
 pub mod HandedPieces
 pub mod Hands

@@ -5,6 +5,7 @@
 
 ghost use Rattle.er_history.specs.Rules.{rules};
 ghost use Rattle.er_pieces.specs.AnyTimers.{HandsTimersBy};
+ghost use Rattle.er_pieces.specs.Counts.{ParseHandsAtMost, ScriptHandsAtMost, LoadHandsAtMost, TimerHandsAtMost, RequestHandsAtMost, DispatchHandsAtMost};
 ghost use Rattle.er_pieces.specs.Enough.{EnoughParse, EnoughScript, EnoughLoad, EnoughDispatch, EnoughTimer, EnoughRequest, EnoughPieces, HasSteady, NestedFactsHold};
 ghost use Rattle.er_pieces.specs.Hands.{HandsParse, HandsScript, HandsLoad, HandsTimer, HandsRequest, DispatchHandsSources, DispatchHandsNothing};
 
@@ -60,4 +61,20 @@ pub fn nested_facts_hold()
 /// The latest pieces that the rules of timers hand are sources and enough, by whatever rule a version has in place of rule 19.
 pub fn latest_pieces_of_timers_are_handed_in_each_version()
     ensures { HandsTimersBy }
+{}
+
+/// No group hands more pieces for a record than its count.
+#[tactic(auto, using(crate::proofs::CountLaws::parse_hands_at_most, crate::proofs::CountLaws::script_hands_at_most, crate::proofs::CountLaws::load_hands_at_most))]
+pub fn few_pieces_of_parsing_and_loading_are_handed()
+    ensures parsing { ParseHandsAtMost }
+    ensures scripts { ScriptHandsAtMost }
+    ensures loads { LoadHandsAtMost }
+{}
+
+/// The same for dispatches, timers and requests.
+#[tactic(auto, using(crate::proofs::CountLaws::timer_hands_at_most, crate::proofs::CountLaws::request_hands_at_most, crate::proofs::CountLaws::dispatch_hands_at_most))]
+pub fn few_pieces_of_events_are_handed()
+    ensures dispatches { DispatchHandsAtMost }
+    ensures timers { TimerHandsAtMost }
+    ensures requests { RequestHandsAtMost }
 {}

@@ -1,0 +1,118 @@
+-- What the definitions say of three small lists of records, and the numbers of the rules. Each rule and each kind of piece is reached.
+use Rattle.std.specs.Prelude.{◌≡◌, ℕ, List, [], ◌∷◌, map, filter, reverse, codes, Option, Some, None}
+use Rattle.er_text.specs.declared.causes.Cause.{Cause}
+use Rattle.er_text.specs.declared.causes.Cause.TheVariants.{Unknown, OutOfOrder}
+use Rattle.er_trace.specs.declared.record.Record.{Record}
+use Rattle.er_trace.specs.declared.record.Record.TheVariants.{Parse, ParseFrame, Exec, Timer, Tick, Dcl, Load, Eload, Fire, Wfire, Reply, Inline, Run, Close, Back, New, On, Set, Every, Send}
+use Rattle.er_trace.specs.declared.record.Kind.TheVariants as kinds
+use Rattle.er_trace.specs.declared.record.NewKind.TheVariants as new_kinds
+use Rattle.er_history.specs.History.{told, begins}
+use Rattle.er_history.specs.Rules as tables
+use Rattle.er_history.specs.Edges as between
+use Rattle.er_history.specs.Sound as sound
+
+-- The rules between events have the numbers 1 to 21, in this order.
+abbrev pub RulesAreNumbered : Type 0
+RulesAreNumbered = map (λ r. r.0) tables.rules ≡ 1 ∷ 2 ∷ 3 ∷ 4 ∷ 5 ∷ 6 ∷ 7 ∷ 8 ∷ 9 ∷ 10 ∷ 11 ∷ 12 ∷ 13 ∷ 14 ∷ 15 ∷ 16 ∷ 17 ∷ 18 ∷ 19 ∷ 20 ∷ 21 ∷ []
+
+-- A record, and the actions with an edge to the action that it begins, newest first; none where it begins none. A row has its lines oldest first.
+abbrev pub Line : Type 0
+Line = Record × List ℕ
+
+-- the records of a row, newest first
+abbrev pub records_in : List Line → List Record
+records_in lines = reverse (map (λ (l : Line). l.0) lines)
+
+-- what a row says of each action, newest first
+abbrev pub sources_in : List Line → List (List ℕ)
+sources_in lines = map (λ (l : Line). l.1) (filter (λ (l : Line). begins l.0) (reverse lines))
+
+-- the cause of each record after those before it
+abbrev pub causes_in : List Record → List (Option Cause)
+causes_in [] = []
+causes_in (x ∷ h) = sound.cause tables.rules h x ∷ causes_in h
+
+-- By all rules the edges are these, and no record has a cause.
+pub record IsRow (lines : List Line) : Type 0 where
+  pub edges : between.edges tables.rules (told (records_in lines)).actions ≡ sources_in lines
+  pub legal : causes_in (records_in lines) ≡ map (λ (l : Line). None) lines
+
+-- Each of the rules 1 to 21. Behind each line stands the action that it begins.
+abbrev pub EachRule : Type 0
+EachRule = IsRow (
+    (Parse 0 1 kinds.Sync, []) ∷  -- 0
+    (Exec 1, 0 ∷ []) ∷  -- 1
+    (Parse 0 2 kinds.Defer, 1 ∷ 0 ∷ []) ∷  -- 2
+    (Parse 0 3 kinds.Defer, 2 ∷ 1 ∷ 0 ∷ []) ∷  -- 3
+    (Parse 0 4 kinds.Async, 3 ∷ 2 ∷ 1 ∷ 0 ∷ []) ∷  -- 4
+    (ParseFrame 0 5 1, 4 ∷ 3 ∷ 2 ∷ 1 ∷ 0 ∷ []) ∷  -- 5
+    (Parse 1 6 kinds.Plain, 5 ∷ []) ∷  -- 6
+    (Exec 2, 5 ∷ 4 ∷ 3 ∷ 2 ∷ 1 ∷ 0 ∷ []) ∷  -- 7
+    (Exec 3, 7 ∷ 5 ∷ 4 ∷ 3 ∷ 2 ∷ 1 ∷ 0 ∷ []) ∷  -- 8
+    (On 1, []) ∷
+    (On 2, []) ∷
+    (Send 1, []) ∷
+    (Every 1 50, []) ∷
+    (Set 1 9, []) ∷
+    (Set 2 9, []) ∷
+    (Dcl 1 0, 8 ∷ 7 ∷ 5 ∷ 4 ∷ 3 ∷ 2 ∷ 1 ∷ 0 ∷ []) ∷  -- 9
+    (Run 1 0 1, 9 ∷ 8 ∷ []) ∷  -- 10
+    (Run 1 1 2, 10 ∷ 9 ∷ 8 ∷ []) ∷  -- 11
+    (Close 1, 11 ∷ 10 ∷ 9 ∷ []) ∷  -- 12
+    (Exec 4, 4 ∷ []) ∷  -- 13
+    (Eload 2 4, 13 ∷ 4 ∷ []) ∷  -- 14
+    (Close 2, 14 ∷ []) ∷  -- 15
+    (Load 3 1, 6 ∷ 5 ∷ []) ∷  -- 16
+    (Close 3, 16 ∷ []) ∷  -- 17
+    (Eload 4 5, 17 ∷ 5 ∷ []) ∷  -- 18
+    (Close 4, 18 ∷ []) ∷  -- 19
+    (Load 5 0, 19 ∷ 15 ∷ 13 ∷ 12 ∷ 11 ∷ 10 ∷ 9 ∷ 8 ∷ 7 ∷ 5 ∷ 4 ∷ 3 ∷ 2 ∷ 1 ∷ 0 ∷ []) ∷  -- 20
+    (Close 5, 20 ∷ []) ∷  -- 21
+    (Tick 1, 8 ∷ []) ∷  -- 22
+    (Tick 1, 22 ∷ 8 ∷ []) ∷  -- 23
+    (Reply 6 1, 8 ∷ []) ∷  -- 24
+    (Close 6, 24 ∷ []) ∷  -- 25
+    (Reply 7 1, 25 ∷ 8 ∷ []) ∷  -- 26
+    (Close 7, 26 ∷ []) ∷  -- 27
+    (Timer 1, 8 ∷ []) ∷  -- 28
+    (Timer 2, 28 ∷ 8 ∷ []) ∷  -- 29
+    [])
+
+-- Inline dispatches in a handler, in one another's handlers and in closes: rules 22 and 23, and what is of one event.
+abbrev pub NestedDispatches : Type 0
+NestedDispatches = IsRow (
+    (Parse 0 1 kinds.Inline, []) ∷  -- 0
+    (Exec 1, 0 ∷ []) ∷  -- 1
+    (On 1, []) ∷
+    (On 2, []) ∷
+    (New 0 2 new_kinds.Plain, []) ∷
+    (Wfire 1 0 (codes "x"), []) ∷  -- 2
+    (Run 1 3 1, 2 ∷ 1 ∷ []) ∷  -- 3
+    (Inline 2 2 (codes "x"), 3 ∷ 1 ∷ []) ∷  -- 4
+    (Run 2 0 2, 4 ∷ 1 ∷ []) ∷  -- 5
+    (Run 2 0 1, 4 ∷ 1 ∷ []) ∷  -- 6
+    (Run 2 1 1, 6 ∷ 5 ∷ 4 ∷ 1 ∷ []) ∷  -- 7
+    (Inline 3 1 (codes "x"), 7 ∷ 0 ∷ []) ∷  -- 8
+    (Close 3, 8 ∷ []) ∷  -- 9
+    (Back 3, 9 ∷ 7 ∷ 6 ∷ 5 ∷ 4 ∷ 1 ∷ []) ∷  -- 10
+    (Close 2, 10 ∷ 7 ∷ 6 ∷ 5 ∷ 4 ∷ []) ∷  -- 11
+    (Inline 4 2 (codes "y"), 11 ∷ 1 ∷ []) ∷  -- 12
+    (Close 4, 12 ∷ []) ∷  -- 13
+    (Back 4, 13 ∷ 11 ∷ 10 ∷ 7 ∷ 6 ∷ 5 ∷ 4 ∷ []) ∷  -- 14
+    (Back 2, 14 ∷ 11 ∷ 3 ∷ 2 ∷ 1 ∷ []) ∷  -- 15
+    (Run 1 4 2, 15 ∷ 3 ∷ 2 ∷ 1 ∷ []) ∷  -- 16
+    (Close 1, 16 ∷ 15 ∷ 3 ∷ 2 ∷ []) ∷  -- 17
+    (Inline 5 2 (codes "x"), 17 ∷ 14 ∷ 11 ∷ 1 ∷ []) ∷  -- 18
+    (Close 5, 18 ∷ []) ∷  -- 19
+    (Back 5, 19 ∷ 17 ∷ 16 ∷ 15 ∷ 3 ∷ 2 ∷ []) ∷  -- 20
+    (Fire 6 2 (codes "x"), 19 ∷ 14 ∷ 11 ∷ 1 ∷ []) ∷  -- 21
+    (Close 6, 21 ∷ []) ∷  -- 22
+    (Wfire 7 0 (codes "x"), 20 ∷ 17 ∷ []) ∷  -- 23
+    (Close 7, 23 ∷ []) ∷  -- 24
+    [])
+
+-- After the second of three deferred scripts has run, the first is late, and so is a parse step.
+abbrev pub LateRecords : Type 0
+LateRecords = map (sound.cause tables.rules (Exec 2 ∷ Parse 0 3 kinds.Defer ∷ Parse 0 2 kinds.Defer ∷ Parse 0 1 kinds.Defer ∷ []))
+    (Exec 1 ∷ Exec 3 ∷ Parse 0 4 kinds.Plain ∷ Dcl 1 0 ∷ Back 1 ∷ [])
+    ≡ Some OutOfOrder ∷ None ∷ Some OutOfOrder ∷ None ∷ Some Unknown ∷ []
