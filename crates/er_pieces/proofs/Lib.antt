@@ -39,3 +39,5 @@ pub mod AnyTimersLemmas
 pub mod NewestLemmas
 pub mod ContractLemmas
 pub mod LookUpLemmas
+pub mod BegunLemmas
+pub mod DeliveryLemmas
