@@ -24,19 +24,19 @@ use Rattle.er_pieces.proofs.SourceLemmas.{Each, each_none, each_both, each_newes
 
 -- the places of the rules
 
-at_9 : (joined : ℕ → ℕ → Bool) (u v : Event) → dcl_before_load joined u v ≡ true → Holds joined u v
+pub at_9 : (joined : ℕ → ℕ → Bool) (u v : Event) → dcl_before_load joined u v ≡ true → Holds joined u v
 at_9 joined u v e = or_right (parsed_before_dcl joined u v) _ (or_left (dcl_before_load joined u v) _ e)
 
-at_10 : (joined : ℕ → ℕ → Bool) (u v : Event) → parsed_before_load joined u v ≡ true → Holds joined u v
+pub at_10 : (joined : ℕ → ℕ → Bool) (u v : Event) → parsed_before_load joined u v ≡ true → Holds joined u v
 at_10 joined u v e = or_right (parsed_before_dcl joined u v) _ (or_right (dcl_before_load joined u v) _ (or_left (parsed_before_load joined u v) _ e))
 
-at_11 : (joined : ℕ → ℕ → Bool) (u v : Event) → static_loads_before_load joined u v ≡ true → Holds joined u v
+pub at_11 : (joined : ℕ → ℕ → Bool) (u v : Event) → static_loads_before_load joined u v ≡ true → Holds joined u v
 at_11 joined u v e = or_right (parsed_before_dcl joined u v) _ (or_right (dcl_before_load joined u v) _ (or_right (parsed_before_load joined u v) _ (or_left (static_loads_before_load joined u v) _ e)))
 
-at_12 : (joined : ℕ → ℕ → Bool) (u v : Event) → element_before_its_load joined u v ≡ true → Holds joined u v
+pub at_12 : (joined : ℕ → ℕ → Bool) (u v : Event) → element_before_its_load joined u v ≡ true → Holds joined u v
 at_12 joined u v e = or_right (parsed_before_dcl joined u v) _ (or_right (dcl_before_load joined u v) _ (or_right (parsed_before_load joined u v) _ (or_right (static_loads_before_load joined u v) _ (or_left (element_before_its_load joined u v) _ e))))
 
-at_13 : (joined : ℕ → ℕ → Bool) (u v : Event) → inner_load_before_frame_load joined u v ≡ true → Holds joined u v
+pub at_13 : (joined : ℕ → ℕ → Bool) (u v : Event) → inner_load_before_frame_load joined u v ≡ true → Holds joined u v
 at_13 joined u v e = or_right (parsed_before_dcl joined u v) _ (or_right (dcl_before_load joined u v) _ (or_right (parsed_before_load joined u v) _ (or_right (static_loads_before_load joined u v) _ (or_right (element_before_its_load joined u v) _ (or_left (inner_load_before_frame_load joined u v) false e)))))
 
 -- what leads to DOMContentLoaded and to load

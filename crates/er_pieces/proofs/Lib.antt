@@ -42,3 +42,5 @@ pub mod LookUpLemmas
 pub mod CountLemmas
 pub mod FiredLemmas
 pub mod CountLaws
+pub mod BegunLemmas
+pub mod DeliveryLemmas
