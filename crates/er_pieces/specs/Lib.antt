@@ -3,3 +3,5 @@ pub mod Contract
 pub mod Enough
 pub mod HandedPieces
 pub mod Hands
+pub mod PiecesHanded
+pub mod Together

@@ -7,6 +7,7 @@ ghost use Rattle.er_history.specs.Rules.{rules};
 ghost use Rattle.er_pieces.specs.AnyTimers.{HandsTimersBy};
 ghost use Rattle.er_pieces.specs.Enough.{EnoughParse, EnoughScript, EnoughLoad, EnoughDispatch, EnoughTimer, EnoughRequest, EnoughPieces, HasSteady, NestedFactsHold};
 ghost use Rattle.er_pieces.specs.Hands.{HandsParse, HandsScript, HandsLoad, HandsTimer, HandsRequest, DispatchHandsSources, DispatchHandsNothing};
+ghost use Rattle.er_pieces.specs.Together.{SoundListsAreSteady, AllHand, HandedStayEnough, HandedAreBelow, HandsDispatches};
 
 /// Given the two laws of nested pieces, the latest pieces that each group of rules hands suffice.
 #[tactic(auto, using(crate::proofs::EnoughParse::enough_parse, crate::proofs::EnoughScript::enough_script, crate::proofs::EnoughLoad::enough_load))]
@@ -60,4 +61,19 @@ pub fn nested_facts_hold()
 /// The latest pieces that the rules of timers hand are sources and enough, by whatever rule a version has in place of rule 19.
 pub fn latest_pieces_of_timers_are_handed_in_each_version()
     ensures { HandsTimersBy }
+{}
+
+/// The pieces that the rules of dispatches hand are sources and enough, for edges between events and for those between pieces.
+#[tactic(auto, using(crate::proofs::TogetherLemmas::hands_dispatches))]
+pub fn latest_pieces_of_dispatches_are_handed()
+    ensures { HandsDispatches }
+{}
+
+/// What the six groups of rules hand, one behind the other, are sources of edges by all rules, and enough of them: so the paths over the handed numbers are those over all edges.
+#[tactic(auto, using(crate::proofs::TogetherLemmas::all_hand))]
+pub fn six_groups_together_are_enough()
+    ensures steady { SoundListsAreSteady }
+    ensures handed { AllHand }
+    ensures enough { HandedStayEnough }
+    ensures below { HandedAreBelow }
 {}
