@@ -1,13 +1,2 @@
-// A library with one function.
+//! Dispatches: the rules that order the begin, the handlers and the close of a dispatch, and the pieces around an inline one.
 #![tactic(auto)]
-
-ghost use Rattle.std.specs.Prelude.{◌≡◌};
-ghost use Rattle.er_rules_dispatch.specs.Echo.{echo_of};
-
-// The `ensures` clause is the contract: what `echo` returns is `echo_of` of its argument, a definition
-// in `specs/Echo.antt`, which a caller's clause can cite too.
-pub fn echo(x: usize) -> usize
-    ensures { result ≡ echo_of x }
-{
-    x
-}

@@ -1,30 +1,42 @@
 -- Proof that the look-ups of fired timeouts give the callbacks from which rule 19 leads. Lists of records stand newest first.
-use Rattle.std.proofs.Common.{◌≡◌, ℕ, ◌<◌, Bool, true, false, List, [], ◌∷◌, ◌++◌, length, Option, Some, None, option_map, refl, sym, ap, subst, ◌∙◌, arith, inl, inr, append-nil, append_assoc}
+use Rattle.std.proofs.Common.{◌≡◌, ℕ, ◌<◌, Bool, true, false, List, [], ◌∷◌, ◌++◌, length, Option, Some, None, option_map, refl, sym, ap, subst, ◌∙◌, arith, inl, inr, append-nil}
 use Rattle.std.specs.Prelude.{◌==◌, ◌&&◌, nat_lt, nat_le, if◌then◌else◌, reverse}
+use Rattle.std.specs.List.{list_any}
 use Rattle.std.proofs.lemmas.Bool.{eqb-true, eq-eqb, ne_eqb}
 use Rattle.std.proofs.lemmas.List.{reverse-append}
 use Rattle.er_trace.specs.declared.record.Record.{Record}
 use Rattle.er_trace.specs.declared.record.Record.TheVariants.{Timer, Run, Close, Back}
-use Rattle.er_history.specs.History.{Timeout, Dispatch, What, TimeoutRun, BeginOf, HandlerOf, CloseOf, Unnamed, Event, Action, History, told, begins, first_to, makes_timeout, maker_by, declares_handler, find_open, dispatch_begun, event_begun, action_begun, event_resumed}
-use Rattle.er_history.specs.Rules.{of_made, both_made, recorded, timers_of_one_event_in_order}
+use Rattle.er_history.specs.History.{Timeout, Dispatch, What, TimeoutRun, HandlerOf, CloseOf, Unnamed, Event, Action, History, told, begins, maker_by, declares_handler, find_open, event_begun, action_begun, event_resumed}
+use Rattle.er_history.specs.Rules.{of_made, timers_of_one_event_in_order}
 use Rattle.er_history.specs.Laws.{Among}
-use Rattle.er_history.specs.Latest.{latest_piece, latest_of, latest_of_each, events_of_each}
+use Rattle.er_history.specs.Latest.{latest_of, latest_of_each, events_of_each}
 use Rattle.er_history.specs.LookUps.{timeout_made, before, timer_event, fires_of, fired_with}
-use Rattle.er_history.proofs.HistoryLemmas.{told_before, event_before, event_below}
+use Rattle.er_history.proofs.HistoryLemmas.{told_before, event_below}
+use Rattle.er_history.specs.Facts.{WhatIs}
+use Rattle.er_history.specs.Naming.{IsNamed, fires_timeout}
+use Rattle.er_history.proofs.DeclaredLemmas.{Found, declared_maker}
+use Rattle.er_history.proofs.ExactLemmas.{facts_are_exact}
 use Rattle.er_history.proofs.EventLemmas.{resumed_goes_on}
 use Rattle.er_history.proofs.OrderLemmas.{not_both}
 use Rattle.er_pieces.specs.Contract.{listed, latest_of_all}
-use Rattle.er_pieces.proofs.PathLemmas.{less_is}
+use Rattle.er_pieces.proofs.PathLemmas.{both, less_is}
+use Rattle.er_pieces.proofs.CallerLemmas.{among_cases}
+use Rattle.er_pieces.proofs.OnceLemmas.{IsOnce, begun_in, begun_once}
+use Rattle.er_pieces.proofs.BegunLemmas.{MadeBy, made_by_action}
 use Rattle.er_pieces.proofs.ChainLemmas.{event_with}
 use Rattle.er_pieces.proofs.LookUpLemmas.{each_is_all}
-use Rattle.er_rules_timer.specs.Fired.{is_no_longer, goes_off_first, handed_for, handed_for_each, fired_handed}
+use Rattle.er_rules_timer.specs.Fired.{is_no_longer, goes_off_first, handed_for_each, fired_handed}
 
 -- the callbacks of the timeouts that one event set
 
--- the callback of a timeout that event m set and that passes
+-- the callback of a timeout that passes
+abbrev pub of_timeout : (ℕ → Option Timeout → Bool) → What → Bool
+of_timeout test (TimeoutRun s made) = test s made
+of_timeout test _ = false
+
+-- that of a timeout that event m set and that passes
 abbrev pub is_callback : ℕ → (Timeout → Bool) → What → Bool
-is_callback m test (TimeoutRun s made) = of_made (λ (y : Timeout). (y.maker == m) && test y) made
-is_callback m test _ = false
+is_callback m test w = of_timeout (λ s made. of_made (λ (y : Timeout). (y.maker == m) && test y) made) w
 
 abbrev pub callback_of : ℕ → (Timeout → Bool) → Event → Bool
 callback_of m test e = is_callback m test e.what
@@ -43,36 +55,36 @@ IsOther (Timer t) = ⊥
 IsOther _ = Unit {0}
 
 -- no other record begins one
-no_callback : (t : History) (x : Record) (m : ℕ) (test : Timeout → Bool) → IsOther x → ((a : Action) → Among a t.actions → a.event.number < length t.actions)
-    → ((length t.actions == (event_begun t x).number) && callback_of m test (event_begun t x)) ≡ false
-no_callback t (Timer k) m test is below = absurd is
-no_callback t (Back p) m test is below =
+no_callback : (t : History) (x : Record) (test : ℕ → Option Timeout → Bool) → IsOther x → ((a : Action) → Among a t.actions → a.event.number < length t.actions)
+    → ((length t.actions == (event_begun t x).number) && of_timeout test (event_begun t x).what) ≡ false
+no_callback t (Timer k) test is below = absurd is
+no_callback t (Back p) test is below =
     elim (resumed_goes_on t p) [
-      | inl unnamed ↦ not_both (length t.actions == (event_resumed t p).number) (callback_of m test (event_resumed t p)) (ap (is_callback m test) unnamed)
+      | inl unnamed ↦ not_both (length t.actions == (event_resumed t p).number) (of_timeout test (event_resumed t p).what) (ap (of_timeout test) unnamed)
       | inr found ↦
         let older = below found.0 found.1 in
         let number = ap (λ (e : Event). e.number) found.2 in
-        ap (λ b. b && callback_of m test (event_resumed t p)) (ne_eqb (length t.actions) (event_resumed t p).number (λ same. omega (arith, same, number, older)))
+        ap (λ b. b && of_timeout test (event_resumed t p).what) (ne_eqb (length t.actions) (event_resumed t p).number (λ same. omega (arith, same, number, older)))
     ]
-no_callback t (Run p g x) m test is below = not_both (length t.actions == length t.actions) _ (of_run (find_open p t.stack))
+no_callback t (Run p g x) test is below = not_both (length t.actions == length t.actions) _ (of_run (find_open p t.stack))
   where
     handler : ℕ → ℕ → Option Dispatch → Option ℕ → What
     handler g x (Some d) m = HandlerOf d g x m
     handler g x None m = Unnamed
 
-    of_run : (found : Option Dispatch) → is_callback m test (handler g x found (maker_by (declares_handler x) t.entries)) ≡ false
+    of_run : (found : Option Dispatch) → of_timeout test (handler g x found (maker_by (declares_handler x) t.entries)) ≡ false
     of_run None = refl
     of_run (Some d) = refl
-no_callback t (Close p) m test is below = not_both (length t.actions == length t.actions) _ (of_close (find_open p t.stack))
+no_callback t (Close p) test is below = not_both (length t.actions == length t.actions) _ (of_close (find_open p t.stack))
   where
     close : Option Dispatch → What
     close None = Unnamed
     close (Some d) = CloseOf d
 
-    of_close : (found : Option Dispatch) → is_callback m test (close found) ≡ false
+    of_close : (found : Option Dispatch) → of_timeout test (close found) ≡ false
     of_close None = refl
     of_close (Some d) = refl
-no_callback t x m test is below = not_both (length t.actions == length t.actions) (callback_of m test (event_begun t x)) refl
+no_callback t x test is below = not_both (length t.actions == length t.actions) (of_timeout test (event_begun t x).what) refl
 
 other_more : (made : ℕ → Option Timeout) (fired : ℕ → Option ℕ) (m : ℕ) (test : Timeout → Bool) (x : Record) (h : List Record) → IsOther x → fires_of h m x ≡ [] → Tell made fired (told (x ∷ h)).actions
     → (Tell made fired (told h).actions → events_of_each (callback_of m test) (told h).actions ≡ events_of made fired test (reverse (fired_with h m)))
@@ -84,7 +96,7 @@ other_more made fired m test x h is none tell rest =
     new = action_begun (told h) x
 
     fails : ((new.number == new.event.number) && callback_of m test new.event) ≡ false
-    fails = no_callback (told h) x m test is (λ a among. event_below (told h).actions a (told_before h) among)
+    fails = no_callback (told h) x (λ s made. of_made (λ (y : Timeout). (y.maker == m) && test y) made) is (λ a among. event_below (told h).actions a (told_before h) among)
 
     by : (b : Bool) → Tell made fired (if b then new ∷ (told h).actions else (told h).actions) → events_of_each (callback_of m test) (if b then new ∷ (told h).actions else (told h).actions) ≡ events_of made fired test (reverse (fired_with h m))
     by true tell = ap (λ c. if c then new.event.number ∷ events_of_each (callback_of m test) (told h).actions else events_of_each (callback_of m test) (told h).actions) fails
@@ -186,13 +198,64 @@ handed_is h t x (s ∷ ss) is = step (of_made (set_first x) (timeout_made h s)) 
     step true rest = listed_first (timer_event h s) _ (told h).actions ∙ ap (λ l. latest_of (timer_event h s) (told h).actions ++ l) rest
     step false rest = rest
 
--- What rule 19 hands is what the fired timeouts of the event that set it give.
-pub fired_are_handed : (h : List Record) (t : ℕ) (x : Timeout) → Tell (timeout_made h) (timer_event h) (told h).actions → timeout_made h t ≡ Some x
+rule_handed : (h : List Record) (t : ℕ) (x : Timeout) → Tell (timeout_made h) (timer_event h) (told h).actions → timeout_made h t ≡ Some x
     → latest_of_each (λ (u : Event). timers_of_one_event_in_order (λ i j. false) u (event_with (length (told h).actions) (TimeoutRun t (Some x)))) (told h).actions ≡ fired_handed h t x.maker
-fired_are_handed h t x tell is =
+rule_handed h t x tell is =
     let acts = (told h).actions in
     let rule : Event → Bool = λ u. timers_of_one_event_in_order (λ i j. false) u (event_with (length acts) (TimeoutRun t (Some x))) in
     each_is_all rule acts acts
     ∙ (ap (λ us. latest_of_all us acts) (events_same rule (callback_of x.maker (set_first x)) acts (λ a among. rule_is a.event (length acts) t x (less_is a.event.number (length acts) (event_below acts a (told_before h) among)))
     ∙ fired_events (timeout_made h) (timer_event h) x.maker (set_first x) h tell)
     ∙ handed_is h t x (reverse (fired_with h x.maker)) is)
+
+-- the look-ups tell so
+
+timer_once : (s : ℕ) → IsOnce (fires_timeout s)
+timer_once s h (Timer k) new is = subst (λ n. list_any (fires_timeout n) h ≡ false) (eqb-true k s is) new
+timer_once s h _ new is = absurd (cc)
+
+timer_begins : (s : ℕ) (x : Record) → fires_timeout s x ≡ true → begins x ≡ true
+timer_begins s (Timer k) is = refl
+timer_begins s _ is = absurd (cc)
+
+-- the record that begins a callback
+timer_begun : (t : History) (x : Record) (s : ℕ) (o : Option Timeout) → ((a : Action) → Among a t.actions → a.event.number < length t.actions) → length t.actions ≡ (event_begun t x).number → (event_begun t x).what ≡ TimeoutRun s o
+    → fires_timeout s x ≡ true
+timer_begun t (Timer k) s o below own what = let same : k ≡ s = cc in eq-eqb k s same
+timer_begun t x s o below own what = absurd (let fails = no_callback t x (λ n made. true) tt below in let is : ((length t.actions == (event_begun t x).number) && of_timeout (λ n made. true) (event_begun t x).what) ≡ true = both _ _ (eq-eqb (length t.actions) (event_begun t x).number own) (ap (of_timeout (λ n made. true)) what) in cc)
+
+first_timer : (h : List Record) → (a : Action) (s : ℕ) (o : Option Timeout) → Among a (told h).actions → a.number ≡ a.event.number → a.event.what ≡ TimeoutRun s o → fires_timeout s a.begin ≡ true
+first_timer [] a s o among own what = absurd among
+first_timer (x ∷ h) a s o among own what =
+    elim (among_cases h x a among) [
+      | inl now ↦
+        let is : a ≡ action_begun (told h) x = now.1 in
+        ap (λ (c : Action). fires_timeout s c.begin) is
+        ∙ timer_begun (told h) x s o (λ c older. event_below (told h).actions c (told_before h) older)
+        (sym (ap (λ (c : Action). c.number) is) ∙ (own ∙ ap (λ (c : Action). c.event.number) is))
+        (ap (λ (c : Action). c.event.what) (sym is) ∙ what)
+      | inr older ↦ first_timer h a s o older own what
+    ]
+
+look_ups_tell : (h : List Record) → IsNamed h → Tell (timeout_made h) (timer_event h) (told h).actions
+look_ups_tell h named a s o among own what = (
+  sym (subst (WhatIs (told h).entries) what (facts_are_exact h a named among)).0,
+  found.1 ∙ ap (λ k. Some k) (sym made.number ∙ ap (λ (c : Action). c.event.number) same),
+)
+  where
+    passes : fires_timeout s a.begin ≡ true
+    passes = first_timer h a s o among own what
+
+    found : Found (timer_event h s)
+    found = declared_maker h (fires_timeout s) named (begun_in (fires_timeout s) h a among passes)
+
+    made : MadeBy (fires_timeout s) h found.0
+    made = made_by_action (fires_timeout s) h found.0 found.1
+
+    same : made.action ≡ a
+    same = begun_once (fires_timeout s) (timer_once s) h named made.action a made.among among (ap (fires_timeout s) (made.begun (timer_begins s made.read made.passes)) ∙ made.passes) passes
+
+-- What rule 19 hands is what the fired timeouts of the event that set it give.
+pub fired_are_handed : (h : List Record) (t : ℕ) (x : Timeout) → IsNamed h → timeout_made h t ≡ Some x
+    → latest_of_each (λ (u : Event). timers_of_one_event_in_order (λ i j. false) u (event_with (length (told h).actions) (TimeoutRun t (Some x)))) (told h).actions ≡ fired_handed h t x.maker
+fired_are_handed h t x named is = rule_handed h t x (look_ups_tell h named) is
