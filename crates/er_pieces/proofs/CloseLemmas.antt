@@ -58,7 +58,7 @@ begins_it h x d e = by x e
     by _ e = absurd (cc)
 
 -- a dispatch that has begun does not begin again
-not_again : (h : List Record) (x : Record) (d e : Dispatch) → IsNamed h → NoneHolds h x → HasBegun (told h).actions d → dispatch_begun (told h).entries (length (told h).actions) x ≡ Some e → e.number ≡ d.number → ⊥
+pub not_again : (h : List Record) (x : Record) (d e : Dispatch) → IsNamed h → NoneHolds h x → HasBegun (told h).actions d → dispatch_begun (told h).entries (length (told h).actions) x ≡ Some e → e.number ≡ d.number → ⊥
 not_again h x d e named none begun now same =
     let first = first_begun h named begun.begin begun.among in
     let by = (subst (λ (w : What). BegunBy w first.first.begin) begun.is first.begun).0 in

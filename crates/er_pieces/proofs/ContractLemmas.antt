@@ -71,7 +71,7 @@ has_handed table group handed hands h x old new next grew = record {
   are_handed = hands h x (steady_by table h x next) next.named next.ordered;
 }
 
-among_front : (n k : ℕ) (ks : List ℕ) → is_among k (take n ks) ≡ true → is_among k ks ≡ true
+pub among_front : (n k : ℕ) (ks : List ℕ) → is_among k (take n ks) ≡ true → is_among k ks ≡ true
 among_front zero k ks e = absurd (cc)
 among_front (suc n) k [] e = absurd (cc)
 among_front (suc n) k (m ∷ ks) e =

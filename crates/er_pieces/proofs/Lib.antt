@@ -26,6 +26,7 @@ pub mod EnoughDispatch
 pub mod LevelLemmas
 pub mod EnoughPieces
 pub mod SteadyLemmas
+pub mod TogetherLemmas
 pub mod SourceLemmas
 pub mod HandsParse
 pub mod HandsScript

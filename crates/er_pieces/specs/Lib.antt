@@ -4,3 +4,5 @@ pub mod Counts
 pub mod Enough
 pub mod HandedPieces
 pub mod Hands
+pub mod PiecesHanded
+pub mod Together

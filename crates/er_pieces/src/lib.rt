@@ -8,6 +8,7 @@ ghost use Rattle.er_pieces.specs.AnyTimers.{HandsTimersBy};
 ghost use Rattle.er_pieces.specs.Counts.{ParseHandsAtMost, ScriptHandsAtMost, LoadHandsAtMost, TimerHandsAtMost, RequestHandsAtMost, DispatchHandsAtMost};
 ghost use Rattle.er_pieces.specs.Enough.{EnoughParse, EnoughScript, EnoughLoad, EnoughDispatch, EnoughTimer, EnoughRequest, EnoughPieces, HasSteady, NestedFactsHold};
 ghost use Rattle.er_pieces.specs.Hands.{HandsParse, HandsScript, HandsLoad, HandsTimer, HandsRequest, DispatchHandsSources, DispatchHandsNothing};
+ghost use Rattle.er_pieces.specs.Together.{SoundListsAreSteady, AllHand, HandedStayEnough, HandedAreBelow, HandsDispatches};
 
 /// Given the two laws of nested pieces, the latest pieces that each group of rules hands suffice.
 #[tactic(auto, using(crate::proofs::EnoughParse::enough_parse, crate::proofs::EnoughScript::enough_script, crate::proofs::EnoughLoad::enough_load))]
@@ -77,4 +78,19 @@ pub fn few_pieces_of_events_are_handed()
     ensures dispatches { DispatchHandsAtMost }
     ensures timers { TimerHandsAtMost }
     ensures requests { RequestHandsAtMost }
+{}
+
+/// The pieces that the rules of dispatches hand are sources and enough, for edges between events and for those between pieces.
+#[tactic(auto, using(crate::proofs::TogetherLemmas::hands_dispatches))]
+pub fn latest_pieces_of_dispatches_are_handed()
+    ensures { HandsDispatches }
+{}
+
+/// What the six groups of rules hand, one behind the other, are sources of edges by all rules, and enough of them: so the paths over the handed numbers are those over all edges.
+#[tactic(auto, using(crate::proofs::TogetherLemmas::all_hand))]
+pub fn six_groups_together_are_enough()
+    ensures steady { SoundListsAreSteady }
+    ensures handed { AllHand }
+    ensures enough { HandedStayEnough }
+    ensures below { HandedAreBelow }
 {}

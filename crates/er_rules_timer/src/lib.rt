@@ -1,0 +1,2 @@
+//! Timers: the rules that order the callbacks of timeouts and of intervals.
+#![tactic(auto)]
