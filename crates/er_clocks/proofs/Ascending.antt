@@ -1,0 +1,192 @@
+-- Ascending lists: one for each set of numbers. Those that a later one does not cover are the links.
+use Rattle.std.proofs.Common.{◌≡◌, ℕ, zero, suc, ◌+◌, ◌<◌, ◌≤◌, Bool, true, false, List, [], ◌∷◌, ◌++◌, length, get_or, eqb, All, refl, sym, ap, ◌∙◌, arith, subst, inl, inr}
+use Rattle.std.specs.Prelude.{◌==◌, ◌||◌, ◌&&◌, not, nat_lt}
+use Rattle.std.specs.List.{list_any, AllByRecursion, filter, dedup, dedup_from}
+use Rattle.std.specs.List.Sorted.{IsStrictlyIncreasing}
+use Rattle.std.proofs.lemmas.List.Elements.{recursion_from_All, All-from_recursion}
+use Rattle.std.proofs.lemmas.Bool.Decides.{nat_tests}
+use Rattle.er_paths.specs.Paths.{joins, is_among}
+use Rattle.er_links.specs.Links.{numbers_below}
+use Rattle.er_paths.proofs.Paths.{paths_go_forward}
+use Rattle.er_links.proofs.Tests.{decide, same_test, never, apart_true, any_members}
+use Rattle.er_links.proofs.Links.{any_below, some_below, all_below, keeps, keeps_parts, kept_of}
+use Rattle.er_clocks.specs.Sources.{uncovered}
+
+-- strictly ascending from lo on
+abbrev pub Rises : ℕ → List ℕ → Type 0
+Rises lo [] = Unit {0}
+Rises lo (x ∷ xs) = (lo ≤ x) × Rises (suc x) xs
+
+rises_from : (lo hi : ℕ) (xs : List ℕ) → lo ≤ hi → Rises hi xs → Rises lo xs
+rises_from lo hi [] h a = tt
+rises_from lo hi (x ∷ xs) h a = (let b : hi ≤ x = a.0 in omega arith, a.1)
+
+rises_filter : (t : ℕ → Bool) (lo : ℕ) (xs : List ℕ) → Rises lo xs → Rises lo (filter t xs)
+rises_filter t lo [] a = tt
+rises_filter t lo (x ∷ xs) a = elim (decide (t x)) [
+  | inl e ↦ rw e (a.0, rises_filter t (suc x) xs a.1)
+  | inr e ↦ rw e (let b : lo ≤ x = a.0 in rises_from lo (suc x) (filter t xs) (omega arith) (rises_filter t (suc x) xs a.1))
+]
+
+rises_end : (lo n : ℕ) (xs : List ℕ) → Rises lo xs → lo ≤ n → AllByRecursion (λ k. k < n) xs → Rises lo (xs ++ n ∷ [])
+rises_end lo n [] a h b = (h, tt)
+rises_end lo n (x ∷ xs) a h b = (a.0, rises_end (suc x) n xs a.1 b.0 b.1)
+
+rises_below : (n : ℕ) → Rises 0 (numbers_below n)
+rises_below zero = tt
+rises_below (suc n) = rises_end 0 n (numbers_below n) (rises_below n) (omega arith) (all_below n)
+
+rises_lack : (lo : ℕ) (xs : List ℕ) (x : ℕ) → Rises lo xs → x < lo → is_among x xs ≡ false
+rises_lack lo [] x a h = refl
+rises_lack lo (y ∷ ys) x a h = let b : lo ≤ y = a.0 in grind (arith, nat_tests, rises_lack (suc y) ys x a.1)
+
+same_heads : (x y : ℕ) (xs ys : List ℕ) → Rises (suc x) xs → Rises (suc y) ys → ((i : ℕ) → is_among i (x ∷ xs) ≡ is_among i (y ∷ ys)) → x ≡ y
+same_heads x y xs ys a b f = elim (decide (nat_lt x y)) [
+  | inl l ↦ let e = f x in let n = rises_lack (suc y) ys x b (grind (arith, nat_tests)) in absurd (grind (arith, nat_tests))
+  | inr l ↦ elim (decide (nat_lt y x)) [
+    | inl k ↦ let e = f y in let n = rises_lack (suc x) xs y a (grind (arith, nat_tests)) in absurd (grind (arith, nat_tests))
+    | inr k ↦ grind (arith, nat_tests)
+  ]
+]
+
+same_tails : (x : ℕ) (xs ys : List ℕ) → Rises (suc x) xs → Rises (suc x) ys → ((i : ℕ) → is_among i (x ∷ xs) ≡ is_among i (x ∷ ys)) → (i : ℕ) → is_among i xs ≡ is_among i ys
+same_tails x xs ys a b f i = elim (decide (x == i)) [
+  | inl same ↦ let e : x ≡ i = grind (arith, nat_tests) in rises_lack (suc x) xs i a (omega arith) ∙ sym (rises_lack (suc x) ys i b (omega arith))
+  | inr other ↦ let e = f i in grind (arith, nat_tests)
+]
+
+same_rising : (lo : ℕ) (xs ys : List ℕ) → Rises lo xs → Rises lo ys → ((i : ℕ) → is_among i xs ≡ is_among i ys) → xs ≡ ys
+same_rising lo [] [] a b f = refl
+same_rising lo [] (y ∷ ys) a b f = let e = f y in absurd (grind (arith, nat_tests))
+same_rising lo (x ∷ xs) [] a b f = let e = f x in absurd (grind (arith, nat_tests))
+same_rising lo (x ∷ xs) (y ∷ ys) a b f =
+    let e : x ≡ y = same_heads x y xs ys a.1 b.1 f in
+    let Y : ℕ → Type 0 = λ m. Rises (suc m) ys in
+    let F : ℕ → Type 0 = λ m. (i : ℕ) → is_among i (x ∷ xs) ≡ is_among i (m ∷ ys) in
+    ap (λ (m : ℕ). m ∷ xs) e ∙ ap (λ (zs : List ℕ). y ∷ zs) (same_rising (suc x) xs ys a.1 (subst Y (sym e) b.1) (same_tails x xs ys a.1 (subst Y (sym e) b.1) (subst F (sym e) f)))
+
+member_filter : (t : ℕ → Bool) (xs : List ℕ) (i : ℕ) → is_among i (filter t xs) ≡ (is_among i xs && t i)
+member_filter t [] i = refl
+member_filter t (x ∷ xs) i = elim (decide (t x)) [
+  | inl e ↦ rw e (elim (decide (x == i)) [
+    | inl s ↦ let same : x ≡ i = grind (arith, nat_tests) in let T : ℕ → Type 0 = λ m. t m ≡ true in let k : t i ≡ true = subst T same e in grind (arith, nat_tests)
+    | inr n ↦ grind (arith, member_filter t xs i)
+  ])
+  | inr e ↦ rw e (elim (decide (x == i)) [
+    | inl s ↦ let same : x ≡ i = grind (arith, nat_tests) in let T : ℕ → Type 0 = λ m. t m ≡ false in let k : t i ≡ false = subst T same e in grind (arith, nat_tests, member_filter t xs i)
+    | inr n ↦ grind (arith, member_filter t xs i)
+  ])
+]
+
+member_below : (n i : ℕ) → is_among i (numbers_below n) ≡ nat_lt i n
+member_below n i = same_test _ _
+    (λ h. let r = some_below (λ m. m == i) n h in let e = r.2 in let l : r.0 < n = r.1 in grind (arith, nat_tests))
+    (λ h. any_below (λ m. m == i) n i (grind (arith, nat_tests)) (grind (arith, nat_tests)))
+
+rises_uncovered : (joined : ℕ → ℕ → Bool) (lo : ℕ) (xs : List ℕ) → Rises lo xs → Rises lo (uncovered joined xs)
+rises_uncovered joined lo [] a = tt
+rises_uncovered joined lo (x ∷ xs) a = elim (decide (list_any (λ k. joined x k) xs)) [
+  | inl e ↦ rw e (let b : lo ≤ x = a.0 in rises_from lo (suc x) (uncovered joined xs) (omega arith) (rises_uncovered joined (suc x) xs a.1))
+  | inr e ↦ rw e (a.0, rises_uncovered joined (suc x) xs a.1)
+]
+
+-- beyond i, others than i are all
+others_all : (f : ℕ → Bool) (lo : ℕ) (xs : List ℕ) (i : ℕ) → Rises lo xs → i < lo → list_any (λ k. not (k == i) && f k) xs ≡ list_any f xs
+others_all f lo [] i a h = refl
+others_all f lo (x ∷ xs) i a h =
+    let b : lo ≤ x = a.0 in
+    let e : not (x == i) ≡ true = apart_true i x (λ s. absurd (omega arith)) in
+    ap (λ (c : Bool). (c && f x) || list_any (λ k. not (k == i) && f k) xs) e ∙ ap (λ (c : Bool). f x || c) (others_all f (suc x) xs i a.1 (omega arith))
+
+-- no path leads back from a later number
+none_back : (lists : List (List ℕ)) (x : ℕ) (xs : List ℕ) (i : ℕ) → Rises (suc x) xs → is_among i xs ≡ true → joins lists i x ≡ false
+none_back lists x xs i a e = never (joins lists i x) (λ h.
+    let f = paths_go_forward lists i x h in
+    let lack = rises_lack (suc x) xs i a (omega (arith, f.0)) in absurd (cc))
+
+member_uncovered : (lists : List (List ℕ)) (lo : ℕ) (xs : List ℕ) (i : ℕ) → Rises lo xs
+    → is_among i (uncovered (joins lists) xs) ≡ (is_among i xs && not (list_any (λ k. not (k == i) && joins lists i k) xs))
+member_uncovered lists lo [] i a = refl
+member_uncovered lists lo (x ∷ xs) i a = elim (decide (x == i)) [
+  | inl s ↦
+      let same : x ≡ i = grind (arith, nat_tests) in
+      let T : ℕ → Type 0 = λ m. is_among m (uncovered (joins lists) (x ∷ xs)) ≡ (is_among m (x ∷ xs) && not (list_any (λ k. not (k == m) && joins lists m k) (x ∷ xs))) in
+      subst T same (itself lists x xs a.1)
+  | inr n ↦ later lists x xs i n a.1 (member_uncovered lists (suc x) xs i a.1)
+]
+  where
+    itself : (lists : List (List ℕ)) (x : ℕ) (xs : List ℕ) → Rises (suc x) xs → is_among x (uncovered (joins lists) (x ∷ xs)) ≡ (is_among x (x ∷ xs) && not (list_any (λ k. not (k == x) && joins lists x k) (x ∷ xs)))
+    itself lists x xs a =
+        let all = others_all (λ k. joins lists x k) (suc x) xs x a (omega arith) in
+        let lack = rises_lack (suc x) (uncovered (joins lists) xs) x (rises_uncovered (joins lists) (suc x) xs a) (omega arith) in
+        elim (decide (list_any (λ k. joins lists x k) xs)) [
+          | inl e ↦ rw e (grind (arith, nat_tests))
+          | inr e ↦ rw e (grind (arith, nat_tests))
+        ]
+
+    later : (lists : List (List ℕ)) (x : ℕ) (xs : List ℕ) (i : ℕ) → (x == i) ≡ false → Rises (suc x) xs → is_among i (uncovered (joins lists) xs) ≡ (is_among i xs && not (list_any (λ k. not (k == i) && joins lists i k) xs))
+        → is_among i (uncovered (joins lists) (x ∷ xs)) ≡ (is_among i (x ∷ xs) && not (list_any (λ k. not (k == i) && joins lists i k) (x ∷ xs)))
+    later lists x xs i n a known =
+        let left : is_among i (uncovered (joins lists) (x ∷ xs)) ≡ is_among i (uncovered (joins lists) xs) = elim (decide (list_any (λ k. joins lists x k) xs)) [
+          | inl e ↦ rw e refl
+          | inr e ↦ rw e (grind (arith, nat_tests))
+        ] in
+        left ∙ known ∙ elim (decide (is_among i xs)) [
+          | inl e ↦ let back = none_back lists x xs i a e in rw (n, e, back) refl
+          | inr e ↦ rw (n, e) refl
+        ]
+
+pub below_listed : (n : ℕ) (xs : List ℕ) (x : ℕ) → AllByRecursion (λ k. k < n) xs → is_among x xs ≡ true → x < n
+below_listed n [] x a e = absurd (cc)
+below_listed n (y ∷ ys) x a e = grind (arith, nat_tests, below_listed n ys x a.1)
+
+-- of a list with the same members, ascending, the uncovered ones are the links
+pub uncovered_kept : (older : List (List ℕ)) (p s : List ℕ) → Rises 0 s → ((i : ℕ) → is_among i s ≡ is_among i p) → AllByRecursion (λ k. k < length older) s → uncovered (joins older) s ≡ kept_of older p
+uncovered_kept older p s a same known =
+    same_rising 0 (uncovered (joins older) s) (kept_of older p) (rises_uncovered (joins older) 0 s a) (rises_filter (λ i. keeps (joins older) p i) 0 (numbers_below (length older)) (rises_below (length older))) (λ i.
+    member_uncovered older 0 s i a ∙ ap (λ (b : Bool). b && not (list_any (λ k. not (k == i) && joins older i k) s)) (same i)
+    ∙ ap (λ (b : Bool). is_among i p && not b) (any_members (λ k. not (k == i) && joins older i k) s p same)
+    ∙ sym (member_filter (λ x. keeps (joins older) p x) (numbers_below (length older)) i ∙ ap (λ (b : Bool). b && keeps (joins older) p i) (member_below (length older) i) ∙ within i))
+  where
+    within : (i : ℕ) → (nat_lt i (length older) && keeps (joins older) p i) ≡ keeps (joins older) p i
+    within i = elim (decide (keeps (joins older) p i)) [
+      | inl k ↦ let less : i < length older = below_listed (length older) s i known (same i ∙ (keeps_parts (joins older) p i k).0) in rw k (grind (arith, nat_tests))
+      | inr n ↦ rw n (grind (arith, nat_tests))
+    ]
+
+-- sorted, and without repeats
+
+rises_above : (lo : ℕ) (xs : List ℕ) → IsStrictlyIncreasing xs → (0 < length xs → lo ≤ get_or xs 0 0) → Rises lo xs
+rises_above lo [] a h = tt
+rises_above lo (x ∷ xs) a h = (
+  h (omega arith),
+  rises_above (suc x) xs
+      (λ k l.
+      let b : get_or (x ∷ xs) (suc k) 0 < get_or (x ∷ xs) (suc k + 1) 0 = a (suc k) (omega arith) in
+      let e : suc k + 1 ≡ suc (k + 1) = omega arith in
+      let P : ℕ → Type 0 = λ m. get_or xs k 0 < get_or (x ∷ xs) m 0 in subst P e b)
+      (λ l. let b : get_or (x ∷ xs) 0 0 < get_or (x ∷ xs) (0 + 1) 0 = a 0 (omega arith) in b),
+)
+
+pub rises_sorted : (xs : List ℕ) → IsStrictlyIncreasing xs → Rises 0 xs
+rises_sorted xs a = rises_above 0 xs a (λ h. omega arith)
+
+member_dedup_from : (x : ℕ) (xs : List ℕ) (i : ℕ) → is_among i (dedup_from eqb x xs) ≡ ((x == i) || is_among i xs)
+member_dedup_from x [] i = refl
+member_dedup_from x (y ∷ ys) i = elim (decide (y == x)) [
+  | inl t ↦ rw t (member_dedup_from x ys i ∙ grind (arith, nat_tests))
+  | inr n ↦ rw n (ap (λ (b : Bool). (x == i) || b) (member_dedup_from y ys i))
+]
+
+pub member_dedup : (xs : List ℕ) (i : ℕ) → is_among i (dedup eqb xs) ≡ is_among i xs
+member_dedup [] i = refl
+member_dedup (x ∷ xs) i = member_dedup_from x xs i
+
+-- numbers of one set are below the same bound
+
+pub all_listed : (n : ℕ) (xs : List ℕ) → ((x : ℕ) → is_among x xs ≡ true → x < n) → AllByRecursion (λ k. k < n) xs
+all_listed n [] f = tt
+all_listed n (x ∷ xs) f = (f x (grind (arith, nat_tests)), all_listed n xs (λ y h. f y (grind (arith))))
+
+pub known_same : (n : ℕ) (s p : List ℕ) → ((i : ℕ) → is_among i s ≡ is_among i p) → All (λ k. k < n) p → All (λ k. k < n) s
+known_same n s p same a = All-from_recursion (λ k. k < n) s (all_listed n s (λ x h. below_listed n p x (recursion_from_All (λ k. k < n) p a) (sym (same x) ∙ h)))
