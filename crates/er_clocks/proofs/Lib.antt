@@ -1,4 +1,4 @@
-pub mod Fits
+pub mod Fulls
 pub mod Ascending
 pub mod Entries
 pub mod Handed

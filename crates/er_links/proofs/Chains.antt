@@ -5,7 +5,8 @@ use Rattle.std.specs.List.{list_any, AllByRecursion}
 use Rattle.std.proofs.lemmas.Bool.Decides.{nat_tests}
 use Rattle.std.proofs.Math.Path.{fun_ext}
 use Rattle.er_paths.specs.Paths.{joins, is_among}
-use Rattle.er_links.specs.Chains.{last_passes, first_fit, chains, members, number_in, place_in, count_in, chain_of, place_of, entry, ChainsStay, ChainsTellPaths, ChainsOfPaths}
+use Rattle.er_links.specs.Chains.{last_passes, first_fit, chains, members, number_in, place_in, count_in, chain_of, place_of, entry}
+use Rattle.er_links.specs.Laws.{ChainsStay, ChainsTellPaths, ChainsOfPaths}
 use Rattle.er_paths.proofs.Paths.{any_some, any_from, joins_older, joins_below, joins_past, place_cases, paths_compose, paths_go_forward}
 use Rattle.er_links.proofs.Tests.{decide, never}
 
@@ -145,7 +146,7 @@ fit_entries q r j (c ∷ cs) (suc t) h = elim (decide (last_passes q c)) [
 abbrev pub holds : List (List ℕ) → ℕ → Bool
 holds cs i = list_any (λ c. is_among i c) cs
 
-fit_chain_still : (q : ℕ → Bool) (j i : ℕ) (cs : List (List ℕ)) → i < j → holds cs i ≡ true → number_in (first_fit q j cs) i ≡ number_in cs i
+pub fit_chain_still : (q : ℕ → Bool) (j i : ℕ) (cs : List (List ℕ)) → i < j → holds cs i ≡ true → number_in (first_fit q j cs) i ≡ number_in cs i
 fit_chain_still q j i [] l h = absurd (cc)
 fit_chain_still q j i (c ∷ cs) l h = elim (decide (last_passes q c)) [
   | inl t ↦ rw t (grind (arith, nat_tests))

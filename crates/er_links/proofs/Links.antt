@@ -6,7 +6,8 @@ use Rattle.std.proofs.lemmas.List.Elements.{filter-append}
 use Rattle.std.proofs.lemmas.Bool.Decides.{nat_tests}
 use Rattle.std.proofs.Math.Path.{fun_ext}
 use Rattle.er_paths.specs.Paths.{joins, is_among}
-use Rattle.er_links.specs.Links.{numbers_below, is_between, link_among, links_of, links_to, links, LeadsBy, LinksStay, LinksHaveThePaths, LinksAreLeast, LinksOfPaths}
+use Rattle.er_links.specs.Links.{numbers_below, is_between, link_among, is_link, links_of, links_to, links}
+use Rattle.er_links.specs.Laws.{LeadsBy, LinksStay, LinksHaveThePaths, LinksAreDirect, LinksAreLeast, LinksOfPaths}
 use Rattle.er_paths.proofs.Paths.{or_cases, any_some, any_from, joins_older, joins_newest_cases, joins_listed, joins_below, paths_compose, paths_go_forward, paths_stand}
 use Rattle.er_links.proofs.Tests.{decide, same_test, both, and_true, not_true, not_false, never, apart, apart_true, any_members, any_same}
 
@@ -293,3 +294,13 @@ length-numbers_below (suc n) = let e = length-numbers_below n in omega (arith, l
 
 pub kept_short : (older : List (List ℕ)) (p : List ℕ) → length (kept_of older p) ≤ length older
 kept_short older p = let l = filter_short (λ i. keeps (joins older) p i) (numbers_below (length older)) in omega (arith, length-numbers_below (length older), l)
+
+-- what a link is
+
+pub links_are_direct : LinksAreDirect
+links_are_direct lists i j = (
+  λ h.
+      let l = link_parts (joins lists) (length lists) i j h in
+      (l.0, l.1, λ k a b c d. l.2 k (joins_below lists i k c) (between_made (joins lists) i j k a b c d)),
+  λ h. link_made (joins lists) (length lists) i j h.0 h.1 (λ k m t. let b = between_parts (joins lists) i j k t in h.2 k b.0 b.1 b.2 b.3),
+)

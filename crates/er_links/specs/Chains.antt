@@ -1,5 +1,6 @@
--- Chains: each action joins the lowest chain whose last member has a path to it, else it begins a new one. Lists of predecessors stand newest first, and so do the members of a chain.
-use Rattle.std.specs.Prelude.{◌≡◌, ℕ, suc, ◌<◌, nat_lt, Bool, false, ◌==◌, List, [], ◌∷◌, ◌++◌, length, slice_index_or, if◌then◌else◌}
+-- Chains: each action, in order, joins the lowest chain whose last member has a path to it, else it begins a new one.
+-- Lists of predecessors stand newest first, and so do the members of a chain. Chains stand lowest first.
+use Rattle.std.specs.Prelude.{ℕ, suc, Bool, false, ◌==◌, List, [], ◌∷◌, length, slice_index_or, if◌then◌else◌}
 use Rattle.er_paths.specs.Paths.{joins, is_among}
 
 -- the last member of the chain passes
@@ -47,16 +48,3 @@ place_of lists j = place_in (members (chains lists) (chain_of lists j)) j
 -- how many members of chain c have a path to j
 abbrev pub entry : List (List ℕ) → ℕ → ℕ → ℕ
 entry lists j c = count_in (λ i. joins lists i j) (members (chains lists) c)
-
--- Later lists change no chain and no place of an earlier action, and no entry.
-abbrev pub ChainsStay : Type 0
-ChainsStay = (more lists : List (List ℕ)) (j c : ℕ) → j < length lists
-    → (chain_of (more ++ lists) j ≡ chain_of lists j) × (place_of (more ++ lists) j ≡ place_of lists j) × (entry (more ++ lists) j c ≡ entry lists j c)
-
--- Two numbers tell a path: the place of i is below the entry of j at i's chain.
-abbrev pub ChainsTellPaths : Type 0
-ChainsTellPaths = (lists : List (List ℕ)) (i j : ℕ) → i < length lists → nat_lt (place_of lists i) (entry lists j (chain_of lists i)) ≡ joins lists i j
-
--- Chains depend on the paths alone.
-abbrev pub ChainsOfPaths : Type 0
-ChainsOfPaths = (lists others : List (List ℕ)) → length lists ≡ length others → ((i j : ℕ) → joins lists i j ≡ joins others i j) → chains lists ≡ chains others

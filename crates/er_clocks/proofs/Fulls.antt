@@ -1,12 +1,12 @@
--- What first fit does to the tables of numbers: which chain it takes, and the counts, lengths and places after it.
+-- What first fit does to the tables of numbers: which chain it takes, and the counts and lengths after it.
 use Rattle.std.proofs.Common.{◌≡◌, ℕ, suc, ◌+◌, ◌<◌, ◌≤◌, Bool, true, false, List, [], ◌∷◌, length, get_or, refl, sym, ap, ◌∙◌, arith, subst, inl, inr}
 use Rattle.std.specs.Prelude.{◌==◌, if◌then◌else◌, map, Some, None}
 use Rattle.std.specs.List.{AllByRecursion}
 use Rattle.std.proofs.lemmas.Bool.Decides.{nat_tests}
-use Rattle.er_paths.specs.Paths.{joins, is_among}
-use Rattle.er_links.specs.Chains.{last_passes, first_fit, chains, members, number_in, place_in, count_in}
+use Rattle.er_links.specs.Chains.{last_passes, first_fit, count_in}
 use Rattle.er_links.proofs.Tests.{decide}
 use Rattle.er_links.proofs.Chains.{IsFront, count_le}
+use Rattle.er_links.proofs.Fits.{IsBegun, fit_number}
 use Rattle.er_clocks.specs.Clock.{full_number}
 use Rattle.er_chains.specs.Lengths.{full_from, first_full, one_more}
 
@@ -17,29 +17,9 @@ full_where_last q m c f = elim (decide (q m)) [
   | inr n ↦ grind (arith, nat_tests, count_le q c)
 ]
 
--- no chain is empty
-abbrev pub IsBegun : List ℕ → Type 0
-IsBegun c = 0 < length c
-
-fit_begun : (q : ℕ → Bool) (j : ℕ) (cs : List (List ℕ)) → AllByRecursion IsBegun cs → AllByRecursion IsBegun (first_fit q j cs)
-fit_begun q j [] a = (omega arith, tt)
-fit_begun q j (c ∷ cs) a = elim (decide (last_passes q c)) [
-  | inl t ↦ rw t (omega arith, a.1)
-  | inr n ↦ rw n (a.0, fit_begun q j cs a.1)
-]
-
-pub chains_begun : (lists : List (List ℕ)) → AllByRecursion IsBegun (chains lists)
-chains_begun [] = tt
-chains_begun (p ∷ older) = fit_begun (λ i. joins (p ∷ older) i (length older)) (length older) (chains older) (chains_begun older)
-
 last_full : (q : ℕ → Bool) (c : List ℕ) → IsBegun c → IsFront q c → (count_in q c == length c) ≡ last_passes q c
 last_full q [] b f = absurd (omega arith)
 last_full q (m ∷ c) b f = full_where_last q m c f
-
--- the lowest chain whose last member passes, or their number
-abbrev pub fit_number : (ℕ → Bool) → List (List ℕ) → ℕ
-fit_number q [] = 0
-fit_number q (c ∷ cs) = if last_passes q c then 0 else suc (fit_number q cs)
 
 -- the lowest chain whose length is the row's number is the one that first fit takes
 pub full_is_fit : (q : ℕ → Bool) (cs : List (List ℕ)) → AllByRecursion IsBegun cs → AllByRecursion (IsFront q) cs → full_number (map length cs) (map (count_in q) cs) ≡ fit_number q cs
@@ -60,36 +40,6 @@ fit_lengths q j (c ∷ cs) = elim (decide (last_passes q c)) [
   | inl t ↦ rw t refl
   | inr n ↦ rw n (ap (λ (ns : List ℕ). length c ∷ ns) (fit_lengths q j cs))
 ]
-
--- where the new one stands
-abbrev pub IsLacking : ℕ → List ℕ → Type 0
-IsLacking j c = is_among j c ≡ false
-
-pub fit_chain : (q : ℕ → Bool) (j : ℕ) (cs : List (List ℕ)) → AllByRecursion (IsLacking j) cs → number_in (first_fit q j cs) j ≡ fit_number q cs
-fit_chain q j [] a = grind (arith, nat_tests)
-fit_chain q j (c ∷ cs) a = elim (decide (last_passes q c)) [
-  | inl t ↦ rw t (grind (arith, nat_tests))
-  | inr n ↦ rw (n, a.0) (ap suc (fit_chain q j cs a.1))
-]
-
-pub fit_place : (q : ℕ → Bool) (j : ℕ) (cs : List (List ℕ)) → AllByRecursion (IsLacking j) cs → place_in (members (first_fit q j cs) (fit_number q cs)) j ≡ get_or (map length cs) (fit_number q cs) 0
-fit_place q j [] a = grind (arith, nat_tests)
-fit_place q j (c ∷ cs) a = elim (decide (last_passes q c)) [
-  | inl t ↦ rw t (grind (arith, nat_tests))
-  | inr n ↦ rw n (fit_place q j cs a.1)
-]
-
--- and no later one does
-fit_lacking : (q : ℕ → Bool) (j n : ℕ) (cs : List (List ℕ)) → j < n → AllByRecursion (IsLacking n) cs → AllByRecursion (IsLacking n) (first_fit q j cs)
-fit_lacking q j n [] l a = (grind (arith, nat_tests), tt)
-fit_lacking q j n (c ∷ cs) l a = elim (decide (last_passes q c)) [
-  | inl t ↦ let e : is_among n c ≡ false = a.0 in rw t (grind (arith, nat_tests), a.1)
-  | inr k ↦ rw k (a.0, fit_lacking q j n cs l a.1)
-]
-
-pub chains_lack : (lists : List (List ℕ)) (n : ℕ) → length lists ≤ n → AllByRecursion (IsLacking n) (chains lists)
-chains_lack [] n h = tt
-chains_lack (p ∷ older) n h = fit_lacking (λ i. joins (p ∷ older) i (length older)) (length older) n (chains older) (omega arith) (chains_lack older n (omega arith))
 
 -- what the search in the lengths found
 
