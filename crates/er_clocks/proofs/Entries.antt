@@ -15,7 +15,7 @@ use Rattle.er_paths.proofs.Paths.{joins_newest}
 use Rattle.er_links.proofs.Tests.{any_members}
 use Rattle.er_links.proofs.Chains.{count_decides, count_either, count_none, count_same, front_linked, back_to, back_any, members_linked, AreBelow, chains_below, at_place}
 use Rattle.er_links.proofs.Links.{links_newest}
-use Rattle.er_clocks.proofs.Ascending.{uncovered_kept, rises_sorted, known_same}
+use Rattle.er_clocks.proofs.Uncovered.{uncovered_kept, rises_sorted, known_same}
 use Rattle.er_clocks.specs.Sources.{uncovered, reaches, IsReach, IsTaken}
 
 zero_at : (n c : ℕ) → slice_index (replicate n 0) c ≡ 0
@@ -67,12 +67,12 @@ taken_covered lists row links i known test later is =
     let covered : reaches lists later i ≡ true = sym (reach_decides lists row later i is.0 known) ∙ test in
     (reach_covered lists row later i is.0 covered, rw covered is.1)
 
-pub taken_kept : (lists : List (List ℕ)) (row new other links : List ℕ) (i : ℕ) → i < length lists → nat_lt (place_of lists i) (slice_index row (chain_of lists i)) ≡ false
-    → ((c : ℕ) → slice_index other c ≡ entry lists i c) → ((c : ℕ) → slice_index new c ≡ max (slice_index row c) (slice_index other c))
+pub taken_kept : (lists : List (List ℕ)) (row new links : List ℕ) (i : ℕ) → i < length lists → nat_lt (place_of lists i) (slice_index row (chain_of lists i)) ≡ false
+    → ((later : List ℕ) → IsTaken lists row links later → IsReach lists new (i ∷ later))
     → (later : List ℕ) → IsTaken lists row links later → IsTaken lists new (links ++ i ∷ []) (i ∷ later)
-taken_kept lists row new other links i known test there raised later is =
+taken_kept lists row new links i known test joined later is =
     let not_yet : reaches lists later i ≡ false = sym (reach_decides lists row later i is.0 known) ∙ test in
-    (reach_raised lists row new other later i is.0 there raised, rw not_yet (ap (λ (ks : List ℕ). ks ++ i ∷ []) is.1 ∙ sym (reverse_more i (uncovered (joins lists) later))))
+    (joined later is, rw not_yet (ap (λ (ks : List ℕ). ks ++ i ∷ []) is.1 ∙ sym (reverse_more i (uncovered (joins lists) later))))
   where
     reverse_more : (x : ℕ) (xs : List ℕ) → reverse (x ∷ xs) ≡ reverse xs ++ x ∷ []
     reverse_more x xs = grind (arith, common_steps)

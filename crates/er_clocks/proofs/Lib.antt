@@ -1,6 +1,6 @@
 pub mod Fulls
-pub mod Ascending
+pub mod Uncovered
 pub mod Entries
-pub mod Handed
+pub mod Twins
 pub mod Pushes
 pub mod LookUps

@@ -6,7 +6,7 @@ use Rattle.er_paths.specs.Paths.{joins}
 use Rattle.er_links.specs.Chains.{chains, chain_of, place_of, entry}
 use Rattle.er_links.specs.Links.{links_of}
 use Rattle.er_links.proofs.Chains.{chains_tell_paths}
-use Rattle.er_clocks.specs.Clock.{IsClock, StandsFor}
+use Rattle.er_clocks.specs.Clock.{AreTwins, IsClock, StandsFor}
 use Rattle.er_clocks.proofs.Pushes.{stands_chain, stands_place, stands_entry, stands_chains, stands_links}
 
 within : (kept seen : List (List ℕ)) (j : ℕ) → kept ≡ seen → j < length seen → j < length kept
@@ -53,3 +53,19 @@ count_chains kept rows numbers places lengths count seen ok is = ap length ok.si
 
 pub read_chains : (kept rows : List (List ℕ)) (numbers places lengths : List ℕ) (count : ℕ) (seen lists : List (List ℕ)) → IsClock kept rows numbers places lengths count → kept ≡ seen → StandsFor seen lists → length lengths ≡ length (chains lists)
 read_chains kept rows numbers places lengths count seen lists ok is stands = count_chains kept rows numbers places lengths count seen ok is ∙ ap length (stands_chains seen lists stands)
+
+-- what the clocks stand for themselves
+pub stands_itself : (kept rows : List (List ℕ)) (numbers places lengths : List ℕ) (count : ℕ) (seen : List (List ℕ)) → IsClock kept rows numbers places lengths count → kept ≡ seen → StandsFor seen seen
+stands_itself kept rows numbers places lengths count seen ok is = subst (λ (ks : List (List ℕ)). StandsFor ks ks) is (record { are_links = sym ok.least })
+
+-- actions with one twin have the same links
+pub read_twins : (stored rows : List (List ℕ)) (numbers places lengths : List ℕ) (count : ℕ) (twins : List ℕ) (seen : List (List ℕ)) (i k n m : ℕ) → IsClock (reverse stored) rows numbers places lengths count → AreTwins stored twins → reverse stored ≡ seen
+    → i < length seen → k < length seen → n ≡ get_or twins i n → m ≡ get_or twins k m → n ≡ m → links_of seen i ≡ links_of seen k
+read_twins stored rows numbers places lengths count twins seen i k n m ok twin is first second at there e =
+    let itself = subst (λ (ks : List (List ℕ)). StandsFor ks seen) (sym is) (stands_itself (reverse stored) rows numbers places lengths count seen ok is) in
+    let long : length stored ≡ length seen = sym (length-reverse stored) ∙ ap length is in
+    let a : i < length stored = omega (arith, long, first) in
+    let b : k < length stored = omega (arith, long, second) in
+    let one : n ≡ slice_index twins i = get_or_read twins i n (omega (arith, twin.long, a)) at 0 in
+    let two : m ≡ slice_index twins k = get_or_read twins k m (omega (arith, twin.long, b)) there 0 in
+    sym (stands_links stored seen i itself a) ∙ twin.same i k a b (sym one ∙ e ∙ two) ∙ stands_links stored seen k itself b

@@ -16,7 +16,8 @@ use Rattle.er_chains.specs.Lengths.{one_more}
 use Rattle.er_clocks.specs.Clock.{most_actions, full_number, row_of, IsClock, StandsFor}
 use Rattle.er_clocks.specs.Laws.{ClocksOfPaths, ClocksTellPaths}
 use Rattle.er_clocks.proofs.Entries.{get_map}
-use Rattle.er_clocks.proofs.Fits.{fit_number, full_is_fit, fit_counts, fit_lengths, fit_chain, fit_place, chains_begun, chains_lack}
+use Rattle.er_links.proofs.Fits.{fit_number, fit_chain, fit_place, chains_begun, chains_lack}
+use Rattle.er_clocks.proofs.Fulls.{full_is_fit, fit_counts, fit_lengths}
 
 -- an element of a list with one more at its end
 

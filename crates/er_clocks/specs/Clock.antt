@@ -1,5 +1,5 @@
 -- What clocks keep, and for which lists of predecessors they stand. Rows stand oldest first, lists of links newest first.
-use Rattle.std.specs.Prelude.{◌≡◌, ℕ, suc, ◌*◌, ◌<◌, ◌≤◌, ◌==◌, if◌then◌else◌, List, [], ◌∷◌, length, map, All, slice_index, slice_index_or}
+use Rattle.std.specs.Prelude.{◌≡◌, ◌⊎◌, ℕ, suc, ◌*◌, ◌<◌, ◌≤◌, ◌==◌, if◌then◌else◌, List, [], ◌∷◌, length, map, All, slice_index, slice_index_or}
 use Rattle.std.specs.List.{sum}
 use Rattle.er_links.specs.Chains.{chains, chain_of, place_of, entry}
 use Rattle.er_links.specs.Links.{links, total}
@@ -36,6 +36,16 @@ pub record IsClock (kept rows : List (List ℕ)) (numbers places lengths : List 
   pub place : (j : ℕ) → j < length kept → slice_index places j ≡ place_of kept j
   pub counted : count ≡ total kept
   pub short : count ≤ most_actions * length kept
+
+-- Actions with one twin have the same links. The twin of an action is itself, or that of an earlier one.
+pub record AreTwins (stored : List (List ℕ)) (twins : List ℕ) : Type 0 where
+  pub long : length twins ≡ length stored
+  pub earlier : (i : ℕ) → i < length stored → slice_index twins i ≤ i
+  pub same : (i k : ℕ) → i < length stored → k < length stored → slice_index twins i ≡ slice_index twins k → row_of stored i ≡ row_of stored k
+
+-- the twin of the next action, with these links
+abbrev pub IsTwin : List (List ℕ) → List ℕ → List ℕ → ℕ → Type 0
+IsTwin stored twins links twin = (twin ≡ length stored) ⊎ ((k : ℕ) × (k < length stored) × (twin ≡ slice_index twins k) × (links ≡ row_of stored k))
 
 -- Clocks stand for each list of predecessor lists of which they keep the links.
 pub record StandsFor (kept lists : List (List ℕ)) : Type 0 where

@@ -13,6 +13,7 @@ use std::alloc::Global;
 use std::marker::Model;
 
 /// For each action its links, its chain and place there, and a row that says how many members of each chain have a path to it.
+/// The twin of an action is the first of those before it, up to itself, that have its links one after the other.
 /// Callers see the lists of links, newest first.
 #[derive(Drop)]
 pub struct Clocks {
@@ -20,19 +21,20 @@ pub struct Clocks {
     pub(crate) numbers: Vec<u32>,
     pub(crate) places: Vec<u32>,
     pub(crate) links: Vec<Row>,
+    pub(crate) twins: Vec<u32>,
     pub(crate) chains: Chains,
     pub(crate) count: u64,
 }
 
 impl Model for Clocks {
     ghost use Rattle.std.specs.Prelude.{ℕ, List, reverse};
-    ghost use Rattle.er_clocks.specs.Clock.{IsClock};
+    ghost use Rattle.er_clocks.specs.Clock.{AreTwins, IsClock};
 
     ghost Value = { List (List ℕ) };
 
     ghost view = { λ c. reverse c.links.items };
 
-    ghost invariant = { λ c. IsClock (reverse c.links.items) c.rows.items c.numbers.items c.places.items c.chains c.count };
+    ghost invariant = { λ c. IsClock (reverse c.links.items) c.rows.items c.numbers.items c.places.items c.chains c.count × AreTwins c.links.items c.twins.items };
 }
 
 impl Clocks {
@@ -46,6 +48,7 @@ impl Clocks {
             numbers: Vec::new(alloc),
             places: Vec::new(alloc),
             links: Vec::new(alloc),
+            twins: Vec::new(alloc),
             chains: Chains::new(alloc),
             count: 0,
         }

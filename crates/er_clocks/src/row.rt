@@ -1,6 +1,6 @@
 //! A row of numbers, one a chain.
 
-ghost use Rattle.std.specs.Prelude.{◌≡◌, ◌+◌, ◌≤◌, ◌<◌, ◌^◌, ℕ, length, max, replicate, slice_index, IfOk, OnOk};
+ghost use Rattle.std.specs.Prelude.{◌≡◌, ◌+◌, ◌≤◌, ◌<◌, ◌^◌, ℕ, length, max, replicate, slice_index, ◌==◌, if◌then◌else◌, IfOk, OnOk};
 ghost use Rattle.er_chains.specs.Lengths.{one_more};
 
 use er_outside::NoMemory;
@@ -63,6 +63,15 @@ impl Row {
         raise_numbers(&mut self.numbers, &other.numbers);
     }
 
+    /// Sets the number at a chain.
+    pub(crate) fn set(&mut self, chain: u32, number: u32)
+        requires { chain < length self.old }
+        ensures len { length self.new ≡ length self.old }
+        ensures set { (c : ℕ) → slice_index self.new c ≡ (if c == chain then number else slice_index self.old c) }
+    {
+        set_number(&mut self.numbers, chain as usize, number);
+    }
+
     /// Counts one more member of the chain, of which the row has all.
     pub(crate) fn count(&mut self, chain: u32, place: u32) -> Result<(), NoMemory>
         requires within { chain ≤ length self.old }
@@ -91,6 +100,13 @@ fn raise_numbers(numbers: &mut [u32], more: &[u32])
     for c in 0..more.len() {
         numbers[c] = numbers[c].max(more[c]);
     }
+}
+
+fn set_number(numbers: &mut [u32], chain: usize, number: u32)
+    requires { chain < length numbers.old }
+    ensures { (c : ℕ) → slice_index numbers.new c ≡ (if c == chain then number else slice_index numbers.old c) }
+{
+    numbers[chain] = number;
 }
 
 #[tactic(auto, using(er_chains::proofs::Lengths::more_set, er_chains::proofs::Lengths::more_end))]

@@ -1,13 +1,13 @@
 //! Which of the handed numbers are links, and the row that the rows of these make.
 //!
-//! Numbers that an earlier one covers go first, at a look-up each. What is left is sorted, and taken from the greatest down.
+//! The numbers are sorted and taken from the greatest down. One that the row covers already is no link, and costs a look-up.
 
-ghost use Rattle.std.specs.Prelude.{◌≡◌, ◌<◌, ◌∷◌, ℕ, List, [], All, length, map, replicate, IfOk, OnOk};
+ghost use Rattle.std.specs.Prelude.{◌≡◌, ◌≤◌, ◌<◌, ◌∷◌, ℕ, true, List, [], All, length, map, replicate, slice_index, IfOk, OnOk};
 ghost use Rattle.er_paths.specs.Paths.{is_among, joins};
-ghost use Rattle.er_links.specs.Chains.{chains, count_in};
+ghost use Rattle.er_links.specs.Chains.{chains, chain_of, place_of, count_in};
 ghost use Rattle.er_links.specs.Links.{links_of};
 ghost use Rattle.std.specs.List.Sorted.{IsStrictlyIncreasing};
-ghost use Rattle.er_clocks.specs.Sources.{reaches, IsTaken};
+ghost use Rattle.er_clocks.specs.Sources.{HasTwin, IsReach, IsTaken};
 
 use crate::Clocks;
 use crate::row::Row;
@@ -22,17 +22,49 @@ pub(crate) struct Sources {
 }
 
 impl Clocks {
+    /// Whether the link taken last has the same links as i.
+    fn has_twin(&self, i: u32, links: &[u32]) -> bool
+        requires known { i < length self.now }
+        requires taken { All (λ k. k < length self.now) links.now }
+        ensures { result ≡ true → HasTwin self.now links.now i }
+    {
+        let count = links.len();
+        if count == 0 {
+            return false;
+        }
+        let last = links[count - 1];
+        self.twins[last as usize] == self.twins[i as usize]
+    }
+
+    /// Raises the row by that of i. Where a link was taken with the same links as i, the row has all that but i itself.
+    fn join(&self, i: u32, row: &mut Row, links: &[u32])
+        requires known { i < length self.now }
+        requires taken { All (λ k. k < length self.now) links.now }
+        requires long { length row.old ≡ length (chains self.now) }
+        requires low { slice_index row.old (chain_of self.now i) ≤ place_of self.now i }
+        ensures long { length row.new ≡ length row.old }
+        ensures joined { (later : List ℕ) → IsTaken self.now row.old links.now later → IsReach self.now row.new (i ∷ later) }
+    {
+        if self.has_twin(i, links) {
+            row.set(self.numbers[i as usize], self.places[i as usize] + 1);
+        } else {
+            row.raise(&self.rows[i as usize]);
+        }
+    }
+
     /// Takes one number more. Where the row covers it, it has a path to one that was taken, and is no link.
     fn take(&self, i: u32, row: &mut Row, links: &mut Vec<u32>) -> Result<(), NoMemory>
         requires known { i < length self.now }
+        requires taken { All (λ k. k < length self.now) links.old.items }
         requires long { length row.old ≡ length (chains self.now) }
         ensures long { OnOk result (length row.new ≡ length row.old) }
+        ensures known { OnOk result (All (λ k. k < length self.now) links.new.items) }
         ensures taken { OnOk result ((later : List ℕ) → IsTaken self.now row.old links.old.items later → IsTaken self.now row.new links.new.items (i ∷ later)) }
     {
         if self.covers(row, i) {
             return Ok(());
         }
-        row.raise(&self.rows[i as usize]);
+        self.join(i, row, links);
         let Ok(()) = links.push(i) else {
             return Err(NoMemory);
         };
@@ -55,28 +87,13 @@ impl Clocks {
         Ok(())
     }
 
-    /// Of these numbers, those that no earlier one covers. Give the greatest first, so that they are few.
-    fn uncovered(&self, alloc: Global, preds: &[u32]) -> Result<Vec<u32>, NoMemory>
-        requires { All (λ k. k < length self.now) preds.now }
-        ensures known { IfOk result (λ v. All (λ k. k < length self.now) v.items) }
-        ensures same { IfOk result (λ v. (i : ℕ) → reaches self.now v.items i ≡ reaches self.now preds.now i) }
-    {
-        let mut row = Row::zeros(alloc, self.chains.count() as usize)?;
-        let mut found = Vec::new(alloc);
-        for k in preds {
-            self.take(*k, &mut row, &mut found)?;
-        }
-        Ok(found)
-    }
-
     /// The links into an action with these predecessors, and the row that they make.
     pub(crate) fn sources_of(&self, alloc: Global, preds: &[u32]) -> Result<Sources, NoMemory>
         requires { All (λ k. k < length self.now) preds.now }
         ensures links { IfOk result (λ s. s.links ≡ links_of (preds.now ∷ self.now) (length self.now)) }
         ensures row { IfOk result (λ s. s.row ≡ map (count_in (λ i. joins (preds.now ∷ self.now) i (length self.now))) (chains self.now)) }
     {
-        let found = self.uncovered(alloc, preds)?;
-        let sorted = sorted_once(alloc, &found)?;
+        let sorted = sorted_once(alloc, preds)?;
         let mut row = Row::zeros(alloc, self.chains.count() as usize)?;
         let mut links = Vec::new(alloc);
         self.take_all(&sorted, &mut row, &mut links)?;

@@ -92,7 +92,7 @@ rises_increase lo (x ∷ y ∷ ys) a (suc i) h =
     let e : suc (i + 1) ≡ suc i + 1 = omega arith in
     let P : ℕ → Type 0 = λ m. get_or (y ∷ ys) i 0 < get_or (x ∷ y ∷ ys) m 0 in subst P e (rises_increase (suc x) (y ∷ ys) a.1 i (omega arith))
 
-member_links : (lists : List (List ℕ)) (j i : ℕ) → is_among i (links_of lists j) ≡ is_link lists i j
+pub member_links : (lists : List (List ℕ)) (j i : ℕ) → is_among i (links_of lists j) ≡ is_link lists i j
 member_links lists j i = member_filter (λ k. is_link lists k j) (numbers_below (length lists)) i ∙ ap (λ (b : Bool). b && is_link lists i j) (member_below (length lists) i) ∙ within
   where
     within : (nat_lt i (length lists) && is_link lists i j) ≡ is_link lists i j

@@ -8,7 +8,7 @@ use Rattle.er_links.specs.Chains.{last_passes, first_fit, chains, members, numbe
 use Rattle.er_links.specs.Laws.{last_leads, ChainsAreFirstFit, EachInOneChain, EntryOfItself}
 use Rattle.er_paths.proofs.Paths.{paths_go_forward, paths_stand}
 use Rattle.er_links.proofs.Tests.{decide, never, same_test}
-use Rattle.er_links.proofs.Chains.{IsLinked, count_all, holds, fit_chain_still, chain_has, chains_hold, members_linked, AreBelow}
+use Rattle.er_links.proofs.Chains.{IsLinked, count_all, holds, place_less, fit_chain_still, chain_has, chains_hold, members_linked, AreBelow}
 
 -- no chain is empty
 abbrev pub IsBegun : List ℕ → Type 0
@@ -175,3 +175,33 @@ own_count lists i (m ∷ c) h a e = elim (decide (m == i)) [
 
 pub entry_of_itself : EntryOfItself
 entry_of_itself lists i h = own_count lists i (members (chains lists) (chain_of lists i)) h (members_linked lists (chain_of lists i)) (chain_has (chains lists) i (chains_hold lists i h))
+
+-- numbers of chains and places are small
+
+number_short : (cs : List (List ℕ)) (i : ℕ) → holds cs i ≡ true → number_in cs i < length cs
+number_short [] i h = absurd (cc)
+number_short (c ∷ cs) i h = elim (decide (is_among i c)) [
+  | inl here ↦ rw here (omega arith)
+  | inr on ↦ let l : number_in cs i < length cs = number_short cs i (grind (arith, nat_tests)) in rw on (omega (arith, l))
+]
+
+pub chain_number_short : (lists : List (List ℕ)) (i : ℕ) → i < length lists → chain_of lists i < length (chains lists)
+chain_number_short lists i h = number_short (chains lists) i (chains_hold lists i h)
+
+chain_short : (lists : List (List ℕ)) (c : ℕ) → length (members (chains lists) c) ≤ length lists
+chain_short [] c = omega arith
+chain_short (p ∷ older) c =
+    let q : ℕ → Bool = λ i. joins (p ∷ older) i (length older) in
+    let all : List ℕ = members (chains older) c in
+    let f : ℕ = fit_number q (chains older) in
+    let rest : length all ≤ length older = chain_short older c in
+    let e : length (members (chains (p ∷ older)) c) ≡ length (if c == f then length older ∷ all else all) = ap length (fit_members q (length older) (chains older) c) in
+    elim (decide (c == f)) [
+      | inl t ↦ let g : length (if c == f then length older ∷ all else all) ≡ suc (length all) = rw t refl in omega (arith, e, g, rest)
+      | inr n ↦ let g : length (if c == f then length older ∷ all else all) ≡ length all = rw n refl in omega (arith, e, g, rest)
+    ]
+
+pub place_short : (lists : List (List ℕ)) (i : ℕ) → i < length lists → place_of lists i < length lists
+place_short lists i h =
+    let l : place_of lists i < length (members (chains lists) (chain_of lists i)) = place_less (members (chains lists) (chain_of lists i)) i (chain_has (chains lists) i (chains_hold lists i h)) in
+    let s = chain_short lists (chain_of lists i) in omega (arith, l, s)

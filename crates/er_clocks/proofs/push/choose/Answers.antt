@@ -1,5 +1,5 @@
 use Rattle.std.proofs.Common.{sym, ◌∙◌, arith}
-use Rattle.er_clocks.proofs.Fits.{full_found, full_none}
+use Rattle.er_clocks.proofs.Fulls.{full_found, full_none}
 use Rattle.er_clocks.proofs.push.choose.Goals as goal
 
 pub returns-in-Some-clause-chain : goal.returns-in-Some-clause-chain

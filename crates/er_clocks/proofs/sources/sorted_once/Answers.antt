@@ -4,7 +4,7 @@ use Rattle.std.proofs.lemmas.List.Filters.{dedup_is}
 use Rattle.std.proofs.lemmas.List.Sorted.{list_any-IsPermutation}
 use Rattle.std.proofs.lemmas.Map.Keys.{IsStrictlyIncreasing-dedup}
 use Rattle.er_paths.specs.Paths.{is_among}
-use Rattle.er_clocks.proofs.Ascending.{member_dedup}
+use Rattle.er_clocks.proofs.Uncovered.{member_dedup}
 use Rattle.er_clocks.proofs.sources.sorted_once.Goals as goal
 
 pub returns-clause-sorted : goal.returns-clause-sorted
