@@ -1,0 +1,44 @@
+-- Steps of the proofs about lengths.
+use Rattle.std.proofs.Common.{◌≡◌, ℕ, zero, suc, ◌+◌, ◌<◌, ◌≤◌, List, [], ◌∷◌, ◌++◌, length, get_or, set, drop, refl, ap, arith, All, sum}
+use Rattle.std.specs.Prelude.{◌==◌, if◌then◌else◌, Some, None}
+use Rattle.std.specs.List.{AllByRecursion}
+use Rattle.std.proofs.lemmas.Grind.{common_steps}
+use Rattle.std.proofs.lemmas.List.Elements.{recursion_from_All}
+use Rattle.er_chains.specs.Lengths.{full_from, one_more}
+
+few_by_recursion : (xs : List ℕ) → AllByRecursion (λ n. 0 < n) xs → length xs ≤ sum xs
+few_by_recursion [] a = omega arith
+few_by_recursion (x ∷ xs) a = let l : 0 < x = a.0 in let e : length xs ≤ sum xs = few_by_recursion xs a.1 in grind (arith, common_steps)
+
+-- no more chains than members
+pub few_chains : (xs : List ℕ) → All (λ n. 0 < n) xs → length xs ≤ sum xs
+few_chains xs a = few_by_recursion xs (recursion_from_All (λ n. 0 < n) xs a)
+
+pub more_set : (xs : List ℕ) (x v : ℕ) → x < length xs → v ≡ get_or xs x 0 → set xs x (v + 1) ≡ one_more x xs
+more_set [] x v h e = absurd (omega arith)
+more_set (n ∷ xs) zero v h e = ap (λ (m : ℕ). m ∷ xs) (omega arith)
+more_set (n ∷ xs) (suc x) v h e = ap (λ (ms : List ℕ). n ∷ ms) (more_set xs x v (omega arith) e)
+
+pub more_end : (xs : List ℕ) (x : ℕ) → x ≤ length xs → length xs ≤ x → xs ++ 1 ∷ [] ≡ one_more x xs
+more_end [] x h k = refl
+more_end (n ∷ xs) zero h k = absurd (omega arith)
+more_end (n ∷ xs) (suc x) h k = ap (λ (ms : List ℕ). n ∷ ms) (more_end xs x (omega arith) (omega arith))
+
+-- one step of the search
+pub full_step : (i n : ℕ) (ls row : List ℕ) → i < length ls → i < length row → full_from n (drop i ls) (drop i row) ≡ (if get_or row i 0 == get_or ls i 0 then Some n else full_from (n + 1) (drop (i + 1) ls) (drop (i + 1) row))
+full_step i n [] row h k = absurd (omega arith)
+full_step i n (l ∷ ls) [] h k = absurd (omega arith)
+full_step zero n (l ∷ ls) (e ∷ row) h k = refl
+full_step (suc i) n (l ∷ ls) (e ∷ row) h k = let f : suc i + 1 ≡ suc (i + 1) = omega arith in rw f (full_step i n ls row (omega arith) (omega arith))
+
+pub full_none : (n i : ℕ) (ls row : List ℕ) → length row ≤ i → full_from n (drop i ls) (drop i row) ≡ None
+full_none n i ls row h = rw (past row i h) (none n (drop i ls))
+  where
+    past : (xs : List ℕ) (i : ℕ) → length xs ≤ i → drop i xs ≡ []
+    past [] i h = grind (arith, common_steps)
+    past (x ∷ xs) zero h = absurd (omega arith)
+    past (x ∷ xs) (suc i) h = past xs i (omega arith)
+
+    none : (n : ℕ) (ls : List ℕ) → full_from n ls [] ≡ None
+    none n [] = refl
+    none n (l ∷ ls) = refl

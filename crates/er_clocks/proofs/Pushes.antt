@@ -1,0 +1,209 @@
+-- A push keeps the tables right, and the clocks stand for one list more.
+use Rattle.std.proofs.Common.{◌≡◌, ℕ, zero, suc, ◌+◌, ◌<◌, ◌≤◌, Bool, true, List, [], ◌∷◌, ◌++◌, length, get_or, refl, sym, ap, ◌∙◌, arith, subst, inl, inr, length-append, sum}
+use Rattle.std.specs.Prelude.{◌==◌, ◌||◌, slice_index, map, reverse, if◌then◌else◌}
+use Rattle.std.specs.List.{AllByRecursion, filter}
+use Rattle.std.proofs.lemmas.Grind.{common_steps}
+use Rattle.std.proofs.lemmas.List.{length-map, length-reverse, reverse-append}
+use Rattle.std.proofs.lemmas.List.Elements.{All-push, All-weaker}
+use Rattle.std.proofs.Math.Path.{fun_ext}
+use Rattle.er_paths.specs.Paths.{joins}
+use Rattle.er_links.specs.Chains.{chains, members, count_in, number_in, place_in, chain_of, place_of, entry}
+use Rattle.er_links.specs.Links.{numbers_below, links, links_of, links_to, link_count, total}
+use Rattle.er_paths.proofs.Paths.{place_cases, paths_stand}
+use Rattle.er_links.proofs.Chains.{GoesBack, back_to, front_linked, IsFront, IsLinked, chains_linked, all_linked_still, chain_stays, chains_of_paths}
+use Rattle.er_links.proofs.Links.{keeps, kept_of, any_kept, kept_short, links_newest, links_grow, length-links, links_have_the_paths, links_of_paths}
+use Rattle.er_chains.specs.Lengths.{one_more}
+use Rattle.er_clocks.specs.Clock.{most_actions, full_number, row_of, IsClock, StandsFor}
+use Rattle.er_clocks.specs.Laws.{ClocksOfPaths, ClocksTellPaths}
+use Rattle.er_clocks.proofs.Entries.{get_map}
+use Rattle.er_links.proofs.Fits.{fit_number, fit_chain, fit_place, chains_begun, chains_lack}
+use Rattle.er_clocks.proofs.Fulls.{full_is_fit, fit_counts, fit_lengths}
+
+-- an element of a list with one more at its end
+
+pub get_front : {X : Type 0} (xs : List X) (x : X) (i : ℕ) (d : X) → i < length xs → get_or (xs ++ x ∷ []) i d ≡ get_or xs i d
+get_front [] x i d h = absurd (omega arith)
+get_front (y ∷ ys) x zero d h = refl
+get_front (y ∷ ys) x (suc i) d h = get_front ys x i d (omega arith)
+
+pub get_end : {X : Type 0} (xs : List X) (x : X) (i : ℕ) (d : X) → i ≡ length xs → get_or (xs ++ x ∷ []) i d ≡ x
+get_end [] x zero d h = refl
+get_end [] x (suc i) d h = absurd (omega arith)
+get_end (y ∷ ys) x zero d h = absurd (omega arith)
+get_end (y ∷ ys) x (suc i) d h = get_end ys x i d (omega arith)
+
+-- a table with one more at its end is right, where it was and where the new one is
+abbrev pub IsRight : List ℕ → (ℕ → ℕ) → ℕ → Type 0
+IsRight table of_ n = (j : ℕ) → j < n → slice_index table j ≡ of_ j
+
+right_more : (table : List ℕ) (old new : ℕ → ℕ) (n x : ℕ) → length table ≡ n → IsRight table old n → ((j : ℕ) → j < n → new j ≡ old j) → x ≡ new n → IsRight (table ++ x ∷ []) new (suc n)
+right_more table old new n x long is stays newest j h =
+    elim (place_cases j n) [
+      | inl less ↦ get_front table x j 0 (omega arith) ∙ is j less ∙ sym (stays j less)
+      | inr rest ↦
+          let last : j ≡ n = omega (arith, rest) in
+          get_end table x j 0 (omega arith) ∙ newest ∙ ap new (sym last)
+    ]
+
+-- the paths over the kept links are those over what was handed
+paths_kept : (lists : List (List ℕ)) (p : List ℕ) (i j : ℕ) → joins (kept_of lists p ∷ lists) i j ≡ joins (p ∷ lists) i j
+paths_kept lists p i j = ap (λ (b : Bool). if j == length lists then (i == j) || b else joins lists i j) (any_kept lists p i)
+
+pub least_more : (kept : List (List ℕ)) (p : List ℕ) → links kept ≡ kept → links (kept_of kept p ∷ kept) ≡ kept_of kept p ∷ kept
+least_more kept p least =
+    links_of_paths (kept_of kept p ∷ kept) (p ∷ kept) refl (λ i j. paths_kept kept p i j)
+    ∙ links_grow p kept ∙ ap (λ (xs : List (List ℕ)). kept_of kept p ∷ xs) least
+
+-- first fit at the new action
+abbrev pub leads : List ℕ → List (List ℕ) → ℕ → Bool
+leads p lists i = joins (p ∷ lists) i (length lists)
+
+fronts : (lists : List (List ℕ)) (q : ℕ → Bool) (cs : List (List ℕ)) → GoesBack lists q → AllByRecursion (IsLinked lists) cs → AllByRecursion (IsFront q) cs
+fronts lists q [] back a = tt
+fronts lists q (c ∷ cs) back a = (front_linked lists q c back a.0, fronts lists q cs back a.1)
+
+taken_is_fit : (p : List ℕ) (lists : List (List ℕ)) → full_number (map length (chains lists)) (map (count_in (leads p lists)) (chains lists)) ≡ fit_number (leads p lists) (chains lists)
+taken_is_fit p lists =
+    full_is_fit (leads p lists) (chains lists) (chains_begun lists)
+    (fronts (p ∷ lists) (leads p lists) (chains lists) (back_to (p ∷ lists) (length lists)) (all_linked_still p lists (chains lists) (chains_linked lists)))
+
+longer : (x : ℕ) (ns : List ℕ) → length ns ≤ length (one_more x ns)
+longer x [] = omega arith
+longer zero (n ∷ ns) = omega arith
+longer (suc x) (n ∷ ns) = let h : length ns ≤ length (one_more x ns) = longer x ns in omega arith
+
+as_long : (x : ℕ) (ns ms : List ℕ) → length ns ≡ length ms → length (one_more x ns) ≡ length (one_more x ms)
+as_long x [] [] e = refl
+as_long x [] (m ∷ ms) e = absurd (omega arith)
+as_long x (n ∷ ns) [] e = absurd (omega arith)
+as_long zero (n ∷ ns) (m ∷ ms) e = e
+as_long (suc x) (n ∷ ns) (m ∷ ms) e = ap suc (as_long x ns ms (omega arith))
+
+sum_more : (x : ℕ) (ns : List ℕ) → sum (one_more x ns) ≡ suc (sum ns)
+sum_more x [] = refl
+sum_more zero (n ∷ ns) = grind (arith, common_steps)
+sum_more (suc x) (n ∷ ns) = let h : sum (one_more x ns) ≡ suc (sum ns) = sum_more x ns in grind (arith, common_steps)
+
+-- one action more
+pub clock_more : (kept rows : List (List ℕ)) (numbers places lengths : List ℕ) (count : ℕ) (p row : List ℕ) (x : ℕ) → IsClock kept rows numbers places lengths count → length kept < most_actions
+    → row ≡ map (count_in (leads p kept)) (chains kept) → x ≡ full_number lengths row
+    → IsClock (kept_of kept p ∷ kept) (rows ++ one_more x row ∷ []) (numbers ++ x ∷ []) (places ++ get_or lengths x 0 ∷ []) (one_more x lengths) (count + length (kept_of kept p))
+clock_more kept rows numbers places lengths count p row x ok room counts full =
+    let k : List ℕ = kept_of kept p in
+    let q : ℕ → Bool = leads k kept in
+    let n : ℕ = length kept in
+    let made : row ≡ map (count_in q) (chains kept) = counts ∙ ap (λ (t : ℕ → Bool). map (count_in t) (chains kept)) (fun_ext (λ i. sym (paths_kept kept p i n))) in
+    let itself : q n ≡ true = paths_stand (k ∷ kept) n (omega arith) in
+    let lack = chains_lack kept n (omega arith) in
+    let fit : x ≡ fit_number q (chains kept) = full ∙ ap (λ (ls : List ℕ). full_number ls row) ok.sizes ∙ ap (λ (w : List ℕ). full_number (map length (chains kept)) w) made ∙ taken_is_fit k kept in
+    let wide : length row ≡ length lengths = ap length made ∙ length-map (chains kept) (count_in q) ∙ sym (ap length ok.sizes ∙ length-map (chains kept) length) in
+    record {
+      few = omega (arith, room);
+      least = least_more kept p ok.least;
+      rows_long = omega (arith, length-append rows (one_more x row ∷ []), ok.rows_long);
+      numbers_long = omega (arith, length-append numbers (x ∷ []), ok.numbers_long);
+      places_long = omega (arith, length-append places (get_or lengths x 0 ∷ []), ok.places_long);
+      widths = All-push (λ w. length w ≤ length (one_more x lengths)) rows (one_more x row)
+          (All-weaker (λ w. length w ≤ length lengths) (λ w. length w ≤ length (one_more x lengths)) (λ w h. let g = longer x lengths in omega (arith, g)) rows ok.widths)
+          (let g = as_long x row lengths wide in omega (arith, g));
+      sizes = ap (λ (ls : List ℕ). one_more x ls) ok.sizes ∙ ap (λ (m : ℕ). one_more m (map length (chains kept))) fit ∙ sym (fit_lengths q n (chains kept));
+      all = sum_more x lengths ∙ ap suc ok.all;
+      entries = λ j c h. elim (place_cases j n) [
+        | inl less ↦ ap (λ (w : List ℕ). slice_index w c) (get_front rows (one_more x row) j [] (omega (arith, ok.rows_long))) ∙ ok.entries j c less ∙ sym (chain_stays k kept j c less).2
+        | inr rest ↦
+            let last : j ≡ n = omega (arith, rest) in
+            let newest : slice_index (one_more x row) c ≡ entry (k ∷ kept) n c =
+            ap (λ (r : List ℕ). slice_index (one_more x r) c) made ∙ ap (λ (m : ℕ). slice_index (one_more m (map (count_in q) (chains kept))) c) fit
+            ∙ ap (λ (r : List ℕ). slice_index r c) (sym (fit_counts q n (chains kept) itself)) ∙ get_map (count_in q) (chains (k ∷ kept)) c refl in
+            ap (λ (w : List ℕ). slice_index w c) (get_end rows (one_more x row) j [] (omega (arith, ok.rows_long))) ∙ newest ∙ ap (λ (m : ℕ). entry (k ∷ kept) m c) (sym last)
+      ];
+      chain = right_more numbers (chain_of kept) (chain_of (k ∷ kept)) n x ok.numbers_long ok.chain (λ j h. (chain_stays k kept j 0 h).0) (fit ∙ sym (fit_chain q n (chains kept) lack));
+      place = right_more places (place_of kept) (place_of (k ∷ kept)) n (get_or lengths x 0) ok.places_long ok.place (λ j h. (chain_stays k kept j 0 h).1)
+          (ap (λ (ls : List ℕ). get_or ls x 0) ok.sizes ∙ ap (λ (m : ℕ). get_or (map length (chains kept)) m 0) fit
+          ∙ sym (ap (λ (c : ℕ). place_in (members (chains (k ∷ kept)) c) n) (fit_chain q n (chains kept) lack) ∙ fit_place q n (chains kept) lack));
+      counted = ap (λ (m : ℕ). m + length k) ok.counted ∙ add_swap (total kept) (length k);
+      short = let few = kept_short kept p in omega (arith, few, ok.short, room);
+    }
+  where
+    add_swap : (a b : ℕ) → a + b ≡ b + a
+    add_swap a b = omega arith
+
+-- what the clocks stand for
+
+kept_same : (lists others : List (List ℕ)) (p : List ℕ) → length lists ≡ length others → ((i j : ℕ) → joins lists i j ≡ joins others i j) → kept_of lists p ≡ kept_of others p
+kept_same lists others p long same =
+    let K : (ℕ → ℕ → Bool) → ℕ → List ℕ = λ joined n. filter (λ i. keeps joined p i) (numbers_below n) in
+    ap (λ (n : ℕ). K (joins lists) n) long ∙ ap (λ (joined : ℕ → ℕ → Bool). K joined (length others)) (fun_ext (λ i. fun_ext (λ j. same i j)))
+
+pub stands_more : (kept lists : List (List ℕ)) (p : List ℕ) → StandsFor kept lists → StandsFor (kept_of kept p ∷ kept) (p ∷ lists)
+stands_more kept lists p s =
+    let S : List (List ℕ) → Type 0 = λ ks. StandsFor (kept_of ks p ∷ ks) (p ∷ lists) in
+    subst S (sym s.are_links) (record {
+      are_links = ap (λ (k : List ℕ). k ∷ links lists) (kept_same (links lists) lists p (length-links lists) (links_have_the_paths lists)) ∙ sym (links_grow p lists);
+    })
+
+pub stands_long : (kept lists : List (List ℕ)) → StandsFor kept lists → length kept ≡ length lists
+stands_long kept lists s = ap length s.are_links ∙ length-links lists
+
+pub stands_paths : (kept lists : List (List ℕ)) (i j : ℕ) → StandsFor kept lists → joins kept i j ≡ joins lists i j
+stands_paths kept lists i j s = ap (λ (ks : List (List ℕ)). joins ks i j) s.are_links ∙ links_have_the_paths lists i j
+
+pub stands_chains : (kept lists : List (List ℕ)) → StandsFor kept lists → chains kept ≡ chains lists
+stands_chains kept lists s = ap chains s.are_links ∙ chains_of_paths (links lists) lists (length-links lists) (links_have_the_paths lists)
+
+pub stands_chain : (kept lists : List (List ℕ)) (j : ℕ) → StandsFor kept lists → chain_of kept j ≡ chain_of lists j
+stands_chain kept lists j s = ap (λ (cs : List (List ℕ)). number_in cs j) (stands_chains kept lists s)
+
+pub stands_place : (kept lists : List (List ℕ)) (j : ℕ) → StandsFor kept lists → place_of kept j ≡ place_of lists j
+stands_place kept lists j s = ap (λ (cs : List (List ℕ)). place_in (members cs (number_in cs j)) j) (stands_chains kept lists s)
+
+pub stands_entry : (kept lists : List (List ℕ)) (j c : ℕ) → StandsFor kept lists → entry kept j c ≡ entry lists j c
+stands_entry kept lists j c s =
+    ap (λ (cs : List (List ℕ)). count_in (λ i. joins kept i j) (members cs c)) (stands_chains kept lists s)
+    ∙ ap (λ (q : ℕ → Bool). count_in q (members (chains lists) c)) (fun_ext (λ i. stands_paths kept lists i j s))
+
+pub stands_count : (kept lists : List (List ℕ)) → StandsFor kept lists → total kept ≡ link_count lists
+stands_count kept lists s = ap total s.are_links
+
+-- the links of one action, of lists that stand oldest first
+reverse_more : (x : List ℕ) (xs : List (List ℕ)) → reverse (x ∷ xs) ≡ reverse xs ++ x ∷ []
+reverse_more x xs = grind (arith, common_steps)
+
+links_to_long : (lists : List (List ℕ)) (n : ℕ) → length (links_to lists n) ≡ n
+links_to_long lists zero = refl
+links_to_long lists (suc n) = ap suc (links_to_long lists n)
+
+links_at : (lists : List (List ℕ)) (n j : ℕ) → j < n → get_or (reverse (links_to lists n)) j [] ≡ links_of lists j
+links_at lists zero j h = absurd (omega arith)
+links_at lists (suc n) j h =
+    let before : List (List ℕ) = reverse (links_to lists n) in
+    let long : length before ≡ n = length-reverse (links_to lists n) ∙ links_to_long lists n in
+    ap (λ (xs : List (List ℕ)). get_or xs j []) (reverse_more (links_of lists n) (links_to lists n)) ∙ elim (place_cases j n) [
+      | inl less ↦ get_front before (links_of lists n) j [] (omega arith) ∙ links_at lists n j less
+      | inr rest ↦ let last : j ≡ n = omega (arith, rest) in get_end before (links_of lists n) j [] (omega arith) ∙ ap (links_of lists) (sym last)
+    ]
+
+reverse_twice : (xs : List (List ℕ)) → reverse (reverse xs) ≡ xs
+reverse_twice xs = grind (arith, common_steps)
+
+pub stands_links : (stored lists : List (List ℕ)) (j : ℕ) → StandsFor (reverse stored) lists → j < length stored → row_of stored j ≡ links_of lists j
+stands_links stored lists j s h =
+    ap (λ (xs : List (List ℕ)). get_or xs j []) (sym (reverse_twice stored) ∙ ap reverse s.are_links)
+    ∙ links_at lists (length lists) j (let e = stands_long (reverse stored) lists s in omega (arith, length-reverse stored, e))
+
+-- as a push has it, where the clocks are seen as their links, newest first
+pub clock_pushed : (stored rows seen : List (List ℕ)) (numbers places lengths : List ℕ) (count : ℕ) (p row links own : List ℕ) (x place more : ℕ) → reverse stored ≡ seen → IsClock (reverse stored) rows numbers places lengths count → length seen < most_actions
+    → row ≡ map (count_in (leads p seen)) (chains seen) → x ≡ full_number lengths row → links ≡ links_of (p ∷ seen) (length seen) → own ≡ one_more x row → place ≡ slice_index lengths x → more ≡ length links
+    → IsClock (reverse (stored ++ links ∷ [])) (rows ++ own ∷ []) (numbers ++ x ∷ []) (places ++ place ∷ []) (one_more x lengths) (count + more)
+clock_pushed stored rows seen numbers places lengths count p row links own x place more is ok room counts full are own_is place_is more_is =
+    let now : IsClock seen rows numbers places lengths count = subst (λ (ks : List (List ℕ)). IsClock ks rows numbers places lengths count) is ok in
+    rw (reverse-append stored (links ∷ []), is, more_is, own_is, place_is, are ∙ links_newest p seen) (clock_more seen rows numbers places lengths count p row x now room counts full)
+
+pub stands_pushed : (stored seen lists : List (List ℕ)) (p links : List ℕ) → reverse stored ≡ seen → links ≡ links_of (p ∷ seen) (length seen) → StandsFor seen lists → StandsFor (reverse (stored ++ links ∷ [])) (p ∷ lists)
+stands_pushed stored seen lists p links is are s = rw (reverse-append stored (links ∷ []), is, are ∙ links_newest p seen) (stands_more seen lists p s)
+
+pub clocks_tell_paths : ClocksTellPaths
+clocks_tell_paths kept lists stands = (stands_long kept lists stands, λ i j. stands_paths kept lists i j stands)
+
+pub clocks_of_paths : ClocksOfPaths
+clocks_of_paths kept lists others long same stands = record { are_links = stands.are_links ∙ links_of_paths lists others long same }

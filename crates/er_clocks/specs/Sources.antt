@@ -1,0 +1,27 @@
+-- Which of the handed numbers are links, and the row that they make.
+use Rattle.std.specs.Prelude.{◌≡◌, ◌<◌, ℕ, Bool, List, [], ◌∷◌, length, reverse, slice_index, if◌then◌else◌}
+use Rattle.std.specs.List.{list_any}
+use Rattle.er_paths.specs.Paths.{joins}
+use Rattle.er_links.specs.Chains.{chains, members, count_in}
+use Rattle.er_links.specs.Links.{links_of}
+
+-- of an ascending list, those that have no path to a later one
+abbrev pub uncovered : (ℕ → ℕ → Bool) → List ℕ → List ℕ
+uncovered joined [] = []
+uncovered joined (i ∷ later) = if list_any (λ k. joined i k) later then uncovered joined later else i ∷ uncovered joined later
+
+-- a path leads from i to one of these
+abbrev pub reaches : List (List ℕ) → List ℕ → ℕ → Bool
+reaches lists xs i = list_any (λ k. joins lists i k) xs
+
+-- the row says, chain by chain, how many members reach one of these
+abbrev pub IsReach : List (List ℕ) → List ℕ → List ℕ → Type 0
+IsReach lists row xs = (c : ℕ) → slice_index row c ≡ count_in (reaches lists xs) (members (chains lists) c)
+
+-- These numbers were gone through: the row reaches them, and those that are links stand last first.
+abbrev pub IsTaken : List (List ℕ) → List ℕ → List ℕ → List ℕ → Type 0
+IsTaken lists row links xs = IsReach lists row xs × (links ≡ reverse (uncovered (joins lists) xs))
+
+-- One of these has the same links as i.
+abbrev pub HasTwin : List (List ℕ) → List ℕ → ℕ → Type 0
+HasTwin lists links i = (n : ℕ) × (n < length links) × (links_of lists i ≡ links_of lists (slice_index links n))

@@ -1,0 +1,14 @@
+//! Vector clocks over chains: whether a path leads from one action to another, by one comparison of two numbers.
+#![tactic(auto)]
+
+mod clocks;
+pub mod laws;
+mod meter;
+mod paths;
+mod push;
+mod row;
+mod sources;
+
+pub use clocks::Clocks;
+pub use meter::Meter;
+pub use paths::Paths;

@@ -1,0 +1,6 @@
+pub mod Tests
+pub mod Chains
+pub mod Fits
+pub mod Links
+pub mod Ascending
+pub mod Handed
