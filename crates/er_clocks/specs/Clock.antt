@@ -1,11 +1,9 @@
 -- What clocks keep, and for which lists of predecessors they stand. Rows stand oldest first, lists of links newest first.
 use Rattle.std.specs.Prelude.{◌≡◌, ◌⊎◌, ℕ, suc, ◌*◌, ◌<◌, ◌≤◌, ◌==◌, if◌then◌else◌, List, [], ◌∷◌, length, map, All, slice_index, slice_index_or}
 use Rattle.std.specs.List.{sum}
+use Rattle.er_paths.specs.Limits.{most_actions}
 use Rattle.er_links.specs.Chains.{chains, chain_of, place_of, entry}
 use Rattle.er_links.specs.Links.{links, total}
-
-abbrev pub most_actions : ℕ
-most_actions = 16384
 
 -- the lowest chain whose length is the number in the row, or how many chains there are
 abbrev pub full_number : List ℕ → List ℕ → ℕ

@@ -2,7 +2,8 @@
 
 ghost use Rattle.std.specs.Prelude.{◌≡◌, ◌+◌, ◌≤◌, ◌<◌, ◌∷◌, ◌++◌, ℕ, List, [], All, length, slice_index, IfOk, OnOk, OnErr};
 ghost use Rattle.std.specs.Vec.{vec_len, vec_capacity};
-ghost use Rattle.er_clocks.specs.Clock.{most_actions, full_number, IsTwin, StandsFor};
+ghost use Rattle.er_clocks.specs.Clock.{full_number, IsTwin, StandsFor};
+ghost use Rattle.er_paths.specs.Limits.{most_actions};
 
 use crate::Clocks;
 use crate::row::Row;

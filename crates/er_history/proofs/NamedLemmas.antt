@@ -8,7 +8,8 @@ use Rattle.er_trace.specs.declared.record.Record.{Record}
 use Rattle.er_trace.specs.declared.record.Record.TheVariants.{Dcl, Load, Eload, Fire, Wfire, Reply, Inline, Close, Back, New, NewFrame, On, Set, Every, Send, Access}
 use Rattle.er_history.specs.History.{told, begins, running, action_begun, actions_after, event_begun, stack_after, find_open, is_inline, or_else, Action, Open, Dispatch}
 use Rattle.er_history.specs.Rules.{Rule}
-use Rattle.er_history.specs.Naming.{naming, unknown, again, not_script, misplaced, first_cause, is_top, runs, room, too_deep, most_actions}
+use Rattle.er_history.specs.Naming.{naming, unknown, again, not_script, misplaced, first_cause, is_top, runs, room, too_deep}
+use Rattle.er_paths.specs.Limits.{most_actions}
 use Rattle.er_history.specs.Laws.{Among}
 use Rattle.er_history.specs.Sound.{cause, out_of_order, IsSound, SoundListsAreNamed}
 

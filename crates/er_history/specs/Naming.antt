@@ -7,6 +7,7 @@ use Rattle.er_trace.specs.declared.record.Record.{Record}
 use Rattle.er_trace.specs.declared.record.Record.TheVariants.{Parse, ParseFrame, Exec, Timer, Tick, Dcl, Load, Eload, Fire, Wfire, Reply, Inline, Run, Close, Back, New, NewFrame, On, Set, Every, Send}
 use Rattle.er_trace.specs.declared.record.Kind.{Kind}
 use Rattle.er_trace.specs.declared.record.Kind.TheVariants as kinds
+use Rattle.er_paths.specs.Limits.{most_actions}
 use Rattle.er_history.specs.History.{begins, declares_document, declares_handler, declares_interval, declares_request, makes_element, first_to, Form, Kinded, Framing, Element, History, told, Open, is_inline, running, What, ScriptRun, TimeoutRun, TickRun, HandlerOf, CloseOf, Action}
 
 abbrev pub declares_element : ℕ → Record → Bool
@@ -161,9 +162,6 @@ naming h x = first_cause ((unknown h x, Unknown) ∷ (again h x, Again) ∷ (not
 abbrev pub IsNamed : List Record → Type 0
 IsNamed [] = Unit {0}
 IsNamed (x ∷ h) = (naming h x ≡ None) × IsNamed h
-
-abbrev pub most_actions : ℕ
-most_actions = 16384
 
 abbrev pub most_inline : ℕ
 most_inline = 256

@@ -1,6 +1,7 @@
 use Rattle.std.proofs.Common.{◌≡◌, ◌≤◌, ◌<◌, ◌+◌, ◌∙◌, ℕ, List, suc, length, slice_index, sym, ap, arith}
 use Rattle.std.specs.Prelude.{◌==◌, reverse, if◌then◌else◌}
 use Rattle.std.proofs.lemmas.List.Elements.{All-get_or}
+use Rattle.er_paths.specs.Limits.{most_actions}
 use Rattle.er_links.specs.Chains.{chain_of, place_of}
 use Rattle.er_links.proofs.Fits.{chain_number_short, place_short}
 use Rattle.er_clocks.proofs.Entries.{reach_raised}
@@ -14,7 +15,7 @@ overflow_add-index c =
     let itself = stands_itself (reverse was.links.items) was.rows.items was.numbers.items was.places.items was.chains was.count c.args.self.now c.self.invariant.0 c.self.view_is in
     let place : c.index-then-has_twin.result.now ≡ place_of c.args.self.now c.args.i = read_place (reverse was.links.items) was.rows.items was.numbers.items was.places.items was.chains was.count c.args.self.now c.args.self.now c.args.i c.index-then-has_twin.result.now c.self.invariant.0 c.self.view_is c.requires.known c.index-then-has_twin.ensures itself in
     let short = place_short c.args.self.now c.args.i c.requires.known in
-    let few : length (reverse was.links.items) ≤ 16384 = c.self.invariant.0.few in
+    let few : length (reverse was.links.items) ≤ most_actions = c.self.invariant.0.few in
     let seen : length (reverse was.links.items) ≡ length c.args.self.now = ap length c.self.view_is in omega (arith, place, short, few, seen)
 
 pub set-requires : goal.set-requires
