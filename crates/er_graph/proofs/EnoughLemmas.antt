@@ -6,16 +6,16 @@ use Rattle.std.proofs.lemmas.Bool.{ne_eqb, lt-ltb, eq-eqb}
 use Rattle.std.proofs.lemmas.List.Elements.{All-from_recursion}
 use Rattle.er_trace.specs.declared.record.Record.{Record}
 use Rattle.er_trace.specs.declared.record.Record.TheVariants.{Inline, Back}
-use Rattle.er_paths.specs.Paths.{is_among}
+use Rattle.er_paths.specs.Paths.{is_among, joins}
 use Rattle.er_paths.specs.Laws.{IsEnough}
-use Rattle.er_paths.proofs.Paths.{or_left, or_right}
+use Rattle.er_paths.proofs.Paths.{or_left, or_right, any_from, paths_stand}
 use Rattle.er_history.specs.History.{History, Action, told, begins, action_begun, event_begun}
 use Rattle.er_history.specs.Rules.{Rule}
 use Rattle.er_history.specs.Edges.{is_ruled, around_inline, of_one_event, edge, edges, sources, path}
-use Rattle.er_history.specs.Laws.{Among}
+use Rattle.er_history.specs.Laws.{Among, IsNumbered}
 use Rattle.er_history.specs.Naming.{naming_now, IsNamedNow}
 use Rattle.er_history.specs.Handed.{AreSources, AreHanded}
-use Rattle.er_history.proofs.HistoryLemmas.{actions_are_numbered, among_below, among_from, edge_newest, event_below, told_before}
+use Rattle.er_history.proofs.HistoryLemmas.{actions_are_numbered, edges_length, among_below, among_from, edge_newest, event_below, told_before}
 use Rattle.er_history.proofs.NamedLemmas.{none_inline, number_is}
 use Rattle.er_graph.proofs.PlainLemmas.{IsPlain, plain}
 use Rattle.er_graph.proofs.GroupLemmas.{enough_to}
@@ -71,6 +71,17 @@ source_joins table h x handed named is are i among =
     let ruled = edge_to (nat_lt found.0.number new.number) (is_ruled table (path table h) found.0 new) (around_inline found.0 new) (of_one_event found.0 new) found.3
     (not_around found.0 (told h) x (plain h x named is)) (not_one h x found.0 named is found.1) in
     ap (λ m. list_any (λ k. path table h m k) handed) (sym found.2) ∙ enough_to table (path table h) (told h) x handed (plain h x named is) are.enough found.0 found.1 ruled
+
+-- all sources are enough
+pub enough_itself : (table : List (ℕ × Rule)) (actions : List Action) → IsNumbered actions → IsEnough (edges table actions) (edges table actions)
+enough_itself table [] n = tt
+enough_itself table (j ∷ older) n =
+    let lists = edges table older in
+    let own = sources table (joins lists) older j in
+    (enough_itself table older n.1, λ k among. among, λ i among.
+        let found = among_from (λ a. edge table (joins lists) a j) older i among in
+        let below : i < length lists = omega (arith, edges_length table older, found.2, among_below older found.0 n.1 found.1) in
+        any_from (λ k. joins lists i k) i own among (paths_stand lists i below))
 
 pub enough_more : (table : List (ℕ × Rule)) (h : List Record) (x : Record) (handed : List ℕ) (lists : List (List ℕ)) → IsNamedNow h → naming_now h x ≡ None → begins x ≡ true
     → AreHanded table (path table h) (told h) x handed → IsEnough lists (edges table (told h).actions) → IsEnough (handed ∷ lists) (edges table (told (x ∷ h)).actions)

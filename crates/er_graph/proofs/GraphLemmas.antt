@@ -5,9 +5,9 @@ use Rattle.std.proofs.Props.{props}
 use Rattle.er_trace.specs.declared.record.Record.{Record}
 use Rattle.er_page.specs.declared.page.Page.{Page}
 use Rattle.er_graph.specs.declared.graph.Graph.{Graph}
-use Rattle.er_graph.specs.Accepted.{Accepted, cause_now, IsTold, IsJoined, IsNext, IsSomeGraph}
-use Rattle.er_graph.specs.Graph.{HasBegun, HaveBegun}
-use Rattle.er_graph.proofs.PartLemmas.{line_there, rows_counted}
+use Rattle.er_graph.specs.Accepted.{Accepted, cause_now, IsTold, AreTimed, IsNext, IsSomeGraph}
+use Rattle.er_graph.specs.Graph.{HasBegun}
+use Rattle.er_graph.proofs.PartLemmas.{line_there}
 
 pub within_lines : (graph : Graph) (action : ℕ) → ∥ HasBegun graph action ∥₁ → action < length graph.lines.items
 within_lines graph action some = ∥∥₁_elim some (hlevel props) (λ has. within has)
@@ -15,38 +15,32 @@ within_lines graph action some = ∥∥₁_elim some (hlevel props) (λ has. wit
     within : HasBegun graph action → action < length graph.lines.items
     within has = line_there graph.page graph.lines.items has.accepted action has.listed has.begun
 
-pub within_rows : (graph : Graph) (i j : ℕ) → ∥ HaveBegun graph i j ∥₁ → j < length graph.ancestors
-within_rows graph i j some = ∥∥₁_elim some (hlevel props) (λ have. within have)
-  where
-    within : HaveBegun graph i j → j < length graph.ancestors
-    within have = let e = rows_counted graph.ancestors have.accepted have.stands.joined in let below = have.second in omega (arith, e, below)
-
 -- the parts after one record more, with or without memory
 
-pub grown_parts : (old new : Page) (flags more : List (List Bool)) (kept grown : List ℕ) (line : ℕ) (x : Record) → ∥ IsNext old flags kept x ∥₁
+pub grown_parts : (old new : Page) (links more : List (List ℕ)) (kept grown : List ℕ) (line : ℕ) (x : Record) → ∥ IsNext old links kept x ∥₁
     → ((accepted : List Accepted) → IsTold old kept accepted → cause_now accepted x ≡ None → IsTold new grown (record { line = line; read = x } ∷ accepted))
-    → ((accepted : List Accepted) → IsTold old kept accepted → IsJoined flags accepted → cause_now accepted x ≡ None → IsJoined more (record { line = line; read = x } ∷ accepted))
+    → ((accepted : List Accepted) → IsTold old kept accepted → AreTimed links accepted → cause_now accepted x ≡ None → AreTimed more (record { line = line; read = x } ∷ accepted))
     → ∥ IsSomeGraph new more grown false ∥₁
-grown_parts old new flags more kept grown line x some told joined = ∥∥₁_map some (λ next. record {
+grown_parts old new links more kept grown line x some told timed = ∥∥₁_map some (λ next. record {
   accepted = record { line = line; read = x } ∷ next.accepted;
   told = told next.accepted next.told next.legal;
-  joined = λ e. joined next.accepted next.told next.joined next.legal;
+  timed = λ e. timed next.accepted next.told next.timed next.legal;
 })
 
-pub failed_parts : (old new : Page) (flags more : List (List Bool)) (kept same : List ℕ) (x : Record) → ∥ IsNext old flags kept x ∥₁
+pub failed_parts : (old new : Page) (links more : List (List ℕ)) (kept same : List ℕ) (x : Record) → ∥ IsNext old links kept x ∥₁
     → ((accepted : List Accepted) → IsTold old kept accepted → IsTold new same accepted) → ∥ IsSomeGraph new more same true ∥₁
-failed_parts old new flags more kept same x some stays = ∥∥₁_map some (λ next. record {
+failed_parts old new links more kept same x some stays = ∥∥₁_map some (λ next. record {
   accepted = next.accepted;
   told = stays next.accepted next.told;
-  joined = λ e. absurd (cc);
+  timed = λ e. absurd (cc);
 })
 
 -- a record that passes the check comes next
-pub next_parts : (page : Page) (flags : List (List Bool)) (kept : List ℕ) (has_failed : Bool) (x : Record) → ∥ IsSomeGraph page flags kept has_failed ∥₁ → has_failed ≡ false
-    → ((accepted : List Accepted) → IsTold page kept accepted → cause_now accepted x ≡ None) → ∥ IsNext page flags kept x ∥₁
-next_parts page flags kept has_failed x some whole passes = ∥∥₁_map some (λ one. record {
+pub next_parts : (page : Page) (links : List (List ℕ)) (kept : List ℕ) (has_failed : Bool) (x : Record) → ∥ IsSomeGraph page links kept has_failed ∥₁ → has_failed ≡ false
+    → ((accepted : List Accepted) → IsTold page kept accepted → cause_now accepted x ≡ None) → ∥ IsNext page links kept x ∥₁
+next_parts page links kept has_failed x some whole passes = ∥∥₁_map some (λ one. record {
   accepted = one.accepted;
   told = one.told;
-  joined = one.joined whole;
+  timed = one.timed whole;
   legal = passes one.accepted one.told;
 })

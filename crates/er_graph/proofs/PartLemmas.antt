@@ -1,30 +1,30 @@
 -- How the parts of a graph come to stand for one accepted record more. Lists stand newest first.
 use Rattle.std.proofs.Common.{◌≡◌, ℕ, ◌<◌, Bool, true, false, List, [], ◌∷◌, ◌++◌, All, length, Option, Some, None, Result, Ok, Err, refl, sym, ap, subst, ◌∙◌, arith}
-use Rattle.std.specs.Prelude.{if◌then◌else◌}
+use Rattle.std.specs.Prelude.{◌&&◌, not, nat_lt, if◌then◌else◌}
+use Rattle.std.proofs.lemmas.Bool.Decides.{nat_tests}
 use Rattle.std.proofs.Math.Logic.{∥∥₁_elim, ∥∥₁_map}
 use Rattle.std.proofs.Props.{props}
 use Rattle.std.proofs.lemmas.List.{length_push}
 use Rattle.er_text.specs.declared.causes.Cause.{Cause}
-use Rattle.er_text.specs.declared.causes.Cause.TheVariants.{OutOfOrder}
+use Rattle.er_text.specs.declared.causes.Cause.TheVariants.{OutOfOrder, TooManyActions, TooDeep}
 use Rattle.er_trace.specs.declared.record.Record.{Record}
-use Rattle.er_paths.specs.Paths.{joins}
-use Rattle.er_paths.specs.Laws.{IsEnough}
 use Rattle.er_paths.proofs.Paths.{enough_long, handed_paths}
 use Rattle.er_history.specs.History.{told, begins, or_else, action_begun, Action}
 use Rattle.er_history.specs.Edges.{edges, path}
-use Rattle.er_history.specs.Naming.{naming_now, room}
+use Rattle.er_history.specs.Naming.{naming_now, room, first_cause, too_deep, most_actions}
 use Rattle.er_history.specs.Handed.{AreHanded}
 use Rattle.er_history.specs.Sound.{out_of_order, IsSound}
-use Rattle.er_history.proofs.HistoryLemmas.{edges_length}
+use Rattle.er_history.proofs.HistoryLemmas.{edges_length, actions_are_numbered}
 use Rattle.er_history.proofs.NamedLemmas.{no_cause, sound_is_named_now}
-use Rattle.er_ancestors.specs.Rows.{StandsFor}
+use Rattle.er_clocks.specs.Clock.{StandsFor}
+use Rattle.er_clocks.proofs.Pushes.{clocks_of_paths, clocks_tell_paths}
 use Rattle.er_page.specs.declared.page.Page.{Page}
 use Rattle.er_page.specs.Accepted.{result_of}
 use Rattle.er_page.specs.Page as pages
 use Rattle.er_page.specs.Page.{IsPage, IsSomePage}
 use Rattle.er_graph.specs.Rules.{rules_now}
-use Rattle.er_graph.specs.Accepted.{Accepted, records, lines_of, cause_now, IsTold, IsJoined, IsNext, IsSomeGraph}
-use Rattle.er_graph.proofs.EnoughLemmas.{same_actions, enough_more, handed_below}
+use Rattle.er_graph.specs.Accepted.{Accepted, records, lines_of, cause_now, edges_of, IsTold, AreTimed, IsNext, IsSomeGraph}
+use Rattle.er_graph.proofs.EnoughLemmas.{same_actions, enough_itself, enough_more, handed_below}
 
 -- causes
 
@@ -63,34 +63,45 @@ lines_counted (x ∷ older) = step (begins x.read) (lines_counted older)
     step true e = omega (arith, length_push (lines_of older) x.line, e)
     step false e = e
 
-pub rows_counted : (flags : List (List Bool)) (accepted : List Accepted) → IsJoined flags accepted → length (told (records accepted)).actions ≡ length flags
-rows_counted flags accepted is =
-    let acts = (told (records accepted)).actions in
-    sym (edges_length rules_now acts) ∙ (sym (enough_long is.lists (edges rules_now acts) is.enough) ∙ sym is.rows.size)
+pub clocks_counted : (links : List (List ℕ)) (accepted : List Accepted) → AreTimed links accepted → length (told (records accepted)).actions ≡ length links
+clocks_counted links accepted timed = sym (edges_length rules_now (told (records accepted)).actions) ∙ sym (clocks_tell_paths links (edges_of accepted) timed).0
 
--- the rows answer the paths
-pub rows_tell : (flags : List (List Bool)) (accepted : List Accepted) (i j : ℕ) (b : Bool) → (is : IsJoined flags accepted) → b ≡ joins is.lists i j → b ≡ path rules_now (records accepted) i j
-rows_tell flags accepted i j b is e = e ∙ handed_paths is.lists (edges rules_now (told (records accepted)).actions) i j is.enough
+-- what the page, the lines and the clocks are asked for
 
--- what the page, the lines and the rows are asked for
+pub some_page : (page : Page) (links : List (List ℕ)) (kept : List ℕ) (x : Record) → ∥ IsNext page links kept x ∥₁ → ∥ IsSomePage page ∥₁
+some_page page links kept x some = ∥∥₁_map some (λ next. record { list = records next.accepted; stands = next.told.page })
 
-pub some_page : (page : Page) (flags : List (List Bool)) (kept : List ℕ) (x : Record) → ∥ IsNext page flags kept x ∥₁ → ∥ IsSomePage page ∥₁
-some_page page flags kept x some = ∥∥₁_map some (λ next. record { list = records next.accepted; stands = next.told.page })
+pub next_page : (page : Page) (links : List (List ℕ)) (kept : List ℕ) (x : Record) → ∥ IsNext page links kept x ∥₁ → ∥ pages.IsNext page x ∥₁
+next_page page links kept x some = ∥∥₁_map some (λ next. let p = no_cause rules_now (records next.accepted) x next.legal in record { list = records next.accepted; stands = next.told.page; named = p.named; fits = p.fits })
 
-pub next_page : (page : Page) (flags : List (List Bool)) (kept : List ℕ) (x : Record) → ∥ IsNext page flags kept x ∥₁ → ∥ pages.IsNext page x ∥₁
-next_page page flags kept x some = ∥∥₁_map some (λ next. let p = no_cause rules_now (records next.accepted) x next.legal in record { list = records next.accepted; stands = next.told.page; named = p.named; fits = p.fits })
-
-pub known_sources : (page : Page) (flags : List (List Bool)) (kept : List ℕ) (x : Record) (found passed : List ℕ) → ∥ IsNext page flags kept x ∥₁ → passed ≡ found
+pub known_sources : (page : Page) (links : List (List ℕ)) (kept : List ℕ) (x : Record) (found passed : List ℕ) → ∥ IsNext page links kept x ∥₁ → passed ≡ found
     → ((h : List Record) → IsPage page h → IsSound rules_now h → naming_now h x ≡ None → out_of_order rules_now h x ≡ false → AreHanded rules_now (path rules_now h) (told h) x found)
-    → All (λ k. k < length flags) passed
-known_sources page flags kept x found passed some same handed = ∥∥₁_elim some (hlevel props) (λ next. known next)
+    → All (λ k. k < length links) passed
+known_sources page links kept x found passed some same handed = ∥∥₁_elim some (hlevel props) (λ next. known next)
   where
-    known : IsNext page flags kept x → All (λ k. k < length flags) passed
+    known : IsNext page links kept x → All (λ k. k < length links) passed
     known next =
         let h = records next.accepted in
         let p = no_cause rules_now h x next.legal in
         let are = handed h next.told.page next.told.sound p.named p.ordered in
-        subst (All (λ k. k < length flags)) (sym same) (handed_below rules_now h x found (length flags) are.sources (rows_counted flags next.accepted next.joined))
+        subst (All (λ k. k < length links)) (sym same) (handed_below rules_now h x found (length links) are.sources (clocks_counted links next.accepted next.timed))
+
+-- an action that may begin has room in the clocks
+room_left : (h : List Record) (x : Record) → room h x ≡ None → begins x ≡ true → length (told h).actions < most_actions
+room_left h x fits begin = step (begins x) (nat_lt (length (told h).actions) most_actions) (too_deep (told h) x) refl begin fits
+  where
+    step : (b c d : Bool) → nat_lt (length (told h).actions) most_actions ≡ c → b ≡ true → first_cause ((b && not c, TooManyActions) ∷ (d, TooDeep) ∷ []) ≡ None → length (told h).actions < most_actions
+    step true true d e f g = grind (arith, nat_tests)
+    step true false d e f g = absurd (cc)
+    step false c d e f g = absurd (cc)
+
+pub clocks_room : (page : Page) (links : List (List ℕ)) (kept : List ℕ) (x : Record) → ∥ IsNext page links kept x ∥₁ → begins x ≡ true → length links < most_actions
+clocks_room page links kept x some begin = ∥∥₁_elim some (hlevel props) (λ next. room_of next)
+  where
+    room_of : IsNext page links kept x → length links < most_actions
+    room_of next =
+        let h = records next.accepted in
+        omega (arith, clocks_counted links next.accepted next.timed, room_left h x (no_cause rules_now h x next.legal).fits begin)
 
 -- one record more
 
@@ -110,26 +121,21 @@ told_more old new kept grown line x accepted told legal taken lines =
 pub told_still : (old new : Page) (kept same : List ℕ) (accepted : List Accepted) → ((h : List Record) → IsPage old h → IsPage new h) → same ≡ kept → IsTold old kept accepted → IsTold new same accepted
 told_still old new kept same accepted stays e told = record { page = stays (records accepted) told.page; sound = told.sound; lines = e ∙ told.lines }
 
--- a record that begins an action has its row
-pub joined_more : (page : Page) (flags more : List (List Bool)) (kept : List ℕ) (line : ℕ) (x : Record) (accepted : List Accepted) (found passed : List ℕ) → IsTold page kept accepted → IsJoined flags accepted → cause_now accepted x ≡ None → begins x ≡ true
+-- a record that begins an action is pushed, with enough of the sources of edges to it
+pub timed_more : (page : Page) (links more : List (List ℕ)) (kept : List ℕ) (line : ℕ) (x : Record) (accepted : List Accepted) (found passed : List ℕ) → IsTold page kept accepted → AreTimed links accepted → cause_now accepted x ≡ None → begins x ≡ true
     → ((h : List Record) → IsPage page h → IsSound rules_now h → naming_now h x ≡ None → out_of_order rules_now h x ≡ false → AreHanded rules_now (path rules_now h) (told h) x found)
-    → passed ≡ found → ((lists : List (List ℕ)) → StandsFor flags lists → StandsFor more (passed ∷ lists)) → IsJoined more (record { line = line; read = x } ∷ accepted)
-joined_more page flags more kept line x accepted found passed told_ joined legal begin handed same pushed =
+    → passed ≡ found → ((lists : List (List ℕ)) → StandsFor links lists → StandsFor more (passed ∷ lists)) → AreTimed more (record { line = line; read = x } ∷ accepted)
+timed_more page links more kept line x accepted found passed told_ timed legal begin handed same pushed =
     let h = records accepted in
     let p = no_cause rules_now h x legal in
-    record {
-      lists = found ∷ joined.lists;
-      rows = subst (λ (l : List ℕ). StandsFor more (l ∷ joined.lists)) same (pushed joined.lists joined.rows);
-      enough = enough_more rules_now h x found joined.lists (sound_is_named_now rules_now h told_.sound) p.named begin (handed h told_.page told_.sound p.named p.ordered) joined.enough;
-    }
+    let now = edges_of (record { line = line; read = x } ∷ accepted) in
+    let enough = enough_more rules_now h x found (edges_of accepted) (sound_is_named_now rules_now h told_.sound) p.named begin (handed h told_.page told_.sound p.named p.ordered) (enough_itself rules_now (told h).actions (actions_are_numbered h)) in
+    clocks_of_paths more (found ∷ edges_of accepted) now (enough_long (found ∷ edges_of accepted) now enough) (λ i j. handed_paths (found ∷ edges_of accepted) now i j enough)
+    (subst (λ (l : List ℕ). StandsFor more (l ∷ edges_of accepted)) same (pushed (edges_of accepted) timed))
 
--- another record has none
-pub joined_still : (flags : List (List Bool)) (line : ℕ) (x : Record) (accepted : List Accepted) → begins x ≡ false → IsJoined flags accepted → IsJoined flags (record { line = line; read = x } ∷ accepted)
-joined_still flags line x accepted begin joined = record {
-  lists = joined.lists;
-  rows = joined.rows;
-  enough = subst (λ (actions : List Action). IsEnough joined.lists (edges rules_now actions)) (sym (same_actions (records accepted) x begin)) joined.enough;
-}
+-- another record changes no edge
+pub timed_still : (links : List (List ℕ)) (line : ℕ) (x : Record) (accepted : List Accepted) → begins x ≡ false → AreTimed links accepted → AreTimed links (record { line = line; read = x } ∷ accepted)
+timed_still links line x accepted begin timed = subst (λ (actions : List Action). StandsFor links (edges rules_now actions)) (sym (same_actions (records accepted) x begin)) timed
 
 -- the answers of a check
 
@@ -151,9 +157,9 @@ pub line_there : (page : Page) (kept : List ℕ) (accepted : List Accepted) (act
 line_there page kept accepted action is below = omega (arith, lines_counted accepted, ap length is.lines)
 
 -- no record yet
-pub nothing_yet : (page : Page) (flags : List (List Bool)) (kept : List ℕ) → IsPage page [] → StandsFor flags [] → kept ≡ [] → IsSomeGraph page flags kept false
-nothing_yet page flags kept shown rows empty = record {
+pub nothing_yet : (page : Page) (links : List (List ℕ)) (kept : List ℕ) → IsPage page [] → StandsFor links [] → kept ≡ [] → IsSomeGraph page links kept false
+nothing_yet page links kept shown clocks empty = record {
   accepted = [];
   told = record { page = shown; sound = tt; lines = empty };
-  joined = λ e. record { lists = []; rows = rows; enough = tt };
+  timed = λ e. clocks;
 }

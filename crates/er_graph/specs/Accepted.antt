@@ -2,11 +2,10 @@
 use Rattle.std.specs.Prelude.{◌≡◌, ℕ, Bool, false, List, [], ◌∷◌, ◌++◌, map, if◌then◌else◌, Option, None}
 use Rattle.er_text.specs.declared.causes.Cause.{Cause}
 use Rattle.er_trace.specs.declared.record.Record.{Record}
-use Rattle.er_paths.specs.Laws.{IsEnough}
 use Rattle.er_history.specs.History.{told, begins}
 use Rattle.er_history.specs.Edges.{edges}
 use Rattle.er_history.specs.Sound.{cause, IsSound}
-use Rattle.er_ancestors.specs.Rows.{StandsFor}
+use Rattle.er_clocks.specs.Clock.{StandsFor}
 use Rattle.er_page.specs.declared.page.Page.{Page}
 use Rattle.er_page.specs.Page.{IsPage}
 use Rattle.er_graph.specs.Rules.{rules_now}
@@ -30,25 +29,27 @@ pub record IsTold (shown : Page) (kept : List ℕ) (accepted : List Accepted) : 
   pub sound : IsSound rules_now (records accepted)
   pub lines : kept ≡ lines_of accepted
 
--- rows of flags are the paths over lists of predecessors that are enough
-pub record IsJoined (flags : List (List Bool)) (accepted : List Accepted) : Type 0 where
-  pub lists : List (List ℕ)
-  pub rows : StandsFor flags lists
-  pub enough : IsEnough lists (edges rules_now (told (records accepted)).actions)
+-- the edges between the actions of the accepted records
+abbrev pub edges_of : List Accepted → List (List ℕ)
+edges_of accepted = edges rules_now (told (records accepted)).actions
+
+-- clocks stand for these edges
+abbrev pub AreTimed : List (List ℕ) → List Accepted → Type 0
+AreTimed links accepted = StandsFor links (edges_of accepted)
 
 -- the first cause against a record after the accepted ones
 abbrev pub cause_now : List Accepted → Record → Option Cause
 cause_now accepted x = cause rules_now (records accepted) x
 
 -- the parts of a graph are those of some accepted records, after which the record is accepted
-pub record IsNext (shown : Page) (flags : List (List Bool)) (kept : List ℕ) (x : Record) : Type 0 where
+pub record IsNext (shown : Page) (links : List (List ℕ)) (kept : List ℕ) (x : Record) : Type 0 where
   pub accepted : List Accepted
   pub told : IsTold shown kept accepted
-  pub joined : IsJoined flags accepted
+  pub timed : AreTimed links accepted
   pub legal : cause_now accepted x ≡ None
 
--- the parts of a graph are those of some accepted records; after want of memory without the rows
-pub record IsSomeGraph (shown : Page) (flags : List (List Bool)) (kept : List ℕ) (has_failed : Bool) : Type 0 where
+-- the parts of a graph are those of some accepted records; after want of memory without the clocks
+pub record IsSomeGraph (shown : Page) (links : List (List ℕ)) (kept : List ℕ) (has_failed : Bool) : Type 0 where
   pub accepted : List Accepted
   pub told : IsTold shown kept accepted
-  pub joined : has_failed ≡ false → IsJoined flags accepted
+  pub timed : has_failed ≡ false → AreTimed links accepted

@@ -5,16 +5,16 @@ use Rattle.er_history.specs.History.{told}
 use Rattle.er_graph.specs.declared.graph.Graph.{Graph}
 use Rattle.er_graph.specs.declared.fault.GraphFault.{GraphFault}
 use Rattle.er_graph.specs.declared.fault.GraphFault.TheVariants.{Refused, NoMemory}
-use Rattle.er_graph.specs.Accepted.{Accepted, records, cause_now, IsTold, IsJoined}
+use Rattle.er_graph.specs.Accepted.{Accepted, records, cause_now, IsTold, AreTimed}
 
 -- Its page and its lines are those of the accepted records. This outlives want of memory.
 abbrev pub IsListed : Graph → List Accepted → Type 0
 IsListed graph accepted = IsTold graph.page graph.lines.items accepted
 
--- It stands for the accepted records: its rows are their paths besides.
+-- It stands for the accepted records: its clocks are those of their edges besides.
 pub record IsGraph (graph : Graph) (accepted : List Accepted) : Type 0 where
   pub listed : IsListed graph accepted
-  pub joined : IsJoined graph.ancestors accepted
+  pub timed : AreTimed graph.clocks accepted
   pub whole : graph.has_failed ≡ false
 
 -- memory ran out in an earlier call
@@ -26,13 +26,6 @@ pub record HasBegun (graph : Graph) (action : ℕ) : Type 0 where
   pub accepted : List Accepted
   pub listed : IsListed graph accepted
   pub begun : action < length (told (records accepted)).actions
-
--- memory has not run out, and the accepted records have begun both actions
-pub record HaveBegun (graph : Graph) (i j : ℕ) : Type 0 where
-  pub accepted : List Accepted
-  pub stands : IsGraph graph accepted
-  pub first : i < length (told (records accepted)).actions
-  pub second : j < length (told (records accepted)).actions
 
 -- What a fault says. A refusal has the line that was handed in and the first cause against the record, and changes nothing; after want of memory the graph is marked, and its page and lines are as they were.
 abbrev pub IsFault : GraphFault → ℕ → Record → Graph → Graph → Type 0

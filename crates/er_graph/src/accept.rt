@@ -1,18 +1,16 @@
 //! How records are accepted, and what the graph answers.
 
 ghost use Rattle.std.specs.Prelude.{◌≡◌, ◌<◌, List, [], ◌∷◌, Some, None, slice_get, OnOk, OnErr, IfOk, IfErr};
-ghost use Rattle.er_history.specs.Edges.{path};
 ghost use Rattle.er_page.specs.Accepted.{result_of};
 ghost use Rattle.er_page.specs.Page.{IsPage};
-ghost use Rattle.er_graph.specs.Rules.{rules_now};
-ghost use Rattle.er_graph.specs.Accepted.{Accepted, records, lines_of, cause_now, IsNext};
-ghost use Rattle.er_graph.specs.Graph.{IsListed, IsGraph, HasBegun, HasFailed, HaveBegun, IsFault};
+ghost use Rattle.er_graph.specs.Accepted.{Accepted, records, lines_of, cause_now, AreTimed, IsNext};
+ghost use Rattle.er_graph.specs.Graph.{IsListed, IsGraph, HasBegun, HasFailed, IsFault};
 
 use crate::fault::GraphFault;
 use crate::graph::Graph;
 use crate::grow::grow;
 use crate::order::is_late;
-use er_ancestors::Ancestors;
+use er_clocks::Clocks;
 use er_outside::NoMemory;
 use er_page::page::Page;
 use er_text::Cause;
@@ -26,7 +24,7 @@ impl Graph {
     {
         Ok(Graph {
             page: Page::new(alloc)?,
-            ancestors: Ancestors::new(alloc),
+            clocks: Clocks::new(alloc),
             lines: Vec::new(alloc),
             has_failed: false,
         })
@@ -67,12 +65,11 @@ impl Graph {
         self.lines[action as usize]
     }
 
-    /// Whether a path leads from action i to action j. It takes no memory.
-    pub fn joined(&self, i: u32, j: u32) -> bool
-        requires begun { ∥ HaveBegun self.now i j ∥₁ }
-        ensures { (accepted : List Accepted) → IsGraph self.now accepted → result ≡ path rules_now (records accepted) i j }
+    /// The clocks of the actions: which paths lead between them, their chains and their links.
+    pub fn clocks(&self) -> &Clocks
+        ensures { (accepted : List Accepted) → IsGraph self.now accepted → AreTimed result.now accepted }
     {
-        self.ancestors.joined(i, j)
+        &self.clocks
     }
 
     /// The first cause against the record, if there is one.
@@ -90,7 +87,7 @@ impl Graph {
 
     /// Takes a record that `check` accepts. The graph is marked as failed first, so that it stays so where memory runs out.
     fn take(&mut self, line: u32, rec: &Record) -> Result<(), NoMemory>
-        requires next { ∥ IsNext self.old.page self.old.ancestors self.old.lines.items rec.now ∥₁ }
+        requires next { ∥ IsNext self.old.page self.old.clocks self.old.lines.items rec.now ∥₁ }
         ensures taken { OnOk result ((accepted : List Accepted) → IsGraph self.old accepted → cause_now accepted rec.now ≡ None → IsGraph self.new (record { line = line; read = rec.now } ∷ accepted)) }
         ensures failed { OnErr result (HasFailed self.new) }
         ensures kept { OnErr result ((accepted : List Accepted) → IsListed self.old accepted → IsListed self.new accepted) }
@@ -98,7 +95,7 @@ impl Graph {
         self.has_failed = true;
         grow(
             &mut self.page,
-            &mut self.ancestors,
+            &mut self.clocks,
             &mut self.lines,
             line,
             rec,

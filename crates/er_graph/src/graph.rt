@@ -2,17 +2,17 @@
 
 ghost use Rattle.er_graph.specs.Accepted.{IsSomeGraph};
 
-use er_ancestors::Ancestors;
+use er_clocks::Clocks;
 use er_page::page::Page;
 
-/// What the accepted records say, the lines that were handed in with them, and which of their actions a path joins.
+/// What the accepted records say, the lines that were handed in with them, and the clocks of their actions.
 #[derive(Drop)]
 pub struct Graph {
     pub(crate) page: Page,
-    pub(crate) ancestors: Ancestors,
+    pub(crate) clocks: Clocks,
     /// The lines of the records that began the actions.
     pub(crate) lines: Vec<u32>,
     /// Whether memory ran out: then no record is accepted any more.
     pub(crate) has_failed: bool,
-    ghost stands: { ∥ IsSomeGraph page ancestors lines.items has_failed ∥₁ },
+    ghost stands: { ∥ IsSomeGraph page clocks lines.items has_failed ∥₁ },
 }

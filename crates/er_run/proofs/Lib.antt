@@ -10,3 +10,4 @@ pub mod CompleteLemmas
 pub mod RepeatLemmas
 pub mod OneAnswer
 pub mod BufferedLemmas
+pub mod ComparedLemmas

@@ -60,7 +60,7 @@ filter_short p (x ∷ xs) = let h : length (filter p (x ∷ xs)) ≤ length xs +
     shorter true l x h = omega arith
     shorter false l x h = omega arith
 
-pub few_candidates : (accesses : List Kept) → length accesses ≤ 2097152 → length (candidates_of accesses) < 2 ^ 63
+pub few_candidates : (accesses : List Kept) → length accesses ≤ 2097152 → length (candidates_of accesses) < 2 ^ 61
 few_candidates accesses few = omega (arith, few_pairs accesses 2097152 few, filter_short (λ p. is_candidate p.0 p.1) (pairs_of accesses))
 
 -- places found

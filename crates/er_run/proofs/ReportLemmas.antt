@@ -14,6 +14,7 @@ use Rattle.er_trace.specs.declared.record.Loc.{Loc}
 use Rattle.er_trace.specs.declared.record.Loc.TheVariants.{Var, Elem, Slot}
 use Rattle.er_run.specs.declared.accesses.Kept.{Kept}
 use Rattle.er_run.specs.declared.accesses.Race.{Race}
+use Rattle.er_run.specs.declared.counts.Counts.{Counts}
 use Rattle.er_run.specs.Buffered.{HoldsRest}
 use Rattle.er_run.specs.Races.{ArePairs}
 use Rattle.er_run.specs.Pieces.{item_start}
@@ -91,9 +92,6 @@ pair_at accesses found pairs i r a b are here first second =
     let e2 : option_map v (slice_get pairs i) ≡ option_map g (slice_get found i) = sym (slice_get-map v pairs i) ∙ ap (λ (xs : List (Option Kept)). slice_get xs i) (sym are.1) ∙ slice_get-map g found i in
     pair_from_parts (slice_get pairs i) a b (e1 ∙ ap (option_map f) here ∙ ap Some first) (e2 ∙ ap (option_map g) here ∙ ap Some second)
 
-pub as_many_pairs : (accesses : List Kept) (found : List Race) (pairs : List (Kept × Kept)) → ArePairs accesses found pairs → length pairs ≡ length found
-as_many_pairs accesses found pairs are = sym (length-map pairs (λ p. Some p.0)) ∙ ap length (sym are.0) ∙ length-map found (λ r. slice_get accesses r.first)
-
 -- The race at a place of the list, as a loop over the list reads it.
 pub record IsRaceAt (accesses : List Kept) (found : List Race) (i : ℕ) (a b : Kept) : Type 0 where
   pub race : Race
@@ -129,31 +127,29 @@ races_part old mid new before held accesses found i a b pairs at are so_far came
     let all : GetsPart old ((before ++ race_lines 1 (take (i + 1) pairs)) ++ race_lines (1 + (i + 1)) (drop (i + 1) pairs)) new = gets_part_first old new _ _ line in
     rw (race_lines_split 1 pairs (i + 1)) (rw (append_assoc before (race_lines 1 (take (i + 1) pairs)) (race_lines (1 + (i + 1)) (drop (i + 1) pairs))) at all)
 
--- the report in the order in which it is put together, by the number of its races
-report_pieces : (found : List (Kept × Kept)) (actions accesses pairs number : ℕ) → length found ≡ number
-    → report_of found actions accesses pairs ≡ (count_line (codes "report") 1 ++ race_lines 1 found) ++ closing_lines actions accesses pairs number
-report_pieces found actions accesses pairs number long = rw (← long, append_assoc (count_line (codes "report") 1) (race_lines 1 found) (closing_lines actions accesses pairs (length found))) refl
+-- the report in the order in which it is put together
+report_pieces : (found : List (Kept × Kept)) (c : Counts) → report_of found c ≡ (count_line (codes "report") 1 ++ race_lines 1 found) ++ closing_lines c
+report_pieces found c = rw (append_assoc (count_line (codes "report") 1) (race_lines 1 found) (closing_lines c)) refl
 
 -- the first line, the races and the closing lines are the report
-pub report_held : (old opened raced new : Option (List ℕ)) (before one two last : List ℕ) (found : List (Kept × Kept)) (actions accesses pairs number : ℕ) → length found ≡ number
+pub report_held : (old opened raced new : Option (List ℕ)) (before one two last : List ℕ) (found : List (Kept × Kept)) (c : Counts)
     → HoldsRest old (before ++ count_line (codes "report") 1) opened one → HoldsRest opened (one ++ race_lines 1 found) raced two
-    → HoldsRest raced (two ++ closing_lines actions accesses pairs number) new last → HoldsRest old (before ++ report_of found actions accesses pairs) new last
-report_held old opened raced new before one two last found actions accesses pairs number long first second third =
+    → HoldsRest raced (two ++ closing_lines c) new last → HoldsRest old (before ++ report_of found c) new last
+report_held old opened raced new before one two last found c first second third =
     let so_far = holds_more old opened raced before _ _ one two first second in
-    rw (report_pieces found actions accesses pairs number long) (holds_more old raced new before _ _ two last so_far third)
+    rw (report_pieces found c) (holds_more old raced new before _ _ two last so_far third)
 
-pub report_part : (old opened raced new : Option (List ℕ)) (before one two : List ℕ) (found : List (Kept × Kept)) (actions accesses pairs number : ℕ) → length found ≡ number
+pub report_part : (old opened raced new : Option (List ℕ)) (before one two : List ℕ) (found : List (Kept × Kept)) (c : Counts)
     → HoldsRest old (before ++ count_line (codes "report") 1) opened one → HoldsRest opened (one ++ race_lines 1 found) raced two
-    → GetsPart raced (two ++ closing_lines actions accesses pairs number) new → GetsPart old (before ++ report_of found actions accesses pairs) new
-report_part old opened raced new before one two found actions accesses pairs number long first second third =
+    → GetsPart raced (two ++ closing_lines c) new → GetsPart old (before ++ report_of found c) new
+report_part old opened raced new before one two found c first second third =
     let so_far = holds_more old opened raced before _ _ one two first second in
-    rw (report_pieces found actions accesses pairs number long) (part_more old raced new before _ _ two so_far third)
+    rw (report_pieces found c) (part_more old raced new before _ _ two so_far third)
 
 -- a part of the races is a part of the report
-pub races_part_of_report : (old opened new : Option (List ℕ)) (before one : List ℕ) (found : List (Kept × Kept)) (actions accesses pairs : ℕ)
-    → HoldsRest old (before ++ count_line (codes "report") 1) opened one → GetsPart opened (one ++ race_lines 1 found) new → GetsPart old (before ++ report_of found actions accesses pairs) new
-races_part_of_report old opened new before one found actions accesses pairs first second =
+pub races_part_of_report : (old opened new : Option (List ℕ)) (before one : List ℕ) (found : List (Kept × Kept)) (c : Counts)
+    → HoldsRest old (before ++ count_line (codes "report") 1) opened one → GetsPart opened (one ++ race_lines 1 found) new → GetsPart old (before ++ report_of found c) new
+races_part_of_report old opened new before one found c first second =
     let lines = count_line (codes "report") 1 ++ race_lines 1 found in
-    let closing = closing_lines actions accesses pairs (length found) in
-    let all : GetsPart old ((before ++ lines) ++ closing) new = gets_part_first old new (before ++ lines) closing (part_more old opened new before _ _ one first second) in
-    rw (report_pieces found actions accesses pairs (length found) refl) (rw (append_assoc before lines closing) at all)
+    let all : GetsPart old ((before ++ lines) ++ closing_lines c) new = gets_part_first old new (before ++ lines) (closing_lines c) (part_more old opened new before _ _ one first second) in
+    rw (report_pieces found c) (rw (append_assoc before lines (closing_lines c)) at all)

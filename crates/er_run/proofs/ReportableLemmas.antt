@@ -1,5 +1,5 @@
 -- What the lister asks of the session of an accepted trace.
-use Rattle.std.proofs.Common.{◌≡◌, ℕ, ◌+◌, ◌<◌, ◌≤◌, Bool, true, false, List, [], ◌∷◌, ◌++◌, length, refl, sym, ap, subst, arith, cond, slice_get, Option, Some, None}
+use Rattle.std.proofs.Common.{◌≡◌, ℕ, ◌+◌, ◌<◌, ◌≤◌, Bool, true, false, List, [], ◌∷◌, ◌++◌, length, refl, sym, ap, subst, ◌∙◌, arith, cond, slice_get, Option, Some, None}
 use Rattle.std.specs.Prelude.{All}
 use Rattle.std.specs.List.{list_any}
 use Rattle.std.proofs.lemmas.Grind.{common_steps}
@@ -7,7 +7,10 @@ use Rattle.er_trace.specs.declared.record.Record.{Record}
 use Rattle.er_trace.specs.declared.record.Record.TheVariants.{Parse, ParseFrame, Exec, Timer, Tick, Dcl, Load, Eload, Fire, Wfire, Reply, Inline, Run, Close, Back, New, NewFrame, On, Set, Every, Send, Access}
 use Rattle.er_trace.specs.Trace.{most_lines}
 use Rattle.er_history.specs.History.{Action, Entry, told}
-use Rattle.er_history.specs.Edges.{path}
+use Rattle.er_history.specs.Edges.{edges, path}
+use Rattle.er_links.specs.Chains.{chains}
+use Rattle.er_links.specs.Links.{link_count}
+use Rattle.er_clocks.specs.Clock as clocks
 use Rattle.er_history.proofs.HistoryLemmas.{entries_length}
 use Rattle.er_page.specs.declared.page.Page.{Page}
 use Rattle.er_page.specs.Page.{IsPage}
@@ -19,11 +22,14 @@ use Rattle.er_run.specs.declared.session.Session.{Session}
 use Rattle.std.proofs.lemmas.List.{length-map}
 use Rattle.er_run.specs.declared.accesses.Race.{Race}
 use Rattle.er_run.specs.Races.{kept, kept_of, accesses_of, without_repeats, repeats, races, races_by, candidates_of, ArePairs}
-use Rattle.er_run.specs.Report.{report, report_of as report_text}
+use Rattle.er_run.specs.declared.counts.Counts.{Counts}
+use Rattle.er_run.specs.Report.{report, counts, report_of as report_text}
 use Rattle.er_run.specs.Session.{numbered, StandsFor}
 use Rattle.er_run.specs.Listing.{AreBegun}
-use Rattle.er_run.specs.Accepted.{IsReportable}
+use Rattle.er_run.specs.declared.lister.Listed.{Listed}
+use Rattle.er_run.specs.Accepted.{IsReportable, counts_by}
 use Rattle.er_run.proofs.SessionLemmas.{records_numbered, kept_begun, page_of}
+use Rattle.er_run.proofs.ComparedLemmas.{AreClocks}
 
 at_most_one : (xs old : List Kept) → length xs ≤ 1 → length (without_repeats xs old) ≤ length old + 1
 at_most_one [] old h = omega arith
@@ -58,21 +64,40 @@ begun_to_list s r =
     }
 
 -- what was listed are the races of the records, and with the counts of the session they make the report
-pub record IsReport (s : Session) (h : List Record) (found : List Race) (actions pairs : ℕ) : Type 0 where
+pub record IsReport (s : Session) (h : List Record) (found : List Race) (c : Counts) : Type 0 where
   pub are_pairs : ArePairs s.kept.items found (races h)
-  pub text : report_text (races h) actions (length s.kept.items) pairs ≡ report h
+  pub text : report_text (races h) c ≡ report h
 
-pub reports : (s : Session) (page : Page) (h : List Record) (found : List Race) (actions pairs : ℕ) → StandsFor s h
-    → ((accepted : List Accepted) → IsGraph s.graph accepted → ArePairs s.kept.items found (races_by (path rules_now (records accepted)) s.kept.items))
-    → ((accepted : List Accepted) → IsListed s.graph accepted → IsPage page (records accepted)) → ((h : List Record) → IsPage page h → actions ≡ length (told h).actions) → pairs ≡ length (candidates_of s.kept.items)
-    → IsReport s h found actions pairs
-reports s page h found actions pairs stands listed shows counted paired =
-    let all : actions ≡ length (told h).actions = counted h (page_of page s.graph h shows stands.graph) in
-    let here : ArePairs s.kept.items found (races_by (path rules_now h) s.kept.items) = subst (λ l. ArePairs s.kept.items found (races_by (path rules_now l) s.kept.items)) (records_numbered h) (listed (numbered h) stands.graph) in
+as_many : (accesses : List Kept) (found : List Race) (pairs : List (Kept × Kept)) → ArePairs accesses found pairs → length found ≡ length pairs
+as_many accesses found pairs are = omega (arith, length-map found (λ (r : Race). slice_get accesses r.first), length-map pairs (λ (p : Kept × Kept). Some p.0), ap length are.0)
+
+same_counts : (c : Counts) (accesses pairs races : ℕ) → accesses ≡ c.accesses → pairs ≡ c.pairs → races ≡ c.races → record c { accesses = accesses; pairs = pairs; races = races } ≡ c
+same_counts c accesses pairs races p q r = λ i. record { actions = c.actions; accesses = p i; pairs = q i; races = r i; chains = c.chains; links = c.links }
+
+pub reports : (s : Session) (h : List Record) (listed : Listed) (c : Counts) → StandsFor s h
+    → ((accepted : List Accepted) → IsGraph s.graph accepted → ArePairs s.kept.items listed.races.items (races_by (path rules_now (records accepted)) s.kept.items))
+    → listed.compares ≡ length (candidates_of s.kept.items) → c ≡ counts_by h s listed → IsReport s h listed.races.items c
+reports s h listed c stands found paired counted =
+    let here : ArePairs s.kept.items listed.races.items (races_by (path rules_now h) s.kept.items) = subst (λ l. ArePairs s.kept.items listed.races.items (races_by (path rules_now l) s.kept.items)) (records_numbered h) (found (numbered h) stands.graph) in
+    let are : ArePairs s.kept.items listed.races.items (races h) = subst (λ (ks : List Kept). ArePairs s.kept.items listed.races.items (races_by (path rules_now h) ks)) stands.accesses here in
     record {
-      are_pairs = subst (λ (ks : List Kept). ArePairs s.kept.items found (races_by (path rules_now h) ks)) stands.accesses here;
-      text = rw (all, paired, stands.accesses) refl;
+      are_pairs = are;
+      text = ap (report_text (races h)) (counted ∙ same_counts (counts h) (length s.kept.items) listed.compares (length listed.races.items) (ap length stands.accesses)
+          (paired ∙ ap (λ ks. length (candidates_of ks)) stands.accesses) (as_many s.kept.items listed.races.items (races h) are));
     }
+
+-- the counts that the page and the clocks give
+pub counted : (s : Session) (page : Page) (rows : List (List ℕ)) (h : List Record) (listed : Listed) (c : Counts) → StandsFor s h
+    → ((accepted : List Accepted) → IsListed s.graph accepted → IsPage page (records accepted)) → AreClocks s.graph rows
+    → ((h : List Record) → IsPage page h → c.actions ≡ length (told h).actions) → c.accesses ≡ length s.kept.items → c.pairs ≡ listed.compares → c.races ≡ length listed.races.items
+    → ((lists : List (List ℕ)) → clocks.StandsFor rows lists → c.chains ≡ length (chains lists)) → ((lists : List (List ℕ)) → clocks.StandsFor rows lists → c.links ≡ link_count lists)
+    → c ≡ counts_by h s listed
+counted s page rows h listed c stands shows timed actions accesses pairs races chained linked =
+    let lists : clocks.StandsFor rows (edges rules_now (told h).actions) = subst (λ l. clocks.StandsFor rows (edges rules_now (told l).actions)) (records_numbered h) (timed (numbered h) stands.graph) in
+    let begun = actions h (page_of page s.graph h shows stands.graph) in
+    let chain = chained (edges rules_now (told h).actions) lists in
+    let link = linked (edges rules_now (told h).actions) lists in
+    λ i. record { actions = begun i; accesses = accesses i; pairs = pairs i; races = races i; chains = chain i; links = link i }
 
 empty_of_none : {X : Type 0} (xs : List X) → length xs ≡ 0 → xs ≡ []
 empty_of_none {X} [] e = refl

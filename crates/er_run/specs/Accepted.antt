@@ -6,6 +6,8 @@ use Rattle.er_trace.specs.declared.record.Record.{Record}
 use Rattle.er_run.specs.declared.outcome.Outcome.{Outcome}
 use Rattle.er_run.specs.declared.outcome.Outcome.TheVariants.{Clean, Races, Refused, WriteFault, NoMemory}
 use Rattle.er_run.specs.declared.session.Session.{Session}
+use Rattle.er_run.specs.declared.counts.Counts.{Counts}
+use Rattle.er_run.specs.declared.lister.Listed.{Listed}
 use Rattle.er_trace.specs.Trace.{Place, line_number, records_before, text, most_lines, IsTrace, Refuses}
 use Rattle.er_trace.specs.declared.fault.FeedFault.{FeedFault}
 use Rattle.er_trace.specs.declared.fault.FeedFault.TheVariants as faults
@@ -13,7 +15,7 @@ use Rattle.er_run.specs.declared.answer.LineRefusal.{LineRefusal}
 use Rattle.er_run.specs.Answer.{IsLegalTrace, IsRefused}
 use Rattle.er_run.specs.Session.{StandsFor}
 use Rattle.er_run.specs.Races.{races}
-use Rattle.er_run.specs.Report.{report, refusal}
+use Rattle.er_run.specs.Report.{report, refusal, counts}
 
 -- the bytes are a legal trace, and the session stands for its records
 pub record IsAccepted (bytes : List ℕ) (session : Session) : Type 0 where
@@ -50,3 +52,7 @@ pub record IsReportable (session : Session) : Type 0 where
 abbrev pub IsRefusal : List ℕ → FeedFault → Type 0
 IsRefusal bytes (faults.Refused n c) = IsRefused bytes n c
 IsRefusal bytes faults.NoMemory = Unit {0}
+
+-- the counts of the records, with those of the accesses, comparisons and races as they are kept
+abbrev pub counts_by : List Record → Session → Listed → Counts
+counts_by h session listed = record (counts h) { accesses = length session.kept.items; pairs = listed.compares; races = length listed.races.items }

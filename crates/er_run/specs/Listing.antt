@@ -18,6 +18,13 @@ pub record AreBegun (graph : Graph) (accesses : List Kept) : Type 0 where
   pub stands : IsGraph graph accepted
   pub begun : All (λ (x : Kept). x.action < length (told (records accepted)).actions) accesses
 
+-- the graph stands for some records, which have begun both actions
+pub record HaveBegun (graph : Graph) (i j : ℕ) : Type 0 where
+  pub accepted : List Accepted
+  pub stands : IsGraph graph accepted
+  pub first : i < length (told (records accepted)).actions
+  pub second : j < length (told (records accepted)).actions
+
 -- both places are in the list
 abbrev pub IsWithin : List Kept → Race → Type 0
 IsWithin accesses r = (r.first < length accesses) × (r.second < length accesses)

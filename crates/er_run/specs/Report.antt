@@ -7,7 +7,12 @@ use Rattle.er_trace.specs.Items.{Item, Word, Number, items_spelling}
 use Rattle.er_trace.specs.Spelling.{mode_word, loc_items}
 use Rattle.er_trace.specs.Trace.{line}
 use Rattle.er_history.specs.History.{told}
+use Rattle.er_links.specs.Chains.{chains}
+use Rattle.er_links.specs.Links.{link_count}
+use Rattle.er_history.specs.Edges.{edges}
+use Rattle.er_graph.specs.Rules.{rules_now}
 use Rattle.er_run.specs.declared.accesses.Kept.{Kept}
+use Rattle.er_run.specs.declared.counts.Counts.{Counts}
 use Rattle.er_run.specs.Races.{kept, candidates_of, races}
 
 -- the line of some items
@@ -28,15 +33,27 @@ abbrev pub count_line : List ℕ → ℕ → List ℕ
 count_line name n = item_line (Word name ∷ Number n ∷ [])
 
 -- the lines behind those of the races
-abbrev pub closing_lines : (actions accesses pairs races : ℕ) → List ℕ
-closing_lines actions accesses pairs races = count_line (codes "actions") actions ++ count_line (codes "accesses") accesses ++ count_line (codes "pairs") pairs ++ count_line (codes "races") races ++ line (codes "end")
+abbrev pub closing_lines : Counts → List ℕ
+closing_lines c = count_line (codes "actions") c.actions ++ count_line (codes "accesses") c.accesses ++ count_line (codes "pairs") c.pairs ++ count_line (codes "races") c.races
+    ++ count_line (codes "chains") c.chains ++ count_line (codes "links") c.links ++ line (codes "end")
 
--- the report of these races, where so many actions, kept accesses and candidate pairs there are
-abbrev pub report_of : (found : List (Kept × Kept)) (actions accesses pairs : ℕ) → List ℕ
-report_of found actions accesses pairs = count_line (codes "report") 1 ++ race_lines 1 found ++ closing_lines actions accesses pairs (length found)
+-- the report of these races and counts
+abbrev pub report_of : List (Kept × Kept) → Counts → List ℕ
+report_of found c = count_line (codes "report") 1 ++ race_lines 1 found ++ closing_lines c
+
+-- the counts of a list of records; chains and links are those over the edges between its actions
+abbrev pub counts : List Record → Counts
+counts h = record {
+  actions = length (told h).actions;
+  accesses = length (kept h);
+  pairs = length (candidates_of (kept h));
+  races = length (races h);
+  chains = length (chains (edges rules_now (told h).actions));
+  links = link_count (edges rules_now (told h).actions);
+}
 
 abbrev pub report : List Record → List ℕ
-report h = report_of (races h) (length (told h).actions) (length (kept h)) (length (candidates_of (kept h)))
+report h = report_of (races h) (counts h)
 
 -- `refused LINE CAUSE`
 abbrev pub refusal : ℕ → Cause → List ℕ

@@ -8,10 +8,11 @@ ghost use Rattle.er_run.specs.Promise.{IsAnswer, IsGiven, IsPartGiven};
 ghost use Rattle.er_run.specs.Report.{report};
 ghost use Rattle.er_run.specs.Races.{races};
 ghost use Rattle.er_run.specs.Session.{StandsFor};
-ghost use Rattle.er_run.specs.Accepted.{IsAccepted, IsReading, IsRefusal, IsReportable, RefusedAs, ReportsOf};
+ghost use Rattle.er_run.specs.Accepted.{IsAccepted, IsReading, IsRefusal, IsReportable, RefusedAs, ReportsOf, counts_by};
 
+use crate::counts::Counts;
 use crate::input::MOST_BYTES;
-use crate::lister::list;
+use crate::lister::{Listed, list};
 use crate::outcome::Outcome;
 use crate::report_writer::{write_refusal, write_report};
 use crate::session::{Session, judge};
@@ -119,18 +120,32 @@ fn report_of<K: Sink>(alloc: Global, session: &Session, sink: &mut K) -> Outcome
     ensures write_fault { result ≡ Outcome.WriteFault → Rose (K.faults sink.old) (K.faults sink.new) }
     ensures writes { K.faults sink.old ≤ K.faults sink.new }
 {
-    let graph = &session.graph;
-    let Ok(listed) = list(alloc, &session.kept, graph) else {
+    let Ok(listed) = list(alloc, &session.kept, &session.graph) else {
         return Outcome::NoMemory;
     };
-    let actions = u64::from(graph.page().actions());
-    let Ok(()) = write_report(sink, actions, &session.kept, &listed.races, listed.pairs) else {
+    let counts = counts_of(session, &listed);
+    let Ok(()) = write_report(sink, &session.kept, &listed.races, &counts) else {
         return Outcome::WriteFault;
     };
     if listed.races.is_empty() {
         Outcome::Clean
     } else {
         Outcome::Races
+    }
+}
+
+/// The counts of the report.
+fn counts_of(session: &Session, listed: &Listed) -> Counts
+    ensures { (h : List Record) → StandsFor session.now h → result ≡ counts_by h session.now listed.now }
+{
+    let clocks = session.graph.clocks();
+    Counts {
+        actions: u64::from(session.graph.page().actions()),
+        accesses: session.kept.len() as u64,
+        pairs: listed.compares.made(),
+        races: listed.races.len() as u64,
+        chains: u64::from(clocks.chain_count()),
+        links: clocks.link_count(),
     }
 }
 

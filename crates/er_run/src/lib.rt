@@ -16,6 +16,7 @@ pub mod accesses;
 mod answer;
 mod buffer;
 mod buffered;
+pub mod counts;
 mod input;
 pub mod laws;
 mod lister;

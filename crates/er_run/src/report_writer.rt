@@ -13,6 +13,7 @@ ghost use Rattle.er_run.specs.Report.{item_line, race_line, race_lines, count_li
 use crate::accesses::{Kept, Race};
 use crate::buffer::Buffer;
 use crate::buffered::{Text, flush, put_text};
+use crate::counts::Counts;
 use er_outside::{Failed, Sink, put_all};
 use er_text::{Cause, put_number};
 use er_trace::print::print_loc;
@@ -149,17 +150,8 @@ impl<'a> Text for RaceLine<'a> {
     }
 }
 
-/// The lines behind those of the races.
-#[derive(Drop)]
-struct Closing {
-    actions: u64,
-    accesses: u64,
-    pairs: u64,
-    races: u64,
-}
-
-impl Text for Closing {
-    ghost text = { λ c. closing_lines c.actions c.accesses c.pairs c.races };
+impl Text for Counts {
+    ghost text = { λ c. closing_lines c };
 
     #[tactic(auto, using(er_outside::proofs::Puts::composes))]
     fn put<K: Sink>(&self, sink: &mut K) -> Result<(), Failed> {
@@ -167,6 +159,8 @@ impl Text for Closing {
         put_count(sink, "accesses", self.accesses)?;
         put_count(sink, "pairs", self.pairs)?;
         put_count(sink, "races", self.races)?;
+        put_count(sink, "chains", self.chains)?;
+        put_count(sink, "links", self.links)?;
         put_all(sink, b"end\n")
     }
 }
@@ -219,31 +213,24 @@ fn put_races<K: Sink>(
     Ok(())
 }
 
-/// Writes the numbers of the report, and its races.
+/// Writes the report of these races and counts.
 #[tactic(auto, using(er_outside::proofs::Puts::composes))]
 pub(crate) fn write_report<K: Sink>(
     sink: &mut K,
-    actions: u64,
     kept: &[Kept],
     races: &[Race],
-    pairs: u64,
+    counts: &Counts,
 ) -> Result<(), Failed>
     requires in_range { All (IsWithin kept.now) races.now }
-    ensures whole { (found : List (Kept × Kept)) → ArePairs kept.now races.now found → OnOk result (Gets (K.got sink.old) (report_of found actions (length kept.now) pairs) (K.got sink.new)) }
-    ensures part { (found : List (Kept × Kept)) → ArePairs kept.now races.now found → OnErr result (GetsPart (K.got sink.old) (report_of found actions (length kept.now) pairs) (K.got sink.new)) }
+    ensures whole { (found : List (Kept × Kept)) → ArePairs kept.now races.now found → OnOk result (Gets (K.got sink.old) (report_of found counts.now) (K.got sink.new)) }
+    ensures part { (found : List (Kept × Kept)) → ArePairs kept.now races.now found → OnErr result (GetsPart (K.got sink.old) (report_of found counts.now) (K.got sink.new)) }
     ensures cause { OnErr result (Rose (K.faults sink.old) (K.faults sink.new)) }
     ensures count { K.faults sink.old ≤ K.faults sink.new }
 {
     let mut buffer = Buffer::new();
     put_text(sink, &mut buffer, &Opening)?;
     put_races(sink, &mut buffer, kept, races)?;
-    let closing = Closing {
-        actions,
-        accesses: kept.len() as u64,
-        pairs,
-        races: races.len() as u64,
-    };
-    put_text(sink, &mut buffer, &closing)?;
+    put_text(sink, &mut buffer, counts)?;
     flush(sink, &mut buffer)
 }
 

@@ -1,15 +1,18 @@
 use Rattle.std.proofs.Common.{ap, ◌∙◌, ◌++◌, ◌∷◌, [], List, ℕ}
-use Rattle.er_graph.proofs.PartLemmas.{some_page, next_page, known_sources, told_more, begun_lines, joined_more}
+use Rattle.er_graph.proofs.PartLemmas.{some_page, next_page, known_sources, clocks_room, told_more, begun_lines, timed_more}
 use Rattle.er_graph.proofs.grow.begin.Goals as goal
 
 pub sources-requires : goal.sources-requires
-sources-requires c = record { some = some_page c.args.page.now c.args.ancestors.now c.args.lines.now.items c.args.rec.now c.requires.next }
+sources-requires c = record { some = some_page c.args.page.now c.args.clocks.now c.args.lines.now.items c.args.rec.now c.requires.next }
 
 pub push-requires : goal.push-requires
-push-requires c = known_sources c.args.page.now c.args.ancestors.now c.args.lines.now.items c.args.rec.now c.in_ok-sources.sources.items c.as_slice.result.now c.requires.next c.as_slice.ensures c.in_ok-sources.ensures
+push-requires c = record {
+  known = known_sources c.args.page.now c.args.clocks.now c.args.lines.now.items c.args.rec.now c.in_ok-sources.sources.items c.as_slice.result.now c.requires.next c.as_slice.ensures c.in_ok-sources.ensures;
+  room = clocks_room c.args.page.now c.args.clocks.now c.args.lines.now.items c.args.rec.now c.requires.next c.requires.begins;
+}
 
 pub apply-requires : goal.apply-requires
-apply-requires c = record { next = next_page c.args.page.now c.args.ancestors.now c.args.lines.now.items c.args.rec.now c.requires.next }
+apply-requires c = record { next = next_page c.args.page.now c.args.clocks.now c.args.lines.now.items c.args.rec.now c.requires.next }
 
 pub returns-clause-told : goal.returns-clause-told
 returns-clause-told c = λ accepted told legal.
@@ -17,7 +20,7 @@ returns-clause-told c = λ accepted told legal.
     (begun_lines c.args.line c.args.rec.now accepted c.args.lines.now.items c.push-2.new.self.items c.requires.begins told.lines
     (c.in-Ok-push.ensures.items ∙ ap (λ (l : List ℕ). l ++ c.args.line ∷ []) c.in-Ok.ensures.items))
 
-pub returns-clause-joined : goal.returns-clause-joined
-returns-clause-joined c = λ accepted told joined legal.
-    joined_more c.args.page.now c.args.ancestors.now c.push.new.self c.args.lines.now.items c.args.line c.args.rec.now accepted c.in_ok-sources.sources.items c.as_slice.result.now told joined legal c.requires.begins
-    c.in_ok-sources.ensures c.as_slice.ensures c.in_ok-push.ensures.pushed
+pub returns-clause-timed : goal.returns-clause-timed
+returns-clause-timed c = λ accepted told timed legal.
+    timed_more c.args.page.now c.args.clocks.now c.push.new.self c.args.lines.now.items c.args.line c.args.rec.now accepted c.in_ok-sources.sources.items c.as_slice.result.now told timed legal c.requires.begins
+    c.in_ok-sources.ensures c.as_slice.ensures c.in_ok-_number.ensures.pushed

@@ -11,6 +11,6 @@ use Rattle.er_run.proofs.lister.list.Given as goal
 abbrev pub invariant-loop-first : goal.invariant-loop-first
 invariant-loop-first l = record {
   races : (accepted : List Accepted) → IsGraph l.graph accepted → Leaves l.kept l.listed.races.items (races_by (path rules_now (records accepted)) (drop l.first l.kept)) (races_by (path rules_now (records accepted)) l.kept);
-  pairs : l.listed.pairs + length (candidates_of (drop l.first l.kept)) ≡ length (candidates_of l.kept);
+  pairs : l.listed.compares + length (candidates_of (drop l.first l.kept)) ≡ length (candidates_of l.kept);
   in_range : All (IsWithin l.kept) l.listed.races.items;
 }

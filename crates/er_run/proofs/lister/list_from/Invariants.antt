@@ -15,6 +15,6 @@ invariant-loop-second l = record {
   races : (accepted : List Accepted) (all : List (Kept × Kept)) → IsGraph l.graph accepted
       → Leaves l.kept l.fn.listed.races.items (races_by (path rules_now (records accepted)) (drop l.first l.kept)) all
       → Leaves l.kept l.listed.races.items (races_among (path rules_now (records accepted)) (pairs_from l.a (drop l.second l.kept) (drop (l.first + 1) l.kept))) all;
-  pairs : l.listed.pairs + length (candidates_among (pairs_from l.a (drop l.second l.kept) (drop (l.first + 1) l.kept))) ≡ l.fn.listed.pairs + length (candidates_of (drop l.first l.kept));
+  pairs : l.listed.compares + length (candidates_among (pairs_from l.a (drop l.second l.kept) (drop (l.first + 1) l.kept))) ≡ l.fn.listed.compares + length (candidates_of (drop l.first l.kept));
   in_range : All (IsWithin l.kept) l.fn.listed.races.items → All (IsWithin l.kept) l.listed.races.items;
 }
