@@ -8,23 +8,27 @@ use Rattle.std.proofs.lemmas.List.{length_push}
 use Rattle.er_text.specs.declared.causes.Cause.{Cause}
 use Rattle.er_text.specs.declared.causes.Cause.TheVariants.{OutOfOrder, TooManyActions, TooDeep}
 use Rattle.er_trace.specs.declared.record.Record.{Record}
-use Rattle.er_paths.proofs.Paths.{enough_long, handed_paths}
+use Rattle.er_paths.specs.Paths.{joins}
+use Rattle.er_paths.specs.Laws.{IsEnough}
+use Rattle.er_paths.proofs.Paths.{enough_long, handed_paths, any_from, paths_stand}
 use Rattle.er_history.specs.History.{told, begins, or_else, action_begun, Action}
-use Rattle.er_history.specs.Edges.{edges, path}
-use Rattle.er_history.specs.Naming.{naming_now, room, first_cause, too_deep, most_actions}
-use Rattle.er_history.specs.Handed.{AreHanded}
+use Rattle.er_history.specs.Edges.{edge, edges, sources, path}
+use Rattle.er_history.specs.Laws.{IsNumbered}
+use Rattle.er_history.specs.Naming.{naming, room, first_cause, too_deep}
+use Rattle.er_paths.specs.Limits.{most_actions}
+use Rattle.er_pieces.specs.PiecesHanded.{ArePiecesHanded}
+use Rattle.er_pieces.proofs.TogetherLemmas.{handed_stay_enough, handed_are_below}
 use Rattle.er_history.specs.Sound.{out_of_order, IsSound}
-use Rattle.er_history.proofs.HistoryLemmas.{edges_length, actions_are_numbered}
-use Rattle.er_history.proofs.NamedLemmas.{no_cause, sound_is_named_now}
+use Rattle.er_history.proofs.HistoryLemmas.{edges_length, actions_are_numbered, among_from, among_below}
+use Rattle.er_history.proofs.NamedLemmas.{no_cause}
 use Rattle.er_clocks.specs.Clock.{StandsFor}
 use Rattle.er_clocks.proofs.Pushes.{clocks_of_paths, clocks_tell_paths}
 use Rattle.er_page.specs.declared.page.Page.{Page}
 use Rattle.er_page.specs.Accepted.{result_of}
 use Rattle.er_page.specs.Page as pages
 use Rattle.er_page.specs.Page.{IsPage, IsSomePage}
-use Rattle.er_graph.specs.Rules.{rules_now}
+use Rattle.er_history.specs.Rules.{Rule, rules}
 use Rattle.er_graph.specs.Accepted.{Accepted, records, lines_of, cause_now, edges_of, IsTold, AreTimed, IsNext, IsSomeGraph}
-use Rattle.er_graph.proofs.EnoughLemmas.{same_actions, enough_itself, enough_more, handed_below}
 
 -- causes
 
@@ -64,7 +68,7 @@ lines_counted (x ∷ older) = step (begins x.read) (lines_counted older)
     step false e = e
 
 pub clocks_counted : (links : List (List ℕ)) (accepted : List Accepted) → AreTimed links accepted → length (told (records accepted)).actions ≡ length links
-clocks_counted links accepted timed = sym (edges_length rules_now (told (records accepted)).actions) ∙ sym (clocks_tell_paths links (edges_of accepted) timed).0
+clocks_counted links accepted timed = sym (edges_length rules (told (records accepted)).actions) ∙ sym (clocks_tell_paths links (edges_of accepted) timed).0
 
 -- what the page, the lines and the clocks are asked for
 
@@ -72,19 +76,19 @@ pub some_page : (page : Page) (links : List (List ℕ)) (kept : List ℕ) (x : R
 some_page page links kept x some = ∥∥₁_map some (λ next. record { list = records next.accepted; stands = next.told.page })
 
 pub next_page : (page : Page) (links : List (List ℕ)) (kept : List ℕ) (x : Record) → ∥ IsNext page links kept x ∥₁ → ∥ pages.IsNext page x ∥₁
-next_page page links kept x some = ∥∥₁_map some (λ next. let p = no_cause rules_now (records next.accepted) x next.legal in record { list = records next.accepted; stands = next.told.page; named = p.named; fits = p.fits })
+next_page page links kept x some = ∥∥₁_map some (λ next. let p = no_cause rules (records next.accepted) x next.legal in record { list = records next.accepted; stands = next.told.page; named = p.named; fits = p.fits })
 
 pub known_sources : (page : Page) (links : List (List ℕ)) (kept : List ℕ) (x : Record) (found passed : List ℕ) → ∥ IsNext page links kept x ∥₁ → passed ≡ found
-    → ((h : List Record) → IsPage page h → IsSound rules_now h → naming_now h x ≡ None → out_of_order rules_now h x ≡ false → AreHanded rules_now (path rules_now h) (told h) x found)
+    → ((h : List Record) → IsPage page h → IsSound rules h → naming h x ≡ None → out_of_order rules h x ≡ false → ArePiecesHanded rules (path rules h) (told h) x found)
     → All (λ k. k < length links) passed
 known_sources page links kept x found passed some same handed = ∥∥₁_elim some (hlevel props) (λ next. known next)
   where
     known : IsNext page links kept x → All (λ k. k < length links) passed
     known next =
         let h = records next.accepted in
-        let p = no_cause rules_now h x next.legal in
+        let p = no_cause rules h x next.legal in
         let are = handed h next.told.page next.told.sound p.named p.ordered in
-        subst (All (λ k. k < length links)) (sym same) (handed_below rules_now h x found (length links) are.sources (clocks_counted links next.accepted next.timed))
+        subst (All (λ k. k < length links)) (sym same) (subst (λ n. All (λ k. k < n) found) (clocks_counted links next.accepted next.timed) (handed_are_below rules h x found are))
 
 -- an action that may begin has room in the clocks
 room_left : (h : List Record) (x : Record) → room h x ≡ None → begins x ≡ true → length (told h).actions < most_actions
@@ -101,9 +105,23 @@ clocks_room page links kept x some begin = ∥∥₁_elim some (hlevel props) (�
     room_of : IsNext page links kept x → length links < most_actions
     room_of next =
         let h = records next.accepted in
-        omega (arith, clocks_counted links next.accepted next.timed, room_left h x (no_cause rules_now h x next.legal).fits begin)
+        omega (arith, clocks_counted links next.accepted next.timed, room_left h x (no_cause rules h x next.legal).fits begin)
+
+-- all sources are enough
+enough_itself : (table : List (ℕ × Rule)) (actions : List Action) → IsNumbered actions → IsEnough (edges table actions) (edges table actions)
+enough_itself table [] n = tt
+enough_itself table (j ∷ older) n =
+    let lists = edges table older in
+    let own = sources table (joins lists) older j in
+    (enough_itself table older n.1, λ k among. among, λ i among.
+        let found = among_from (λ a. edge table (joins lists) a j) older i among in
+        let below : i < length lists = omega (arith, edges_length table older, found.2, among_below older found.0 n.1 found.1) in
+        any_from (λ k. joins lists i k) i own among (paths_stand lists i below))
 
 -- one record more
+
+pub same_actions : (h : List Record) (x : Record) → begins x ≡ false → (told (x ∷ h)).actions ≡ (told h).actions
+same_actions h x e = ap (λ b. if b then action_begun (told h) x ∷ (told h).actions else (told h).actions) e
 
 pub begun_lines : (line : ℕ) (x : Record) (accepted : List Accepted) (kept new : List ℕ) → begins x ≡ true → kept ≡ lines_of accepted → new ≡ kept ++ line ∷ [] → new ≡ lines_of (record { line = line; read = x } ∷ accepted)
 begun_lines line x accepted kept new begin is grown =
@@ -113,9 +131,9 @@ pub same_lines : (line : ℕ) (x : Record) (accepted : List Accepted) (kept : Li
 same_lines line x accepted kept begin is = is ∙ sym (ap (λ b. if b then lines_of accepted ++ line ∷ [] else lines_of accepted) begin)
 
 pub told_more : (old new : Page) (kept grown : List ℕ) (line : ℕ) (x : Record) (accepted : List Accepted) → IsTold old kept accepted → cause_now accepted x ≡ None
-    → ((h : List Record) → IsPage old h → naming_now h x ≡ None → room h x ≡ None → IsPage new (x ∷ h)) → grown ≡ lines_of (record { line = line; read = x } ∷ accepted) → IsTold new grown (record { line = line; read = x } ∷ accepted)
+    → ((h : List Record) → IsPage old h → naming h x ≡ None → room h x ≡ None → IsPage new (x ∷ h)) → grown ≡ lines_of (record { line = line; read = x } ∷ accepted) → IsTold new grown (record { line = line; read = x } ∷ accepted)
 told_more old new kept grown line x accepted told legal taken lines =
-    let p = no_cause rules_now (records accepted) x legal in
+    let p = no_cause rules (records accepted) x legal in
     record { page = taken (records accepted) told.page p.named p.fits; sound = (legal, told.sound); lines = lines }
 
 pub told_still : (old new : Page) (kept same : List ℕ) (accepted : List Accepted) → ((h : List Record) → IsPage old h → IsPage new h) → same ≡ kept → IsTold old kept accepted → IsTold new same accepted
@@ -123,33 +141,33 @@ told_still old new kept same accepted stays e told = record { page = stays (reco
 
 -- a record that begins an action is pushed, with enough of the sources of edges to it
 pub timed_more : (page : Page) (links more : List (List ℕ)) (kept : List ℕ) (line : ℕ) (x : Record) (accepted : List Accepted) (found passed : List ℕ) → IsTold page kept accepted → AreTimed links accepted → cause_now accepted x ≡ None → begins x ≡ true
-    → ((h : List Record) → IsPage page h → IsSound rules_now h → naming_now h x ≡ None → out_of_order rules_now h x ≡ false → AreHanded rules_now (path rules_now h) (told h) x found)
+    → ((h : List Record) → IsPage page h → IsSound rules h → naming h x ≡ None → out_of_order rules h x ≡ false → ArePiecesHanded rules (path rules h) (told h) x found)
     → passed ≡ found → ((lists : List (List ℕ)) → StandsFor links lists → StandsFor more (passed ∷ lists)) → AreTimed more (record { line = line; read = x } ∷ accepted)
 timed_more page links more kept line x accepted found passed told_ timed legal begin handed same pushed =
     let h = records accepted in
-    let p = no_cause rules_now h x legal in
+    let p = no_cause rules h x legal in
     let now = edges_of (record { line = line; read = x } ∷ accepted) in
-    let enough = enough_more rules_now h x found (edges_of accepted) (sound_is_named_now rules_now h told_.sound) p.named begin (handed h told_.page told_.sound p.named p.ordered) (enough_itself rules_now (told h).actions (actions_are_numbered h)) in
+    let enough = handed_stay_enough rules h x found (edges_of accepted) begin (handed h told_.page told_.sound p.named p.ordered) (enough_itself rules (told h).actions (actions_are_numbered h)) in
     clocks_of_paths more (found ∷ edges_of accepted) now (enough_long (found ∷ edges_of accepted) now enough) (λ i j. handed_paths (found ∷ edges_of accepted) now i j enough)
     (subst (λ (l : List ℕ). StandsFor more (l ∷ edges_of accepted)) same (pushed (edges_of accepted) timed))
 
 -- another record changes no edge
 pub timed_still : (links : List (List ℕ)) (line : ℕ) (x : Record) (accepted : List Accepted) → begins x ≡ false → AreTimed links accepted → AreTimed links (record { line = line; read = x } ∷ accepted)
-timed_still links line x accepted begin timed = subst (λ (actions : List Action). StandsFor links (edges rules_now actions)) (sym (same_actions (records accepted) x begin)) timed
+timed_still links line x accepted begin timed = subst (λ (actions : List Action). StandsFor links (edges rules actions)) (sym (same_actions (records accepted) x begin)) timed
 
 -- the answers of a check
 
-pub named_first : (accepted : List Accepted) (x : Record) (c : Cause) → Err c ≡ result_of (naming_now (records accepted) x) → Err c ≡ result_of (cause_now accepted x)
-named_first accepted x c e = first_named (naming_now (records accepted) x) (if out_of_order rules_now (records accepted) x then Some OutOfOrder else room (records accepted) x) c e
+pub named_first : (accepted : List Accepted) (x : Record) (c : Cause) → Err c ≡ result_of (naming (records accepted) x) → Err c ≡ result_of (cause_now accepted x)
+named_first accepted x c e = first_named (naming (records accepted) x) (if out_of_order rules (records accepted) x then Some OutOfOrder else room (records accepted) x) c e
 
-pub room_last : (accepted : List Accepted) (x : Record) (found : Result (Unit {0}) Cause) → Ok tt ≡ result_of (naming_now (records accepted) x) → false ≡ out_of_order rules_now (records accepted) x
+pub room_last : (accepted : List Accepted) (x : Record) (found : Result (Unit {0}) Cause) → Ok tt ≡ result_of (naming (records accepted) x) → false ≡ out_of_order rules (records accepted) x
     → found ≡ result_of (room (records accepted) x) → found ≡ result_of (cause_now accepted x)
 room_last accepted x found named ordered fits =
     let h = records accepted in
-    fits ∙ sym (ap result_of (then_room (naming_now h x) (room h x) (out_of_order rules_now h x) named ordered))
+    fits ∙ sym (ap result_of (then_room (naming h x) (room h x) (out_of_order rules h x) named ordered))
 
-pub late_next : (accepted : List Accepted) (x : Record) → Ok tt ≡ result_of (naming_now (records accepted) x) → true ≡ out_of_order rules_now (records accepted) x → Err OutOfOrder ≡ result_of (cause_now accepted x)
-late_next accepted x named late = let h = records accepted in then_late (naming_now h x) (room h x) (out_of_order rules_now h x) named late
+pub late_next : (accepted : List Accepted) (x : Record) → Ok tt ≡ result_of (naming (records accepted) x) → true ≡ out_of_order rules (records accepted) x → Err OutOfOrder ≡ result_of (cause_now accepted x)
+late_next accepted x named late = let h = records accepted in then_late (naming h x) (room h x) (out_of_order rules h x) named late
 
 -- look-ups
 

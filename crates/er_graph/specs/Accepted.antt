@@ -8,7 +8,7 @@ use Rattle.er_history.specs.Sound.{cause, IsSound}
 use Rattle.er_clocks.specs.Clock.{StandsFor}
 use Rattle.er_page.specs.declared.page.Page.{Page}
 use Rattle.er_page.specs.Page.{IsPage}
-use Rattle.er_graph.specs.Rules.{rules_now}
+use Rattle.er_history.specs.Rules.{rules}
 
 -- a record that was accepted, with the line that was handed in
 pub record Accepted : Type 0 where
@@ -26,12 +26,12 @@ lines_of (x ∷ older) = if begins x.read then lines_of older ++ x.line ∷ [] e
 -- a page and lines say what the accepted records say
 pub record IsTold (shown : Page) (kept : List ℕ) (accepted : List Accepted) : Type 0 where
   pub page : IsPage shown (records accepted)
-  pub sound : IsSound rules_now (records accepted)
+  pub sound : IsSound rules (records accepted)
   pub lines : kept ≡ lines_of accepted
 
 -- the edges between the actions of the accepted records
 abbrev pub edges_of : List Accepted → List (List ℕ)
-edges_of accepted = edges rules_now (told (records accepted)).actions
+edges_of accepted = edges rules (told (records accepted)).actions
 
 -- clocks stand for these edges
 abbrev pub AreTimed : List (List ℕ) → List Accepted → Type 0
@@ -39,7 +39,7 @@ AreTimed links accepted = StandsFor links (edges_of accepted)
 
 -- the first cause against a record after the accepted ones
 abbrev pub cause_now : List Accepted → Record → Option Cause
-cause_now accepted x = cause rules_now (records accepted) x
+cause_now accepted x = cause rules (records accepted) x
 
 -- the parts of a graph are those of some accepted records, after which the record is accepted
 pub record IsNext (shown : Page) (links : List (List ℕ)) (kept : List ℕ) (x : Record) : Type 0 where

@@ -1,4 +1,2 @@
 pub mod Accepted
 pub mod Graph
-pub mod Rules
-pub mod Timers

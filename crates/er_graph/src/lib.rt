@@ -6,7 +6,6 @@ pub mod fault;
 pub mod graph;
 mod grow;
 mod order;
-mod timers;
 
 pub use fault::GraphFault;
 pub use graph::Graph;

@@ -1,29 +1,48 @@
-//! The rules of all crates together: whether a record comes too late, and what comes before it.
+//! The rules of all crates together: whether a record comes too late, and what comes before it. A crate of rules is a line in each.
 
-ghost use Rattle.std.specs.Prelude.{◌≡◌, List, false, None, IfOk};
+ghost use Rattle.std.specs.Prelude.{◌≡◌, List, Bool, false, None, IfOk};
+ghost use Rattle.std.specs.List.{list_any};
 ghost use Rattle.er_trace.specs.declared.record.Record.{Record};
 ghost use Rattle.er_history.specs.History.{told};
+ghost use Rattle.er_history.specs.Rules.{rules};
 ghost use Rattle.er_history.specs.Edges.{path};
-ghost use Rattle.er_history.specs.Naming.{naming_now};
-ghost use Rattle.er_history.specs.Handed.{AreHanded};
+ghost use Rattle.er_history.specs.Naming.{naming};
 ghost use Rattle.er_history.specs.Sound.{IsSound, out_of_order};
+ghost use Rattle.er_pieces.specs.PiecesHanded.{ArePiecesHanded};
 ghost use Rattle.er_page.specs.Page.{IsPage, IsSomePage};
-ghost use Rattle.er_graph.specs.Rules.{rules_now};
 
-use crate::timers;
 use er_outside::NoMemory;
 use er_page::page::Page;
+use er_rules_dispatch as dispatch;
+use er_rules_load as load;
 use er_rules_parse as parse;
+use er_rules_request as request;
 use er_rules_script as script;
+use er_rules_timer as timer;
 use er_trace::record::Record;
 use smallvec::SmallVec;
 use std::alloc::Global;
 
 /// Whether a rule leads from the event that the record would begin to one that has begun. It takes no memory.
 pub(crate) fn is_late(page: &Page, rec: &Record) -> bool
-    ensures { (h : List Record) → IsPage page.now h → IsSound rules_now h → naming_now h rec.now ≡ None → result ≡ out_of_order rules_now h rec.now }
+    ensures { (h : List Record) → IsPage page.now h → IsSound rules h → naming h rec.now ≡ None
+        → result ≡ out_of_order rules h rec.now }
 {
-    parse::against::against(page, rec) || script::against::against(page, rec)
+    let late = [
+        parse::against::against(page, rec),
+        script::against::against(page, rec),
+        load::against::against(page, rec),
+        dispatch::against::against(page, rec),
+        timer::against::against(page, rec),
+        request::against::against(page, rec),
+    ];
+    is_any(&late)
+}
+
+fn is_any(late: &[bool]) -> bool
+    ensures { result ≡ list_any (λ (b : Bool). b) late.now }
+{
+    late.iter().any(|late| *late)
 }
 
 /// Sources of edges to the action that the record would begin: each source has a path to one of them.
@@ -33,12 +52,15 @@ pub(crate) fn sources(
     rec: &Record,
 ) -> Result<SmallVec<u32, 8>, NoMemory>
     requires some { ∥ IsSomePage page.now ∥₁ }
-    ensures { IfOk result (λ found. (h : List Record) → IsPage page.now h → IsSound rules_now h → naming_now h rec.now ≡ None → out_of_order rules_now h rec.now ≡ false
-        → AreHanded rules_now (path rules_now h) (told h) rec.now found.items) }
+    ensures { IfOk result (λ found. (h : List Record) → IsPage page.now h → IsSound rules h → naming h rec.now ≡ None
+        → out_of_order rules h rec.now ≡ false → ArePiecesHanded rules (path rules h) (told h) rec.now found.items) }
 {
     let mut found = SmallVec::new(alloc);
     parse::predecessors::predecessors(page, rec, &mut found)?;
     script::predecessors::predecessors(page, rec, &mut found)?;
-    timers::predecessors(page, rec, &mut found)?;
+    load::predecessors::predecessors(page, rec, &mut found)?;
+    dispatch::predecessors::predecessors(page, rec, &mut found)?;
+    timer::predecessors::predecessors(page, rec, &mut found)?;
+    request::predecessors::predecessors(page, rec, &mut found)?;
     Ok(found)
 }

@@ -14,7 +14,7 @@ use Rattle.er_trace.specs.Spelling.{spelling, IsRecord}
 use Rattle.er_trace.specs.Trace.{Place, Start, After, Ended, records_before, line, lines, header, end_word, most_lines, IsPlace, Refuses}
 use Rattle.er_history.specs.Sound.{IsLegal}
 use Rattle.er_history.specs.Sound as sound
-use Rattle.er_graph.specs.Rules.{rules_now}
+use Rattle.er_history.specs.Rules.{rules}
 use Rattle.er_run.specs.Answer.{most_bytes, FirstIllegal, IsRefused}
 
 -- a list around one of its members
@@ -45,7 +45,7 @@ lines_around xs x ys front more = rw flat_map-append (simp append_assoc)
 
 -- the record at that place of those that were read is the first illegal one
 pub illegal_record : (bytes more : List ℕ) (records : List Record) (at : ℕ) (x : Record) (c : Cause) → bytes ≡ (line header ++ lines records) ++ more → AllByRecursion IsRecord records → length records + 1 ≤ most_lines
-    → slice_get records at ≡ Some x → IsLegal rules_now (reverse (take at records)) → sound.cause rules_now (reverse (take at records)) x ≡ Some c → FirstIllegal bytes (at + 2) c
+    → slice_get records at ≡ Some x → IsLegal rules (reverse (take at records)) → sound.cause rules (reverse (take at records)) x ≡ Some c → FirstIllegal bytes (at + 2) c
 illegal_record bytes more records at x c spelled each few found legal cause =
     let r = around records at x found in
     let there : AllByRecursion IsRecord (r.earlier ++ x ∷ r.later) = subst (AllByRecursion IsRecord) r.is each in
@@ -54,7 +54,7 @@ illegal_record bytes more records at x c spelled each few found legal cause =
     record {
       place = After r.earlier;
       number = omega (arith, r.count);
-      legal = subst (λ h. IsLegal rules_now (reverse h)) r.taken legal;
+      legal = subst (λ h. IsLegal rules (reverse h)) r.taken legal;
       refused = inr (
         refl,
         record {
@@ -64,13 +64,13 @@ illegal_record bytes more records at x c spelled each few found legal cause =
           is_record = each_at r.earlier r.later x there;
           rest = lines r.later ++ more;
           begins = spelled ∙ ap (λ rs. (line header ++ lines rs) ++ more) r.is ∙ lines_around r.earlier x r.later (line header) more;
-          cause = subst (λ h. sound.cause rules_now (reverse h) x ≡ Some c) r.taken cause;
+          cause = subst (λ h. sound.cause rules (reverse h) x ≡ Some c) r.taken cause;
         },
       );
     }
 
 illegal_before : (bytes : List ℕ) (place : Place) (records : List Record) (why : Cause) → Refuses bytes place why → records ≡ records_before place → (at : ℕ) (x : Record) (c : Cause)
-    → slice_get records at ≡ Some x → IsLegal rules_now (reverse (take at records)) → sound.cause rules_now (reverse (take at records)) x ≡ Some c → FirstIllegal bytes (at + 2) c
+    → slice_get records at ≡ Some x → IsLegal rules (reverse (take at records)) → sound.cause rules (reverse (take at records)) x ≡ Some c → FirstIllegal bytes (at + 2) c
 illegal_before bytes Start records why r same at x c found legal cause = let none : slice_get {X = Record} [] at ≡ Some x = subst (λ rs. slice_get rs at ≡ Some x) same found in absurd (cc)
 illegal_before bytes (After earlier) records why r same at x c found legal cause =
     illegal_record bytes r.rest records at x c (subst (λ rs. bytes ≡ (line header ++ lines rs) ++ r.rest) (sym same) r.begins) (subst (AllByRecursion IsRecord) (sym same) r.is_place.each) (omega (arith, ap length same, r.is_place.few)) found legal cause
@@ -84,7 +84,7 @@ few_before (Ended earlier) records h same = omega (arith, ap length same, h.few)
 
 -- each record that was read stands behind the header and those before it
 pub illegal_read : (bytes : List ℕ) (records : List Record) (refused : Option LineRefusal) (at : ℕ) (x : Record) (c : Cause) → IsReading bytes records refused
-    → slice_get records at ≡ Some x → IsLegal rules_now (reverse (take at records)) → sound.cause rules_now (reverse (take at records)) x ≡ Some c → FirstIllegal bytes (at + 2) c
+    → slice_get records at ≡ Some x → IsLegal rules (reverse (take at records)) → sound.cause rules (reverse (take at records)) x ≡ Some c → FirstIllegal bytes (at + 2) c
 illegal_read bytes records None at x c reading found legal cause = illegal_record bytes (line end_word) records at x c reading.1 reading.0.each (omega (arith, reading.0.few)) found legal cause
 illegal_read bytes records (Some refused) at x c reading found legal cause = illegal_before bytes reading.0 records refused.cause reading.1 reading.3 at x c found legal cause
 
@@ -105,7 +105,7 @@ refused_judged bytes records refused line c few reading judged =
     refused_within bytes line c few (subst (λ n. FirstIllegal bytes n c) (sym judged.1) first)
 
 -- the line behind the records is the first illegal one
-pub refused_line : (bytes : List ℕ) (records : List Record) (refused : Option LineRefusal) (line : LineRefusal) → length bytes ≤ most_bytes → IsReading bytes records refused → refused ≡ Some line → IsLegal rules_now (reverse records) → IsRefused bytes line.line line.cause
+pub refused_line : (bytes : List ℕ) (records : List Record) (refused : Option LineRefusal) (line : LineRefusal) → length bytes ≤ most_bytes → IsReading bytes records refused → refused ≡ Some line → IsLegal rules (reverse records) → IsRefused bytes line.line line.cause
 refused_line bytes records refused line few reading is legal =
     let read : IsReading bytes records (Some line) = subst (IsReading bytes records) is reading in
-    refused_within bytes line.line line.cause few (record { place = read.0; number = read.2; legal = subst (λ rs. IsLegal rules_now (reverse rs)) read.3 legal; refused = inl read.1 })
+    refused_within bytes line.line line.cause few (record { place = read.0; number = read.2; legal = subst (λ rs. IsLegal rules (reverse rs)) read.3 legal; refused = inl read.1 })

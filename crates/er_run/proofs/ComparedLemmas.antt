@@ -10,7 +10,7 @@ use Rattle.er_history.proofs.HistoryLemmas.{edges_length}
 use Rattle.er_clocks.specs.Clock.{StandsFor}
 use Rattle.er_clocks.proofs.Pushes.{clocks_tell_paths}
 use Rattle.er_graph.specs.declared.graph.Graph.{Graph}
-use Rattle.er_graph.specs.Rules.{rules_now}
+use Rattle.er_history.specs.Rules.{rules}
 use Rattle.er_graph.specs.Accepted.{Accepted, records, edges_of, AreTimed}
 use Rattle.er_graph.specs.Graph.{IsGraph}
 use Rattle.er_run.specs.declared.accesses.Kept.{Kept}
@@ -23,7 +23,7 @@ abbrev pub AreClocks : Graph → List (List ℕ) → Type 0
 AreClocks graph links = (accepted : List Accepted) → IsGraph graph accepted → AreTimed links accepted
 
 clocks_counted : (links : List (List ℕ)) (accepted : List Accepted) → AreTimed links accepted → length links ≡ length (told (records accepted)).actions
-clocks_counted links accepted timed = (clocks_tell_paths links (edges_of accepted) timed).0 ∙ edges_length rules_now (told (records accepted)).actions
+clocks_counted links accepted timed = (clocks_tell_paths links (edges_of accepted) timed).0 ∙ edges_length rules (told (records accepted)).actions
 
 pub first_within : (graph : Graph) (links : List (List ℕ)) (i j : ℕ) → AreClocks graph links → ∥ HaveBegun graph i j ∥₁ → i < length links
 first_within graph links i j clocks some = ∥∥₁_elim some (hlevel props) (λ have. within have)
@@ -37,7 +37,7 @@ second_within graph links i j clocks some = ∥∥₁_elim some (hlevel props) (
     within : HaveBegun graph i j → j < length links
     within have = let e = clocks_counted links have.accepted (clocks have.accepted have.stands) in let below = have.second in omega (arith, e, below)
 
-pub compared : (graph : Graph) (links : List (List ℕ)) (accepted : List Accepted) (i j : ℕ) (b : Bool) → AreClocks graph links → IsGraph graph accepted → b ≡ joins links i j → path rules_now (records accepted) i j ≡ b
+pub compared : (graph : Graph) (links : List (List ℕ)) (accepted : List Accepted) (i j : ℕ) (b : Bool) → AreClocks graph links → IsGraph graph accepted → b ≡ joins links i j → path rules (records accepted) i j ≡ b
 compared graph links accepted i j b clocks stands e = sym (e ∙ (clocks_tell_paths links (edges_of accepted) (clocks accepted stands)).1 i j)
 
 -- a candidate that a path joins is no race, and another one is

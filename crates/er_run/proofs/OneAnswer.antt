@@ -13,7 +13,7 @@ use Rattle.er_trace.proofs.RecordLaws.{spelling_is_no_end}
 use Rattle.er_trace.proofs.OneTrace.{one_refusal, trace_not_refused, one_trace, SameRefusal, a_line, bytes_of, whole_header, whole_end, whole_record, same_first}
 use Rattle.er_history.specs.Sound.{IsLegal}
 use Rattle.er_history.specs.Sound as sound
-use Rattle.er_graph.specs.Rules.{rules_now}
+use Rattle.er_history.specs.Rules.{rules}
 use Rattle.er_run.specs.Races.{races}
 use Rattle.er_run.specs.Report.{report, refusal}
 use Rattle.er_run.specs.declared.outcome.Outcome.{Outcome}
@@ -44,7 +44,7 @@ meets (x ∷ a) (y ∷ b) r s first second e =
     meets_more x y a b r s same.0 (meets a b r s first.1 second.1 same.1)
 
 -- in a legal list no record has a cause
-legal_older : (newer older : List Record) → IsLegal rules_now (newer ++ older) → IsLegal rules_now older
+legal_older : (newer older : List Record) → IsLegal rules (newer ++ older) → IsLegal rules older
 legal_older [] older h = h
 legal_older (x ∷ newer) older h = legal_older newer older h.1
 
@@ -53,11 +53,11 @@ reverse_front earlier more x =
     (reverse-append earlier (x ∷ more) ∙ ap (λ (l : List Record). l ++ reverse earlier) (reverse-append (x ∷ []) more))
     ∙ append_assoc (reverse more) (x ∷ []) (reverse earlier)
 
-no_cause : (list earlier more : List Record) (x : Record) (c : Cause) → IsLegal rules_now (reverse list) → list ≡ earlier ++ x ∷ more → sound.cause rules_now (reverse earlier) x ≡ Some c → ⊥
+no_cause : (list earlier more : List Record) (x : Record) (c : Cause) → IsLegal rules (reverse list) → list ≡ earlier ++ x ∷ more → sound.cause rules (reverse earlier) x ≡ Some c → ⊥
 no_cause list earlier more x c legal e cause =
     let back : reverse list ≡ reverse more ++ x ∷ reverse earlier = ap reverse e ∙ reverse_front earlier more x in
-    let older : IsLegal rules_now (x ∷ reverse earlier) = legal_older (reverse more) (x ∷ reverse earlier) (subst (IsLegal rules_now) back legal) in
-    let none : sound.cause rules_now (reverse earlier) x ≡ None = older.0 in
+    let older : IsLegal rules (x ∷ reverse earlier) = legal_older (reverse more) (x ∷ reverse earlier) (subst (IsLegal rules) back legal) in
+    let none : sound.cause rules (reverse earlier) x ≡ None = older.0 in
     let both : None ≡ Some c = sym none ∙ cause in
     absurd (cc)
 
@@ -68,13 +68,13 @@ record Faulty (bytes : List ℕ) (earlier : List Record) (x : Record) (c : Cause
   is_record : IsRecord x
   rest : List ℕ
   begins : bytes ≡ line header ++ (lines earlier ++ (line (spelling x) ++ rest))
-  cause : sound.cause rules_now (reverse earlier) x ≡ Some c
+  cause : sound.cause rules (reverse earlier) x ≡ Some c
 
 -- behind the header these legal records stand, and then these bytes
 record Legally (bytes : List ℕ) (records : List Record) (rest : List ℕ) : Type 0 where
   each : AllByRecursion IsRecord records
   begins : bytes ≡ line header ++ (lines records ++ rest)
-  legal : IsLegal rules_now (reverse records)
+  legal : IsLegal rules (reverse records)
 
 faulty : (bytes : List ℕ) (earlier : List Record) (c : Cause) (h : RefusesRecord bytes earlier c) → Faulty bytes earlier h.read c
 faulty bytes earlier c h = record {
@@ -90,7 +90,7 @@ faulty bytes earlier c h = record {
 abbrev NoRecord : List ℕ → Type 0
 NoRecord bytes = (x : Record) (rest : List ℕ) → IsRecord x → bytes ≡ line (spelling x) ++ rest → ⊥
 
-not_legally_by : (earlier records : List Record) (x : Record) (c : Cause) (r s : List ℕ) → Meets earlier records (line (spelling x) ++ r) s → IsRecord x → sound.cause rules_now (reverse earlier) x ≡ Some c → IsLegal rules_now (reverse records)
+not_legally_by : (earlier records : List Record) (x : Record) (c : Cause) (r s : List ℕ) → Meets earlier records (line (spelling x) ++ r) s → IsRecord x → sound.cause rules (reverse earlier) x ≡ Some c → IsLegal rules (reverse records)
     → (length records ≤ length earlier → NoRecord s) → ⊥
 not_legally_by earlier records x c r s (Equal e there) is cause legal stops = stops (omega (arith, ap length e)) x r is (sym there)
 not_legally_by earlier records x c r s (Shorter y more rest is_y e there) is cause legal stops =
@@ -130,7 +130,7 @@ no_header (Ok l) c rest h e = h.0 cc
 no_header (Err why) c rest h e = absurd (cc)
 
 -- a record that has a cause, and a line that has one, where each stands behind legal records
-record_not_line : (bytes : List ℕ) (earlier : List Record) (x : Record) (c d : Cause) (place : Place) → Faulty bytes earlier x c → IsLegal rules_now (reverse (records_before place)) → Refuses bytes place d → ⊥
+record_not_line : (bytes : List ℕ) (earlier : List Record) (x : Record) (c d : Cause) (place : Place) → Faulty bytes earlier x c → IsLegal rules (reverse (records_before place)) → Refuses bytes place d → ⊥
 record_not_line bytes earlier x c d Start first legal second =
     let same : bytes ≡ second.rest = second.begins in
     no_header (whole_line bytes) d (lines earlier ++ (line (spelling x) ++ first.rest)) (rw same second.cause) (ap whole_line first.begins ∙ whole_header (lines earlier ++ (line (spelling x) ++ first.rest)))
@@ -157,10 +157,10 @@ record_not_trace bytes earlier records x c first second =
 
 -- the first records that have a cause are the same
 same_record_by : (a b : List Record) (x y : Record) (c d : Cause) (r s : List ℕ) → Meets a b (line (spelling x) ++ r) (line (spelling y) ++ s) → IsRecord x → IsRecord y
-    → sound.cause rules_now (reverse a) x ≡ Some c → sound.cause rules_now (reverse b) y ≡ Some d → IsLegal rules_now (reverse a) → IsLegal rules_now (reverse b) → (a ≡ b) × (c ≡ d)
+    → sound.cause rules (reverse a) x ≡ Some c → sound.cause rules (reverse b) y ≡ Some d → IsLegal rules (reverse a) → IsLegal rules (reverse b) → (a ≡ b) × (c ≡ d)
 same_record_by a b x y c d r s (Equal e there) is_x is_y cause_x cause_y legal_a legal_b =
     let same : x ≡ y = (same_first x y r s is_x is_y there).0 in
-    let twice : sound.cause rules_now (reverse a) x ≡ sound.cause rules_now (reverse b) y = ap (λ l. sound.cause rules_now (reverse l) x) e ∙ ap (sound.cause rules_now (reverse b)) same in
+    let twice : sound.cause rules (reverse a) x ≡ sound.cause rules (reverse b) y = ap (λ l. sound.cause rules (reverse l) x) e ∙ ap (sound.cause rules (reverse b)) same in
     let causes : Some c ≡ Some d = (sym cause_x ∙ twice) ∙ cause_y in
     (e, cc)
 same_record_by a b x y c d r s (Shorter z more rest is_z e there) is_x is_y cause_x cause_y legal_a legal_b =
@@ -170,7 +170,7 @@ same_record_by a b x y c d r s (Longer z more rest is_z e there) is_x is_y cause
     let same : y ≡ z = (same_first y z s rest is_y is_z there).0 in
     absurd (no_cause a b more y d legal_a (e ∙ ap (λ w. b ++ w ∷ more) (sym same)) cause_y)
 
-same_record : (bytes : List ℕ) (a b : List Record) (x y : Record) (c d : Cause) → Faulty bytes a x c → Faulty bytes b y d → IsLegal rules_now (reverse a) → IsLegal rules_now (reverse b) → (a ≡ b) × (c ≡ d)
+same_record : (bytes : List ℕ) (a b : List Record) (x y : Record) (c d : Cause) → Faulty bytes a x c → Faulty bytes b y d → IsLegal rules (reverse a) → IsLegal rules (reverse b) → (a ≡ b) × (c ≡ d)
 same_record bytes a b x y c d first second legal_a legal_b =
     let r : List ℕ = line (spelling x) ++ first.rest in
     let s : List ℕ = line (spelling y) ++ second.rest in
@@ -179,10 +179,10 @@ same_record bytes a b x y c d first second legal_a legal_b =
 
 -- what refuses the bytes first: a line, or a record
 data Illegal (bytes : List ℕ) (n : ℕ) (c : Cause) : Type 0 where
-  ByLine : (place : Place) → n ≡ line_number place → IsLegal rules_now (reverse (records_before place)) → Refuses bytes place c → Illegal bytes n c
-  ByRecord : (earlier : List Record) (x : Record) → n ≡ length earlier + 2 → IsLegal rules_now (reverse earlier) → Faulty bytes earlier x c → Illegal bytes n c
+  ByLine : (place : Place) → n ≡ line_number place → IsLegal rules (reverse (records_before place)) → Refuses bytes place c → Illegal bytes n c
+  ByRecord : (earlier : List Record) (x : Record) → n ≡ length earlier + 2 → IsLegal rules (reverse earlier) → Faulty bytes earlier x c → Illegal bytes n c
 
-illegal_by : (bytes : List ℕ) (n : ℕ) (c : Cause) (place : Place) → n ≡ line_number place → IsLegal rules_now (reverse (records_before place))
+illegal_by : (bytes : List ℕ) (n : ℕ) (c : Cause) (place : Place) → n ≡ line_number place → IsLegal rules (reverse (records_before place))
     → Refuses bytes place c ⊎ ((place ≡ After (records_before place)) × RefusesRecord bytes (records_before place) c) → Illegal bytes n c
 illegal_by bytes n c place number legal (inl h) = ByLine place number legal h
 illegal_by bytes n c place number legal (inr h) = ByRecord (records_before place) h.1.read (number ∙ ap line_number h.0) legal (faulty bytes (records_before place) c h.1)

@@ -16,7 +16,7 @@ use Rattle.er_page.specs.declared.page.Page.{Page}
 use Rattle.er_page.specs.Page.{IsPage}
 use Rattle.er_graph.specs.Accepted.{Accepted, records}
 use Rattle.er_graph.specs.Graph.{IsGraph, IsListed}
-use Rattle.er_graph.specs.Rules.{rules_now}
+use Rattle.er_history.specs.Rules.{rules}
 use Rattle.er_run.specs.declared.accesses.Kept.{Kept}
 use Rattle.er_run.specs.declared.session.Session.{Session}
 use Rattle.std.proofs.lemmas.List.{length-map}
@@ -75,11 +75,11 @@ same_counts : (c : Counts) (accesses pairs races : ℕ) → accesses ≡ c.acces
 same_counts c accesses pairs races p q r = λ i. record { actions = c.actions; accesses = p i; pairs = q i; races = r i; chains = c.chains; links = c.links }
 
 pub reports : (s : Session) (h : List Record) (listed : Listed) (c : Counts) → StandsFor s h
-    → ((accepted : List Accepted) → IsGraph s.graph accepted → ArePairs s.kept.items listed.races.items (races_by (path rules_now (records accepted)) s.kept.items))
+    → ((accepted : List Accepted) → IsGraph s.graph accepted → ArePairs s.kept.items listed.races.items (races_by (path rules (records accepted)) s.kept.items))
     → listed.compares ≡ length (candidates_of s.kept.items) → c ≡ counts_by h s listed → IsReport s h listed.races.items c
 reports s h listed c stands found paired counted =
-    let here : ArePairs s.kept.items listed.races.items (races_by (path rules_now h) s.kept.items) = subst (λ l. ArePairs s.kept.items listed.races.items (races_by (path rules_now l) s.kept.items)) (records_numbered h) (found (numbered h) stands.graph) in
-    let are : ArePairs s.kept.items listed.races.items (races h) = subst (λ (ks : List Kept). ArePairs s.kept.items listed.races.items (races_by (path rules_now h) ks)) stands.accesses here in
+    let here : ArePairs s.kept.items listed.races.items (races_by (path rules h) s.kept.items) = subst (λ l. ArePairs s.kept.items listed.races.items (races_by (path rules l) s.kept.items)) (records_numbered h) (found (numbered h) stands.graph) in
+    let are : ArePairs s.kept.items listed.races.items (races h) = subst (λ (ks : List Kept). ArePairs s.kept.items listed.races.items (races_by (path rules h) ks)) stands.accesses here in
     record {
       are_pairs = are;
       text = ap (report_text (races h)) (counted ∙ same_counts (counts h) (length s.kept.items) listed.compares (length listed.races.items) (ap length stands.accesses)
@@ -93,10 +93,10 @@ pub counted : (s : Session) (page : Page) (rows : List (List ℕ)) (h : List Rec
     → ((lists : List (List ℕ)) → clocks.StandsFor rows lists → c.chains ≡ length (chains lists)) → ((lists : List (List ℕ)) → clocks.StandsFor rows lists → c.links ≡ link_count lists)
     → c ≡ counts_by h s listed
 counted s page rows h listed c stands shows timed actions accesses pairs races chained linked =
-    let lists : clocks.StandsFor rows (edges rules_now (told h).actions) = subst (λ l. clocks.StandsFor rows (edges rules_now (told l).actions)) (records_numbered h) (timed (numbered h) stands.graph) in
+    let lists : clocks.StandsFor rows (edges rules (told h).actions) = subst (λ l. clocks.StandsFor rows (edges rules (told l).actions)) (records_numbered h) (timed (numbered h) stands.graph) in
     let begun = actions h (page_of page s.graph h shows stands.graph) in
-    let chain = chained (edges rules_now (told h).actions) lists in
-    let link = linked (edges rules_now (told h).actions) lists in
+    let chain = chained (edges rules (told h).actions) lists in
+    let link = linked (edges rules (told h).actions) lists in
     λ i. record { actions = begun i; accesses = accesses i; pairs = pairs i; races = races i; chains = chain i; links = link i }
 
 empty_of_none : {X : Type 0} (xs : List X) → length xs ≡ 0 → xs ≡ []

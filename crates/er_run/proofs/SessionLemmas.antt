@@ -19,7 +19,7 @@ use Rattle.er_graph.specs.Accepted.{Accepted, records, cause_now}
 use Rattle.er_graph.specs.Graph.{IsGraph, IsListed, IsFault}
 use Rattle.er_graph.specs.declared.fault.GraphFault.{GraphFault}
 use Rattle.er_graph.specs.declared.fault.GraphFault.TheVariants.{Refused, NoMemory}
-use Rattle.er_graph.specs.Rules.{rules_now}
+use Rattle.er_history.specs.Rules.{rules}
 use Rattle.er_run.specs.declared.accesses.Kept.{Kept}
 use Rattle.er_run.specs.declared.session.Session.{Session}
 use Rattle.er_run.specs.Races.{kept, accesses_of, without_repeats, repeats}
@@ -31,8 +31,8 @@ pub records_numbered : (h : List Record) → records (numbered h) ≡ h
 records_numbered [] = refl
 records_numbered (x ∷ h) = ap (λ l. x ∷ l) (records_numbered h)
 
-pub legal_session : (s : Session) (h : List Record) → StandsFor s h → IsLegal rules_now h
-legal_session s h stands = subst (IsSound rules_now) (records_numbered h) stands.graph.listed.sound
+pub legal_session : (s : Session) (h : List Record) → StandsFor s h → IsLegal rules h
+legal_session s h stands = subst (IsSound rules) (records_numbered h) stands.graph.listed.sound
 
 pub page_of : (page : Page) (graph : Graph) (h : List Record) → ((accepted : List Accepted) → IsListed graph accepted → IsPage page (records accepted)) → IsGraph graph (numbered h) → IsPage page h
 page_of page graph h is stands = subst (IsPage page) (records_numbered h) (is (numbered h) stands.listed)
@@ -42,7 +42,7 @@ abbrev pub Accepts : Graph → Graph → ℕ → Record → Type 0
 Accepts old new line x = (accepted : List Accepted) → IsGraph old accepted → (cause_now accepted x ≡ None) × IsGraph new (record { line = line; read = x } ∷ accepted)
 
 pub record IsAfter (graph : Graph) (h : List Record) (x : Record) (line : ℕ) : Type 0 where
-  pub legal : sound.cause rules_now h x ≡ None
+  pub legal : sound.cause rules h x ≡ None
   pub stands : IsGraph graph (numbered (x ∷ h))
   pub line_is : line ≡ length (told h).entries + 2
 
@@ -51,7 +51,7 @@ after old graph h x line stands e accepts =
     let p = accepts (numbered h) stands.graph in
     let at : line ≡ length h + 2 = omega (arith, e, stands.count) in
     record {
-      legal = ap (λ l. sound.cause rules_now l x) (sym (records_numbered h)) ∙ p.0;
+      legal = ap (λ l. sound.cause rules l x) (sym (records_numbered h)) ∙ p.0;
       stands = subst (λ n. IsGraph graph (record { line = n; read = x } ∷ numbered h)) at p.1;
       line_is = omega (arith, at, entries_length h);
     }
@@ -62,7 +62,7 @@ IsFallingTo actions accesses = IsFalling (length actions) (reverse accesses)
 -- a record is refused with its line, for the first cause against it
 pub fault_after : (old : Session) (new : Graph) (h : List Record) (x : Record) (line : ℕ) (fault : GraphFault) → StandsFor old h → line ≡ old.records + 2 → IsFault fault line x old.graph new → IsFaultAfter h x fault
 fault_after old new h x line (Refused l c) stands e is =
-    (omega (arith, is.0, e, stands.count), ap (λ k. sound.cause rules_now k x) (sym (records_numbered h)) ∙ is.2 (numbered h) stands.graph.listed)
+    (omega (arith, is.0, e, stands.count), ap (λ k. sound.cause rules k x) (sym (records_numbered h)) ∙ is.2 (numbered h) stands.graph.listed)
 fault_after old new h x line NoMemory stands e is = tt
 
 -- what the access asks of the accesses before it
@@ -84,7 +84,7 @@ not_access (Access m l) other = absurd (other m l refl)
 not_access x other = refl
 
 pub noted : (old new : Session) (h : List Record) (x : Record) (line : ℕ) → StandsFor old h → line ≡ old.records + 2 → Accepts old.graph new.graph line x → is_access x ≡ false
-    → new.kept.items ≡ old.kept.items → new.records ≡ old.records + 1 → (sound.cause rules_now h x ≡ None) × StandsFor new (x ∷ h)
+    → new.kept.items ≡ old.kept.items → new.records ≡ old.records + 1 → (sound.cause rules h x ≡ None) × StandsFor new (x ∷ h)
 noted old new h x line stands e accepts access accesses count =
     let a = after old new.graph h x line stands e accepts in
     (a.legal, record { graph = a.stands; accesses = accesses ∙ (stands.accesses ∙ sym (same_kept h x access)); count = omega (arith, count, stands.count) })
@@ -92,7 +92,7 @@ noted old new h x line stands e accepts access accesses count =
 pub accessed : (old new : Session) (page : Page) (h : List Record) (x : Record) (m : Mode) (l : Loc) (line : ℕ) → StandsFor old h → x ≡ Access m l → line ≡ old.records + 2 → Accepts old.graph new.graph line x
     → ((accepted : List Accepted) → IsListed new.graph accepted → IsPage page (records accepted))
     → ((h : List Record) (place : ℕ) → IsPage page h → line ≡ place + 2 → new.kept.items ≡ without_repeats (accesses_of (record { read = Access m l; place = place; action = running (told h).actions })) old.kept.items)
-    → new.records ≡ old.records + 1 → (sound.cause rules_now h x ≡ None) × StandsFor new (x ∷ h)
+    → new.records ≡ old.records + 1 → (sound.cause rules h x ≡ None) × StandsFor new (x ∷ h)
 accessed old new page h x m l line stands is e accepts shows keeps count =
     let a = after old new.graph h x line stands e accepts in
     let now : new.kept.items ≡ without_repeats (accesses_of (record { read = Access m l; place = length (told h).entries; action = running (told (x ∷ h)).actions })) old.kept.items

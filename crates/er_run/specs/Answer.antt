@@ -7,7 +7,7 @@ use Rattle.er_trace.specs.Spelling.{spelling, IsRecord}
 use Rattle.er_trace.specs.Trace.{Place, After, records_before, bytes_before, line_number, line, text, most_lines, IsPlace, IsTrace, Refuses}
 use Rattle.er_history.specs.Sound.{IsLegal}
 use Rattle.er_history.specs.Sound as sound
-use Rattle.er_graph.specs.Rules.{rules_now}
+use Rattle.er_history.specs.Rules.{rules}
 use Rattle.er_run.specs.Races.{races}
 use Rattle.er_run.specs.Report.{report, refusal}
 use Rattle.er_run.specs.declared.outcome.Outcome.{Outcome}
@@ -22,7 +22,7 @@ pub record IsLegalTrace (bytes : List ℕ) (records : List Record) : Type 0 wher
   pub few : length bytes ≤ most_bytes
   pub is_trace : IsTrace records
   pub spelled : bytes ≡ text records
-  pub legal : IsLegal rules_now (reverse records)
+  pub legal : IsLegal rules (reverse records)
 
 -- behind the lines before that place is the line of a record that has the cause after the records of those lines
 pub record RefusesRecord (bytes : List ℕ) (earlier : List Record) (c : Cause) : Type 0 where
@@ -32,13 +32,13 @@ pub record RefusesRecord (bytes : List ℕ) (earlier : List Record) (c : Cause) 
   pub is_record : IsRecord read
   pub rest : List ℕ
   pub begins : bytes ≡ bytes_before (After earlier) ++ line (spelling read) ++ rest
-  pub cause : sound.cause rules_now (reverse earlier) read ≡ Some c
+  pub cause : sound.cause rules (reverse earlier) read ≡ Some c
 
 -- the line at that place is the first that is illegal, by a cause of the line or of its record
 pub record FirstIllegal (bytes : List ℕ) (n : ℕ) (c : Cause) : Type 0 where
   pub place : Place
   pub number : n ≡ line_number place
-  pub legal : IsLegal rules_now (reverse (records_before place))
+  pub legal : IsLegal rules (reverse (records_before place))
   pub refused : Refuses bytes place c ⊎ ((place ≡ After (records_before place)) × RefusesRecord bytes (records_before place) c)
 
 -- line n is refused for this cause

@@ -10,9 +10,8 @@ use Rattle.er_trace.specs.declared.record.Loc.TheVariants.{Var, Elem, Slot}
 use Rattle.er_run.specs.declared.accesses.Kept.{Kept}
 use Rattle.er_run.specs.declared.accesses.Race.{Race}
 use Rattle.er_history.specs.History.{Action, Entry, told}
-use Rattle.er_history.specs.Rules.{same_bytes}
+use Rattle.er_history.specs.Rules.{same_bytes, rules}
 use Rattle.er_history.specs.Edges.{path}
-use Rattle.er_graph.specs.Rules.{rules_now}
 
 abbrev pub same_loc : Loc → Loc → Bool
 same_loc (Var o n) (Var p m) = (o == p) && same_bytes n m
@@ -69,7 +68,7 @@ abbrev pub races_by : (ℕ → ℕ → Bool) → List Kept → List (Kept × Kep
 races_by joined accesses = filter (λ p. not (joined p.0.action p.1.action)) (candidates_of accesses)
 
 abbrev pub races : List Record → List (Kept × Kept)
-races h = races_by (path rules_now h) (kept h)
+races h = races_by (path rules h) (kept h)
 
 -- these places in the kept list are those of the pairs, in their order
 abbrev pub ArePairs : List Kept → List Race → List (Kept × Kept) → Type 0

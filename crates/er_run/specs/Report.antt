@@ -10,7 +10,7 @@ use Rattle.er_history.specs.History.{told}
 use Rattle.er_links.specs.Chains.{chains}
 use Rattle.er_links.specs.Links.{link_count}
 use Rattle.er_history.specs.Edges.{edges}
-use Rattle.er_graph.specs.Rules.{rules_now}
+use Rattle.er_history.specs.Rules.{rules}
 use Rattle.er_run.specs.declared.accesses.Kept.{Kept}
 use Rattle.er_run.specs.declared.counts.Counts.{Counts}
 use Rattle.er_run.specs.Races.{kept, candidates_of, races}
@@ -48,8 +48,8 @@ counts h = record {
   accesses = length (kept h);
   pairs = length (candidates_of (kept h));
   races = length (races h);
-  chains = length (chains (edges rules_now (told h).actions));
-  links = link_count (edges rules_now (told h).actions);
+  chains = length (chains (edges rules (told h).actions));
+  links = link_count (edges rules (told h).actions);
 }
 
 abbrev pub report : List Record → List ℕ

@@ -9,7 +9,7 @@ use Rattle.er_page.specs.declared.page.Page.{Page}
 use Rattle.er_page.specs.Page.{IsPage}
 use Rattle.er_graph.specs.Accepted.{Accepted}
 use Rattle.er_graph.specs.Graph.{IsGraph}
-use Rattle.er_graph.specs.Rules.{rules_now}
+use Rattle.er_history.specs.Rules.{rules}
 use Rattle.er_graph.specs.declared.fault.GraphFault.{GraphFault}
 use Rattle.er_graph.specs.declared.fault.GraphFault.TheVariants.{Refused, NoMemory}
 use Rattle.er_run.specs.declared.accesses.Kept.{Kept}
@@ -34,12 +34,12 @@ pub record IsSession (session : Session) : Type 0 where
 
 -- A record after the list is refused for the first cause against it, with its line; or memory ran out.
 abbrev pub IsFaultAfter : List Record → Record → GraphFault → Type 0
-IsFaultAfter h x (Refused line cause) = (line ≡ length h + 2) × (sound.cause rules_now h x ≡ Some cause)
+IsFaultAfter h x (Refused line cause) = (line ≡ length h + 2) × (sound.cause rules h x ≡ Some cause)
 IsFaultAfter h x NoMemory = Unit {0}
 
 -- The record of the line is the first that has a cause after those before it, which is the one answered; or memory ran out.
 abbrev pub IsFaultOf : List Record → GraphFault → Type 0
-IsFaultOf records (Refused line cause) = (at : ℕ) × (line ≡ at + 2) × IsLegal rules_now (reverse (take at records)) × ((x : Record) × (slice_get records at ≡ Some x) × (sound.cause rules_now (reverse (take at records)) x ≡ Some cause))
+IsFaultOf records (Refused line cause) = (at : ℕ) × (line ≡ at + 2) × IsLegal rules (reverse (take at records)) × ((x : Record) × (slice_get records at ≡ Some x) × (sound.cause rules (reverse (take at records)) x ≡ Some cause))
 IsFaultOf records NoMemory = Unit {0}
 
 abbrev pub has_action : ℕ → Kept → Bool

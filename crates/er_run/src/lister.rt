@@ -5,7 +5,7 @@ ghost use Rattle.er_trace.specs.Trace.{most_lines};
 ghost use Rattle.er_history.specs.Edges.{path};
 ghost use Rattle.er_graph.specs.Accepted.{Accepted, records};
 ghost use Rattle.er_graph.specs.Graph.{IsGraph};
-ghost use Rattle.er_graph.specs.Rules.{rules_now};
+ghost use Rattle.er_history.specs.Rules.{rules};
 ghost use Rattle.er_run.specs.Races as spec;
 ghost use Rattle.er_run.specs.Listing.{is_race, AreBegun, HaveBegun, IsWithin, Leaves};
 ghost use Rattle.er_run.specs.declared.accesses.Kept as accesses;
@@ -27,7 +27,7 @@ pub(crate) struct Listed {
 pub(crate) fn list(alloc: Global, kept: &[Kept], graph: &Graph) -> Result<Listed, NoMemory>
     requires few { length kept.now ≤ most_lines }
     requires begun { AreBegun graph.now kept.now }
-    ensures races { IfOk result (λ listed. (accepted : List Accepted) → IsGraph graph.now accepted → spec.ArePairs kept.now listed.races.items (spec.races_by (path rules_now (records accepted)) kept.now)) }
+    ensures races { IfOk result (λ listed. (accepted : List Accepted) → IsGraph graph.now accepted → spec.ArePairs kept.now listed.races.items (spec.races_by (path rules (records accepted)) kept.now)) }
     ensures pairs { IfOk result (λ listed. listed.compares ≡ length (spec.candidates_of kept.now)) }
     ensures in_range { IfOk result (λ listed. All (IsWithin kept.now) listed.races.items) }
 {
@@ -52,7 +52,7 @@ fn list_from(
     requires few { length kept.now ≤ most_lines }
     requires begun { AreBegun graph.now kept.now }
     requires room { listed.old.compares + length (spec.candidates_of (drop first kept.now)) < 2 ^ 61 }
-    ensures races { OnOk result ((accepted : List Accepted) (all : List (accesses.Kept × accesses.Kept)) → IsGraph graph.now accepted → Leaves kept.now listed.old.races.items (spec.races_by (path rules_now (records accepted)) (drop first kept.now)) all → Leaves kept.now listed.new.races.items (spec.races_by (path rules_now (records accepted)) (drop (first + 1) kept.now)) all) }
+    ensures races { OnOk result ((accepted : List Accepted) (all : List (accesses.Kept × accesses.Kept)) → IsGraph graph.now accepted → Leaves kept.now listed.old.races.items (spec.races_by (path rules (records accepted)) (drop first kept.now)) all → Leaves kept.now listed.new.races.items (spec.races_by (path rules (records accepted)) (drop (first + 1) kept.now)) all) }
     ensures pairs { OnOk result (listed.new.compares + length (spec.candidates_of (drop (first + 1) kept.now)) ≡ listed.old.compares + length (spec.candidates_of (drop first kept.now))) }
     ensures in_range { OnOk result (All (IsWithin kept.now) listed.old.races.items → All (IsWithin kept.now) listed.new.races.items) }
 {
@@ -71,7 +71,7 @@ fn list_from(
 fn judge(listed: &mut Listed, pair: Race, a: &Kept, b: &Kept, graph: &Graph) -> Result<(), NoMemory>
     requires begun { ∥ HaveBegun graph.now a.now.action b.now.action ∥₁ }
     requires room { listed.old.compares < 2 ^ 61 }
-    ensures races { OnOk result ((accepted : List Accepted) → IsGraph graph.now accepted → listed.new.races.items ≡ cond (is_race (path rules_now (records accepted)) a.now b.now) (listed.old.races.items ++ pair ∷ []) listed.old.races.items) }
+    ensures races { OnOk result ((accepted : List Accepted) → IsGraph graph.now accepted → listed.new.races.items ≡ cond (is_race (path rules (records accepted)) a.now b.now) (listed.old.races.items ++ pair ∷ []) listed.old.races.items) }
     ensures one { OnOk result ((listed.new.races.items ≡ listed.old.races.items) ⊎ (listed.new.races.items ≡ listed.old.races.items ++ pair ∷ [])) }
     ensures pairs { OnOk result (listed.new.compares ≡ listed.old.compares + cond (spec.is_candidate a.now b.now) 1 0) }
 {

@@ -9,7 +9,7 @@ ghost use Rattle.er_history.specs.History as history;
 ghost use Rattle.er_history.specs.History.{told};
 ghost use Rattle.er_history.specs.Sound as sound;
 ghost use Rattle.er_page.specs.Page.{IsPage};
-ghost use Rattle.er_graph.specs.Rules.{rules_now};
+ghost use Rattle.er_history.specs.Rules.{rules};
 ghost use Rattle.er_run.specs.Races.{accesses_of, without_repeats};
 ghost use Rattle.er_run.specs.Races as races;
 ghost use Rattle.er_run.specs.Session.{StandsFor, IsSession, IsFaultAfter, IsFaultOf, IsFalling, AreInOrder, has_action};
@@ -33,7 +33,7 @@ pub(crate) struct Session {
 pub(crate) fn judge(alloc: Global, records: &[Record]) -> Result<Session, GraphFault>
     requires { length records.now ≤ most_lines }
     ensures stands { IfOk result (λ session. StandsFor session (reverse records.now)) }
-    ensures accepted { OnOk result (sound.IsLegal rules_now (reverse records.now)) }
+    ensures accepted { OnOk result (sound.IsLegal rules (reverse records.now)) }
     ensures refused { IfErr result (λ fault. IsFaultOf records.now fault) }
 {
     let Ok(mut session) = Session::new(alloc) else {
@@ -63,7 +63,7 @@ impl Session {
     pub(crate) fn take(&mut self, rec: &Record) -> Result<(), GraphFault>
         requires some { IsSession self.old }
         requires room { self.old.records < most_lines }
-        ensures taken { OnOk result ((h : List Record) → StandsFor self.old h → (sound.cause rules_now h rec.now ≡ None) × StandsFor self.new (rec.now ∷ h)) }
+        ensures taken { OnOk result ((h : List Record) → StandsFor self.old h → (sound.cause rules h rec.now ≡ None) × StandsFor self.new (rec.now ∷ h)) }
         ensures refused { IfErr result (λ fault. (h : List Record) → StandsFor self.old h → IsFaultAfter h rec.now fault) }
     {
         let line = self.records + 2;

@@ -1,5 +1,5 @@
 use Rattle.er_graph.specs.Accepted.{records}
-use Rattle.er_history.specs.Naming.{naming_now}
+use Rattle.er_history.specs.Naming.{naming}
 use Rattle.er_graph.proofs.PartLemmas.{named_first, room_last, ok_none}
 use Rattle.er_graph.proofs.graph.Graph.check.Goals as goal
 
@@ -10,4 +10,4 @@ pub returns : goal.returns
 returns c = λ accepted listed.
     let h = records accepted in
     let named = c.in_default.ensures h listed.page in
-    room_last accepted c.args.rec.now c.room.result named (c.if-is_late.ensures h listed.page listed.sound (ok_none (naming_now h c.args.rec.now) named)) (c.room.ensures h listed.page)
+    room_last accepted c.args.rec.now c.room.result named (c.if-is_late.ensures h listed.page listed.sound (ok_none (naming h c.args.rec.now) named)) (c.room.ensures h listed.page)
