@@ -54,11 +54,7 @@ pub fn hand_latest(
 }
 
 /// Hands the latest pieces of the events, from the last of them to the first.
-pub fn hand_each(
-    page: &Page,
-    events: &[u32],
-    out: &mut SmallVec<u32, 8>,
-) -> Result<(), NoMemory>
+pub fn hand_each(page: &Page, events: &[u32], out: &mut SmallVec<u32, 8>) -> Result<(), NoMemory>
     requires events { ∥ HasEvents page.now events.now ∥₁ }
     ensures whole { OnOk result
         (GrewFor page.now (λ (t : History). latest_of_all (reverse events.now) t.actions) out.old.items out.new.items) }

@@ -71,10 +71,8 @@ impl Fired {
         if self.lists.contains_key(&event) {
             return Ok(());
         }
-        match self.lists.insert(event, Vec::new(self.alloc)) {
-            Ok(_) => Ok(()),
-            Err(_) => Err(NoMemory),
-        }
+        self.lists.insert(event, Vec::new(self.alloc))?;
+        Ok(())
     }
 
     /// Makes room in the event's list.
@@ -86,10 +84,8 @@ impl Fired {
         let Some(list) = self.lists.get_mut(&event) else {
             unreachable!()
         };
-        match list.reserve(1) {
-            Ok(()) => Ok(()),
-            Err(_) => Err(NoMemory),
-        }
+        list.reserve(1)?;
+        Ok(())
     }
 
     fn put(&mut self, event: u32, timeout: u32)

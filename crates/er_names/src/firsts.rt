@@ -16,10 +16,8 @@ pub(crate) fn make_room<V>(table: &mut IndexMap<u32, V>) -> Result<(), NoMemory>
     ensures count { index_map_len table.new ≡ index_map_len table.old }
     ensures room { OnOk result (0 < spare table.new) }
 {
-    match table.reserve(1) {
-        Ok(()) => Ok(()),
-        Err(_) => Err(NoMemory),
-    }
+    table.reserve(1)?;
+    Ok(())
 }
 
 /// Notes a value under a number. The first that was noted stays.

@@ -1,7 +1,10 @@
 -- From the answers of look-ups to the lists of handed pieces. Lists of records stand newest first.
-use Rattle.std.proofs.Common.{◌≡◌, ℕ, Bool, true, false, List, [], ◌∷◌, ◌++◌, Option, Some, None, option_map, refl, sym, ap, subst, ◌∙◌}
+use Rattle.std.proofs.Common.{◌≡◌, ℕ, Bool, true, false, List, [], ◌∷◌, ◌++◌, Option, Some, None, option_map, refl, sym, ap, subst, ◌∙◌, inl, inr}
 use Rattle.std.specs.Prelude.{◌==◌, ◌&&◌, if◌then◌else◌, reverse}
-use Rattle.std.proofs.lemmas.List.{reverse-reverse}
+use Rattle.std.proofs.lemmas.Bool.{eqb-true}
+use Rattle.std.proofs.lemmas.List.{reverse-reverse, reverse-append}
+use Rattle.er_paths.specs.Paths.{is_among}
+use Rattle.er_paths.proofs.Paths.{or_cases, or_left, or_right}
 use Rattle.er_trace.specs.declared.record.Record.{Record}
 use Rattle.er_history.specs.History.{Event, Action, told, action_at}
 use Rattle.er_history.specs.Laws.{Among}
@@ -10,6 +13,7 @@ use Rattle.er_history.specs.LookUps as look
 use Rattle.er_history.specs.LookUps.{event_in, piece_in, event_of}
 use Rattle.er_history.proofs.HistoryLemmas.{actions_are_numbered, events_have_first_pieces}
 use Rattle.er_history.proofs.EventLemmas.{found_by_number}
+use Rattle.er_history.proofs.OrderLemmas.{any_append}
 use Rattle.er_pieces.specs.Contract.{listed, latest_of_all}
 use Rattle.er_pieces.proofs.NewestLemmas.{newest_is_latest}
 use Rattle.er_pieces.proofs.SourceLemmas.{newest_passes}
@@ -64,3 +68,38 @@ newest_is_event h test u e = by (newest_by test (told h).actions) refl e
     by (Some a) found e =
         let same : a.event.number ≡ u = cc in
         subst (λ k. event_of h k ≡ Some k) same (event_of_action h a (newest_passes test (told h).actions a found).0)
+
+each_passes : (h : List Record) (test : Event → Bool) (u : ℕ) (actions : List Action) → ((a : Action) → Among a actions → Among a (told h).actions) → is_among u (events_of_each test actions) ≡ true → event_of h u ≡ Some u
+each_passes h test u [] within e = absurd (cc)
+each_passes h test u (a ∷ older) within e = step ((a.number == a.event.number) && test a.event) (each_passes h test u older (λ b among. within b (inr among))) e
+  where
+    step : (b : Bool) → (is_among u (events_of_each test older) ≡ true → event_of h u ≡ Some u) → is_among u (if b then a.event.number ∷ events_of_each test older else events_of_each test older) ≡ true → event_of h u ≡ Some u
+    step true rest e =
+        elim (or_cases (a.event.number == u) (is_among u (events_of_each test older)) e) [
+          | inl here ↦ subst (λ k. event_of h k ≡ Some k) (eqb-true a.event.number u here) (event_of_action h a (within a (inl refl)))
+          | inr deeper ↦ rest deeper
+        ]
+    step false rest e = rest e
+
+among_reverse : (u : ℕ) (us : List ℕ) → is_among u (reverse us) ≡ true → is_among u us ≡ true
+among_reverse u [] e = e
+among_reverse u (k ∷ us) e =
+    elim (or_cases (is_among u (reverse us)) (is_among u (k ∷ [])) (sym (any_append (λ m. m == u) (reverse us) (k ∷ [])) ∙ (ap (is_among u) (sym (reverse-append (k ∷ []) us)) ∙ e))) [
+      | inl deeper ↦ or_right (k == u) (is_among u us) (among_reverse u us deeper)
+      | inr here ↦ elim (or_cases (k == u) false here) [
+          | inl same ↦ or_left (k == u) (is_among u us) same
+          | inr none ↦ absurd (cc)
+        ]
+    ]
+
+pub slice_is_events : (h : List Record) (test : Event → Bool) (u : ℕ) → is_among u (reverse (events_of_each test (told h).actions)) ≡ true → event_of h u ≡ Some u
+slice_is_events h test u e = each_passes h test u (told h).actions (λ a among. among) (among_reverse u (events_of_each test (told h).actions) e)
+
+-- an option has its number alone
+pub listed_is : (o : Option ℕ) (u : ℕ) → is_among u (listed o) ≡ true → o ≡ Some u
+listed_is None u e = absurd (cc)
+listed_is (Some k) u e =
+    elim (or_cases (k == u) false e) [
+      | inl same ↦ ap (λ m. Some m) (eqb-true k u same)
+      | inr none ↦ absurd (cc)
+    ]

@@ -18,20 +18,29 @@ timers_by rule = (18, set_before_timer) ∷ (19, rule) ∷ (20, ticks_in_order) 
 
 -- the rule leads to callbacks of timeouts alone
 abbrev pub OnlyToTimeouts : Rule → Type 0
-OnlyToTimeouts rule = (joined : ℕ → ℕ → Bool) (u v : Event) → rule joined u v ≡ true → (t : ℕ) × (x : Timeout) × (v.what ≡ TimeoutRun t (Some x))
+OnlyToTimeouts rule = (joined : ℕ → ℕ → Bool) (u v : Event) → rule joined u v ≡ true
+    → (t : ℕ) × (x : Timeout) × (v.what ≡ TimeoutRun t (Some x))
 
 -- the event that set the timeout, and the latest piece of each event that the rule leads from
 abbrev pub timeout_handed_by : Rule → (ℕ → ℕ → Bool) → History → Event → Option Timeout → List ℕ
 timeout_handed_by rule joined h v None = []
-timeout_handed_by rule joined h v (Some x) = latest_piece x.maker h.actions ++ latest_of_each (λ (u : Event). rule (up_to v.number joined) u v) h.actions
+timeout_handed_by rule joined h v (Some x) =
+    latest_piece x.maker h.actions
+    ++ latest_of_each (λ (u : Event). rule (up_to v.number joined) u v) h.actions
 
 abbrev pub timer_handed_by : Rule → (ℕ → ℕ → Bool) → History → Record → List ℕ
-timer_handed_by rule joined h (Timer t) = timeout_handed_by rule joined h (event_begun h (Timer t)) (first_to (makes_timeout t) h.entries)
-timer_handed_by rule joined h (Tick i) = latest_of (maker_by (declares_interval i) h.entries) h.actions ++ newest (is_tick_of i) h.actions
+timer_handed_by rule joined h (Timer t) =
+    timeout_handed_by rule joined h (event_begun h (Timer t)) (first_to (makes_timeout t) h.entries)
+timer_handed_by rule joined h (Tick i) =
+    latest_of (maker_by (declares_interval i) h.entries) h.actions
+    ++ newest (is_tick_of i) h.actions
 timer_handed_by rule joined h _ = []
 
 -- These are sources and enough, in each version.
 abbrev pub HandsTimersBy : Type 0
-HandsTimersBy = (rule : Rule) → OnlyToTimeouts rule → (table : List (ℕ × Rule)) → HasGroup table (timers_by rule) → NestedFacts table
-    → (h : List Record) (x : Record) → IsSteady table h → naming h x ≡ None → out_of_order table h x ≡ false
-    → AreHanded (timers_by rule) (path table h) (told h) x (timer_handed_by rule (path table h) (told h) x)
+HandsTimersBy = (rule : Rule) → OnlyToTimeouts rule
+    → (table : List (ℕ × Rule)) → HasGroup table (timers_by rule) → NestedFacts table
+    → (h : List Record) (x : Record)
+    → IsSteady table h → naming h x ≡ None → out_of_order table h x ≡ false
+    → AreHanded (timers_by rule) (path table h) (told h) x
+    (timer_handed_by rule (path table h) (told h) x)

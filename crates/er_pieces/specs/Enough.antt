@@ -35,13 +35,17 @@ pub record IsSteady (table : List (ℕ × Rule)) (h : List Record) : Type 0 wher
 
 -- The source of an edge of the table to the piece that `back` begins has a path to the running action.
 abbrev pub BackFollowsClose : List (ℕ × Rule) → Type 0
-BackFollowsClose table = (h : List Record) (p : ℕ) (i c : Action) → IsSteady table h → naming h (Back p) ≡ None → Among i (told h).actions → running (told h).actions ≡ Some c
-    → is_ruled table (path table h) i (action_begun (told h) (Back p)) ≡ true → path table h i.number c.number ≡ true
+BackFollowsClose table = (h : List Record) (p : ℕ) (i c : Action) → IsSteady table h → naming h (Back p) ≡ None
+    → Among i (told h).actions → running (told h).actions ≡ Some c
+    → is_ruled table (path table h) i (action_begun (told h) (Back p)) ≡ true
+    → path table h i.number c.number ≡ true
 
 -- Close pieces of one target and type are joined by paths in recorded order.
 abbrev pub ClosesInOrder : List (ℕ × Rule) → Type 0
-ClosesInOrder table = (h : List Record) (i j : Action) (p q : Dispatch) → IsSteady table h → Among i (told h).actions → Among j (told h).actions
-    → i.event.what ≡ CloseOf p → j.event.what ≡ CloseOf q → same_target p.delivers q.delivers ≡ true → i.number ≤ j.number → path table h i.number j.number ≡ true
+ClosesInOrder table = (h : List Record) (i j : Action) (p q : Dispatch) → IsSteady table h
+    → Among i (told h).actions → Among j (told h).actions
+    → i.event.what ≡ CloseOf p → j.event.what ≡ CloseOf q → same_target p.delivers q.delivers ≡ true
+    → i.number ≤ j.number → path table h i.number j.number ≡ true
 
 -- the two laws of nested pieces
 pub record NestedFacts (table : List (ℕ × Rule)) : Type 0 where
@@ -54,35 +58,44 @@ NestedFactsHold = (table : List (ℕ × Rule)) → NestedFacts table
 
 -- The handed pieces of a group suffice for the record, after a list to which naming and order have nothing against.
 abbrev pub Suffices : List (ℕ × Rule) → List (ℕ × Rule) → (History → Record → List ℕ) → Type 0
-Suffices table group handed = (h : List Record) (x : Record) → IsSteady table h → naming h x ≡ None → out_of_order table h x ≡ false
+Suffices table group handed = (h : List Record) (x : Record)
+    → IsSteady table h → naming h x ≡ None → out_of_order table h x ≡ false
     → AreEnough group (path table h) (told h) x (handed (told h) x)
 
 -- Latest pieces suffice for the rules of parsing.
 abbrev pub EnoughParse : Type 0
-EnoughParse = (table : List (ℕ × Rule)) → NestedFacts table → Suffices table parse_rules parse_handed
+EnoughParse = (table : List (ℕ × Rule)) → NestedFacts table
+    → Suffices table parse_rules parse_handed
 
 -- And for those of scripts.
 abbrev pub EnoughScript : Type 0
-EnoughScript = (table : List (ℕ × Rule)) → NestedFacts table → Suffices table script_rules script_handed
+EnoughScript = (table : List (ℕ × Rule)) → NestedFacts table
+    → Suffices table script_rules script_handed
 
 -- And for those of loads.
 abbrev pub EnoughLoad : Type 0
-EnoughLoad = (table : List (ℕ × Rule)) → NestedFacts table → Suffices table load_rules load_handed
+EnoughLoad = (table : List (ℕ × Rule)) → NestedFacts table
+    → Suffices table load_rules load_handed
 
 -- And for those of timers, where the table has them all.
 abbrev pub EnoughTimer : Type 0
-EnoughTimer = (table : List (ℕ × Rule)) → HasGroup table timer_rules → NestedFacts table → Suffices table timer_rules timer_handed
+EnoughTimer = (table : List (ℕ × Rule)) → HasGroup table timer_rules → NestedFacts table
+    → Suffices table timer_rules timer_handed
 
 -- And for that of requests.
 abbrev pub EnoughRequest : Type 0
-EnoughRequest = (table : List (ℕ × Rule)) → NestedFacts table → Suffices table request_rules request_handed
+EnoughRequest = (table : List (ℕ × Rule)) → NestedFacts table
+    → Suffices table request_rules request_handed
 
 -- And for those of dispatches between events.
 abbrev pub EnoughDispatch : Type 0
-EnoughDispatch = (table : List (ℕ × Rule)) → NestedFacts table → Suffices table dispatch_rules dispatch_handed
+EnoughDispatch = (table : List (ℕ × Rule)) → NestedFacts table
+    → Suffices table dispatch_rules dispatch_handed
 
 -- And for rules 22 and 23, between pieces, with no more asked.
 abbrev pub EnoughPieces : Type 0
-EnoughPieces = (table : List (ℕ × Rule)) (h : List Record) (x : Record) → IsSteady table h → naming h x ≡ None → begins x ≡ true
-    → (i : Action) → Among i (told h).actions → (around_inline i (action_begun (told h) x) || of_one_event i (action_begun (told h) x)) ≡ true
+EnoughPieces = (table : List (ℕ × Rule)) (h : List Record) (x : Record)
+    → IsSteady table h → naming h x ≡ None → begins x ≡ true
+    → (i : Action) → Among i (told h).actions
+    → (around_inline i (action_begun (told h) x) || of_one_event i (action_begun (told h) x)) ≡ true
     → list_any (λ k. path table h i.number k) (dispatch_handed (told h) x) ≡ true

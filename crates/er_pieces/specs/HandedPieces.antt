@@ -9,7 +9,9 @@ use Rattle.er_history.specs.Kinds.{is_step_of, is_run_of, is_static_async, runs_
 
 -- the latest parse step of the document, and the latest piece of the event that declared it
 abbrev pub step_handed : History → ℕ → List ℕ
-step_handed h d = newest (is_step_of d) h.actions ++ latest_of (maker_by (declares_document d) h.entries) h.actions
+step_handed h d =
+    newest (is_step_of d) h.actions
+    ++ latest_of (maker_by (declares_document d) h.entries) h.actions
 
 abbrev pub parse_handed : History → Record → List ℕ
 parse_handed h (Parse d e k) = step_handed h d
@@ -18,12 +20,17 @@ parse_handed h _ = []
 
 -- the latest parse step of the document, its latest blocking run and its latest deferred run
 abbrev pub parsed_handed : History → ℕ → List ℕ
-parsed_handed h d = newest (is_step_of d) h.actions ++ newest (is_run_of is_blocking d) h.actions ++ newest (is_run_of is_deferred d) h.actions
+parsed_handed h d =
+    newest (is_step_of d) h.actions
+    ++ newest (is_run_of is_blocking d) h.actions
+    ++ newest (is_run_of is_deferred d) h.actions
 
 -- before the run of a script its maker, and for a deferred one all of these
 abbrev pub run_handed : History → Option Element → List ℕ
 run_handed h None = []
-run_handed h (Some x) = latest_piece x.maker h.actions ++ (if is_deferred x then parsed_handed h x.doc else [])
+run_handed h (Some x) =
+    latest_piece x.maker h.actions
+    ++ (if is_deferred x then parsed_handed h x.doc else [])
 
 -- before a parse step the latest blocking run
 abbrev pub script_handed : History → Record → List ℕ
@@ -40,27 +47,42 @@ inner_close h (Kinded k) = []
 -- the maker of the element, the run of it, and the close of load of its inner document
 abbrev pub eload_handed : History → ℕ → Option Element → List ℕ
 eload_handed h e None = newest (runs_element e) h.actions
-eload_handed h e (Some x) = latest_piece x.maker h.actions ++ newest (runs_element e) h.actions ++ inner_close h x.form
+eload_handed h e (Some x) =
+    latest_piece x.maker h.actions
+    ++ newest (runs_element e) h.actions
+    ++ inner_close h x.form
 
 abbrev pub load_handed : History → Record → List ℕ
 load_handed h (Dcl p d) = parsed_handed h d
-load_handed h (Load p d) = newest (closes (is_dcl_of d)) h.actions ++ parsed_handed h d ++ latest_of_each (is_run_of is_static_async d) h.actions ++ latest_of_each (closes (is_static_load_of d)) h.actions
+load_handed h (Load p d) =
+    newest (closes (is_dcl_of d)) h.actions
+    ++ parsed_handed h d
+    ++ latest_of_each (is_run_of is_static_async d) h.actions
+    ++ latest_of_each (closes (is_static_load_of d)) h.actions
 load_handed h (Eload p e) = eload_handed h e (first_to (makes_element e) h.entries)
 load_handed h _ = []
 
--- the event that set the timeout, and the callbacks that rule 19 leads from; the event that set the interval, and its latest callback
+-- the event that set the timeout, and the callbacks that rule 19 leads from
 abbrev pub timeout_handed : History → Event → Option Timeout → List ℕ
 timeout_handed h v None = []
-timeout_handed h v (Some x) = latest_piece x.maker h.actions ++ latest_of_each (λ (u : Event). timers_of_one_event_in_order (λ i j. false) u v) h.actions
+timeout_handed h v (Some x) =
+    latest_piece x.maker h.actions
+    ++ latest_of_each (λ (u : Event). timers_of_one_event_in_order (λ i j. false) u v) h.actions
 
+-- for an interval the event that set it, and its latest callback
 abbrev pub timer_handed : History → Record → List ℕ
-timer_handed h (Timer t) = timeout_handed h (event_begun h (Timer t)) (first_to (makes_timeout t) h.entries)
-timer_handed h (Tick i) = latest_of (maker_by (declares_interval i) h.entries) h.actions ++ newest (is_tick_of i) h.actions
+timer_handed h (Timer t) =
+    timeout_handed h (event_begun h (Timer t)) (first_to (makes_timeout t) h.entries)
+timer_handed h (Tick i) =
+    latest_of (maker_by (declares_interval i) h.entries) h.actions
+    ++ newest (is_tick_of i) h.actions
 timer_handed h _ = []
 
 -- the event that sent the request, and its latest closed reply
 abbrev pub request_handed : History → Record → List ℕ
-request_handed h (Reply p r) = latest_of (maker_by (declares_request r) h.entries) h.actions ++ newest (closes (is_reply_of r)) h.actions
+request_handed h (Reply p r) =
+    latest_of (maker_by (declares_request r) h.entries) h.actions
+    ++ newest (closes (is_reply_of r)) h.actions
 request_handed h _ = []
 
 -- the runs of that group, or the begin where there is none
@@ -71,14 +93,24 @@ runs_or_begin p actions (Some g) = latest_of_each (is_handler_of p (λ k. k == g
 abbrev pub group_handed : ℕ → (ℕ → Bool) → List Action → List ℕ
 group_handed p test actions = runs_or_begin p actions (greatest_group p test actions)
 
--- the maker of the target, and the latest close piece of the same target and type; what ran before in the dispatch; around an inline dispatch the running piece
+-- Before a begin the maker of the target, and the latest close piece of the same target and type; before a handler and a
+-- close what ran before in the dispatch; around an inline dispatch the running piece.
 abbrev pub dispatch_handed : History → Record → List ℕ
-dispatch_handed h (Fire p e n) = latest_of (element_maker h.entries e) h.actions ++ newest (closes (λ y. same_target y (FireAt e n None))) h.actions
-dispatch_handed h (Inline p e n) = latest_of (element_maker h.entries e) h.actions ++ newest (closes (λ y. same_target y (FireAt e n None))) h.actions ++ number_of (running h.actions)
-dispatch_handed h (Wfire p d n) = latest_of (maker_by (declares_document d) h.entries) h.actions ++ newest (closes (λ y. same_target y (WindowFire d n None))) h.actions
+dispatch_handed h (Fire p e n) =
+    latest_of (element_maker h.entries e) h.actions
+    ++ newest (closes (λ y. same_target y (FireAt e n None))) h.actions
+dispatch_handed h (Inline p e n) =
+    latest_of (element_maker h.entries e) h.actions
+    ++ newest (closes (λ y. same_target y (FireAt e n None))) h.actions
+    ++ number_of (running h.actions)
+dispatch_handed h (Wfire p d n) =
+    latest_of (maker_by (declares_document d) h.entries) h.actions
+    ++ newest (closes (λ y. same_target y (WindowFire d n None))) h.actions
 dispatch_handed h (Dcl p d) = latest_of (maker_by (declares_document d) h.entries) h.actions
 dispatch_handed h (Load p d) = latest_of (maker_by (declares_document d) h.entries) h.actions
-dispatch_handed h (Run p g x) = latest_of (maker_by (declares_handler x) h.entries) h.actions ++ group_handed p (λ k. nat_lt k g) h.actions
+dispatch_handed h (Run p g x) =
+    latest_of (maker_by (declares_handler x) h.entries) h.actions
+    ++ group_handed p (λ k. nat_lt k g) h.actions
 dispatch_handed h (Close p) = group_handed p (λ k. true) h.actions
 dispatch_handed h (Back p) = number_of (running h.actions)
 dispatch_handed h _ = []

@@ -14,30 +14,40 @@ use Rattle.er_pieces.specs.Enough.{IsSteady, NestedFacts}
 
 -- the pieces of the group are sources and enough, after a list to which naming and order have nothing against
 abbrev pub Hands : List (ℕ × Rule) → List (ℕ × Rule) → (History → Record → List ℕ) → Type 0
-Hands table group handed = (h : List Record) (x : Record) → IsSteady table h → naming h x ≡ None → out_of_order table h x ≡ false
+Hands table group handed = (h : List Record) (x : Record)
+    → IsSteady table h → naming h x ≡ None → out_of_order table h x ≡ false
     → AreHanded group (path table h) (told h) x (handed (told h) x)
 
 abbrev pub HandsParse : Type 0
-HandsParse = (table : List (ℕ × Rule)) → NestedFacts table → Hands table parse_rules parse_handed
+HandsParse = (table : List (ℕ × Rule)) → NestedFacts table
+    → Hands table parse_rules parse_handed
 
 abbrev pub HandsScript : Type 0
-HandsScript = (table : List (ℕ × Rule)) → NestedFacts table → Hands table script_rules script_handed
+HandsScript = (table : List (ℕ × Rule)) → NestedFacts table
+    → Hands table script_rules script_handed
 
 abbrev pub HandsLoad : Type 0
-HandsLoad = (table : List (ℕ × Rule)) → NestedFacts table → Hands table load_rules load_handed
+HandsLoad = (table : List (ℕ × Rule)) → NestedFacts table
+    → Hands table load_rules load_handed
 
 abbrev pub HandsTimer : Type 0
-HandsTimer = (table : List (ℕ × Rule)) → HasGroup table timer_rules → NestedFacts table → Hands table timer_rules timer_handed
+HandsTimer = (table : List (ℕ × Rule)) → HasGroup table timer_rules → NestedFacts table
+    → Hands table timer_rules timer_handed
 
 abbrev pub HandsRequest : Type 0
-HandsRequest = (table : List (ℕ × Rule)) → NestedFacts table → Hands table request_rules request_handed
+HandsRequest = (table : List (ℕ × Rule)) → NestedFacts table
+    → Hands table request_rules request_handed
 
 -- For dispatches, each is the source of an edge by a rule of the group, or by one of the two on pieces.
 abbrev pub DispatchHandsSources : Type 0
-DispatchHandsSources = (table : List (ℕ × Rule)) (h : List Record) (x : Record) (joined : ℕ → ℕ → Bool) → IsSteady table h → naming h x ≡ None → (k : ℕ) → is_among k (dispatch_handed (told h) x) ≡ true
+DispatchHandsSources = (table : List (ℕ × Rule)) (h : List Record) (x : Record) (joined : ℕ → ℕ → Bool)
+    → IsSteady table h → naming h x ≡ None
+    → (k : ℕ) → is_among k (dispatch_handed (told h) x) ≡ true
     → (i : Action) × Among i (told h).actions × (i.number ≡ k)
-    × ((is_ruled dispatch_rules joined i (action_begun (told h) x) || (around_inline i (action_begun (told h) x) || of_one_event i (action_begun (told h) x))) ≡ true)
+    × ((is_ruled dispatch_rules joined i (action_begun (told h) x)
+    || (around_inline i (action_begun (told h) x) || of_one_event i (action_begun (told h) x))) ≡ true)
 
 -- and a record that begins no action has none
 abbrev pub DispatchHandsNothing : Type 0
-DispatchHandsNothing = (h : List Record) (x : Record) → begins x ≡ false → dispatch_handed (told h) x ≡ []
+DispatchHandsNothing = (h : List Record) (x : Record) → begins x ≡ false
+    → dispatch_handed (told h) x ≡ []

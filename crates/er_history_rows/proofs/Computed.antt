@@ -1,0 +1,93 @@
+-- The rows, by computing.
+use Rattle.std.proofs.Common.{refl}
+use Rattle.er_history_rows.specs.Realistic.{RealisticPage}
+use Rattle.er_history_rows.specs.Nested.{SuspendedScript, CutShort, InAHandler, InAClose, InCallbacks}
+use Rattle.er_history_rows.specs.Late.{StepAfterDeferredScript, StepAfterDcl, StepAfterLoad, BlockingAfterStep, BlockingAfterDeferred, DeferredExchanged, ScriptAfterDcl, ScriptAfterLoad, ScriptAfterItsLoad, DclAfterLoad, HandlerAfterGreaterGroup}
+use Rattle.er_history_rows.specs.Random.{FirstPage, SecondPage, ThirdPage, FourthPage, FifthPage, SixthPage, SeventhPage, EighthPage, NinthPage, TenthPage, EleventhPage, TwelfthPage}
+
+pub realistic_page : RealisticPage
+realistic_page = record { edges = refl; legal = refl }
+
+pub suspended_script : SuspendedScript
+suspended_script = record { edges = refl; legal = refl }
+
+pub cut_short : CutShort
+cut_short = record { edges = refl; legal = refl }
+
+pub in_a_handler : InAHandler
+in_a_handler = record { edges = refl; legal = refl }
+
+pub in_a_close : InAClose
+in_a_close = record { edges = refl; legal = refl }
+
+pub in_callbacks : InCallbacks
+in_callbacks = record { edges = refl; legal = refl }
+
+pub step_after_deferred_script : StepAfterDeferredScript
+step_after_deferred_script = record { named = refl; late_ones = refl; in_order = refl }
+
+pub step_after_dcl : StepAfterDcl
+step_after_dcl = record { named = refl; late_ones = refl; in_order = refl }
+
+pub step_after_load : StepAfterLoad
+step_after_load = record { named = refl; late_ones = refl; in_order = refl }
+
+pub blocking_after_step : BlockingAfterStep
+blocking_after_step = record { named = refl; late_ones = refl; in_order = refl }
+
+pub blocking_after_deferred : BlockingAfterDeferred
+blocking_after_deferred = record { named = refl; late_ones = refl; in_order = refl }
+
+pub deferred_exchanged : DeferredExchanged
+deferred_exchanged = record { named = refl; late_ones = refl; in_order = refl }
+
+pub script_after_dcl : ScriptAfterDcl
+script_after_dcl = record { named = refl; late_ones = refl; in_order = refl }
+
+pub script_after_load : ScriptAfterLoad
+script_after_load = record { named = refl; late_ones = refl; in_order = refl }
+
+pub script_after_its_load : ScriptAfterItsLoad
+script_after_its_load = record { named = refl; late_ones = refl; in_order = refl }
+
+pub dcl_after_load : DclAfterLoad
+dcl_after_load = record { named = refl; late_ones = refl; in_order = refl }
+
+pub handler_after_greater_group : HandlerAfterGreaterGroup
+handler_after_greater_group = record { named = refl; late_ones = refl; in_order = refl }
+
+pub first_page : FirstPage
+first_page = record { row = record { edges = refl; legal = refl }; next = refl }
+
+pub second_page : SecondPage
+second_page = record { row = record { edges = refl; legal = refl }; next = refl }
+
+pub third_page : ThirdPage
+third_page = record { row = record { edges = refl; legal = refl }; next = refl }
+
+pub fourth_page : FourthPage
+fourth_page = record { row = record { edges = refl; legal = refl }; next = refl }
+
+pub fifth_page : FifthPage
+fifth_page = record { row = record { edges = refl; legal = refl }; next = refl }
+
+pub sixth_page : SixthPage
+sixth_page = record { row = record { edges = refl; legal = refl }; next = refl }
+
+pub seventh_page : SeventhPage
+seventh_page = record { row = record { edges = refl; legal = refl }; next = refl }
+
+pub eighth_page : EighthPage
+eighth_page = record { row = record { edges = refl; legal = refl }; next = refl }
+
+pub ninth_page : NinthPage
+ninth_page = record { row = record { edges = refl; legal = refl }; next = refl }
+
+pub tenth_page : TenthPage
+tenth_page = record { row = record { edges = refl; legal = refl }; next = refl }
+
+pub eleventh_page : EleventhPage
+eleventh_page = record { row = record { edges = refl; legal = refl }; next = refl }
+
+pub twelfth_page : TwelfthPage
+twelfth_page = record { row = record { edges = refl; legal = refl }; next = refl }

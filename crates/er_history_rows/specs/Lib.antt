@@ -1,0 +1,4 @@
+pub mod Late
+pub mod Nested
+pub mod Random
+pub mod Realistic

@@ -1,0 +1,73 @@
+//! What the definitions of er_history say of lists of records, by all rules: the edges between actions, and which records are refused.
+//!
+//! No state, and nothing stands on this crate. Each law is a function with no parameters, whose contract is a row; `specs/` has the rows, a topic a file. What they say was found by a program that shares nothing with this one: it asks every rule of every pair of events.
+#![tactic(auto)]
+
+ghost use Rattle.er_history_rows.specs.Late.{StepAfterDeferredScript, StepAfterDcl, StepAfterLoad, BlockingAfterStep, BlockingAfterDeferred, DeferredExchanged, ScriptAfterDcl, ScriptAfterLoad, ScriptAfterItsLoad, DclAfterLoad, HandlerAfterGreaterGroup};
+ghost use Rattle.er_history_rows.specs.Nested.{SuspendedScript, CutShort, InAHandler, InAClose, InCallbacks};
+ghost use Rattle.er_history_rows.specs.Random.{FirstPage, SecondPage, ThirdPage, FourthPage, FifthPage, SixthPage, SeventhPage, EighthPage, NinthPage, TenthPage, EleventhPage, TwelfthPage};
+ghost use Rattle.er_history_rows.specs.Realistic.{RealisticPage};
+
+/// The edges of a page as it is met.
+#[tactic(auto, using(crate::proofs::Computed::realistic_page))]
+pub fn realistic_page()
+    ensures { RealisticPage }
+{}
+
+/// The edges where inline dispatches are nested.
+#[tactic(auto, using(crate::proofs::Computed::suspended_script, crate::proofs::Computed::cut_short, crate::proofs::Computed::in_a_handler, crate::proofs::Computed::in_a_close, crate::proofs::Computed::in_callbacks))]
+pub fn inline_dispatches()
+    ensures suspended_script { SuspendedScript }
+    ensures cut_short { CutShort }
+    ensures in_a_handler { InAHandler }
+    ensures in_a_close { InAClose }
+    ensures in_callbacks { InCallbacks }
+{}
+
+/// Which parse steps are out of order.
+#[tactic(auto, using(crate::proofs::Computed::step_after_deferred_script, crate::proofs::Computed::step_after_dcl, crate::proofs::Computed::step_after_load))]
+pub fn late_steps()
+    ensures step_after_deferred_script { StepAfterDeferredScript }
+    ensures step_after_dcl { StepAfterDcl }
+    ensures step_after_load { StepAfterLoad }
+{}
+
+/// Which runs of scripts are out of order.
+#[tactic(auto, using(crate::proofs::Computed::blocking_after_step, crate::proofs::Computed::blocking_after_deferred, crate::proofs::Computed::deferred_exchanged, crate::proofs::Computed::script_after_dcl, crate::proofs::Computed::script_after_load, crate::proofs::Computed::script_after_its_load))]
+pub fn late_scripts()
+    ensures blocking_after_step { BlockingAfterStep }
+    ensures blocking_after_deferred { BlockingAfterDeferred }
+    ensures deferred_exchanged { DeferredExchanged }
+    ensures script_after_dcl { ScriptAfterDcl }
+    ensures script_after_load { ScriptAfterLoad }
+    ensures script_after_its_load { ScriptAfterItsLoad }
+{}
+
+/// Which begins and handlers of dispatches are out of order.
+#[tactic(auto, using(crate::proofs::Computed::dcl_after_load, crate::proofs::Computed::handler_after_greater_group))]
+pub fn late_dispatches()
+    ensures dcl_after_load { DclAfterLoad }
+    ensures handler_after_greater_group { HandlerAfterGreaterGroup }
+{}
+
+/// The edges of random pages, and the causes of records behind them.
+#[tactic(auto, using(crate::proofs::Computed::first_page, crate::proofs::Computed::second_page, crate::proofs::Computed::third_page, crate::proofs::Computed::fourth_page, crate::proofs::Computed::fifth_page, crate::proofs::Computed::sixth_page))]
+pub fn random_pages()
+    ensures first_page { FirstPage }
+    ensures second_page { SecondPage }
+    ensures third_page { ThirdPage }
+    ensures fourth_page { FourthPage }
+    ensures fifth_page { FifthPage }
+    ensures sixth_page { SixthPage }
+{}
+
+/// The same of six more.
+#[tactic(auto, using(crate::proofs::Computed::seventh_page, crate::proofs::Computed::eighth_page, crate::proofs::Computed::ninth_page, crate::proofs::Computed::tenth_page, crate::proofs::Computed::eleventh_page, crate::proofs::Computed::twelfth_page))]
+pub fn more_random_pages()
+    ensures seventh_page { SeventhPage }
+    ensures eighth_page { EighthPage }
+    ensures ninth_page { NinthPage }
+    ensures tenth_page { TenthPage }
+    ensures eleventh_page { EleventhPage }
+    ensures twelfth_page { TwelfthPage }
+{}
