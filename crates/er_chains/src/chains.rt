@@ -84,25 +84,3 @@ impl Chains {
         Ok(())
     }
 }
-
-#[cfg(test)]
-mod tests {
-    use super::*;
-    use std::test::Fail;
-
-    #[test]
-    fn lowest_full(rt: HostRuntime) -> Result<(), Fail> {
-        let mut chains = Chains::new(rt.alloc());
-        assert_eq!(rt; chains.first_full(&[]), None);
-        chains.append(0)?;
-        chains.append(1)?;
-        chains.append(1)?;
-        assert_eq!(rt; chains.count(), 2);
-        assert_eq!(rt; chains.length(0), 1);
-        assert_eq!(rt; chains.length(1), 2);
-        assert_eq!(rt; chains.first_full(&[1, 2]), Some(0));
-        assert_eq!(rt; chains.first_full(&[0, 2]), Some(1));
-        assert_eq!(rt; chains.first_full(&[0, 1]), None);
-        Ok(())
-    }
-}

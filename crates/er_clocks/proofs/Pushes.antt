@@ -9,13 +9,13 @@ use Rattle.std.proofs.Math.Path.{fun_ext}
 use Rattle.er_paths.specs.Paths.{joins}
 use Rattle.er_links.specs.Chains.{chains, members, count_in, number_in, place_in, chain_of, place_of, entry}
 use Rattle.er_links.specs.Links.{numbers_below, links, links_of, links_to, link_count, total}
-use Rattle.er_paths.proofs.Paths.{place_cases, paths_stand}
+use Rattle.er_paths.proofs.Paths.{place_cases, paths_stand, enough_long, any_handed, handed_paths}
 use Rattle.er_links.proofs.Chains.{GoesBack, back_to, front_linked, IsFront, IsLinked, chains_linked, all_linked_still, chain_stays, chains_of_paths}
 use Rattle.er_links.proofs.Links.{keeps, kept_of, any_kept, kept_short, links_newest, links_grow, length-links, links_have_the_paths, links_of_paths}
 use Rattle.er_chains.specs.Lengths.{one_more}
-use Rattle.er_clocks.specs.Clock.{full_number, row_of, IsClock, StandsFor}
 use Rattle.er_paths.specs.Limits.{most_actions}
-use Rattle.er_clocks.specs.Laws.{ClocksOfPaths, ClocksTellPaths}
+use Rattle.er_clocks.specs.Clock.{full_number, row_of, IsClock, StandsFor}
+use Rattle.er_clocks.specs.Laws.{ClocksOfHanded, ClocksOfNewest, ClocksOfPaths, ClocksTellPaths}
 use Rattle.er_clocks.proofs.Entries.{get_map}
 use Rattle.er_links.proofs.Fits.{fit_number, fit_chain, fit_place, chains_begun, chains_lack}
 use Rattle.er_clocks.proofs.Fulls.{full_is_fit, fit_counts, fit_lengths}
@@ -208,3 +208,10 @@ clocks_tell_paths kept lists stands = (stands_long kept lists stands, λ i j. st
 
 pub clocks_of_paths : ClocksOfPaths
 clocks_of_paths kept lists others long same stands = record { are_links = stands.are_links ∙ links_of_paths lists others long same }
+
+pub clocks_of_handed : ClocksOfHanded
+clocks_of_handed kept handed lists enough stands = clocks_of_paths kept handed lists (enough_long handed lists enough) (λ i j. handed_paths handed lists i j enough) stands
+
+pub clocks_of_newest : ClocksOfNewest
+clocks_of_newest kept older handed all among there stands =
+    clocks_of_paths kept (handed ∷ older) (all ∷ older) refl (λ i j. ap (λ (b : Bool). if j == length older then (i == j) || b else joins older i j) (any_handed handed all older i among there)) stands

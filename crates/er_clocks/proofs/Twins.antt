@@ -1,12 +1,12 @@
 -- Actions with the same links: all but themselves that has a path to the one has a path to the other.
 use Rattle.std.proofs.Common.{◌≡◌, ◌≢◌, ◌⊎◌, ℕ, zero, suc, ◌+◌, ◌<◌, ◌≤◌, Bool, true, false, List, [], ◌∷◌, ◌++◌, length, get_or, max, refl, sym, ap, ◌∙◌, arith, subst, inl, inr, length-append}
 use Rattle.std.specs.Prelude.{◌==◌, ◌||◌, slice_index, reverse, if◌then◌else◌}
-use Rattle.std.specs.List.{list_any, AllByRecursion}
+use Rattle.std.specs.List.{list_any}
 use Rattle.std.proofs.lemmas.Grind.{common_steps}
 use Rattle.std.proofs.lemmas.Bool.Decides.{nat_tests}
 use Rattle.er_paths.specs.Paths.{joins, is_among, list_of}
 use Rattle.er_links.specs.Chains.{chains, members, count_in, chain_of, place_of, entry}
-use Rattle.er_links.specs.Links.{links_of, links_to, links, numbers_below, is_link}
+use Rattle.er_links.specs.Links.{links_of, links_to, links, is_link}
 use Rattle.er_paths.proofs.Paths.{or_cases, or_left, or_right, any_from, any_some, joins_older, joins_below, joins_newest_cases, list_newest, list_older, paths_compose, paths_stand, place_cases}
 use Rattle.er_links.proofs.Tests.{decide}
 use Rattle.er_links.proofs.Chains.{count_either, front_linked, back_to, back_any, members_linked}

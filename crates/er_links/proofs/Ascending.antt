@@ -1,13 +1,13 @@
 -- Ascending lists: one for each set of numbers. The sources of links are ascending.
 use Rattle.std.proofs.Common.{◌≡◌, ℕ, zero, suc, ◌+◌, ◌<◌, ◌≤◌, Bool, true, false, List, [], ◌∷◌, ◌++◌, length, get_or, refl, sym, ap, ◌∙◌, arith, subst, inl, inr}
 use Rattle.std.specs.Prelude.{◌==◌, ◌&&◌, nat_lt}
-use Rattle.std.specs.List.{list_any, AllByRecursion, filter}
+use Rattle.std.specs.List.{AllByRecursion, filter}
 use Rattle.std.specs.List.Sorted.{IsStrictlyIncreasing}
 use Rattle.std.proofs.lemmas.Bool.Decides.{nat_tests}
 use Rattle.er_paths.specs.Paths.{joins, is_among}
 use Rattle.er_links.specs.Links.{numbers_below, is_link, links_of}
 use Rattle.er_links.specs.Laws.{LinksAscend}
-use Rattle.er_paths.proofs.Paths.{joins_below, paths_go_forward}
+use Rattle.er_paths.proofs.Paths.{paths_go_forward}
 use Rattle.er_links.proofs.Tests.{decide, same_test}
 use Rattle.er_links.proofs.Links.{any_below, some_below, all_below, link_parts}
 

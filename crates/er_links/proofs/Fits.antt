@@ -1,14 +1,14 @@
 -- Which chain first fit takes, and where each action stands after it.
-use Rattle.std.proofs.Common.{◌≡◌, ◌≢◌, ℕ, zero, suc, ◌+◌, ◌<◌, ◌≤◌, Bool, true, false, List, [], ◌∷◌, length, get_or, refl, sym, ap, ◌∙◌, arith, subst, inl, inr}
-use Rattle.std.specs.Prelude.{◌==◌, ◌||◌, if◌then◌else◌, map}
+use Rattle.std.proofs.Common.{◌≡◌, ◌≢◌, ℕ, zero, suc, ◌<◌, ◌≤◌, Bool, true, false, List, [], ◌∷◌, length, get_or, refl, sym, ap, ◌∙◌, arith, subst, inl, inr}
+use Rattle.std.specs.Prelude.{◌==◌, if◌then◌else◌, map}
 use Rattle.std.specs.List.{AllByRecursion}
 use Rattle.std.proofs.lemmas.Bool.Decides.{nat_tests}
 use Rattle.er_paths.specs.Paths.{joins, is_among}
-use Rattle.er_links.specs.Chains.{last_passes, first_fit, chains, members, number_in, place_in, count_in, chain_of, place_of, entry}
-use Rattle.er_links.specs.Laws.{last_leads, ChainsAreFirstFit, EachInOneChain, EntryOfItself}
+use Rattle.er_links.specs.Chains.{last_passes, first_fit, chains, members, number_in, place_in, count_in, chain_of, place_of}
+use Rattle.er_links.specs.Laws.{ChainsAreFirstFit, EachInOneChain, EntryOfItself}
 use Rattle.er_paths.proofs.Paths.{paths_go_forward, paths_stand}
-use Rattle.er_links.proofs.Tests.{decide, never, same_test}
-use Rattle.er_links.proofs.Chains.{IsLinked, count_all, holds, place_less, fit_chain_still, chain_has, chains_hold, members_linked, AreBelow}
+use Rattle.er_links.proofs.Tests.{decide, never}
+use Rattle.er_links.proofs.Chains.{IsLinked, count_all, holds, place_less, fit_chain_still, chain_has, chains_hold, members_linked}
 
 -- no chain is empty
 abbrev pub IsBegun : List ℕ → Type 0

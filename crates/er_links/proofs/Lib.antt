@@ -4,3 +4,4 @@ pub mod Fits
 pub mod Links
 pub mod Ascending
 pub mod Handed
+pub mod Rows

@@ -1,15 +1,15 @@
 -- Proofs of the laws of links, and which of the handed numbers are the links.
 use Rattle.std.proofs.Common.{◌≡◌, ◌≢◌, ℕ, zero, suc, ◌+◌, ◌<◌, ◌≤◌, Bool, true, false, List, [], ◌∷◌, ◌++◌, length, refl, sym, ap, ◌∙◌, arith, subst, inl, inr, length-append}
-use Rattle.std.specs.Prelude.{◌==◌, ◌||◌, ◌&&◌, not, nat_lt, if◌then◌else◌, ◌↔◌}
+use Rattle.std.specs.Prelude.{◌==◌, ◌||◌, ◌&&◌, not, if◌then◌else◌, ◌↔◌}
 use Rattle.std.specs.List.{list_any, AllByRecursion, filter}
 use Rattle.std.proofs.lemmas.List.Elements.{filter-append}
 use Rattle.std.proofs.lemmas.Bool.Decides.{nat_tests}
 use Rattle.std.proofs.Math.Path.{fun_ext}
 use Rattle.er_paths.specs.Paths.{joins, is_among}
-use Rattle.er_links.specs.Links.{numbers_below, is_between, link_among, is_link, links_of, links_to, links}
+use Rattle.er_links.specs.Links.{numbers_below, is_between, link_among, links_of, links_to, links}
 use Rattle.er_links.specs.Laws.{LeadsBy, LinksStay, LinksHaveThePaths, LinksAreDirect, LinksAreLeast, LinksOfPaths}
 use Rattle.er_paths.proofs.Paths.{or_cases, any_some, any_from, joins_older, joins_newest_cases, joins_listed, joins_below, paths_compose, paths_go_forward, paths_stand}
-use Rattle.er_links.proofs.Tests.{decide, same_test, both, and_true, not_true, not_false, never, apart, apart_true, any_members, any_same}
+use Rattle.er_links.proofs.Tests.{decide, same_test, both, and_true, not_true, not_false, never, apart, apart_true, any_same}
 
 -- tests over lists
 

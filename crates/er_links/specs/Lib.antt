@@ -1,3 +1,4 @@
 pub mod Chains
 pub mod Links
 pub mod Laws
+pub mod Rows

@@ -5,6 +5,7 @@
 
 ghost use Rattle.er_links.specs.Laws.{ChainsAreFirstFit, ChainsOfPaths, ChainsStay, ChainsTellPaths, EachInOneChain, EntryOfItself};
 ghost use Rattle.er_links.specs.Laws.{HandedChains, HandedLinks, LinksAreDirect, LinksAreLeast, LinksAscend, LinksHaveThePaths, LinksOfPaths, LinksStay};
+ghost use Rattle.er_links.specs.Rows.{WorkedRows};
 
 /// An action joins the lowest chain whose last member has a path to it, else it begins a new one.
 pub fn chains_are_first_fit()
@@ -83,4 +84,9 @@ pub fn links_of_paths()
 #[tactic(auto, using(crate::proofs::Handed::handed_links))]
 pub fn handed_links()
     ensures { HandedLinks }
+{}
+
+/// Small lists with their chains, places, entries and links.
+pub fn worked_rows()
+    ensures { WorkedRows }
 {}

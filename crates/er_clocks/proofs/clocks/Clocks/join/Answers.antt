@@ -1,4 +1,4 @@
-use Rattle.std.proofs.Common.{◌≡◌, ◌≤◌, ◌<◌, ◌+◌, ◌∙◌, ℕ, List, suc, length, slice_index, sym, ap, arith}
+use Rattle.std.proofs.Common.{◌≡◌, ◌≤◌, ◌<◌, ◌+◌, ◌∙◌, ℕ, suc, length, slice_index, ap, arith}
 use Rattle.std.specs.Prelude.{◌==◌, reverse, if◌then◌else◌}
 use Rattle.std.proofs.lemmas.List.Elements.{All-get_or}
 use Rattle.er_paths.specs.Limits.{most_actions}

@@ -1,0 +1,5 @@
+use Rattle.er_clocks.proofs.Pushes as push
+use Rattle.er_clocks.proofs.laws.clocks_of_handed.Goals as goal
+
+pub returns : goal.returns
+returns c = push.clocks_of_handed
