@@ -13,9 +13,9 @@ use Rattle.er_paths.proofs.Paths.{place_cases, paths_stand, enough_long, any_han
 use Rattle.er_links.proofs.Chains.{GoesBack, back_to, front_linked, IsFront, IsLinked, chains_linked, all_linked_still, chain_stays, chains_of_paths}
 use Rattle.er_links.proofs.Links.{keeps, kept_of, any_kept, kept_short, links_newest, links_grow, length-links, links_have_the_paths, links_of_paths}
 use Rattle.er_chains.specs.Lengths.{one_more}
+use Rattle.er_paths.specs.Limits.{most_actions}
 use Rattle.er_clocks.specs.Clock.{full_number, row_of, IsClock, StandsFor}
 use Rattle.er_clocks.specs.Laws.{ClocksOfHanded, ClocksOfNewest, ClocksOfPaths, ClocksTellPaths}
-use Rattle.er_paths.specs.Limits.{most_actions}
 use Rattle.er_clocks.proofs.Entries.{get_map}
 use Rattle.er_links.proofs.Fits.{fit_number, fit_chain, fit_place, chains_begun, chains_lack}
 use Rattle.er_clocks.proofs.Fulls.{full_is_fit, fit_counts, fit_lengths}

@@ -1,9 +1,9 @@
 pub mod AcceptedLemmas
-pub mod AccessLemmas
-pub mod LatestLemmas
-pub mod NamesLemmas
-pub mod NewestLemmas
+pub mod LevelLemmas
 pub mod PageLemmas
 pub mod PiecesLemmas
-pub mod RankLemmas
-pub mod ScanLemmas
+pub mod RoleLemmas
+pub mod SeenLemmas
+pub mod StartLemmas
+pub mod SuspendedLemmas
+pub mod TakenLemmas

@@ -1,28 +1,28 @@
 -- What the pieces tell of an action.
-use Rattle.std.proofs.Common.{◌≡◌, ℕ, ◌<◌, Bool, true, false, List, [], ◌∷◌, ◌++◌, length, map, reverse, get_or, option_map, Option, Some, None, refl, sym, ap, subst, ◌∙◌, arith}
-use Rattle.std.proofs.Math.Logic.{∥∥₁_elim}
-use Rattle.std.proofs.Props.{props}
-use Rattle.std.specs.Prelude.{◌==◌, if◌then◌else◌, slice_get}
+use Rattle.std.proofs.Common.{◌≡◌, ℕ, ◌+◌, ◌<◌, Bool, true, false, List, [], ◌∷◌, ◌++◌, length, map, reverse, get_or, option_map, Option, Some, None, inl, inr, refl, sym, ap, subst, ◌∙◌, arith}
+use Rattle.std.specs.Prelude.{◌==◌, if◌then◌else◌, slice_get, nat_eq}
 use Rattle.std.proofs.lemmas.Bool.{eqb-true, eqb-false}
 use Rattle.std.proofs.lemmas.List.{reverse-append, reverse-reverse, length-reverse, length-map, get_or_append_left}
 use Rattle.std.proofs.Math.Seq.{get_or-append_seam}
-use Rattle.std.proofs.lemmas.Option.{slice_get_within, get_or_from_slice_get}
+use Rattle.std.proofs.lemmas.Option.{slice_get_within, slice_get_cases, get_or_from_slice_get}
+use Rattle.indexmap.specs.IndexMap.{get}
 use Rattle.er_trace.specs.declared.record.Record.{Record}
-use Rattle.er_history.specs.History.{told, running, action_at, Action}
-use Rattle.er_history.specs.Laws.{IsNumbered}
-use Rattle.er_history.proofs.HistoryLemmas.{EachIsAnEvent, action_at_among, actions_are_numbered, among_below}
-use Rattle.er_history.proofs.NamedLemmas.{each_named}
-use Rattle.er_page.specs.declared.names.Now.{Now}
+use Rattle.er_history.specs.History.{told, begins, action_at, action_begun, event_begun, Action}
+use Rattle.er_history.specs.Latest.{newest_by, is_event}
+use Rattle.er_history.specs.LookUps.{piece_in, latest_piece}
+use Rattle.er_history.specs.Laws.{Among, IsNumbered}
+use Rattle.er_history.proofs.HistoryLemmas.{action_at_among, actions_are_numbered, among_below}
+use Rattle.er_history.proofs.EventLemmas.{found_by_number}
 use Rattle.er_page.specs.declared.piece.Piece.{Piece}
-use Rattle.er_page.specs.declared.page.Page.{Page}
-use Rattle.er_page.specs.Pieces.{Seen, seen, kept, now_of}
-use Rattle.er_page.specs.Page.{IsPage, HasBegun, HasEvent}
-use Rattle.er_page.specs.LookUps.{newest_piece, running_action, begin_of, event_of, latest_piece, begun_of}
-use Rattle.er_page.proofs.AcceptedLemmas.{accepted_named}
-use Rattle.er_page.proofs.PageLemmas.{long_page, now_is}
+use Rattle.er_page.specs.declared.piece.Pieces.{Pieces}
+use Rattle.er_page.specs.declared.piece.Start.{Start}
+use Rattle.er_page.specs.Pieces.{PiecesAre, Seen, About, seen, kept, about, about_start, about_begun}
+
+pub pieces_long : (pieces : List Piece) (actions : List Action) → map kept (reverse pieces) ≡ map seen actions → length pieces ≡ length actions
+pieces_long pieces actions e = omega (arith, length-reverse pieces, length-map (reverse pieces) kept, length-map actions seen, ap length e)
 
 -- the piece of an action's number is that action
-pub seen_at : (ps : List Piece) (actions : List Action) (k : ℕ) (d : Piece) → map kept ps ≡ map seen actions → EachIsAnEvent actions → k < length ps
+seen_at : (ps : List Piece) (actions : List Action) (k : ℕ) (d : Piece) → map kept ps ≡ map seen actions → IsNumbered actions → k < length ps
     → (a : Action) × (action_at k actions ≡ Some a) × (seen a ≡ kept (get_or (reverse ps) k d))
 seen_at [] actions k d e n below = absurd (omega arith)
 seen_at (p ∷ ps) [] k d e n below = cc
@@ -30,7 +30,7 @@ seen_at (p ∷ ps) (a ∷ older) k d e n below =
     let head : kept p ≡ seen a = cc in
     let tail : map kept ps ≡ map seen older = cc in
     let long : length ps ≡ length older = omega (arith, length-map ps kept, length-map older seen, ap length tail) in
-    by (a.number == k) refl head tail long (λ under. seen_at ps older k d tail n.2 under)
+    by (a.number == k) refl head tail long (λ under. seen_at ps older k d tail n.1 under)
   where
     turned : get_or (reverse (p ∷ ps)) k d ≡ get_or (reverse ps ++ p ∷ []) k d
     turned = ap (λ xs. get_or xs k d) (reverse-append (p ∷ []) ps)
@@ -48,61 +48,74 @@ seen_at (p ∷ ps) (a ∷ older) k d e n below =
         let found = rest under in
         (found.0, found.1, found.2 ∙ ap kept (sym (turned ∙ get_or_append_left (reverse ps) (p ∷ []) d k (omega (arith, length-reverse ps)))))
 
-pub seen_there : (items : List Piece) (actions : List Action) (k : ℕ) (p : Piece) → map kept (reverse items) ≡ map seen actions → EachIsAnEvent actions → slice_get items k ≡ Some p
+pub seen_there : (items : List Piece) (actions : List Action) (k : ℕ) (p : Piece) → map kept (reverse items) ≡ map seen actions → IsNumbered actions → slice_get items k ≡ Some p
     → (a : Action) × (action_at k actions ≡ Some a) × (seen a ≡ kept p)
 seen_there items actions k p e n there =
     let found = seen_at (reverse items) actions k p e n (omega (arith, slice_get_within items k p there, length-reverse items)) in
     let same : get_or (reverse (reverse items)) k p ≡ p = ap (λ xs. get_or xs k p) (reverse-reverse items) ∙ get_or_from_slice_get items k p p there in
     (found.0, found.1, found.2 ∙ ap kept same)
 
-pub page_seen : (page : Page) (h : List Record) (k : ℕ) (p : Piece) → IsPage page h → slice_get page.pieces.list.items k ≡ Some p → (a : Action) × (action_at k (told h).actions ≡ Some a) × (seen a ≡ kept p)
-page_seen page h k p is there = seen_there page.pieces.list.items (told h).actions k p is.pieces.all (each_named h (accepted_named h is.accepted)) there
-
-pub begin_is : (page : Page) (h : List Record) (k : ℕ) (p : Piece) → IsPage page h → slice_get page.pieces.list.items k ≡ Some p → Some p.begin ≡ begin_of h k
-begin_is page h k p is there = let found = page_seen page h k p is there in rw found.1 (ap (λ (s : Seen). Some s.begin) (sym found.2))
-
-pub event_is : (page : Page) (h : List Record) (k : ℕ) (p : Piece) → IsPage page h → slice_get page.pieces.list.items k ≡ Some p → Some p.event ≡ event_of h k
-event_is page h k p is there = let found = page_seen page h k p is there in rw found.1 (ap (λ (s : Seen). Some s.event) (sym found.2))
-
-pub begun_is : (page : Page) (h : List Record) (k : ℕ) (p : Piece) → IsPage page h → slice_get page.pieces.list.items k ≡ Some p → Some p.begun ≡ begun_of h k
-begun_is page h k p is there = let found = page_seen page h k p is there in rw found.1 (ap (λ (s : Seen). s.begun) (sym found.2))
-
-pub running_is : (page : Page) (h : List Record) (now : Now) → IsPage page h → now_of (reverse page.pieces.list.items) ≡ Some now → Some now.action ≡ running_action h
-running_is page h now is e = by (reverse page.pieces.list.items) (told h).actions is.pieces.all (each_named h (accepted_named h is.accepted)) e
+-- each action has its piece
+pub kept_there : (pieces : Pieces) (h : List Record) (a : Action) → PiecesAre pieces h → Among a (told h).actions → (p : Piece) × (slice_get pieces.list.items a.number ≡ Some p) × (kept p ≡ seen a)
+kept_there pieces h a are among =
+    let numbered = actions_are_numbered h in
+    let long = pieces_long pieces.list.items (told h).actions are.all in
+    elim (slice_get_cases pieces.list.items a.number).1 [
+      | inl found ↦
+          let at = seen_there pieces.list.items (told h).actions a.number found.0 are.all numbered found.2 in
+          let same : at.0 ≡ a = some_is at.0 a (sym at.1 ∙ found_by_number (told h).actions a numbered among) in
+          (found.0, found.2, sym at.2 ∙ ap seen same)
+      | inr past ↦ absurd (omega (arith, past.0, long, among_below (told h).actions a numbered among))
+    ]
   where
-    by : (newest : List Piece) (actions : List Action) → map kept newest ≡ map seen actions → EachIsAnEvent actions → now_of newest ≡ Some now → Some now.action ≡ option_map (λ (a : Action). a.number) (running actions)
-    by [] actions e n is = cc
-    by (p ∷ ps) [] e n is = cc
-    by (p ∷ ps) (a ∷ older) e n is = let there = now_is (p ∷ ps) (a ∷ older) a e n refl in ap (option_map (λ (m : Now). m.action)) (sym is ∙ there)
+    some_is : (x y : Action) → Some x ≡ Some y → x ≡ y
+    some_is x y e = cc
 
--- an action that is found has begun
-pub found_below : (actions : List Action) (k u : ℕ) → IsNumbered actions → option_map (λ (a : Action). a.event.number) (action_at k actions) ≡ Some u → k < length actions
-found_below actions k u n e = by (action_at k actions) refl e
+-- one record more
+
+pub piece_put : (pieces : List Piece) (p : Piece) (actions : List Action) (a : Action) → map kept (reverse pieces) ≡ map seen actions → kept p ≡ seen a → map kept (reverse (pieces ++ p ∷ [])) ≡ map seen (a ∷ actions)
+piece_put pieces p actions a e f = rw (reverse-append pieces (p ∷ [])) (cc)
+
+latest_put : (a : Action) (older : List Action) (u n m : ℕ) (o : Option ℕ) → o ≡ piece_in (newest_by (is_event u) older) → m ≡ a.event.number → n ≡ a.number
+    → (if m == u then Some n else o) ≡ piece_in (newest_by (is_event u) (a ∷ older))
+latest_put a older u n m o e f g = rw f (rw g (step (a.event.number == u)))
   where
-    by : (o : Option Action) → action_at k actions ≡ o → option_map (λ (a : Action). a.event.number) o ≡ Some u → k < length actions
-    by None same e = cc
-    by (Some a) same e = let found = action_at_among k actions a same in omega (arith, found.1, among_below actions a n found.0)
+    step : (b : Bool) → (if b then Some a.number else o) ≡ piece_in (if b then Some a else newest_by (is_event u) older)
+    step true = refl
+    step false = e
 
-pub event_there : (page : Page) (event : ℕ) → ∥ HasEvent page event ∥₁ → event < length page.pieces.list.items
-event_there page event some = ∥∥₁_elim some (hlevel props) (λ has. there has)
+pub piece_taken : (old new : Pieces) (h : List Record) (x : Record) (start : Start) → PiecesAre old h → option_map about_start (Some start) ≡ about_begun h x
+    → new.list.items ≡ old.list.items ++ record { begin = x; start = start } ∷ []
+    → ((u : ℕ) → get nat_eq new.latest u ≡ (if start.event == u then Some (length old.list.items) else get nat_eq old.latest u))
+    → PiecesAre new (x ∷ h)
+piece_taken old new h x start are is items latest = by (begins x) refl is
   where
-    there : HasEvent page event → event < length page.pieces.list.items
-    there is = omega (arith, long_page page is.list is.stands, found_below (told is.list).actions event event (actions_are_numbered is.list) is.first)
+    by : (b : Bool) → begins x ≡ b → Some (about_start start) ≡ (if b then Some (about (event_begun (told h) x)) else None) → PiecesAre new (x ∷ h)
+    by true begin same =
+        let about_is : about_start start ≡ about (event_begun (told h) x) = cc in
+        let event : start.event ≡ (event_begun (told h) x).number = ap (λ (m : About). m.event) about_is in
+        let long = pieces_long old.list.items (told h).actions are.all in
+        let actions : (told (x ∷ h)).actions ≡ action_begun (told h) x ∷ (told h).actions = rw begin refl in
+        let all : map kept (reverse (old.list.items ++ record { begin = x; start = start } ∷ [])) ≡ map seen (action_begun (told h) x ∷ (told h).actions)
+        = piece_put old.list.items _ (told h).actions (action_begun (told h) x) are.all (ap (λ (m : About). record { begin = x; about = m }) about_is) in
+        record {
+          all = ap (λ ps. map kept (reverse ps)) items ∙ (all ∙ ap (map seen) (sym actions));
+          latest = λ u. latest u ∙ (latest_put (action_begun (told h) x) (told h).actions u (length old.list.items) start.event (get nat_eq old.latest u) (are.latest u) event long ∙ ap (λ acts. piece_in (newest_by (is_event u) acts)) (sym actions));
+        }
+    by false begin same = absurd (cc)
 
-pub action_there : (page : Page) (action : ℕ) → ∥ HasBegun page action ∥₁ → action < length page.pieces.list.items
-action_there page action some = ∥∥₁_elim some (hlevel props) (λ has. there has)
+-- a note is no piece
+pub pieces_kept : (old new : Pieces) (h : List Record) (x : Record) → PiecesAre old h → None ≡ about_begun h x → new.list.items ≡ old.list.items → ((u : ℕ) → get nat_eq new.latest u ≡ get nat_eq old.latest u) → PiecesAre new (x ∷ h)
+pieces_kept old new h x are is items latest = by (begins x) refl is
   where
-    there : HasBegun page action → action < length page.pieces.list.items
-    there is = omega (arith, long_page page is.list is.stands, is.begun)
+    by : (b : Bool) → begins x ≡ b → None ≡ (if b then Some (about (event_begun (told h) x)) else None) → PiecesAre new (x ∷ h)
+    by true begin same = absurd (cc)
+    by false begin same =
+        let actions : (told (x ∷ h)).actions ≡ (told h).actions = rw begin refl in
+        record {
+          all = ap (λ ps. map kept (reverse ps)) items ∙ (are.all ∙ ap (map seen) (sym actions));
+          latest = λ u. latest u ∙ (are.latest u ∙ ap (λ acts. piece_in (newest_by (is_event u) acts)) (sym actions));
+        }
 
--- each event has one piece
-pub newest_is : (actions : List Action) (k : ℕ) → EachIsAnEvent actions → k < length actions → Some k ≡ newest_piece k actions
-newest_is [] k n below = absurd (omega arith)
-newest_is (a ∷ older) k n below = by (a.event.number == k) refl (newest_is older k n.2)
-  where
-    by : (b : Bool) → (a.event.number == k) ≡ b → (k < length older → Some k ≡ newest_piece k older) → Some k ≡ (if b then Some a.number else newest_piece k older)
-    by true e rest = let same : k ≡ a.number = omega (arith, n.0, n.1, eqb-true a.event.number k e) in ap Some same
-    by false e rest = let apart = eqb-false a.event.number k e in rest (omega (arith, n.1, apart))
-
-pub latest_is : (page : Page) (h : List Record) (event : ℕ) → ∥ HasEvent page event ∥₁ → IsPage page h → Some event ≡ latest_piece h event
-latest_is page h event has is = newest_is (told h).actions event (each_named h (accepted_named h is.accepted)) (omega (arith, event_there page event has, long_page page h is))
+pub pieces_same : (old new : Pieces) (h : List Record) → PiecesAre old h → new.list.items ≡ old.list.items → ((u : ℕ) → get nat_eq new.latest u ≡ get nat_eq old.latest u) → PiecesAre new h
+pieces_same old new h are items latest = record { all = ap (λ ps. map kept (reverse ps)) items ∙ are.all; latest = λ u. latest u ∙ are.latest u }

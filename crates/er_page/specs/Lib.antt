@@ -1,10 +1,6 @@
 pub mod Accepted
-pub mod Fired
-pub mod Latest
-pub mod Laws
 pub mod LookUps
-pub mod Names
 pub mod Page
 pub mod Pieces
+pub mod Roles
 pub mod Stack
-pub mod Tables

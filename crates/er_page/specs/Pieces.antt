@@ -1,13 +1,17 @@
 -- What the pieces of a page stand for.
-use Rattle.std.specs.Prelude.{◌≡◌, ℕ, List, [], ◌∷◌, ◌++◌, map, length, reverse, Option, Some, None}
+use Rattle.std.specs.Prelude.{◌≡◌, ℕ, Bool, true, false, if◌then◌else◌, List, [], ◌∷◌, map, length, reverse, Option, Some, None, nat_eq}
+use Rattle.indexmap.specs.IndexMap.{get}
 use Rattle.er_trace.specs.declared.record.Record.{Record}
 use Rattle.er_trace.specs.declared.record.Record.TheVariants.{Parse, ParseFrame, Exec, Timer, Tick, Dcl, Load, Eload, Fire, Wfire, Reply, Inline, Run, Close}
-use Rattle.er_history.specs.History.{told, Action, What, ParseStep, ScriptRun, TimeoutRun, TickRun, BeginOf, HandlerOf, CloseOf, Unnamed}
+use Rattle.er_history.specs.History.{told, begins, event_begun, Action, Event, What, ParseStep, ScriptRun, TimeoutRun, TickRun, BeginOf, HandlerOf, CloseOf, Unnamed}
+use Rattle.er_history.specs.LookUps.{latest_piece}
+use Rattle.er_names.specs.declared.names.Now.{Now}
 use Rattle.er_page.specs.declared.piece.Begun.{Begun}
 use Rattle.er_page.specs.declared.piece.Begun.TheVariants as begun
 use Rattle.er_page.specs.declared.piece.Piece.{Piece}
+use Rattle.er_page.specs.declared.piece.Start.{Start}
 use Rattle.er_page.specs.declared.piece.Pieces.{Pieces}
-use Rattle.er_page.specs.declared.names.Now.{Now}
+use Rattle.er_page.specs.declared.stack.Level.{Level}
 
 -- what an event is
 abbrev pub begun_as : What → Option Begun
@@ -20,7 +24,13 @@ begun_as (HandlerOf d g x m) = Some begun.Handler
 begun_as (CloseOf d) = Some begun.Close
 begun_as Unnamed = None
 
--- What the event is that a record begins. `back` begins a piece and no event, and never comes in an accepted list yet.
+-- the begin of the dispatch of a handler or a close
+abbrev pub serves : What → Option ℕ
+serves (HandlerOf d g x m) = Some d.begin
+serves (CloseOf d) = Some d.begin
+serves _ = None
+
+-- What the event is that a record begins. A note begins none, and `back` a piece of an older one.
 abbrev pub begun_by : Record → Option Begun
 begun_by (Parse d e k) = Some begun.Parse
 begun_by (ParseFrame d e f) = Some begun.Parse
@@ -38,31 +48,63 @@ begun_by (Run p g x) = Some begun.Handler
 begun_by (Close p) = Some begun.Close
 begun_by _ = None
 
+-- an event of these can call an inline dispatch
+abbrev pub calls : Begun → Bool
+calls begun.Parse = false
+calls begun.Begin = false
+calls _ = true
+
+-- what is kept of an event
+pub record About : Type 0 where
+  pub event : ℕ
+  pub begun : Option Begun
+  pub serves : Option ℕ
+
+abbrev pub about : Event → About
+about e = record { event = e.number; begun = begun_as e.what; serves = serves e.what }
+
+abbrev pub about_start : Start → About
+about_start s = record { event = s.event; begun = Some s.begun; serves = s.serves }
+
 -- what is kept of an action
 pub record Seen : Type 0 where
   pub begin : Record
-  pub event : ℕ
-  pub begun : Option Begun
+  pub about : About
 
 abbrev pub seen : Action → Seen
-seen a = record { begin = a.begin; event = a.event.number; begun = begun_as a.event.what }
+seen a = record { begin = a.begin; about = about a.event }
 
 abbrev pub kept : Piece → Seen
-kept p = record { begin = p.begin; event = p.event; begun = Some p.begun }
+kept p = record { begin = p.begin; about = about_start p.start }
 
--- A record that begins an event is one piece more. That of a `back` would be of an older event; a page's list has none yet.
-abbrev pub pieces_after : List Piece → Record → List Piece
-pieces_after pieces x = by (begun_by x)
-  where
-    by : Option Begun → List Piece
-    by None = pieces
-    by (Some b) = pieces ++ record { begin = x; event = length pieces; begun = b } ∷ []
-
--- the running action and its event, of pieces that stand newest first
-abbrev pub now_of : List Piece → Option Now
-now_of [] = None
-now_of (p ∷ older) = Some (record { action = length older; event = p.event })
-
--- they are the actions
+-- they are the actions, and the latest of each event is known
 pub record PiecesAre (pieces : Pieces) (h : List Record) : Type 0 where
   pub all : map kept (reverse pieces.list.items) ≡ map seen (told h).actions
+  pub latest : (u : ℕ) → get nat_eq pieces.latest u ≡ latest_piece h u
+
+abbrev pub start_in : Piece → Start
+start_in p = p.start
+
+-- the event of the newest piece
+abbrev pub newest_of : List Piece → Option Start
+newest_of [] = None
+newest_of (p ∷ older) = Some p.start
+
+-- the running action and its event
+abbrev pub now_of : List Piece → Option Now
+now_of [] = None
+now_of (p ∷ older) = Some (record { action = length older; event = p.start.event })
+
+-- the event that a record begins, or goes on with; a note does neither
+abbrev pub about_begun : List Record → Record → Option About
+about_begun h x = if begins x then Some (about (event_begun (told h) x)) else None
+
+-- the begin of the dispatch on top, for a record that serves it
+abbrev pub top_begin : List Level → Option ℕ
+top_begin [] = None
+top_begin (l ∷ below) = Some l.begin
+
+abbrev pub served : List Level → Record → Option ℕ
+served ls (Run p g x) = top_begin ls
+served ls (Close p) = top_begin ls
+served ls _ = None

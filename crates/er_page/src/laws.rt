@@ -1,15 +1,9 @@
-//! What the look-ups of the last event say. Each law is a function with no parameters, whose contract is the law.
+//! What holds of the lists that pages stand for. Each law is a function with no parameters, whose contract is the law.
 
-ghost use Rattle.er_page.specs.Laws.{NewestComesLast, NoneIsNewest};
+ghost use Rattle.er_page.specs.Accepted.{AcceptedListsAreNamed};
 
-/// The newest action whose event passes a test began last of those that do.
-#[tactic(auto, using(crate::proofs::LatestLemmas::newest_comes_last))]
-pub fn newest_comes_last()
-    ensures { NewestComesLast }
-{}
-
-/// Where there is no newest one, no event passes.
-#[tactic(auto, using(crate::proofs::LatestLemmas::none_is_newest))]
-pub fn none_is_newest()
-    ensures { NoneIsNewest }
+/// Naming refuses no record of an accepted list.
+#[tactic(auto, using(crate::proofs::AcceptedLemmas::accepted_named))]
+pub fn accepted_lists_are_named()
+    ensures { AcceptedListsAreNamed }
 {}

@@ -2,18 +2,22 @@
 //!
 //! What a rule may ask of a page stands in `look_ups`, whose head lists the look-ups by what they are asked of.
 
-ghost use Rattle.std.specs.Prelude.{◌≡◌, List, [], ◌∷◌, None, IfOk, OnOk, OnErr};
+ghost use Rattle.std.specs.Prelude.{◌≡◌, List, [], ◌∷◌, Some, None, IfOk, OnOk, OnErr};
 ghost use Rattle.er_trace.specs.declared.record.Record.{Record};
 ghost use Rattle.er_history.specs.History.{told};
-ghost use Rattle.er_history.specs.Naming.{misplaced_now, naming_now, room, too_many_actions};
+ghost use Rattle.er_history.specs.Naming.{misplaced, naming, room, too_many_actions, too_deep};
 ghost use Rattle.er_page.specs.Accepted.{result_of};
-ghost use Rattle.er_page.specs.Page.{IsPage, IsNext};
+ghost use Rattle.er_names.specs.Names.{HasRoomFor};
+ghost use Rattle.er_page.specs.Page.{IsPage, IsNext, IsNextOf, Answers};
+ghost use Rattle.er_page.specs.Pieces.{about_start, about_begun};
 
-use crate::fired::Fired;
-use crate::latest::{LatestByDocument, role_of};
-use crate::names::Names;
-use crate::piece::{Pieces, begins};
+use crate::piece::{Pieces, Start, begins};
+use crate::roles::{first_of, role_by, served_of};
 use crate::stack::Stack;
+use crate::starts::start_of;
+use er_latest::latest::Latest;
+use er_latest::role::Now as Told;
+use er_names::names::{Names, Now};
 use er_outside::NoMemory;
 use er_text::Cause;
 use er_trace::record::Record;
@@ -22,14 +26,16 @@ use std::alloc::Global;
 /// How many actions may begin.
 const MOST_ACTIONS: usize = 16_384;
 
+/// How many inline dispatches the stack may hold.
+const MOST_INLINE: u32 = 256;
+
 /// What a list of accepted records declares, has run and has on the stack.
 #[derive(Drop)]
 pub struct Page {
     pub(crate) names: Names,
     pub(crate) stack: Stack,
     pub(crate) pieces: Pieces,
-    pub(crate) fired: Fired,
-    pub(crate) latest: LatestByDocument,
+    pub(crate) latest: Latest,
 }
 
 impl Page {
@@ -41,14 +47,13 @@ impl Page {
             names: Names::new(alloc),
             stack: Stack::new(alloc),
             pieces: Pieces::new(alloc),
-            fired: Fired::new(alloc),
-            latest: LatestByDocument::new(alloc),
+            latest: Latest::new(alloc),
         })
     }
 
     /// Whether naming and nesting accept the record, or else the first cause against it. It takes no memory.
     pub fn check(&self, rec: &Record) -> Result<(), Cause>
-        ensures { (h : List Record) → IsPage self.now h → result ≡ result_of (naming_now h rec.now) }
+        ensures { Answers self.now (λ h. result_of (naming h rec.now)) result }
     {
         if self.names.is_unknown(rec) {
             return Err(Cause::Unknown);
@@ -65,12 +70,15 @@ impl Page {
         Ok(())
     }
 
-    /// Whether the record stays within the limit of actions. It takes no memory.
+    /// Whether the record stays within the limits of actions and of inline dispatches on the stack, or else the first that it would pass. It takes no memory.
     pub fn room(&self, rec: &Record) -> Result<(), Cause>
-        ensures { (h : List Record) → IsPage self.now h → result ≡ result_of (room h rec.now) }
+        ensures { Answers self.now (λ h. result_of (room h rec.now)) result }
     {
         if self.is_over(rec) {
             return Err(Cause::TooManyActions);
+        }
+        if self.is_too_deep(rec) {
+            return Err(Cause::TooDeep);
         }
         Ok(())
     }
@@ -78,50 +86,84 @@ impl Page {
     /// Takes the next record, which `check` and `room` accept. After `NoMemory` the page stands for what it did.
     pub fn apply(&mut self, rec: &Record) -> Result<(), NoMemory>
         requires next { ∥ IsNext self.old rec.now ∥₁ }
-        ensures taken { OnOk result ((h : List Record) → IsPage self.old h → naming_now h rec.now ≡ None → room h rec.now ≡ None → IsPage self.new (rec.now ∷ h)) }
+        ensures taken { OnOk result ((h : List Record) → IsPage self.old h → naming h rec.now ≡ None → room h rec.now ≡ None → IsPage self.new (rec.now ∷ h)) }
         ensures kept { OnErr result ((h : List Record) → IsPage self.old h → IsPage self.new h) }
     {
         // An access declares, starts and finishes nothing.
         if let Record::Access { .. } = rec {
             return Ok(());
         }
-        let fires = self.names.fires(rec);
-        let role = role_of(&self.names, rec);
-        self.names.make_room()?;
+        self.names.make_room(rec)?;
+        match start_of(&self.stack, &self.pieces, rec) {
+            Some(start) => self.begin(rec, start),
+            None => {
+                self.note(rec);
+                Ok(())
+            }
+        }
+    }
+
+    /// Takes a record that begins a piece of this event. All that grows is made to grow first.
+    fn begin(&mut self, rec: &Record, start: Start) -> Result<(), NoMemory>
+        requires next { ∥ IsNext self.old rec.now ∥₁ }
+        requires room { HasRoomFor self.old.names rec.now }
+        ensures taken { OnOk result ((h : List Record) → IsPage self.old h → IsNextOf h rec.now → Some (about_start start) ≡ about_begun h rec.now → IsPage self.new (rec.now ∷ h)) }
+        ensures kept { OnErr result ((h : List Record) → IsPage self.old h → IsPage self.new h) }
+    {
+        let begin = rec.copy()?;
+        let action = self.pieces.count();
+        let event = start.event;
+        self.pieces.make_room()?;
         self.stack.make_room()?;
-        self.fired.make_room(fires)?;
-        self.latest.make_room()?;
-        self.pieces.take(rec)?;
-        let Some(now) = self.pieces.newest() else {
-            unreachable!()
-        };
-        self.names.take(rec, now);
-        self.stack.take(rec);
-        self.fired.take(fires);
-        self.latest.take(role, now.event);
+        let first = first_of(&self.pieces, rec, start);
+        let role = role_by(&self.names, first, served_of(&self.pieces, start));
+        self.latest.make_room(&role)?;
+        self.latest.take(&role, Told { action, event });
+        self.names.take(rec, Now { action, event });
+        self.stack.take(rec, action);
+        self.pieces.take(begin, start);
         Ok(())
+    }
+
+    /// Takes a note, which stands in the running action.
+    fn note(&mut self, rec: &Record)
+        requires room { HasRoomFor self.old.names rec.now }
+        ensures { (h : List Record) → IsPage self.old h → IsNextOf h rec.now → None ≡ about_begun h rec.now → IsPage self.new (rec.now ∷ h) }
+    {
+        if let Some(now) = self.pieces.now() {
+            self.names.take(rec, now);
+        }
     }
 
     /// Whether the record begins an action that is one too many.
     fn is_over(&self, rec: &Record) -> bool
-        ensures { (h : List Record) → IsPage self.now h → result ≡ too_many_actions (told h) rec.now }
+        ensures { Answers self.now (λ h. too_many_actions (told h) rec.now) result }
     {
         begins(rec) && self.pieces.list.len() >= MOST_ACTIONS
     }
 
-    /// Whether the record is not allowed at this point of the nesting. Until inline dispatches are built, each of them is misplaced.
-    #[tactic(auto, using(crate::proofs::PageLemmas::back_misplaced, crate::proofs::PageLemmas::run_misplaced, crate::proofs::PageLemmas::close_misplaced))]
-    fn is_misplaced(&self, rec: &Record) -> bool
-        ensures { (h : List Record) → IsPage self.now h → result ≡ misplaced_now (told h) rec.now }
+    /// Whether the record begins an inline dispatch that is one too many on the stack.
+    fn is_too_deep(&self, rec: &Record) -> bool
+        ensures { Answers self.now (λ h. too_deep (told h) rec.now) result }
     {
         match rec {
-            Record::Inline { .. } => true,
-            Record::Back { .. } => true,
-            Record::Run { dispatch, .. } => !self.stack.is_top(*dispatch),
-            Record::Close { dispatch } => !self.stack.is_top(*dispatch),
+            Record::Inline { .. } => self.stack.depth() >= MOST_INLINE,
+            _ => false,
+        }
+    }
+
+    /// Whether the record is not allowed at this point of the nesting.
+    fn is_misplaced(&self, rec: &Record) -> bool
+        ensures { Answers self.now (λ h. misplaced (told h) rec.now) result }
+    {
+        match rec {
+            Record::Inline { .. } => !self.pieces.may_call(),
+            Record::Run { dispatch, .. } => !self.stack.is_top(false, *dispatch),
+            Record::Close { dispatch } => !self.stack.is_top(false, *dispatch),
+            Record::Back { dispatch } => !self.stack.is_top(true, *dispatch),
             _ => {
                 if begins(rec) {
-                    self.stack.top().is_some()
+                    !self.stack.is_empty()
                 } else {
                     self.pieces.list.is_empty()
                 }

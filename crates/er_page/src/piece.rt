@@ -1,9 +1,10 @@
-//! The pieces of events: the actions that have begun.
+//! What the pieces of events are: the actions that have begun.
 
 ghost use Rattle.std.specs.Prelude.{◌≡◌, ◌<◌, ◌^◌, length};
 ghost use Rattle.er_history.specs.History.{begins};
 
 use er_trace::record::Record;
+use indexmap::IndexMap;
 
 /// What an event is.
 #[derive(Clone, Copy, Debug, PartialEq, Eq)]
@@ -24,18 +25,26 @@ pub enum Begun {
     Close,
 }
 
-/// A piece: the record that began it, its event, and what that is.
+/// The event that a piece is of, what that is, and the begin of the dispatch that it is a handler or the close of.
+#[derive(Clone, Copy)]
+pub(crate) struct Start {
+    pub(crate) event: u32,
+    pub(crate) begun: Begun,
+    pub(crate) serves: Option<u32>,
+}
+
+/// A piece: the record that began it, and its event.
 #[derive(Drop)]
 pub(crate) struct Piece {
     pub(crate) begin: Record,
-    pub(crate) event: u32,
-    pub(crate) begun: Begun,
+    pub(crate) start: Start,
 }
 
-/// All pieces, oldest first.
+/// All pieces, oldest first, and the latest piece of each event.
 #[derive(Drop)]
 pub(crate) struct Pieces {
     pub(crate) list: Vec<Piece>,
+    pub(crate) latest: IndexMap<u32, u32>,
     ghost few: { length list.items < 2 ^ 32 },
 }
 

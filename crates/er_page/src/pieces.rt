@@ -1,14 +1,18 @@
-//! How pieces begin, and which is the newest.
+//! All pieces, how one is put to them, and the latest of each event.
 
-ghost use Rattle.std.specs.Prelude.{◌≡◌, ℕ, ◌+◌, ◌<◌, ◌^◌, List, [], Some, reverse, length, slice_get, OnOk, OnErr};
-ghost use Rattle.er_history.specs.History.{told};
+ghost use Rattle.std.specs.Prelude.{◌≡◌, ℕ, ◌+◌, ◌<◌, ◌^◌, ◌==◌, if◌then◌else◌, List, [], ◌∷◌, ◌++◌, Some, None, reverse, length, slice_get, option_map, nat_eq, OnOk, vec_len, vec_capacity};
+ghost use Rattle.indexmap.specs.IndexMap.{get, spare};
+ghost use Rattle.er_history.specs.History.{told, running};
+ghost use Rattle.er_history.specs.Naming.{may_call};
 ghost use Rattle.er_trace.specs.declared.record.Record.{Record};
-ghost use Rattle.er_page.specs.Pieces.{PiecesAre, begun_by, pieces_after, now_of};
+ghost use Rattle.er_page.specs.Roles.{begin_in, read};
+ghost use Rattle.er_page.specs.Pieces.{PiecesAre, newest_of, now_of, start_in, calls, begun_by};
 
-use crate::names::Now;
-use crate::piece::{Begun, Piece, Pieces};
+use crate::piece::{Begun, Piece, Pieces, Start};
+use er_names::names::Now;
 use er_outside::NoMemory;
 use er_trace::record::Record;
+use indexmap::IndexMap;
 use std::alloc::Global;
 
 impl Pieces {
@@ -18,30 +22,39 @@ impl Pieces {
     {
         Pieces {
             list: Vec::new(alloc),
+            latest: IndexMap::new(alloc),
         }
     }
 
-    /// Takes a record, which begins an event or is a note. No `back` comes until inline dispatches are built.
-    pub(crate) fn take(&mut self, rec: &Record) -> Result<(), NoMemory>
-        requires few { length self.old.list.items + 1 < 2 ^ 32 }
-        ensures taken { OnOk result (self.new.list.items ≡ pieces_after self.old.list.items rec.now) }
-        ensures kept { OnErr result (self.new.list.items ≡ self.old.list.items) }
+    /// Makes room for one piece more.
+    pub(crate) fn make_room(&mut self) -> Result<(), NoMemory>
+        ensures list { self.new.list.items ≡ self.old.list.items }
+        ensures latest { (u : ℕ) → get nat_eq self.new.latest u ≡ get nat_eq self.old.latest u }
+        ensures room { OnOk result (vec_len self.new.list < vec_capacity self.new.list) }
+        ensures place { OnOk result (0 < spare self.new.latest) }
     {
-        let Some(begun) = begun_by(rec) else {
-            return Ok(());
-        };
         let Ok(()) = self.list.reserve(1) else {
             return Err(NoMemory);
         };
-        let piece = Piece {
-            begin: rec.copy()?,
-            event: self.list.len() as u32,
-            begun,
-        };
-        let Ok(()) = self.list.push(piece) else {
-            unreachable!()
+        let Ok(()) = self.latest.reserve(1) else {
+            return Err(NoMemory);
         };
         Ok(())
+    }
+
+    /// Takes the piece that a record begins.
+    pub(crate) fn take(&mut self, begin: Record, start: Start)
+        requires few { length self.old.list.items + 1 < 2 ^ 32 }
+        requires room { vec_len self.old.list < vec_capacity self.old.list }
+        requires place { 0 < spare self.old.latest }
+        ensures list { self.new.list.items ≡ self.old.list.items ++ record { begin = begin; start = start } ∷ [] }
+        ensures latest { (u : ℕ) → get nat_eq self.new.latest u ≡ (if start.event == u then Some (length self.old.list.items) else get nat_eq self.old.latest u) }
+    {
+        let action = self.list.len() as u32;
+        let Ok(_) = self.latest.insert(start.event, action) else {
+            unreachable!()
+        };
+        self.list.push_reserved(Piece { begin, start });
     }
 
     /// The piece that is this action.
@@ -52,27 +65,73 @@ impl Pieces {
         &self.list[action as usize]
     }
 
+    /// The record that began this action.
+    pub(crate) fn begin(&self, action: u32) -> Option<&Record>
+        ensures { read result ≡ begin_in self.now.list.items (Some action) }
+    {
+        let piece = self.list.get(action as usize)?;
+        Some(&piece.begin)
+    }
+
+    /// The event of the piece just before this action.
+    pub(crate) fn before(&self, action: u32) -> Option<Start>
+        ensures { (n : ℕ) → action ≡ n + 1 → result ≡ option_map start_in (slice_get self.now.list.items n) }
+    {
+        let last = action.checked_sub(1)?;
+        let piece = self.list.get(last as usize)?;
+        Some(piece.start)
+    }
+
     /// How many actions have begun.
     pub(crate) fn count(&self) -> u32
-        ensures { (h : List Record) → PiecesAre self.now h → result ≡ length (told h).actions }
+        ensures { result ≡ length self.now.list.items }
     {
         self.list.len() as u32
     }
 
+    /// The event of the running action.
+    pub(crate) fn newest(&self) -> Option<Start>
+        ensures { result ≡ newest_of (reverse self.now.list.items) }
+    {
+        let piece = self.list.last()?;
+        Some(piece.start)
+    }
+
     /// The running action and its event.
-    pub(crate) fn newest(&self) -> Option<Now>
+    pub(crate) fn now(&self) -> Option<Now>
         ensures { result ≡ now_of (reverse self.now.list.items) }
     {
         let piece = self.list.last()?;
         Some(Now {
             action: (self.list.len() - 1) as u32,
-            event: piece.event,
+            event: piece.start.event,
         })
+    }
+
+    /// Whether the running action can call an inline dispatch: its event is a script run, a timeout, a tick, a handler or a close.
+    pub(crate) fn may_call(&self) -> bool
+        ensures { (h : List Record) → PiecesAre self.now h → result ≡ may_call (running (told h).actions) }
+    {
+        match self.newest() {
+            Some(start) => calls(start.begun),
+            None => false,
+        }
+    }
+}
+
+/// Whether such an event can.
+fn calls(begun: Begun) -> bool
+    ensures { result ≡ calls begun }
+{
+    match begun {
+        Begun::Parse => false,
+        Begun::Begin => false,
+        _ => true,
     }
 }
 
 /// What the event is that a record begins. None is begun by a note, nor by `back`.
-fn begun_by(rec: &Record) -> Option<Begun>
+pub(crate) fn begun_by(rec: &Record) -> Option<Begun>
     ensures { result ≡ begun_by rec.now }
 {
     match rec {

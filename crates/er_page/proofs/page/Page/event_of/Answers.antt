@@ -1,8 +1,8 @@
-use Rattle.er_page.proofs.PiecesLemmas.{event_is, action_there}
+use Rattle.er_page.proofs.SeenLemmas.{event_is, action_there}
 use Rattle.er_page.proofs.page.Page.event_of.Goals as goal
 
 pub piece-requires : goal.piece-requires
 piece-requires c = record { begun = action_there c.args.self.now c.args.action c.requires.begun }
 
 pub returns : goal.returns
-returns c = λ h page. event_is c.args.self.now h c.args.action c.piece.result.now page c.piece.ensures
+returns c = λ h is. event_is c.args.self.now h c.args.action c.piece.result.now is c.piece.ensures

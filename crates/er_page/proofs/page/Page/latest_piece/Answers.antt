@@ -1,5 +1,6 @@
-use Rattle.er_page.proofs.PiecesLemmas.{latest_is}
+use Rattle.std.proofs.Common.{rules}
+use Rattle.er_page.proofs.SeenLemmas.{latest_there}
 use Rattle.er_page.proofs.page.Page.latest_piece.Goals as goal
 
-pub returns : goal.returns
-returns c = λ h page. latest_is c.args.self.now h c.args.event c.requires.is_event page
+pub unreachable-requires : goal.unreachable-requires
+unreachable-requires c = latest_there c.args.self.now c.args.event c.requires.is_event (search rules)

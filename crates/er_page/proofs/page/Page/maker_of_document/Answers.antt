@@ -1,6 +1,5 @@
-use Rattle.std.proofs.Common.{rules}
 use Rattle.er_page.proofs.AcceptedLemmas.{root_maker}
 use Rattle.er_page.proofs.page.Page.maker_of_document.Goals as goal
 
 pub returns-clause-root : goal.returns-clause-root
-returns-clause-root c = λ h page zero. root_maker h c.args.doc c.copied.result page.accepted (search rules) zero
+returns-clause-root c = λ zero h is. root_maker h c.args.doc c.maker_of_document.result is.accepted (c.maker_of_document.ensures h is.names) zero

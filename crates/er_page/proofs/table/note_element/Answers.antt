@@ -1,5 +1,0 @@
-use Rattle.er_page.proofs.NamesLemmas.{elements_more}
-use Rattle.er_page.proofs.table.note_element.Goals as goal
-
-pub returns : goal.returns
-returns c = λ h x a stands given runs. elements_more _ _ c.args.pair h x a c.note_pair.ensures.found stands given runs
