@@ -1,6 +1,6 @@
 -- What grows by one list and then by another, and what a crate's clause on its handed pieces comes to.
 use Rattle.std.proofs.Common.{◌≡◌, ℕ, ◌+◌, ◌<◌, true, List, [], ◌∷◌, ◌++◌, length, take, zero, suc, sym, append-nil, length-append, arith, inl, inr}
-use Rattle.std.specs.Prelude.{◌==◌}
+use Rattle.std.specs.Prelude.{◌==◌, Result, Ok, Err, OnOk, OnErr}
 use Rattle.std.proofs.lemmas.List.{take-append-le}
 use Rattle.std.proofs.lemmas.Grind.{common_steps}
 use Rattle.std.proofs.Math.Seq.{take-append-add}
@@ -12,8 +12,8 @@ use Rattle.er_history.specs.Rules.{Rule}
 use Rattle.er_history.specs.Edges.{path}
 use Rattle.er_history.specs.Handed.{HasHanded, HasHandedSome}
 use Rattle.er_history.specs.Sound.{IsSound}
-use Rattle.er_pieces.specs.Contract.{ComesNext, GrewBy, GrewInPart}
-use Rattle.er_pieces.specs.Enough.{AreInOrder, IsSteady}
+use Rattle.er_pieces.specs.Contract.{ComesNext, GrewBy, GrewInPart, HandsExactly, HandsFront, HandsEnough, HandsSources}
+use Rattle.er_pieces.specs.Enough.{HasSteady, AreInOrder, IsSteady}
 use Rattle.er_pieces.specs.Hands.{Hands}
 use Rattle.er_history.proofs.NamedLemmas.{no_cause, sound_lists_are_named}
 
@@ -90,3 +90,20 @@ has_handed_some table group handed hands h x old new next (n, below, came) =
       grown = came;
       sources = λ k among. are.sources k (among_front n k (handed (told h) x) among);
     }
+
+-- what a crate hands stands behind what stood before, on `Ok` and where memory ran out
+pub behind : {E : Type 0} → (stands : List Record → Type 0) (handed : History → Record → List ℕ) (x : Record) (old new : List ℕ) (r : Result (Unit {0}) E) (h : List Record) → stands h
+    → OnOk r (HandsExactly stands handed x old new) → OnErr r (HandsFront stands handed x old new) → take (length old) new ≡ old
+behind stands handed x old new (Ok u) h is exact front = grew_behind old (handed (told h) x) new (exact h is)
+behind stands handed x old new (Err e) h is exact front = grew_part_behind old (handed (told h) x) new (front h is)
+
+-- so what it hands exactly is enough by its rules, and what it hands in part is sources
+pub enough_of : {E : Type 0} → (stands : List Record → Type 0) (group : List (ℕ × Rule)) (handed : History → Record → List ℕ) → ((table : List (ℕ × Rule)) → HasSteady table → Hands table group handed) → (x : Record) (old new : List ℕ) (r : Result (Unit {0}) E)
+    → OnOk r (HandsExactly stands handed x old new) → OnOk r (HandsEnough stands group x old new)
+enough_of stands group handed hands x old new (Ok u) exact = λ table h is next. has_handed table group handed (hands table next.has) h x old new next (exact h is)
+enough_of stands group handed hands x old new (Err e) exact = tt
+
+pub sources_of : {E : Type 0} → (stands : List Record → Type 0) (group : List (ℕ × Rule)) (handed : History → Record → List ℕ) → ((table : List (ℕ × Rule)) → HasSteady table → Hands table group handed) → (x : Record) (old new : List ℕ) (r : Result (Unit {0}) E)
+    → OnErr r (HandsFront stands handed x old new) → OnErr r (HandsSources stands group x old new)
+sources_of stands group handed hands x old new (Ok u) front = tt
+sources_of stands group handed hands x old new (Err e) front = λ table h is next. has_handed_some table group handed (hands table next.has) h x old new next (front h is)

@@ -27,6 +27,7 @@ pub mod LevelLemmas
 pub mod EnoughPieces
 pub mod SteadyLemmas
 pub mod TogetherLemmas
+pub mod SequenceLemmas
 pub mod SourceLemmas
 pub mod HandsParse
 pub mod HandsScript

@@ -1,13 +1,10 @@
-// A library with one function.
+//! Requests: the rule that orders their replies.
+//!
+//! - Rule 21: the event that sent a request comes before the begin of each reply of it, and the close
+//!   of a reply before the begin of a later reply of the same request, where the trace has them so
+//!   (this project's own).
 #![tactic(auto)]
 
-ghost use Rattle.std.specs.Prelude.{◌≡◌};
-ghost use Rattle.er_rules_request.specs.Echo.{echo_of};
-
-// The `ensures` clause is the contract: what `echo` returns is `echo_of` of its argument, a definition
-// in `specs/Echo.antt`, which a caller's clause can cite too.
-pub fn echo(x: usize) -> usize
-    ensures { result ≡ echo_of x }
-{
-    x
-}
+pub mod against;
+pub mod laws;
+pub mod predecessors;
