@@ -1,7 +1,7 @@
 -- What grows by one list and then by another, and what a crate's clause on its handed pieces comes to.
-use Rattle.std.proofs.Common.{◌≡◌, ℕ, ◌+◌, ◌<◌, true, List, [], ◌∷◌, ◌++◌, length, take, zero, suc, sym, append-nil, length-append, arith, inl, inr}
+use Rattle.std.proofs.Common.{◌≡◌, ℕ, ◌+◌, ◌<◌, ◌≤◌, true, List, [], ◌∷◌, ◌++◌, length, take, zero, suc, sym, ap, append-nil, length-append, arith, inl, inr}
 use Rattle.std.specs.Prelude.{◌==◌, Result, Ok, Err, OnOk, OnErr}
-use Rattle.std.proofs.lemmas.List.{take-append-le}
+use Rattle.std.proofs.lemmas.List.{take-append-le, length-take-le}
 use Rattle.std.proofs.lemmas.Grind.{common_steps}
 use Rattle.std.proofs.Math.Seq.{take-append-add}
 use Rattle.er_trace.specs.declared.record.Record.{Record}
@@ -13,6 +13,7 @@ use Rattle.er_history.specs.Edges.{path}
 use Rattle.er_history.specs.Handed.{HasHanded, HasHandedSome}
 use Rattle.er_history.specs.Sound.{IsSound}
 use Rattle.er_pieces.specs.Contract.{ComesNext, GrewBy, GrewInPart, HandsExactly, HandsFront, HandsEnough, HandsSources}
+use Rattle.er_pieces.specs.Counts.{HandsAtMost, GrewAtMost}
 use Rattle.er_pieces.specs.Enough.{HasSteady, AreInOrder, IsSteady}
 use Rattle.er_pieces.specs.Hands.{Hands}
 use Rattle.er_history.proofs.NamedLemmas.{no_cause, sound_lists_are_named}
@@ -107,3 +108,20 @@ pub sources_of : {E : Type 0} → (stands : List Record → Type 0) (group : Lis
     → OnErr r (HandsFront stands handed x old new) → OnErr r (HandsSources stands group x old new)
 sources_of stands group handed hands x old new (Ok u) front = tt
 sources_of stands group handed hands x old new (Err e) front = λ table h is next. has_handed_some table group handed (hands table next.has) h x old new next (front h is)
+
+-- and it hands no more than its most
+
+few_in_whole : (old due new : List ℕ) (n : ℕ) → length due ≤ n → GrewBy old due new → length new ≤ length old + n
+few_in_whole old due new n few grew = let at = ap length grew in omega (arith, at, length-append old due, few)
+
+few_in_part : (old due new : List ℕ) (n : ℕ) → length due ≤ n → GrewInPart old due new → length new ≤ length old + n
+unfolding GrewInPart
+few_in_part old due new n few (k, below, came) =
+    let at = ap length came in
+    let part : length (take k due) ≡ k = length-take-le k due (omega (arith, below)) in
+    omega (arith, at, length-append old (take k due), part, below, few)
+
+pub few_of : {E : Type 0} → (stands : List Record → Type 0) (handed : History → Record → List ℕ) (most : List Record → Record → ℕ) → HandsAtMost handed most → (x : Record) (old new : List ℕ) (r : Result (Unit {0}) E)
+    → OnOk r (HandsExactly stands handed x old new) → OnErr r (HandsFront stands handed x old new) → GrewAtMost stands most x old new
+few_of stands handed most few x old new (Ok u) exact front = λ h is. few_in_whole old (handed (told h) x) new (most h x) (few h x) (exact h is)
+few_of stands handed most few x old new (Err e) exact front = λ h is. few_in_part old (handed (told h) x) new (most h x) (few h x) (front h is)

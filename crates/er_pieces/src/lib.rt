@@ -81,7 +81,6 @@ pub fn few_pieces_of_events_are_handed()
 {}
 
 /// The pieces that the rules of dispatches hand are sources and enough, for edges between events and for those between pieces.
-#[tactic(auto, using(crate::proofs::TogetherLemmas::hands_dispatches))]
 pub fn latest_pieces_of_dispatches_are_handed()
     ensures { HandsDispatches }
 {}
