@@ -1,2 +1,3 @@
+pub mod EventsLemmas
 pub mod HandingLemmas
 pub mod EventsLemmas
