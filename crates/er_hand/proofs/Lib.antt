@@ -1,3 +1,2 @@
 pub mod EventsLemmas
 pub mod HandingLemmas
-pub mod EventsLemmas
