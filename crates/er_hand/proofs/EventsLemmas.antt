@@ -7,6 +7,8 @@ use Rattle.er_trace.specs.declared.record.Record.{Record}
 use Rattle.er_paths.specs.Paths.{is_among}
 use Rattle.er_paths.proofs.Paths.{or_cases}
 use Rattle.er_history.specs.LookUps.{event_of}
+use Rattle.er_history.specs.Naming.{IsNamed}
+use Rattle.er_page.specs.Accepted.{IsAccepted}
 use Rattle.er_page.specs.declared.page.Page.{Page}
 use Rattle.er_page.specs.Page.{IsPage, IsSomePage}
 use Rattle.er_pieces.specs.Contract.{listed}
@@ -30,3 +32,12 @@ one_event page (Some k) is h stands u among =
 
 pub has_event : (page : Page) (event : Option ℕ) → ∥ IsSomePage page ∥₁ → ((h : List Record) → IsPage page h → (u : ℕ) → event ≡ Some u → event_of h u ≡ Some u) → ∥ HasEvents page (listed event) ∥₁
 has_event page event some is = has_events page (listed event) some (one_event page event is)
+
+-- such a list is named
+
+accepted_is_named : (h : List Record) → IsAccepted h → IsNamed h
+accepted_is_named [] is = tt
+accepted_is_named (x ∷ h) is = (is.0, accepted_is_named h is.2)
+
+pub page_is_named : (page : Page) (h : List Record) → IsPage page h → IsNamed h
+page_is_named page h is = accepted_is_named h is.accepted

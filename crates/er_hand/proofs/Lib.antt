@@ -1,2 +1,2 @@
-pub mod HandingLemmas
 pub mod EventsLemmas
+pub mod HandingLemmas

@@ -31,6 +31,14 @@ GrewBy old due new = new ≡ old ++ due
 unfoldable pub GrewInPart : List ℕ → List ℕ → List ℕ → Type 0
 GrewInPart old due new = (n : ℕ) × (n < length due) × (new ≡ old ++ take n due)
 
+-- for each list that stands: by what is due after it, or by a proper front of that
+
+abbrev pub GrewForEach : (List Record → Type 0) → (List Record → List ℕ) → List ℕ → List ℕ → Type 0
+GrewForEach stands due old new = (h : List Record) → stands h → GrewBy old (due h) new
+
+abbrev pub GrewInPartForEach : (List Record → Type 0) → (List Record → List ℕ) → List ℕ → List ℕ → Type 0
+GrewInPartForEach stands due old new = (h : List Record) → stands h → GrewInPart old (due h) new
+
 -- what is handed for the record
 
 abbrev pub HandsExactly : (List Record → Type 0) → (History → Record → List ℕ) → Record → List ℕ → List ℕ → Type 0

@@ -1,8 +1,8 @@
 -- What the look-ups of a request give is what comes before a reply of it. Lists of records stand newest first.
-use Rattle.std.proofs.Common.{◌≡◌, ℕ, List, ◌++◌, Option, Some, sym, ap, ◌∙◌}
+use Rattle.std.proofs.Common.{◌≡◌, ℕ, List, ◌++◌, Option, Some, sym, ◌∙◌}
 use Rattle.er_trace.specs.declared.record.Record.{Record}
-use Rattle.er_history.specs.History.{History, told, declares_request}
-use Rattle.er_history.specs.Latest.{newest, latest_of}
+use Rattle.er_history.specs.History.{told, declares_request}
+use Rattle.er_history.specs.Latest.{latest_of}
 use Rattle.er_history.specs.Kinds.{closes, is_reply_of}
 use Rattle.er_history.specs.LookUps.{event_of, maker_of_request, last_reply_close}
 use Rattle.er_pieces.proofs.BegunLemmas.{maker_is_event}

@@ -1,1 +1,2 @@
 pub mod FiredLemmas
+pub mod TimersLemmas

@@ -1,1 +1,3 @@
+pub mod Against
+pub mod Enough
 pub mod Fired

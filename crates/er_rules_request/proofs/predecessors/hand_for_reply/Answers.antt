@@ -1,11 +1,10 @@
-use Rattle.std.proofs.Common.{ℕ, List, ◌++◌}
-use Rattle.er_trace.specs.declared.record.Record.{Record}
+use Rattle.std.proofs.Common.{◌++◌}
 use Rattle.er_history.specs.History.{told}
 use Rattle.er_history.specs.Latest.{newest, latest_of}
 use Rattle.er_history.specs.Kinds.{closes, is_reply_of}
 use Rattle.er_page.specs.Page.{IsPage}
 use Rattle.er_hand.proofs.EventsLemmas.{has_event}
-use Rattle.er_pieces.proofs.SequenceLemmas.{IsBoth, whole_then, part_then, part_first}
+use Rattle.er_pieces.proofs.SequenceLemmas.{whole_then, part_then, part_first}
 use Rattle.er_rules_request.specs.Replies.{reply_handed}
 use Rattle.er_rules_request.proofs.RepliesLemmas.{sender_is_event, close_is_event, both_are_due}
 use Rattle.er_rules_request.proofs.predecessors.hand_for_reply.Goals as goal
