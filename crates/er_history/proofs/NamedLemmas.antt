@@ -1,17 +1,16 @@
 -- What holds of a record that naming does not refuse, and of lists of such records.
-use Rattle.std.proofs.Common.{◌≡◌, ℕ, ◌≤◌, Bool, true, false, cond, List, [], ◌∷◌, length, filter, Option, Some, None, refl, sym, ap, ◌∙◌, arith, inl, inr}
+use Rattle.std.proofs.Common.{◌≡◌, ℕ, ◌≤◌, Bool, true, false, List, [], ◌∷◌, length, Option, Some, None, refl, arith}
 use Rattle.std.specs.Prelude.{not, ◌&&◌, ◌==◌, nat_lt, if◌then◌else◌}
 use Rattle.std.proofs.lemmas.Bool.Decides.{nat_tests}
 use Rattle.er_text.specs.declared.causes.Cause.{Cause}
 use Rattle.er_text.specs.declared.causes.Cause.TheVariants.{Unknown, Again, NotScript, Misplaced, OutOfOrder, TooManyActions, TooDeep}
 use Rattle.er_trace.specs.declared.record.Record.{Record}
-use Rattle.er_trace.specs.declared.record.Record.TheVariants.{Dcl, Load, Eload, Fire, Wfire, Reply, Inline, Close, Back, New, NewFrame, On, Set, Every, Send, Access}
-use Rattle.er_history.specs.History.{told, begins, running, action_begun, actions_after, event_begun, stack_after, find_open, is_inline, or_else, Action, Open, Dispatch}
+use Rattle.er_trace.specs.declared.record.Record.TheVariants.{New, NewFrame, On, Set, Every, Send, Access}
+use Rattle.er_history.specs.History.{told, begins, running, action_begun, actions_after, find_open, or_else, Action, Open, Dispatch}
 use Rattle.er_history.specs.Rules.{Rule}
 use Rattle.er_history.specs.Naming.{naming, unknown, again, not_script, misplaced, first_cause, is_top, runs, room, too_deep}
 use Rattle.er_paths.specs.Limits.{most_actions}
-use Rattle.er_history.specs.Laws.{Among}
-use Rattle.er_history.specs.Sound.{cause, out_of_order, IsSound, SoundListsAreNamed}
+use Rattle.er_history.specs.Sound.{cause, out_of_order, SoundListsAreNamed}
 
 -- none of the four tests of naming holds
 pub record NoneHolds (h : List Record) (x : Record) : Type 0 where

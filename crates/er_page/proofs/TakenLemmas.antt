@@ -13,7 +13,8 @@ use Rattle.er_trace.specs.declared.record.Mode.{Mode}
 use Rattle.er_history.specs.History.{told, begins, running, action_at, action_begun, actions_after, event_begun, Action}
 use Rattle.er_history.specs.Laws.{IsNumbered}
 use Rattle.er_history.specs.LookUps.{event_of}
-use Rattle.er_history.specs.Naming.{naming, room, most_actions, IsNamed}
+use Rattle.er_history.specs.Naming.{naming, room, IsNamed}
+use Rattle.er_paths.specs.Limits.{most_actions}
 use Rattle.er_history.proofs.HistoryLemmas.{action_at_among, actions_are_numbered, event_below, told_before}
 use Rattle.er_names.specs.declared.names.Names.{Names}
 use Rattle.er_names.specs.declared.names.Now.{Now}

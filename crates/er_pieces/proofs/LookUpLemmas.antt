@@ -87,9 +87,9 @@ among_reverse u (k ∷ us) e =
     elim (or_cases (is_among u (reverse us)) (is_among u (k ∷ [])) (sym (any_append (λ m. m == u) (reverse us) (k ∷ [])) ∙ (ap (is_among u) (sym (reverse-append (k ∷ []) us)) ∙ e))) [
       | inl deeper ↦ or_right (k == u) (is_among u us) (among_reverse u us deeper)
       | inr here ↦ elim (or_cases (k == u) false here) [
-          | inl same ↦ or_left (k == u) (is_among u us) same
-          | inr none ↦ absurd (cc)
-        ]
+        | inl same ↦ or_left (k == u) (is_among u us) same
+        | inr none ↦ absurd (cc)
+      ]
     ]
 
 pub slice_is_events : (h : List Record) (test : Event → Bool) (u : ℕ) → is_among u (reverse (events_of_each test (told h).actions)) ≡ true → event_of h u ≡ Some u
