@@ -1,9 +1,10 @@
 -- What look-ups answer is events, and what grows call by call. Lists of records stand newest first.
-use Rattle.std.proofs.Common.{◌≡◌, ℕ, zero, suc, ◌+◌, ◌-◌, ◌<◌, ◌≤◌, Bool, true, false, List, [], ◌∷◌, ◌++◌, length, take, drop, reverse, Option, Result, Ok, Err, OnErr, refl, sym, ap, subst, ◌∙◌, append-nil, append_assoc, arith, inl, inr}
+use Rattle.std.proofs.Common.{◌≡◌, ℕ, zero, suc, ◌+◌, ◌-◌, ◌<◌, ◌≤◌, Bool, true, false, List, [], ◌∷◌, ◌++◌, length, take, drop, reverse, Option, Result, Ok, Err, OnOk, OnErr, refl, sym, ap, subst, ◌∙◌, append-nil, append_assoc, arith, inl, inr}
+use Rattle.std.proofs.Props.{props}
 use Rattle.std.specs.Prelude.{◌==◌}
 use Rattle.std.proofs.lemmas.Bool.{eqb-true, eq-eqb}
 use Rattle.std.proofs.Math.ListN.{get_or}
-use Rattle.std.proofs.Math.Logic.{∥∥₁_map}
+use Rattle.std.proofs.Math.Logic.{∥∥₁_elim, ∥∥₁_map}
 use Rattle.std.proofs.lemmas.List.{take_more, drop_more, length-reverse, get_or-reverse, take-append-drop, take_all}
 use Rattle.er_trace.specs.declared.record.Record.{Record}
 use Rattle.er_paths.specs.Paths.{is_among}
@@ -13,8 +14,8 @@ use Rattle.er_history.specs.Latest.{newest_by, latest_piece, events_of_each}
 use Rattle.er_history.specs.LookUps.{event_in}
 use Rattle.er_page.specs.declared.page.Page.{Page}
 use Rattle.er_page.specs.Page.{IsPage, IsSomePage, HasEvent}
-use Rattle.er_pieces.specs.Contract.{GrewInPart, listed, latest_of_all}
-use Rattle.er_pieces.proofs.ContractLemmas.{grew_again, grew_part_first, grew_part_later}
+use Rattle.er_pieces.specs.Contract.{GrewInPart, HandsExactly, HandsFront, listed, latest_of_all}
+use Rattle.er_pieces.proofs.ContractLemmas.{grew_again, grew_part_first, grew_part_later, kept_by}
 use Rattle.er_pieces.proofs.LookUpLemmas.{newest_is_event, slice_is_events, listed_is}
 use Rattle.er_pieces.proofs.BegunLemmas.{maker_is_event}
 use Rattle.er_hand.specs.Handing.{HasEvents, GrewFor, GrewInPartFor}
@@ -132,3 +133,30 @@ each_part page us b (Err e) old mid new below one two = λ h stands.
 
 pub each_done : (page : Page) (us : List ℕ) (b : ℕ) (old new : List ℕ) → length us ≤ b → GrewFor page (λ t. latest_of_all (take b (reverse us)) t.actions) old new → GrewFor page (λ t. latest_of_all (reverse us) t.actions) old new
 each_done page us b old new down grew = λ h stands. grew h stands ∙ ap (λ us. old ++ latest_of_all us (told h).actions) (take_all b (reverse us) (let counted = length-reverse us in omega (arith, counted, down)))
+
+-- the same of a call's result
+
+pub on_ok_as : {E : Type 0} → (r : Result (Unit {0}) E) (page : Page) (due same : History → List ℕ) (old new : List ℕ) → ((h : List Record) → IsPage page h → due (told h) ≡ same (told h)) → OnOk r (GrewFor page due old new) → OnOk r (GrewFor page same old new)
+on_ok_as (Ok u) page due same old new is grew = grew_as page due same old new is grew
+on_ok_as (Err e) page due same old new is grew = tt
+
+pub on_err_as : {E : Type 0} → (r : Result (Unit {0}) E) (page : Page) (due same : History → List ℕ) (old new : List ℕ) → ((h : List Record) → IsPage page h → due (told h) ≡ same (told h)) → OnErr r (GrewInPartFor page due old new) → OnErr r (GrewInPartFor page same old new)
+on_err_as (Ok u) page due same old new is part = tt
+on_err_as (Err e) page due same old new is part = part_as page due same old new is part
+
+pub on_ok_then : {E : Type 0} → (r : Result (Unit {0}) E) (page : Page) (first second : History → List ℕ) (old mid new : List ℕ) → GrewFor page first old mid → OnOk r (GrewFor page second mid new) → OnOk r (GrewFor page (λ t. first t ++ second t) old new)
+on_ok_then (Ok u) page first second old mid new one two = grew_on page first second old mid new one two
+on_ok_then (Err e) page first second old mid new one two = tt
+
+pub on_err_then : {E : Type 0} → (r : Result (Unit {0}) E) (page : Page) (first second : History → List ℕ) (old mid new : List ℕ) → GrewFor page first old mid → OnErr r (GrewInPartFor page second mid new) → OnErr r (GrewInPartFor page (λ t. first t ++ second t) old new)
+on_err_then (Ok u) page first second old mid new one two = tt
+on_err_then (Err e) page first second old mid new one two = part_later page first second old mid new one two
+
+pub on_err_first : {E : Type 0} → (r : Result (Unit {0}) E) (page : Page) (first second : History → List ℕ) (old new : List ℕ) → GrewInPartFor page first old new → OnErr r (GrewInPartFor page (λ t. first t ++ second t) old new)
+on_err_first (Ok u) page first second old new one = tt
+on_err_first (Err e) page first second old new one = part_first page first second old new one
+
+-- the clause of a crate that what stood before stays in front
+pub stays_in_front : {E : Type 0} → (page : Page) (handed : History → Record → List ℕ) (r : Result (Unit {0}) E) (x : Record) (old new : List ℕ) → ∥ IsSomePage page ∥₁
+    → OnOk r (HandsExactly (IsPage page) handed x old new) → OnErr r (HandsFront (IsPage page) handed x old new) → take (length old) new ≡ old
+stays_in_front page handed r x old new some exact front = ∥∥₁_elim some (hlevel props) (λ p. kept_by (IsPage page) handed r x old new exact front p.list p.stands)

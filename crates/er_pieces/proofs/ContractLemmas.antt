@@ -1,7 +1,7 @@
 -- What grows by one list and then by another, and what a crate's clause on its handed pieces comes to.
-use Rattle.std.proofs.Common.{◌≡◌, ℕ, ◌+◌, ◌<◌, true, List, [], ◌∷◌, ◌++◌, length, take, zero, suc, sym, append-nil, length-append, arith, inl, inr}
+use Rattle.std.proofs.Common.{◌≡◌, ℕ, ◌+◌, ◌<◌, ◌≤◌, true, List, [], ◌∷◌, ◌++◌, length, take, zero, suc, Result, Ok, Err, OnOk, OnErr, sym, ap, ◌∙◌, append-nil, length-append, arith, inl, inr}
 use Rattle.std.specs.Prelude.{◌==◌}
-use Rattle.std.proofs.lemmas.List.{take-append-le}
+use Rattle.std.proofs.lemmas.List.{take-append-le, length-take-le}
 use Rattle.std.proofs.lemmas.Grind.{common_steps}
 use Rattle.std.proofs.Math.Seq.{take-append-add}
 use Rattle.er_trace.specs.declared.record.Record.{Record}
@@ -12,9 +12,11 @@ use Rattle.er_history.specs.Rules.{Rule}
 use Rattle.er_history.specs.Edges.{path}
 use Rattle.er_history.specs.Handed.{HasHanded, HasHandedSome}
 use Rattle.er_history.specs.Sound.{IsSound}
-use Rattle.er_pieces.specs.Contract.{ComesNext, GrewBy, GrewInPart}
-use Rattle.er_pieces.specs.Enough.{AreInOrder, IsSteady}
+use Rattle.er_pieces.specs.Contract.{ComesNext, GrewBy, GrewInPart, HandsExactly, HandsFront, HandsEnough, HandsSources, HandsFew}
+use Rattle.er_pieces.specs.Counts.{HandsAtMost}
+use Rattle.er_pieces.specs.Enough.{AreInOrder, IsSteady, NestedFacts}
 use Rattle.er_pieces.specs.Hands.{Hands}
+use Rattle.er_pieces.proofs.NestedLaws.{nested_facts}
 use Rattle.er_history.proofs.NamedLemmas.{no_cause, sound_lists_are_named}
 
 -- growing again
@@ -90,3 +92,35 @@ has_handed_some table group handed hands h x old new next (n, below, came) =
       grown = came;
       sources = λ k among. are.sources k (among_front n k (handed (told h) x) among);
     }
+
+-- From the two exact clauses of a call, whatever its result: all others.
+
+pub enough_by : {E : Type 0} → (stands : List Record → Type 0) (group : List (ℕ × Rule)) (handed : History → Record → List ℕ) → ((table : List (ℕ × Rule)) → NestedFacts table → Hands table group handed)
+    → (r : Result (Unit {0}) E) (x : Record) (old new : List ℕ) → OnOk r (HandsExactly stands handed x old new) → OnOk r (HandsEnough stands group x old new)
+enough_by stands group handed hands (Ok u) x old new exact = λ table h is next. has_handed table group handed (hands table (nested_facts table)) h x old new next (exact h is)
+enough_by stands group handed hands (Err e) x old new exact = tt
+
+pub sources_by : {E : Type 0} → (stands : List Record → Type 0) (group : List (ℕ × Rule)) (handed : History → Record → List ℕ) → ((table : List (ℕ × Rule)) → NestedFacts table → Hands table group handed)
+    → (r : Result (Unit {0}) E) (x : Record) (old new : List ℕ) → OnErr r (HandsFront stands handed x old new) → OnErr r (HandsSources stands group x old new)
+sources_by stands group handed hands (Ok u) x old new front = tt
+sources_by stands group handed hands (Err e) x old new front = λ table h is next. has_handed_some table group handed (hands table (nested_facts table)) h x old new next (front h is)
+
+grew_few : (old due new : List ℕ) (most : ℕ) → length due ≤ most → GrewBy old due new → length new ≤ length old + most
+grew_few old due new most few grew = let counted : length new ≡ length old + length due = ap length grew ∙ length-append old due in omega (arith, counted, few)
+
+grew_part_few : (old due new : List ℕ) (most : ℕ) → length due ≤ most → GrewInPart old due new → length new ≤ length old + most
+unfolding GrewInPart
+grew_part_few old due new most few (n, below, came) =
+    let front : length (take n due) ≤ most = omega (arith, length-take-le n due (omega (arith, below)), below, few) in
+    grew_few old (take n due) new most front came
+
+pub few_by : {E : Type 0} → (stands : List Record → Type 0) (handed : History → Record → List ℕ) (most : List Record → Record → ℕ) → HandsAtMost handed most
+    → (r : Result (Unit {0}) E) (x : Record) (old new : List ℕ) → OnOk r (HandsExactly stands handed x old new) → OnErr r (HandsFront stands handed x old new) → HandsFew stands most x old new
+few_by stands handed most few (Ok u) x old new exact front = λ h is. grew_few old (handed (told h) x) new (most h x) (few h x) (exact h is)
+few_by stands handed most few (Err e) x old new exact front = λ h is. grew_part_few old (handed (told h) x) new (most h x) (few h x) (front h is)
+
+-- what stood before stays in front, for a list that the page stands for
+pub kept_by : {E : Type 0} → (stands : List Record → Type 0) (handed : History → Record → List ℕ) → (r : Result (Unit {0}) E) (x : Record) (old new : List ℕ)
+    → OnOk r (HandsExactly stands handed x old new) → OnErr r (HandsFront stands handed x old new) → (h : List Record) → stands h → take (length old) new ≡ old
+kept_by stands handed (Ok u) x old new exact front h is = grew_behind old (handed (told h) x) new (exact h is)
+kept_by stands handed (Err e) x old new exact front h is = grew_part_behind old (handed (told h) x) new (front h is)
