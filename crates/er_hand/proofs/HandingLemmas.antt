@@ -9,7 +9,7 @@ use Rattle.std.proofs.lemmas.List.{take_more, drop_more, length-reverse, get_or-
 use Rattle.er_trace.specs.declared.record.Record.{Record}
 use Rattle.er_paths.specs.Paths.{is_among}
 use Rattle.er_paths.proofs.Paths.{or_cases, or_left, or_right}
-use Rattle.er_history.specs.History.{History, Event, Action, told, maker_by}
+use Rattle.er_history.specs.History.{History, Event, Action, told, maker_by, element_maker}
 use Rattle.er_history.specs.Latest.{newest_by, latest_piece, events_of_each}
 use Rattle.er_history.specs.LookUps.{event_in}
 use Rattle.er_page.specs.declared.page.Page.{Page}
@@ -17,7 +17,7 @@ use Rattle.er_page.specs.Page.{IsPage, IsSomePage, HasEvent}
 use Rattle.er_pieces.specs.Contract.{GrewInPart, HandsExactly, HandsFront, listed, latest_of_all}
 use Rattle.er_pieces.proofs.ContractLemmas.{grew_again, grew_part_first, grew_part_later, kept_by}
 use Rattle.er_pieces.proofs.LookUpLemmas.{newest_is_event, slice_is_events, listed_is}
-use Rattle.er_pieces.proofs.BegunLemmas.{maker_is_event}
+use Rattle.er_pieces.proofs.BegunLemmas.{maker_is_event, element_maker_is_event}
 use Rattle.er_hand.specs.Handing.{HasEvents, GrewFor, GrewInPartFor}
 
 -- Each number is an event.
@@ -37,6 +37,13 @@ made_events page test found some is = ∥∥₁_map some (λ p. record {
   list = p.list;
   stands = p.stands;
   each = λ u among. maker_is_event test p.list u (sym (is p.list p.stands) ∙ listed_is found u among);
+})
+
+pub element_events : (page : Page) (e : ℕ) (found : Option ℕ) → ∥ IsSomePage page ∥₁ → ((h : List Record) → IsPage page h → found ≡ element_maker (told h).entries e) → ∥ HasEvents page (listed found) ∥₁
+element_events page e found some is = ∥∥₁_map some (λ p. record {
+  list = p.list;
+  stands = p.stands;
+  each = λ u among. element_maker_is_event p.list e u (sym (is p.list p.stands) ∙ listed_is found u among);
 })
 
 pub slice_events : (page : Page) (test : Event → Bool) (slice : List ℕ) → ∥ IsSomePage page ∥₁ → ((h : List Record) → IsPage page h → slice ≡ reverse (events_of_each test (told h).actions)) → ∥ HasEvents page slice ∥₁
