@@ -10,13 +10,13 @@ use Rattle.er_trace.specs.declared.record.Record.{Record}
 use Rattle.er_paths.specs.Paths.{is_among}
 use Rattle.er_paths.proofs.Paths.{or_cases, or_left, or_right}
 use Rattle.er_history.specs.History.{History, Event, Action, told, maker_by, element_maker}
-use Rattle.er_history.specs.Latest.{newest_by, latest_piece, events_of_each}
+use Rattle.er_history.specs.Latest.{newest_by, newest, latest_piece, latest_of, events_of_each}
 use Rattle.er_history.specs.LookUps.{event_in}
 use Rattle.er_page.specs.declared.page.Page.{Page}
 use Rattle.er_page.specs.Page.{IsPage, IsSomePage, HasEvent}
 use Rattle.er_pieces.specs.Contract.{GrewInPart, HandsExactly, HandsFront, listed, latest_of_all}
 use Rattle.er_pieces.proofs.ContractLemmas.{grew_again, grew_part_first, grew_part_later, kept_by}
-use Rattle.er_pieces.proofs.LookUpLemmas.{newest_is_event, slice_is_events, listed_is}
+use Rattle.er_pieces.proofs.LookUpLemmas.{newest_is_event, slice_is_events, listed_is, newest_found}
 use Rattle.er_pieces.proofs.BegunLemmas.{maker_is_event, element_maker_is_event}
 use Rattle.er_hand.specs.Handing.{HasEvents, GrewFor, GrewInPartFor}
 
@@ -60,6 +60,24 @@ grew_as page due same old new is grew = λ h stands. grew h stands ∙ ap (λ ks
 
 pub part_as : (page : Page) (due same : History → List ℕ) (old new : List ℕ) → ((h : List Record) → IsPage page h → due (told h) ≡ same (told h)) → GrewInPartFor page due old new → GrewInPartFor page same old new
 part_as page due same old new is grew = λ h stands. subst (λ ks. GrewInPart old ks new) (is h stands) (grew h stands)
+
+-- the newest piece of a kind, by the event that a look-up answers
+
+abbrev pub newest_in : (Event → Bool) → History → List ℕ
+newest_in test t = newest test t.actions
+
+abbrev pub latest_in : Option ℕ → History → List ℕ
+latest_in found t = latest_of found t.actions
+
+-- what a look-up of a kind answers
+abbrev pub IsFound : Page → (Event → Bool) → Option ℕ → Type 0
+IsFound page test found = (h : List Record) → IsPage page h → found ≡ event_in (newest_by test (told h).actions)
+
+pub grew_newest : (page : Page) (test : Event → Bool) (found : Option ℕ) (old new : List ℕ) → IsFound page test found → GrewFor page (latest_in found) old new → GrewFor page (newest_in test) old new
+grew_newest page test found old new is grew = grew_as page (latest_in found) (newest_in test) old new (λ h stands. newest_found h test found (is h stands)) grew
+
+pub part_newest : (page : Page) (test : Event → Bool) (found : Option ℕ) (old new : List ℕ) → IsFound page test found → GrewInPartFor page (latest_in found) old new → GrewInPartFor page (newest_in test) old new
+part_newest page test found old new is grew = part_as page (latest_in found) (newest_in test) old new (λ h stands. newest_found h test found (is h stands)) grew
 
 -- By one call and then by another.
 
@@ -162,6 +180,14 @@ on_err_then (Err e) page first second old mid new one two = part_later page firs
 pub on_err_first : {E : Type 0} → (r : Result (Unit {0}) E) (page : Page) (first second : History → List ℕ) (old new : List ℕ) → GrewInPartFor page first old new → OnErr r (GrewInPartFor page (λ t. first t ++ second t) old new)
 on_err_first (Ok u) page first second old new one = tt
 on_err_first (Err e) page first second old new one = part_first page first second old new one
+
+pub on_ok_newest : {E : Type 0} → (r : Result (Unit {0}) E) (page : Page) (test : Event → Bool) (found : Option ℕ) (old new : List ℕ) → IsFound page test found → OnOk r (GrewFor page (latest_in found) old new) → OnOk r (GrewFor page (newest_in test) old new)
+on_ok_newest (Ok u) page test found old new is grew = grew_newest page test found old new is grew
+on_ok_newest (Err e) page test found old new is grew = tt
+
+pub on_err_newest : {E : Type 0} → (r : Result (Unit {0}) E) (page : Page) (test : Event → Bool) (found : Option ℕ) (old new : List ℕ) → IsFound page test found → OnErr r (GrewInPartFor page (latest_in found) old new) → OnErr r (GrewInPartFor page (newest_in test) old new)
+on_err_newest (Ok u) page test found old new is part = tt
+on_err_newest (Err e) page test found old new is part = part_newest page test found old new is part
 
 -- the clause of a crate that what stood before stays in front
 pub stays_in_front : {E : Type 0} → (page : Page) (handed : History → Record → List ℕ) (r : Result (Unit {0}) E) (x : Record) (old new : List ℕ) → ∥ IsSomePage page ∥₁
