@@ -8,7 +8,7 @@ use Rattle.er_trace.specs.declared.record.Record.{Record}
 use Rattle.er_trace.specs.declared.record.Record.TheVariants.{New, NewFrame, On, Set, Every, Send, Access}
 use Rattle.er_history.specs.History.{told, begins, running, action_begun, actions_after, find_open, or_else, Action, Open, Dispatch}
 use Rattle.er_history.specs.Rules.{Rule}
-use Rattle.er_history.specs.Naming.{naming, unknown, again, not_script, misplaced, first_cause, is_top, runs, room, too_deep}
+use Rattle.er_history.specs.Naming.{naming, unknown, again, not_script, misplaced, first_cause, is_top, one_runs, room, too_deep}
 use Rattle.er_paths.specs.Limits.{most_actions}
 use Rattle.er_history.specs.Sound.{cause, out_of_order, SoundListsAreNamed}
 
@@ -64,7 +64,7 @@ top_found p (o ∷ below) e = step (o.dispatch.number == p) (not o.closing) e
     step false b e = cc
 
 -- a record that begins no action stands in one
-pub note_runs : (h : List Record) (x : Record) → misplaced (told h) x ≡ false → begins x ≡ false → not (runs (running (told h).actions)) ≡ false
+pub note_runs : (h : List Record) (x : Record) → misplaced (told h) x ≡ false → begins x ≡ false → not (one_runs (running (told h).actions)) ≡ false
 note_runs h (New d y k) placed b = placed
 note_runs h (NewFrame d y f) placed b = placed
 note_runs h (On z) placed b = placed
@@ -78,7 +78,7 @@ note_runs h _ placed b = cc
 pub runs_after : (h : List Record) (x : Record) → misplaced (told h) x ≡ false → (a : Action) × (running (actions_after (told h) x) ≡ Some a)
 runs_after h x placed = by (begins x) refl
   where
-    note : (o : Option Action) → not (runs o) ≡ false → (a : Action) × (o ≡ Some a)
+    note : (o : Option Action) → not (one_runs o) ≡ false → (a : Action) × (o ≡ Some a)
     note None e = cc
     note (Some a) e = (a, refl)
 

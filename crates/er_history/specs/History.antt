@@ -96,7 +96,21 @@ begins (Set t n) = false
 begins (Every i n) = false
 begins (Send r) = false
 begins (Access m l) = false
-begins _ = true
+begins (Parse d e k) = true
+begins (ParseFrame d e f) = true
+begins (Exec e) = true
+begins (Timer t) = true
+begins (Tick i) = true
+begins (Dcl p d) = true
+begins (Load p d) = true
+begins (Eload p e) = true
+begins (Fire p e n) = true
+begins (Wfire p d n) = true
+begins (Reply p r) = true
+begins (Inline p e n) = true
+begins (Run p g h) = true
+begins (Close p) = true
+begins (Back p) = true
 
 abbrev pub or_else : {B : Type 0} → Option B → Option B → Option B
 or_else None o = o

@@ -21,7 +21,7 @@ is_run_of test d e = by e.what
     by (ScriptRun s made) = of_made (λ x. test x && (x.doc == d)) made
     by _ = false
 
--- a static script that the parser does not wait for
+-- a static script of the kind `async`
 abbrev pub is_static_async : Element → Bool
 is_static_async x = x.is_static && has_kind test x.form
   where

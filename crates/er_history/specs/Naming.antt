@@ -138,9 +138,10 @@ may_call (Some a) = by a.event.what
     by (CloseOf p) = true
     by _ = false
 
-abbrev pub runs : Option Action → Bool
-runs None = false
-runs (Some a) = true
+-- some action runs
+abbrev pub one_runs : Option Action → Bool
+one_runs None = false
+one_runs (Some a) = true
 
 -- it is not allowed at this point of the nesting
 abbrev pub misplaced : History → Record → Bool
@@ -148,7 +149,7 @@ misplaced h (Inline p e n) = not (may_call (running h.actions))
 misplaced h (Run p g x) = not (is_top false p h.stack)
 misplaced h (Close p) = not (is_top false p h.stack)
 misplaced h (Back p) = not (is_top true p h.stack)
-misplaced h x = if begins x then has_open h.stack else not (runs (running h.actions))
+misplaced h x = if begins x then has_open h.stack else not (one_runs (running h.actions))
 
 abbrev pub first_cause : List (Bool × Cause) → Option Cause
 first_cause [] = None

@@ -201,7 +201,7 @@ static_loads_before_load joined u v = recorded u v && go u.what v.what
     go (CloseOf p) (BeginOf q) = of p.delivers q.delivers
     go _ _ = false
 
--- 12. The event that made an element, and the run of it where it is a script, before the begin of its first load event. HTML Standard, "The script element".
+-- 12. The event that made an element, and the run of it where it is a script, before the begin of its first load event. For the run HTML Standard, "The script element"; for the rest this project's own.
 abbrev pub element_before_its_load : Rule
 element_before_its_load joined u v = go v.what
   where
@@ -245,7 +245,7 @@ target_before_dispatch joined u v = go v.what
     go (BeginOf q) = of q.delivers
     go _ = false
 
--- 15. The event that registered a handler before each run of it. DOM Standard, "Interface EventTarget".
+-- 15. The event that registered a handler before each run of it. This project's own.
 abbrev pub registered_before_run : Rule
 registered_before_run joined u v = go v.what
   where
@@ -253,7 +253,7 @@ registered_before_run joined u v = go v.what
     go (HandlerOf p g x m) = made_by m u
     go _ = false
 
--- 16. The begin of a dispatch before its handlers and its close; a handler before those of a greater group and before the close. DOM Standard, "Dispatching events"; within a group DOM Level 2 Events fixes no order.
+-- 16. The begin of a dispatch before its handlers and its close; a handler before those of a greater group and before the close. Groups are this project's own; between listeners of one target DOM Level 2 Events fixes no order.
 abbrev pub dispatch_in_order : Rule
 dispatch_in_order joined u v = go u.what v.what
   where

@@ -27,7 +27,7 @@ abbrev pub IsSound : List (ℕ × Rule) → List Record → Type 0
 IsSound table [] = Unit {0}
 IsSound table (x ∷ h) = (cause table h x ≡ None) × IsSound table h
 
--- Until the number of accesses is limited, every sound list is legal.
+-- The number of accesses has no limit, so every sound list is legal.
 abbrev pub IsLegal : List (ℕ × Rule) → List Record → Type 0
 IsLegal table h = IsSound table h
 

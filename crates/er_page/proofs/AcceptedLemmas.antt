@@ -3,7 +3,7 @@ use Rattle.std.proofs.Common.{◌≡◌, ℕ, ◌≤◌, List, [], ◌∷◌, le
 use Rattle.er_trace.specs.declared.record.Record.{Record}
 use Rattle.er_history.specs.History.{told, running, actions_after, Action}
 use Rattle.er_history.specs.LookUps.{maker_of_document}
-use Rattle.er_history.specs.Naming.{naming, IsNamed}
+use Rattle.er_history.specs.Naming.{naming}
 use Rattle.er_paths.specs.Limits.{most_actions}
 use Rattle.er_history.proofs.NamedLemmas.{none_holds, runs_after, few_more}
 use Rattle.er_history.proofs.DeclaredLemmas.{first_document}

@@ -1,13 +1,13 @@
 -- How the levels of a stack follow the stack that a list of records says.
 use Rattle.std.proofs.Common.{◌≡◌, ℕ, ◌+◌, ◌<◌, ◌^◌, Bool, true, false, List, [], ◌∷◌, drop, length, filter, reverse, Option, Some, None, refl, sym, ap, ◌∙◌, arith}
-use Rattle.std.specs.Prelude.{not, ◌==◌, nat_lt, if◌then◌else◌}
+use Rattle.std.specs.Prelude.{not, nat_lt, if◌then◌else◌}
 use Rattle.std.proofs.lemmas.Bool.Decides.{nat_tests}
 use Rattle.er_text.specs.declared.causes.Cause.TheVariants.{TooManyActions, TooDeep}
 use Rattle.er_trace.specs.declared.record.Record.{Record}
-use Rattle.er_trace.specs.declared.record.Record.TheVariants.{Dcl, Load, Eload, Fire, Wfire, Reply, Inline, Run, Close, Back}
+use Rattle.er_trace.specs.declared.record.Record.TheVariants.{Dcl, Load, Eload, Fire, Wfire, Reply, Inline, Close, Back}
 use Rattle.er_history.specs.History.{told, is_inline, stack_after, first_to, maker_by, element_maker, makes_element, declares_document, declares_request, Dispatch, Open, Delivery, DclOf, LoadOf, EloadOf, FireAt, InlineAt, WindowFire, ReplyOf}
 use Rattle.er_history.specs.LookUps.{inline_depth}
-use Rattle.er_history.specs.Naming.{room, too_deep, too_many_actions, first_cause, most_inline}
+use Rattle.er_history.specs.Naming.{room, too_many_actions, first_cause, most_inline}
 use Rattle.er_page.specs.declared.stack.Level.{Level}
 use Rattle.er_page.specs.declared.stack.Stack.{Stack}
 use Rattle.er_page.specs.Stack.{StackIs, HasDepth, levels_of, levels_after, closed, put, depth_on, top_of}

@@ -1,5 +1,5 @@
 -- What the pieces tell of an action.
-use Rattle.std.proofs.Common.{◌≡◌, ℕ, ◌+◌, ◌<◌, Bool, true, false, List, [], ◌∷◌, ◌++◌, length, map, reverse, get_or, option_map, Option, Some, None, inl, inr, refl, sym, ap, subst, ◌∙◌, arith}
+use Rattle.std.proofs.Common.{◌≡◌, ℕ, ◌<◌, Bool, true, false, List, [], ◌∷◌, ◌++◌, length, map, reverse, get_or, option_map, Option, Some, None, inl, inr, refl, sym, ap, subst, ◌∙◌, arith}
 use Rattle.std.specs.Prelude.{◌==◌, if◌then◌else◌, slice_get, nat_eq}
 use Rattle.std.proofs.lemmas.Bool.{eqb-true, eqb-false}
 use Rattle.std.proofs.lemmas.List.{reverse-append, reverse-reverse, length-reverse, length-map, get_or_append_left}
@@ -9,14 +9,14 @@ use Rattle.indexmap.specs.IndexMap.{get}
 use Rattle.er_trace.specs.declared.record.Record.{Record}
 use Rattle.er_history.specs.History.{told, begins, action_at, action_begun, event_begun, Action}
 use Rattle.er_history.specs.Latest.{newest_by, is_event}
-use Rattle.er_history.specs.LookUps.{piece_in, latest_piece}
+use Rattle.er_history.specs.LookUps.{piece_in}
 use Rattle.er_history.specs.Laws.{Among, IsNumbered}
-use Rattle.er_history.proofs.HistoryLemmas.{action_at_among, actions_are_numbered, among_below}
+use Rattle.er_history.proofs.HistoryLemmas.{actions_are_numbered, among_below}
 use Rattle.er_history.proofs.EventLemmas.{found_by_number}
 use Rattle.er_page.specs.declared.piece.Piece.{Piece}
 use Rattle.er_page.specs.declared.piece.Pieces.{Pieces}
 use Rattle.er_page.specs.declared.piece.Start.{Start}
-use Rattle.er_page.specs.Pieces.{PiecesAre, Seen, About, seen, kept, about, about_start, about_begun}
+use Rattle.er_page.specs.Pieces.{PiecesAre, About, seen, kept, about, about_start, about_begun}
 
 pub pieces_long : (pieces : List Piece) (actions : List Action) → map kept (reverse pieces) ≡ map seen actions → length pieces ≡ length actions
 pieces_long pieces actions e = omega (arith, length-reverse pieces, length-map (reverse pieces) kept, length-map actions seen, ap length e)

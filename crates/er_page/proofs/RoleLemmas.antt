@@ -1,10 +1,10 @@
 -- The role of an event is told by the record that began it, and that of a close by the record that began its dispatch.
-use Rattle.std.proofs.Common.{◌≡◌, ℕ, ◌+◌, Bool, true, false, List, [], ◌∷◌, length, option_map, Option, Some, None, inl, inr, refl, sym, ap, subst, ◌∙◌, arith}
-use Rattle.std.specs.Prelude.{if◌then◌else◌, slice_get}
+use Rattle.std.proofs.Common.{◌≡◌, ℕ, true, false, List, [], ◌∷◌, length, option_map, Option, Some, None, inl, inr, refl, sym, ap, subst, ◌∙◌, arith}
+use Rattle.std.specs.Prelude.{slice_get}
 use Rattle.std.proofs.lemmas.Option.{slice_get_past}
 use Rattle.er_trace.specs.declared.record.Record.{Record}
 use Rattle.er_trace.specs.declared.record.Record.TheVariants.{Parse, ParseFrame, Exec, Timer, Tick, Dcl, Load, Eload, Fire, Wfire, Reply, Inline, Run, Close, Back}
-use Rattle.er_history.specs.History.{told, begins, maker_by, declares_handler, event_begun, event_resumed, what_begun, Dispatch, Delivery, DclOf, LoadOf, EloadOf, FireAt, InlineAt, WindowFire, ReplyOf, What, ParseStep, ScriptRun, TimeoutRun, TickRun, BeginOf, HandlerOf, CloseOf, Unnamed, Element, Event, Action}
+use Rattle.er_history.specs.History.{told, begins, maker_by, declares_handler, event_begun, what_begun, Dispatch, Delivery, DclOf, LoadOf, EloadOf, FireAt, InlineAt, WindowFire, ReplyOf, What, ParseStep, ScriptRun, TimeoutRun, TickRun, BeginOf, HandlerOf, CloseOf, Element, Event, Action}
 use Rattle.er_history.specs.Facts.{DeliveryIs, WhatIs}
 use Rattle.er_history.specs.Laws.{Among}
 use Rattle.er_history.specs.LookUps.{element_made}
@@ -19,7 +19,7 @@ use Rattle.er_pieces.proofs.DispatchLemmas.{HasBegun, open_begun, served_begun}
 use Rattle.er_page.specs.declared.piece.Piece.{Piece}
 use Rattle.er_page.specs.declared.piece.Pieces.{Pieces}
 use Rattle.er_page.specs.declared.piece.Start.{Start}
-use Rattle.er_page.specs.Pieces.{PiecesAre, About, Seen, about, about_start, about_begun, serves}
+use Rattle.er_page.specs.Pieces.{PiecesAre, About, Seen, about, about_start, serves}
 use Rattle.er_page.specs.Roles.{role_by, close_by, closed_by, first_in, begin_in}
 use Rattle.er_page.proofs.PiecesLemmas.{pieces_long, kept_there}
 

@@ -9,7 +9,7 @@ use Rattle.er_trace.specs.declared.record.Record.{Record}
 use Rattle.er_history.specs.History.{told, running, action_at, Action}
 use Rattle.er_history.specs.Latest.{newest_by, is_event}
 use Rattle.er_history.specs.Laws.{Among, IsNumbered}
-use Rattle.er_history.specs.LookUps.{running_action, begin_of, event_of, piece_in, latest_piece}
+use Rattle.er_history.specs.LookUps.{running_action, begin_of, event_of, piece_in}
 use Rattle.er_history.proofs.HistoryLemmas.{action_at_among, actions_are_numbered, among_below}
 use Rattle.er_names.specs.declared.names.Now.{Now}
 use Rattle.er_page.specs.declared.page.Page.{Page}

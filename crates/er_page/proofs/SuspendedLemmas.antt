@@ -1,14 +1,13 @@
 -- The piece that an inline dispatch suspended is the one just before its begin.
-use Rattle.std.proofs.Common.{◌≡◌, ℕ, Bool, true, false, List, [], ◌∷◌, length, Option, Some, None, option_map, refl, sym, ap, subst, ◌∙◌, inl, inr}
-use Rattle.std.specs.Prelude.{◌-◌, ◌==◌, ◌||◌, if◌then◌else◌}
+use Rattle.std.proofs.Common.{◌≡◌, ℕ, Bool, true, false, List, [], ◌∷◌, length, Option, Some, None, option_map, refl, sym, ap, subst, ◌∙◌, inl}
+use Rattle.std.specs.Prelude.{◌-◌, if◌then◌else◌}
 use Rattle.std.specs.List.{list_any}
-use Rattle.std.proofs.lemmas.Bool.{eqb-true}
 use Rattle.er_trace.specs.declared.record.Record.{Record}
 use Rattle.er_trace.specs.declared.record.Record.TheVariants.{Dcl, Load, Eload, Fire, Wfire, Reply, Inline}
-use Rattle.er_history.specs.History.{told, begins, first_to, maker_by, or_else, running, actions_after, action_begun, event_begun, Action, Entry}
+use Rattle.er_history.specs.History.{told, begins, maker_by, or_else, running, actions_after, action_begun, event_begun, Action, Entry}
 use Rattle.er_history.specs.Laws.{Among}
 use Rattle.er_history.specs.LookUps.{suspends, suspended_by, begin_event}
-use Rattle.er_history.specs.Naming.{naming, begins_dispatch, IsNamed}
+use Rattle.er_history.specs.Naming.{begins_dispatch, IsNamed}
 use Rattle.er_history.proofs.DeclaredLemmas.{or_none, declared_maker}
 use Rattle.er_history.proofs.NamedLemmas.{none_holds}
 use Rattle.er_pieces.proofs.CallerLemmas.{among_more}

@@ -1,27 +1,24 @@
 -- How a page comes to stand for one record more.
-use Rattle.std.proofs.Common.{◌≡◌, ℕ, ◌+◌, ◌<◌, ◌≤◌, ◌^◌, Bool, true, false, List, [], ◌∷◌, ◌++◌, length, map, reverse, option_map, Option, Some, None, Result, Ok, refl, sym, ap, ◌∙◌, arith}
+use Rattle.std.proofs.Common.{◌≡◌, ℕ, ◌≤◌, Bool, true, false, List, [], ◌∷◌, ◌++◌, length, map, reverse, Some, None, refl, sym, ap, ◌∙◌, arith}
 use Rattle.std.proofs.Math.Logic.{∥∥₁_elim, ∥∥₁_map}
 use Rattle.std.proofs.Props.{props}
 use Rattle.std.specs.Prelude.{◌==◌, if◌then◌else◌, nat_eq}
 use Rattle.std.proofs.lemmas.List.{length-map}
 use Rattle.indexmap.specs.IndexMap.{get}
-use Rattle.er_text.specs.declared.causes.Cause.{Cause}
 use Rattle.er_trace.specs.declared.record.Record.{Record}
 use Rattle.er_trace.specs.declared.record.Record.TheVariants.{Inline, New, NewFrame, On, Set, Every, Send, Access}
 use Rattle.er_trace.specs.declared.record.Loc.{Loc}
 use Rattle.er_trace.specs.declared.record.Mode.{Mode}
-use Rattle.er_history.specs.History.{told, begins, running, action_at, action_begun, actions_after, event_begun, Action}
+use Rattle.er_history.specs.History.{told, begins, running, action_begun, actions_after, event_begun, Action}
 use Rattle.er_history.specs.Laws.{IsNumbered}
-use Rattle.er_history.specs.LookUps.{event_of}
-use Rattle.er_history.specs.Naming.{naming, room, IsNamed}
+use Rattle.er_history.specs.Naming.{naming, room}
 use Rattle.er_paths.specs.Limits.{most_actions}
-use Rattle.er_history.proofs.HistoryLemmas.{action_at_among, actions_are_numbered, event_below, told_before}
+use Rattle.er_history.proofs.HistoryLemmas.{actions_are_numbered}
 use Rattle.er_names.specs.declared.names.Names.{Names}
 use Rattle.er_names.specs.declared.names.Now.{Now}
 use Rattle.er_names.specs.Names.{NamesAre, IsNow}
 use Rattle.er_names.proofs.AccessLemmas.{names_same}
 use Rattle.er_latest.specs.declared.latest.Latest.{Latest}
-use Rattle.er_latest.specs.declared.role.Now as told_now
 use Rattle.er_latest.specs.declared.role.Role.{Role}
 use Rattle.er_latest.specs.Latest.{LatestAre, IsTold}
 use Rattle.er_latest.specs.Roles.{said_by, role_of}
@@ -30,13 +27,13 @@ use Rattle.er_page.specs.declared.piece.Piece.{Piece}
 use Rattle.er_page.specs.declared.piece.Pieces.{Pieces}
 use Rattle.er_page.specs.declared.piece.Start.{Start}
 use Rattle.er_page.specs.declared.stack.Stack.{Stack}
-use Rattle.er_page.specs.Accepted.{IsAccepted, result_of}
-use Rattle.er_page.specs.Page.{IsPage, IsNext, IsNextOf, IsSomePage, HasBegun, HasEvent, Answers}
+use Rattle.er_page.specs.Accepted.{IsAccepted}
+use Rattle.er_page.specs.Page.{IsPage, IsNext, IsNextOf}
 use Rattle.er_page.specs.Pieces.{PiecesAre, About, Seen, about, about_start, about_begun, kept, seen, now_of}
 use Rattle.er_page.specs.Roles.{role_by, first_in, begin_in}
 use Rattle.er_page.specs.Stack.{StackIs, HasDepth, levels_after, levels_of}
 use Rattle.er_page.proofs.AcceptedLemmas.{accepted_named, some_runs, actions_few}
-use Rattle.er_page.proofs.LevelLemmas.{has_depth, stack_taken, levels_more}
+use Rattle.er_page.proofs.LevelLemmas.{has_depth, stack_taken}
 use Rattle.er_page.proofs.PiecesLemmas.{pieces_long, piece_taken, pieces_kept}
 use Rattle.er_page.proofs.RoleLemmas.{role_is}
 

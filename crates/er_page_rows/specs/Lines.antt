@@ -3,13 +3,13 @@ use Rattle.std.specs.Prelude.{◌≡◌, List, ◌∷◌, Option, Some, None}
 use Rattle.std.specs.Option.{option_or}
 use Rattle.er_text.specs.declared.causes.Cause.{Cause}
 use Rattle.er_trace.specs.declared.record.Record.{Record}
-use Rattle.er_history.specs.Naming.{naming_now, room}
+use Rattle.er_history.specs.Naming.{naming, room}
 use Rattle.er_page.specs.declared.page.Page.{Page}
 use Rattle.er_page.specs.Page.{IsPage}
 
 -- the first cause against the record: naming and nesting come before the limits
 abbrev pub cause_of : List Record → Record → Option Cause
-cause_of h x = option_or (naming_now h x) (room h x)
+cause_of h x = option_or (naming h x) (room h x)
 
 -- a refused record is left out
 abbrev pub list_after : Option Cause → List Record → Record → List Record

@@ -9,6 +9,8 @@ mod letting_go;
 mod limits;
 #[cfg(test)]
 mod naming;
+#[cfg(test)]
+mod nested;
 pub mod reading;
 #[cfg(test)]
 mod rows;

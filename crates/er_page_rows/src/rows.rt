@@ -34,7 +34,7 @@ pub(crate) static UNKNOWN: [&[&str]; 23] = [
 ];
 
 /// The record declares or starts what was declared or started before.
-pub(crate) static AGAIN: [&[&str]; 34] = [
+pub(crate) static AGAIN: [&[&str]; 37] = [
     // an element
     &["parse 0 1 plain", "parse 0 1 sync"],
     &["parse 0 1 plain", "parse 0 1 frame 5"],
@@ -66,6 +66,24 @@ pub(crate) static AGAIN: [&[&str]; 34] = [
         "reply 1 1",
     ],
     &["parse 0 1 plain", "fire 1 1 a", "close 1", "inline 1 1 a"],
+    // also an inline one that is finished, or is open
+    &[
+        "parse 0 1 inline",
+        "exec 1",
+        "inline 1 1 a",
+        "close 1",
+        "back 1",
+        "inline 1 1 a",
+    ],
+    &[
+        "parse 0 1 inline",
+        "exec 1",
+        "inline 1 1 a",
+        "close 1",
+        "back 1",
+        "fire 1 1 a",
+    ],
+    &["parse 0 1 inline", "exec 1", "inline 1 1 a", "inline 1 1 a"],
     // DOMContentLoaded or load of the document, the first load event of the element
     &["parse 0 1 plain", "dcl 1 0", "close 1", "dcl 2 0"],
     &["parse 0 1 plain", "load 1 0", "close 1", "load 2 0"],
@@ -98,7 +116,7 @@ pub(crate) static NOT_SCRIPT: [&[&str]; 7] = [
 ];
 
 /// The record is not allowed at this point of the nesting.
-pub(crate) static MISPLACED: [&[&str]; 33] = [
+pub(crate) static MISPLACED: [&[&str]; 67] = [
     // a dispatch is open
     &["parse 0 1 plain", "fire 1 1 a", "parse 0 2 plain"],
     &["parse 0 1 plain", "fire 1 1 a", "parse 0 2 frame 5"],
@@ -156,8 +174,45 @@ pub(crate) static MISPLACED: [&[&str]; 33] = [
     // a parse step calls no dispatch, nor does the begin of one
     &["parse 0 1 plain", "inline 1 1 a"],
     &["parse 0 1 plain", "fire 1 1 a", "inline 2 1 a"],
-    // until inline dispatches are built, nothing does
-    &["parse 0 1 inline", "exec 1", "inline 1 1 a"],
+    &["parse 0 1 inline", "exec 1", "inline 1 1 a", "inline 2 1 a"],
+    // an inline dispatch is open
+    &["parse 0 1 inline", "exec 1", "inline 1 1 a", "parse 0 2 plain"],
+    &["parse 0 1 inline", "exec 1", "inline 1 1 a", "parse 0 2 frame 5"],
+    &["parse 0 1 inline", "parse 0 2 async", "exec 1", "inline 1 1 a", "exec 2"],
+    &["parse 0 1 inline", "exec 1", "set 1 0", "inline 1 1 a", "timer 1"],
+    &["parse 0 1 inline", "exec 1", "every 1 5", "inline 1 1 a", "tick 1"],
+    &["parse 0 1 inline", "exec 1", "inline 1 1 a", "dcl 9 0"],
+    &["parse 0 1 inline", "exec 1", "inline 1 1 a", "load 9 0"],
+    &["parse 0 1 inline", "exec 1", "inline 1 1 a", "eload 9 1"],
+    &["parse 0 1 inline", "exec 1", "inline 1 1 a", "fire 9 1 a"],
+    &["parse 0 1 inline", "exec 1", "inline 1 1 a", "wfire 9 0 a"],
+    &["parse 0 1 inline", "exec 1", "send 1", "inline 1 1 a", "reply 9 1"],
+    // its close has begun, and the piece that called it has not gone on
+    &["parse 0 1 inline", "exec 1", "inline 1 1 a", "close 1", "parse 0 2 plain"],
+    &["parse 0 1 inline", "exec 1", "inline 1 1 a", "close 1", "parse 0 2 frame 5"],
+    &["parse 0 1 inline", "parse 0 2 async", "exec 1", "inline 1 1 a", "close 1", "exec 2"],
+    &["parse 0 1 inline", "exec 1", "set 1 0", "inline 1 1 a", "close 1", "timer 1"],
+    &["parse 0 1 inline", "exec 1", "every 1 5", "inline 1 1 a", "close 1", "tick 1"],
+    &["parse 0 1 inline", "exec 1", "inline 1 1 a", "close 1", "dcl 9 0"],
+    &["parse 0 1 inline", "exec 1", "inline 1 1 a", "close 1", "load 9 0"],
+    &["parse 0 1 inline", "exec 1", "inline 1 1 a", "close 1", "eload 9 1"],
+    &["parse 0 1 inline", "exec 1", "inline 1 1 a", "close 1", "fire 9 1 a"],
+    &["parse 0 1 inline", "exec 1", "inline 1 1 a", "close 1", "wfire 9 0 a"],
+    &["parse 0 1 inline", "exec 1", "send 1", "inline 1 1 a", "close 1", "reply 9 1"],
+    // it is above the dispatch, its close has begun, or it is finished
+    &["parse 0 1 plain", "on 7", "fire 1 1 a", "run 1 0 7", "inline 2 1 b", "run 1 0 7"],
+    &["parse 0 1 inline", "exec 1", "on 7", "inline 1 1 a", "close 1", "run 1 0 7"],
+    &["parse 0 1 inline", "exec 1", "on 7", "inline 1 1 a", "close 1", "back 1", "run 1 0 7"],
+    &["parse 0 1 plain", "on 7", "fire 1 1 click", "run 1 0 7", "inline 2 1 focus", "close 1"],
+    &["parse 0 1 inline", "exec 1", "inline 1 1 a", "close 1", "close 1"],
+    &["parse 0 1 inline", "exec 1", "inline 1 1 a", "close 1", "back 1", "close 1"],
+    // its close has not begun, another is above it, or it is finished
+    &["parse 0 1 inline", "exec 1", "inline 1 1 a", "back 1"],
+    &["parse 0 1 inline", "exec 1", "on 7", "inline 1 1 a", "run 1 0 7", "back 1"],
+    &["parse 0 1 inline", "exec 1", "inline 1 1 a", "close 1", "inline 2 1 b", "back 1"],
+    &["parse 0 1 inline", "exec 1", "inline 1 1 a", "close 1", "inline 2 1 b", "close 2", "back 1"],
+    &["parse 0 1 inline", "exec 1", "inline 1 1 a", "close 1", "back 1", "back 1"],
+    &["parse 0 1 plain", "on 7", "fire 1 1 a", "run 1 0 7", "inline 2 1 b", "close 2", "back 1"],
     // no action has begun
     &["new 0 1 plain"],
     &["new 0 1 frame 5"],
@@ -173,7 +228,7 @@ pub(crate) static MISPLACED: [&[&str]; 33] = [
 ];
 
 /// Nothing is against the last line either.
-pub(crate) static ACCEPTED: [&[&str]; 25] = [
+pub(crate) static ACCEPTED: [&[&str]; 35] = [
     // notes and accesses use no number that has to be known
     &["parse 0 1 plain", "on 9"],
     &["parse 0 1 plain", "set 9 0"],
@@ -238,4 +293,46 @@ pub(crate) static ACCEPTED: [&[&str]; 25] = [
         "close 1",
         "parse 0 2 plain",
     ],
+    // a script, a callback, a handler and a close call inline dispatches, and go on
+    &["parse 0 1 inline", "exec 1", "inline 1 1 a", "close 1", "back 1"],
+    &["parse 0 1 plain", "set 1 0", "timer 1", "inline 1 1 a"],
+    &["parse 0 1 plain", "every 1 5", "tick 1", "inline 1 1 a"],
+    &["parse 0 1 plain", "on 7", "fire 1 1 a", "run 1 0 7", "inline 2 1 b"],
+    &["parse 0 1 plain", "fire 1 1 a", "close 1", "inline 2 1 b"],
+    &[
+        "parse 0 1 inline",
+        "exec 1",
+        "inline 1 1 a",
+        "close 1",
+        "inline 2 1 a",
+        "close 2",
+        "back 2",
+        "back 1",
+    ],
+    &["parse 0 1 inline", "exec 1", "inline 1 1 a", "close 1", "back 1", "inline 2 1 a"],
+    &[
+        "parse 0 1 plain",
+        "on 7",
+        "fire 1 1 a",
+        "run 1 0 7",
+        "inline 2 1 b",
+        "run 2 0 7",
+        "close 2",
+        "back 2",
+        "run 1 0 7",
+        "close 1",
+    ],
+    &[
+        "parse 0 1 inline",
+        "exec 1",
+        "on 7",
+        "new 0 2 plain",
+        "inline 1 2 click",
+        "run 1 0 7",
+        "r var 0 x",
+        "close 1",
+        "back 1",
+        "w var 0 x",
+    ],
+    &["parse 0 1 inline", "exec 1", "inline 1 1 a", "close 1", "back 1", "parse 0 2 plain"],
 ];

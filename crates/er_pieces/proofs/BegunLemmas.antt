@@ -5,7 +5,7 @@ use Rattle.std.specs.List.{list_any}
 use Rattle.std.proofs.lemmas.Bool.{eqb-true, eq-eqb}
 use Rattle.er_trace.specs.declared.record.Record.{Record}
 use Rattle.er_trace.specs.declared.record.Record.TheVariants.{Parse, ParseFrame, Exec, New, NewFrame, Set, Dcl, Load, Eload, Fire, Wfire, Reply, Inline, Close}
-use Rattle.er_history.specs.History.{Element, Timeout, Dispatch, BeginOf, CloseOf, ScriptRun, What, Event, Action, Entry, told, begins, or_else, first_to, maker_by, makes_element, makes_timeout, action_begun, actions_after, event_begun, running}
+use Rattle.er_history.specs.History.{Element, Timeout, Dispatch, BeginOf, CloseOf, ScriptRun, What, Event, Action, Entry, told, begins, or_else, first_to, maker_by, element_maker, makes_element, makes_timeout, action_begun, actions_after, event_begun, running}
 use Rattle.er_history.specs.Laws.{Among}
 use Rattle.er_history.specs.Naming.{IsNamed, runs_script, begins_dispatch}
 use Rattle.er_history.specs.Latest.{newest, latest_piece, latest_of}
@@ -104,6 +104,17 @@ element_is_event h e x found = of (given_by (makes_element e) (λ y place. refl)
         by (New d s k) gives = made (s == e) _ refl gives
         by (NewFrame d s f) gives = made (s == e) _ refl gives
         by _ gives = absurd (cc)
+
+pub element_maker_is_event : (h : List Record) (e u : ℕ) → element_maker (told h).entries e ≡ Some u → event_of h u ≡ Some u
+element_maker_is_event h e u found = of (first_to (makes_element e) (told h).entries) refl found
+  where
+    maker_of : Option Element → Option ℕ
+    maker_of None = None
+    maker_of (Some x) = Some x.maker
+
+    of : (o : Option Element) → first_to (makes_element e) (told h).entries ≡ o → maker_of o ≡ Some u → event_of h u ≡ Some u
+    of None same f = absurd (cc)
+    of (Some x) same f = let maker : x.maker ≡ u = cc in subst (λ k. event_of h k ≡ Some k) maker (element_is_event h e x same)
 
 pub timeout_is_event : (h : List Record) (t : ℕ) (x : Timeout) → first_to (makes_timeout t) (told h).entries ≡ Some x → event_of h x.maker ≡ Some x.maker
 timeout_is_event h t x found = of (given_by (makes_timeout t) (λ y place. refl) h x found)

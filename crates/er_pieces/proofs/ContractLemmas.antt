@@ -1,6 +1,6 @@
 -- What grows by one list and then by another, and what a crate's clause on its handed pieces comes to.
-use Rattle.std.proofs.Common.{◌≡◌, ℕ, ◌+◌, ◌<◌, ◌≤◌, true, List, [], ◌∷◌, ◌++◌, length, take, zero, suc, sym, ap, append-nil, length-append, arith, inl, inr}
-use Rattle.std.specs.Prelude.{◌==◌, Result, Ok, Err, OnOk, OnErr}
+use Rattle.std.proofs.Common.{◌≡◌, ℕ, ◌+◌, ◌<◌, ◌≤◌, true, List, [], ◌∷◌, ◌++◌, length, take, zero, suc, Result, Ok, Err, OnOk, OnErr, sym, ap, ◌∙◌, append-nil, length-append, arith, inl, inr}
+use Rattle.std.specs.Prelude.{◌==◌}
 use Rattle.std.proofs.lemmas.List.{take-append-le, length-take-le}
 use Rattle.std.proofs.lemmas.Grind.{common_steps}
 use Rattle.std.proofs.Math.Seq.{take-append-add}
@@ -12,10 +12,11 @@ use Rattle.er_history.specs.Rules.{Rule}
 use Rattle.er_history.specs.Edges.{path}
 use Rattle.er_history.specs.Handed.{HasHanded, HasHandedSome}
 use Rattle.er_history.specs.Sound.{IsSound}
-use Rattle.er_pieces.specs.Contract.{ComesNext, GrewBy, GrewInPart, HandsExactly, HandsFront, HandsEnough, HandsSources}
-use Rattle.er_pieces.specs.Counts.{HandsAtMost, GrewAtMost}
-use Rattle.er_pieces.specs.Enough.{HasSteady, AreInOrder, IsSteady}
+use Rattle.er_pieces.specs.Contract.{ComesNext, GrewBy, GrewInPart, HandsExactly, HandsFront, HandsEnough, HandsSources, HandsFew}
+use Rattle.er_pieces.specs.Counts.{HandsAtMost}
+use Rattle.er_pieces.specs.Enough.{AreInOrder, IsSteady, NestedFacts}
 use Rattle.er_pieces.specs.Hands.{Hands}
+use Rattle.er_pieces.proofs.NestedLaws.{nested_facts}
 use Rattle.er_history.proofs.NamedLemmas.{no_cause, sound_lists_are_named}
 
 -- growing again
@@ -92,36 +93,34 @@ has_handed_some table group handed hands h x old new next (n, below, came) =
       sources = λ k among. are.sources k (among_front n k (handed (told h) x) among);
     }
 
--- what a crate hands stands behind what stood before, on `Ok` and where memory ran out
-pub behind : {E : Type 0} → (stands : List Record → Type 0) (handed : History → Record → List ℕ) (x : Record) (old new : List ℕ) (r : Result (Unit {0}) E) (h : List Record) → stands h
-    → OnOk r (HandsExactly stands handed x old new) → OnErr r (HandsFront stands handed x old new) → take (length old) new ≡ old
-behind stands handed x old new (Ok u) h is exact front = grew_behind old (handed (told h) x) new (exact h is)
-behind stands handed x old new (Err e) h is exact front = grew_part_behind old (handed (told h) x) new (front h is)
+-- From the two exact clauses of a call, whatever its result: all others.
 
--- so what it hands exactly is enough by its rules, and what it hands in part is sources
-pub enough_of : {E : Type 0} → (stands : List Record → Type 0) (group : List (ℕ × Rule)) (handed : History → Record → List ℕ) → ((table : List (ℕ × Rule)) → HasSteady table → Hands table group handed) → (x : Record) (old new : List ℕ) (r : Result (Unit {0}) E)
-    → OnOk r (HandsExactly stands handed x old new) → OnOk r (HandsEnough stands group x old new)
-enough_of stands group handed hands x old new (Ok u) exact = λ table h is next. has_handed table group handed (hands table next.has) h x old new next (exact h is)
-enough_of stands group handed hands x old new (Err e) exact = tt
+pub enough_by : {E : Type 0} → (stands : List Record → Type 0) (group : List (ℕ × Rule)) (handed : History → Record → List ℕ) → ((table : List (ℕ × Rule)) → NestedFacts table → Hands table group handed)
+    → (r : Result (Unit {0}) E) (x : Record) (old new : List ℕ) → OnOk r (HandsExactly stands handed x old new) → OnOk r (HandsEnough stands group x old new)
+enough_by stands group handed hands (Ok u) x old new exact = λ table h is next. has_handed table group handed (hands table (nested_facts table)) h x old new next (exact h is)
+enough_by stands group handed hands (Err e) x old new exact = tt
 
-pub sources_of : {E : Type 0} → (stands : List Record → Type 0) (group : List (ℕ × Rule)) (handed : History → Record → List ℕ) → ((table : List (ℕ × Rule)) → HasSteady table → Hands table group handed) → (x : Record) (old new : List ℕ) (r : Result (Unit {0}) E)
-    → OnErr r (HandsFront stands handed x old new) → OnErr r (HandsSources stands group x old new)
-sources_of stands group handed hands x old new (Ok u) front = tt
-sources_of stands group handed hands x old new (Err e) front = λ table h is next. has_handed_some table group handed (hands table next.has) h x old new next (front h is)
+pub sources_by : {E : Type 0} → (stands : List Record → Type 0) (group : List (ℕ × Rule)) (handed : History → Record → List ℕ) → ((table : List (ℕ × Rule)) → NestedFacts table → Hands table group handed)
+    → (r : Result (Unit {0}) E) (x : Record) (old new : List ℕ) → OnErr r (HandsFront stands handed x old new) → OnErr r (HandsSources stands group x old new)
+sources_by stands group handed hands (Ok u) x old new front = tt
+sources_by stands group handed hands (Err e) x old new front = λ table h is next. has_handed_some table group handed (hands table (nested_facts table)) h x old new next (front h is)
 
--- and it hands no more than its most
+grew_few : (old due new : List ℕ) (most : ℕ) → length due ≤ most → GrewBy old due new → length new ≤ length old + most
+grew_few old due new most few grew = let counted : length new ≡ length old + length due = ap length grew ∙ length-append old due in omega (arith, counted, few)
 
-few_in_whole : (old due new : List ℕ) (n : ℕ) → length due ≤ n → GrewBy old due new → length new ≤ length old + n
-few_in_whole old due new n few grew = let at = ap length grew in omega (arith, at, length-append old due, few)
-
-few_in_part : (old due new : List ℕ) (n : ℕ) → length due ≤ n → GrewInPart old due new → length new ≤ length old + n
+grew_part_few : (old due new : List ℕ) (most : ℕ) → length due ≤ most → GrewInPart old due new → length new ≤ length old + most
 unfolding GrewInPart
-few_in_part old due new n few (k, below, came) =
-    let at = ap length came in
-    let part : length (take k due) ≡ k = length-take-le k due (omega (arith, below)) in
-    omega (arith, at, length-append old (take k due), part, below, few)
+grew_part_few old due new most few (n, below, came) =
+    let front : length (take n due) ≤ most = omega (arith, length-take-le n due (omega (arith, below)), below, few) in
+    grew_few old (take n due) new most front came
 
-pub few_of : {E : Type 0} → (stands : List Record → Type 0) (handed : History → Record → List ℕ) (most : List Record → Record → ℕ) → HandsAtMost handed most → (x : Record) (old new : List ℕ) (r : Result (Unit {0}) E)
-    → OnOk r (HandsExactly stands handed x old new) → OnErr r (HandsFront stands handed x old new) → GrewAtMost stands most x old new
-few_of stands handed most few x old new (Ok u) exact front = λ h is. few_in_whole old (handed (told h) x) new (most h x) (few h x) (exact h is)
-few_of stands handed most few x old new (Err e) exact front = λ h is. few_in_part old (handed (told h) x) new (most h x) (few h x) (front h is)
+pub few_by : {E : Type 0} → (stands : List Record → Type 0) (handed : History → Record → List ℕ) (most : List Record → Record → ℕ) → HandsAtMost handed most
+    → (r : Result (Unit {0}) E) (x : Record) (old new : List ℕ) → OnOk r (HandsExactly stands handed x old new) → OnErr r (HandsFront stands handed x old new) → HandsFew stands most x old new
+few_by stands handed most few (Ok u) x old new exact front = λ h is. grew_few old (handed (told h) x) new (most h x) (few h x) (exact h is)
+few_by stands handed most few (Err e) x old new exact front = λ h is. grew_part_few old (handed (told h) x) new (most h x) (few h x) (front h is)
+
+-- what stood before stays in front, for a list that the page stands for
+pub kept_by : {E : Type 0} → (stands : List Record → Type 0) (handed : History → Record → List ℕ) → (r : Result (Unit {0}) E) (x : Record) (old new : List ℕ)
+    → OnOk r (HandsExactly stands handed x old new) → OnErr r (HandsFront stands handed x old new) → (h : List Record) → stands h → take (length old) new ≡ old
+kept_by stands handed (Ok u) x old new exact front h is = grew_behind old (handed (told h) x) new (exact h is)
+kept_by stands handed (Err e) x old new exact front h is = grew_part_behind old (handed (told h) x) new (front h is)

@@ -4,8 +4,9 @@
 --   OnOk result (HandsExactly stands handed x old new): the numbers have grown by exactly that list;
 --   OnErr result (HandsFront stands handed x old new): memory ran out, and they have grown by a proper front of it;
 --   OnOk result (HandsEnough stands group x old new) and OnErr result (HandsSources stands group x old new): it is enough, and all of it sources, for every table by which the record comes next.
--- The last two follow from the first two: proofs/ContractLemmas.
-use Rattle.std.specs.Prelude.{◌≡◌, ℕ, ◌<◌, false, List, [], ◌∷◌, ◌++◌, length, take, Option, Some, None}
+--   HandsFew stands most x old new: in any case there are at most so many more.
+-- The others follow from the first two: proofs/ContractLemmas.
+use Rattle.std.specs.Prelude.{◌≡◌, ℕ, ◌+◌, ◌<◌, ◌≤◌, false, List, [], ◌∷◌, ◌++◌, length, take, Option, Some, None}
 use Rattle.er_trace.specs.declared.record.Record.{Record}
 use Rattle.er_history.specs.History.{Action, History, told}
 use Rattle.er_history.specs.Rules.{Rule}
@@ -54,6 +55,11 @@ HandsEnough stands group x old new = (table : List (ℕ × Rule)) (h : List Reco
 
 abbrev pub HandsSources : (List Record → Type 0) → List (ℕ × Rule) → Record → List ℕ → List ℕ → Type 0
 HandsSources stands group x old new = (table : List (ℕ × Rule)) (h : List Record) → stands h → ComesNext table h x → HasHandedSome group (path table h) (told h) x old new
+
+-- how many they are
+
+abbrev pub HandsFew : (List Record → Type 0) → (List Record → Record → ℕ) → Record → List ℕ → List ℕ → Type 0
+HandsFew stands most x old new = (h : List Record) → stands h → length new ≤ length old + most h x
 
 -- the numbers of an option, and the latest pieces of these events
 

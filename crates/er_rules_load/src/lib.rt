@@ -10,4 +10,7 @@
 //! A parse step made a static element. A blocking script is a static one of the kind `inline` or `sync`, a deferred one a static one of the kind `defer`.
 #![tactic(auto)]
 
+pub mod against;
+mod due;
 pub mod laws;
+pub mod predecessors;

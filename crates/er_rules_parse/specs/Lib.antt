@@ -1,2 +1,1 @@
 pub mod Against
-pub mod Steps

@@ -5,10 +5,10 @@ use Rattle.std.proofs.lemmas.Bool.{ne_eqb}
 use Rattle.std.proofs.lemmas.Bool.Decides.{eqb_tells}
 use Rattle.er_history.specs.History.{Element, What, ParseStep, ScriptRun}
 use Rattle.er_history.specs.Rules.{of_made, is_blocking, is_deferred}
-use Rattle.er_history.proofs.EventLemmas.{IsOther}
+use Rattle.er_history.proofs.EventLemmas.{event_with, IsOther}
 use Rattle.er_history.proofs.MakersLemmas.{ElementBelow}
 use Rattle.er_history.proofs.OrderLemmas.{WhatBefore}
-use Rattle.er_page.specs.LookUps.{is_step_of, is_run_of}
+use Rattle.er_history.specs.Kinds.{is_step_of, is_run_of}
 use Rattle.er_rules_script.proofs.RulesLemmas.{rules_hold, to_step, to_run, to_unmade, to_other, other_step, other_run}
 
 equal_both_ways : (a b : ℕ) → (a == b) ≡ (b == a)
@@ -23,7 +23,7 @@ not_made_now : (n : ℕ) (z : Element) → ElementBelow n z → (z.maker == n) �
 not_made_now n z below = ne_eqb z.maker n (λ e. omega (arith, e, below.0))
 
 -- from a parse step
-pub from_step : (joined : ℕ → ℕ → Bool) (n u d : ℕ) (m : Option ℕ) (w : What) → WhatBefore n w → rules_hold joined n u (ParseStep d m) w ≡ is_run_of is_deferred d w
+pub from_step : (joined : ℕ → ℕ → Bool) (n u d : ℕ) (m : Option ℕ) (w : What) → WhatBefore n w → rules_hold joined n u (ParseStep d m) w ≡ is_run_of is_deferred d (event_with u w)
 from_step joined n u d m (ParseStep c k) before = to_step joined n u c k (ParseStep d m)
 from_step joined n u d m (ScriptRun f None) before = to_unmade joined n u f (ParseStep d m)
 from_step joined n u d m (ScriptRun f (Some z)) before =
@@ -51,7 +51,7 @@ parsed_after p _ = false
 
 -- the run of script y comes too late behind the event
 abbrev pub comes_late : Element → ℕ → What → Bool
-comes_late y u w = (is_blocking y && ((is_step_of y.doc w && nat_lt y.piece u) || is_run_of is_deferred y.doc w)) || (is_deferred y && (is_run_of is_deferred y.doc w && parsed_after y.piece w))
+comes_late y u w = (is_blocking y && ((is_step_of y.doc (event_with u w) && nat_lt y.piece u) || is_run_of is_deferred y.doc (event_with u w))) || (is_deferred y && (is_run_of is_deferred y.doc (event_with u w) && parsed_after y.piece w))
 
 late_step : (b d s l : Bool) → (b && (s && l)) ≡ ((b && ((s && l) || false)) || (d && (false && false)))
 late_step b d s l = grind arith

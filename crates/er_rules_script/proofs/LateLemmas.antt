@@ -12,18 +12,23 @@ use Rattle.er_history.specs.Edges.{path}
 use Rattle.er_history.specs.Naming.{IsNamed}
 use Rattle.er_history.specs.Laws.{Among}
 use Rattle.er_history.specs.Facts.{WhatIs}
-use Rattle.er_history.proofs.HistoryLemmas.{EachIsAnEvent}
-use Rattle.er_history.proofs.NamedLemmas.{sound_is_named_now, now_is_named, each_named}
+use Rattle.er_history.proofs.NamedLemmas.{sound_lists_are_named}
 use Rattle.er_history.proofs.OrderLemmas.{events_began, none_passes, any_same, any_under, any_either}
 use Rattle.er_history.proofs.ExactLemmas.{facts_are_exact}
 use Rattle.er_history.proofs.EventLemmas.{IsOther, form_begun}
-use Rattle.er_page.specs.LookUps.{newest_by, event_in, script_in, is_step_of, is_run_of, element_made, script_run, last_parse}
-use Rattle.er_page.proofs.LatestLemmas.{newest_comes_last}
+use Rattle.er_history.specs.Kinds.{is_step_of, is_run_of}
+use Rattle.er_history.specs.Latest.{newest_by}
+use Rattle.er_history.specs.LookUps.{event_in, script_in, element_made, script_run, last_parse}
+use Rattle.er_pieces.specs.Enough.{AreInOrder}
+use Rattle.er_pieces.proofs.ContractLemmas.{in_order}
+use Rattle.er_pieces.proofs.SourceLemmas.{newest_passes}
+use Rattle.er_history.proofs.EventLemmas.{event_with}
+use Rattle.er_history.specs.Handed.{HasGroup}
+use Rattle.er_history.specs.Rules.{Rule}
 use Rattle.er_rules_script.specs.Scripts.{is_parsed_before}
 use Rattle.er_rules_script.specs.Against.{has_deferred_run, is_blocking_late, is_deferred_late, is_run_late, LateRecordsLeadBack}
 use Rattle.er_rules_script.proofs.RulesLemmas.{rules_hold, holds_apart}
-use Rattle.er_rules_script.proofs.SoundLemmas.{NoneLeadBack, none_leads_back, run_after, deferred_descend}
-use Rattle.er_page.proofs.NewestLemmas.{event_passes, any_newest, any_last, begins_after, events_descend}
+use Rattle.er_rules_script.proofs.NewestLemmas.{event_passes, any_newest, any_last, begins_after, steps_pass_on, run_after, deferred_pass_on}
 use Rattle.er_rules_script.proofs.BackLemmas.{parsed_after, comes_late, from_step, from_other, from_unmade, from_run}
 
 -- what the look-ups say
@@ -42,10 +47,10 @@ pub passed_is : (h : List Record) (y : Element) (o : Option Action) → IsNamed 
     → (is_deferred y && of_made (run_after y.piece) o) ≡ (is_deferred y && of_made (λ (last : ℕ). is_parsed_before (Some y) (element_made h last)) (script_in o))
 passed_is h y None named e = refl
 passed_is h y (Some a) named e =
-    let last = newest_comes_last (is_run_of is_deferred y.doc) h a e in
+    let last = newest_passes (is_run_of is_deferred y.doc) (told h).actions a e in
     by a.event.what (facts_are_exact h a named last.0) last.1
   where
-    of_script : (f : ℕ) (made : Option Element) → made ≡ element_made h f → is_run_of is_deferred y.doc (ScriptRun f made) ≡ true
+    of_script : (f : ℕ) (made : Option Element) → made ≡ element_made h f → is_run_of is_deferred y.doc (event_with a.event.number (ScriptRun f made)) ≡ true
         → (is_deferred y && parsed_after y.piece (ScriptRun f made)) ≡ (is_deferred y && is_parsed_before (Some y) (element_made h f))
     of_script f None is ran = absurd (cc)
     of_script f (Some z) is ran =
@@ -56,7 +61,7 @@ passed_is h y (Some a) named e =
         is_defer kinds.Defer = true
         is_defer _ = false
 
-    by : (w : What) → WhatIs (told h).entries w → is_run_of is_deferred y.doc w ≡ true
+    by : (w : What) → WhatIs (told h).entries w → is_run_of is_deferred y.doc (event_with a.event.number w) ≡ true
         → (is_deferred y && parsed_after y.piece w) ≡ (is_deferred y && of_made (λ (last : ℕ). is_parsed_before (Some y) (element_made h last)) (script_run w))
     by (ScriptRun f made) is ran = of_script f made is.0 ran
     by w is ran = absurd (cc)
@@ -93,14 +98,14 @@ unmade_leads h joined e =
     none_passes (leads_to_begun joined (told h) (ScriptRun e None)) (told h).actions
     (λ i among. begun_holds h joined (ScriptRun e None) i among ∙ from_unmade joined (length (told h).actions) i.event.number e i.event.what (events_began h i among).1)
 
-blocking_late : (h : List Record) (y : Element) → EachIsAnEvent (told h).actions
-    → list_any (λ i. is_blocking y && ((is_step_of y.doc i.event.what && begins_after y.piece i) || event_passes (is_run_of is_deferred y.doc) i)) (told h).actions ≡ is_blocking_late h y.doc (Some y)
-blocking_late h y each =
+blocking_late : (h : List Record) (y : Element) → IsNamed h
+    → list_any (λ i. is_blocking y && ((is_step_of y.doc i.event && begins_after y.piece i) || event_passes (is_run_of is_deferred y.doc) i)) (told h).actions ≡ is_blocking_late h y.doc (Some y)
+blocking_late h y named =
     let acts = (told h).actions in
-    let steps : Action → Bool = λ i. is_step_of y.doc i.event.what && begins_after y.piece i in
+    let steps : Action → Bool = λ i. is_step_of y.doc i.event && begins_after y.piece i in
     let runs : Action → Bool = event_passes (is_run_of is_deferred y.doc) in
     let last : list_any steps acts ≡ of_made (λ (last : ℕ). nat_lt y.piece last) (last_parse h y.doc) =
-    any_last (is_step_of y.doc) (begins_after y.piece) acts (events_descend (is_step_of y.doc) y.piece acts each) ∙ event_after y.piece (newest_by (is_step_of y.doc) acts) in
+    any_last h (is_step_of y.doc) (begins_after y.piece) (steps_pass_on h named y.doc y.piece) ∙ event_after y.piece (newest_by (is_step_of y.doc) acts) in
     any_under (is_blocking y) (λ i. steps i || runs i) acts
     ∙ (ap (λ b. is_blocking y && b) (any_either steps runs acts ∙ (λ k. last k || any_newest (is_run_of is_deferred y.doc) acts k))
     ∙ static_blocks y.is_static (has_kind is_sync y.form) (of_made (λ (last : ℕ). nat_lt y.piece last) (last_parse h y.doc)) (has_deferred_run h y.doc))
@@ -110,28 +115,28 @@ blocking_late h y each =
     is_sync kinds.Sync = true
     is_sync _ = false
 
-deferred_late : (h : List Record) (y : Element) → IsNamed h → EachIsAnEvent (told h).actions → NoneLeadBack (told h).actions
-    → list_any (λ i. is_deferred y && (is_run_of is_deferred y.doc i.event.what && run_after y.piece i)) (told h).actions ≡ is_deferred_late h y.doc (Some y)
-deferred_late h y named each none =
+deferred_late : (table : List (ℕ × Rule)) (h : List Record) (y : Element) → HasGroup table script_rules → IsNamed h → AreInOrder table h
+    → list_any (λ i. is_deferred y && (is_run_of is_deferred y.doc i.event && run_after y.piece i)) (told h).actions ≡ is_deferred_late h y.doc (Some y)
+deferred_late table h y has named ordered =
     let acts = (told h).actions in
-    any_under (is_deferred y) (λ i. is_run_of is_deferred y.doc i.event.what && run_after y.piece i) acts
-    ∙ (ap (λ b. is_deferred y && b) (any_last (is_run_of is_deferred y.doc) (run_after y.piece) acts (deferred_descend y.doc y.piece acts each none))
+    any_under (is_deferred y) (λ i. is_run_of is_deferred y.doc i.event && run_after y.piece i) acts
+    ∙ (ap (λ b. is_deferred y && b) (any_last h (is_run_of is_deferred y.doc) (run_after y.piece) (deferred_pass_on table h has named ordered y.doc y.piece))
     ∙ passed_is h y (newest_by (is_run_of is_deferred y.doc) acts) named refl)
 
-run_leads : (h : List Record) (joined : ℕ → ℕ → Bool) (e : ℕ) (y : Element) → IsNamed h → EachIsAnEvent (told h).actions → NoneLeadBack (told h).actions
+run_leads : (table : List (ℕ × Rule)) (h : List Record) (joined : ℕ → ℕ → Bool) (e : ℕ) (y : Element) → HasGroup table script_rules → IsNamed h → AreInOrder table h
     → list_any (leads_to_begun joined (told h) (ScriptRun e (Some y))) (told h).actions ≡ is_run_late h (Some y)
-run_leads h joined e y named each none =
+run_leads table h joined e y has named ordered =
     let acts = (told h).actions in
     any_same (leads_to_begun joined (told h) (ScriptRun e (Some y))) (λ i. comes_late y i.event.number i.event.what) acts
     (λ i among. begun_holds h joined (ScriptRun e (Some y)) i among ∙ from_run joined (length acts) i.event.number e y i.event.what (events_began h i among).1)
-    ∙ (any_either (λ i. is_blocking y && ((is_step_of y.doc i.event.what && begins_after y.piece i) || event_passes (is_run_of is_deferred y.doc) i))
-    (λ i. is_deferred y && (is_run_of is_deferred y.doc i.event.what && run_after y.piece i)) acts
-    ∙ (λ k. blocking_late h y each k || deferred_late h y named each none k))
+    ∙ (any_either (λ i. is_blocking y && ((is_step_of y.doc i.event && begins_after y.piece i) || event_passes (is_run_of is_deferred y.doc) i))
+    (λ i. is_deferred y && (is_run_of is_deferred y.doc i.event && run_after y.piece i)) acts
+    ∙ (λ k. blocking_late h y named k || deferred_late table h y has named ordered k))
 
-script_leads : (h : List Record) (joined : ℕ → ℕ → Bool) (e : ℕ) (o : Option Element) → IsNamed h → EachIsAnEvent (told h).actions → NoneLeadBack (told h).actions
+script_leads : (table : List (ℕ × Rule)) (h : List Record) (joined : ℕ → ℕ → Bool) (e : ℕ) (o : Option Element) → HasGroup table script_rules → IsNamed h → AreInOrder table h
     → list_any (leads_to_begun joined (told h) (ScriptRun e o)) (told h).actions ≡ is_run_late h o
-script_leads h joined e None named each none = unmade_leads h joined e
-script_leads h joined e (Some y) named each none = run_leads h joined e y named each none
+script_leads table h joined e None has named ordered = unmade_leads h joined e
+script_leads table h joined e (Some y) has named ordered = run_leads table h joined e y has named ordered
 
 and_nothing : (b c : Bool) → c ≡ false → (b && c) ≡ false
 and_nothing true c e = e
@@ -141,8 +146,7 @@ pub late_records_lead_back : LateRecordsLeadBack
 late_records_lead_back table h (Parse d e k) group sound is = step_leads h (path table h) d (maker_by (declares_document d) (told h).entries)
 late_records_lead_back table h (ParseFrame d e f) group sound is = step_leads h (path table h) d (maker_by (declares_document d) (told h).entries)
 late_records_lead_back table h (Exec e) group sound is =
-    let named = sound_is_named_now table h sound in
-    script_leads h (path table h) e (element_made h e) (now_is_named h named) (each_named h named) (none_leads_back table h group sound)
+    script_leads table h (path table h) e (element_made h e) group (sound_lists_are_named table h sound) (in_order table h sound)
 late_records_lead_back table h (Back p) group sound is = refl
 late_records_lead_back table h x group sound is = and_nothing (begins x) _ (other_leads h (path table h) (what_begun (told h) x) (form_begun (told h) x))
 

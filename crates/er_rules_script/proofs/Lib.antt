@@ -1,4 +1,4 @@
 pub mod BackLemmas
 pub mod LateLemmas
+pub mod NewestLemmas
 pub mod RulesLemmas
-pub mod SoundLemmas

@@ -5,10 +5,10 @@ use Rattle.er_trace.specs.declared.record.Record.TheVariants.{Parse, ParseFrame,
 use Rattle.er_history.specs.History.{Element, told}
 use Rattle.er_history.specs.Rules.{Rule, of_made, script_rules}
 use Rattle.er_history.specs.Edges.{path}
-use Rattle.er_history.specs.Naming.{naming_now}
+use Rattle.er_history.specs.Naming.{naming}
 use Rattle.er_history.specs.Handed.{HasGroup}
 use Rattle.er_history.specs.Sound.{IsSound, leads_back}
-use Rattle.er_page.specs.LookUps.{element_made, last_parse, last_deferred_run, last_deferred_element}
+use Rattle.er_history.specs.LookUps.{element_made, last_parse, last_deferred_run, last_deferred_element}
 use Rattle.er_rules_script.specs.Scripts.{blocks, defers, is_parsed_before}
 
 -- a deferred script of the document has run
@@ -43,5 +43,5 @@ is_late h _ = false
 
 -- In a sound list these are the records from whose event a rule leads back.
 abbrev pub LateRecordsLeadBack : Type 0
-LateRecordsLeadBack = (table : List (ℕ × Rule)) (h : List Record) (x : Record) → HasGroup table script_rules → IsSound table h → naming_now h x ≡ None
+LateRecordsLeadBack = (table : List (ℕ × Rule)) (h : List Record) (x : Record) → HasGroup table script_rules → IsSound table h → naming h x ≡ None
     → leads_back script_rules (path table h) (told h) x ≡ is_late h x

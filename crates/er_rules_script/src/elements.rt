@@ -2,7 +2,7 @@
 
 ghost use Rattle.std.specs.Prelude.{◌≡◌, List};
 ghost use Rattle.er_trace.specs.declared.record.Record.{Record};
-ghost use Rattle.er_page.specs.LookUps.{element_made};
+ghost use Rattle.er_history.specs.LookUps.{element_made};
 ghost use Rattle.er_page.specs.Page.{IsPage};
 ghost use Rattle.er_rules_script.specs.Scripts as says;
 
@@ -21,26 +21,6 @@ pub(crate) fn is_deferred(page: &Page, element: u32) -> bool
     ensures { (h : List Record) → IsPage page.now h → result ≡ says.defers (element_made h element) }
 {
     page.is_static(element) && matches!(page.script_kind(element), Some(Kind::Defer))
-}
-
-/// Whether the element is of the document.
-pub(crate) fn is_of_document(page: &Page, element: u32, doc: u32) -> bool
-    ensures { (h : List Record) → IsPage page.now h → result ≡ says.is_of_document doc (element_made h element) }
-{
-    match page.document_of(element) {
-        Some(other) => other == doc,
-        None => false,
-    }
-}
-
-/// Whether both elements are of one document.
-pub(crate) fn has_one_document(page: &Page, first: u32, second: u32) -> bool
-    ensures { (h : List Record) → IsPage page.now h → result ≡ says.has_one_document (element_made h first) (element_made h second) }
-{
-    match (page.document_of(first), page.document_of(second)) {
-        (Some(doc), Some(other)) => doc == other,
-        _ => false,
-    }
 }
 
 /// Whether parse steps made both elements, the first one before the second.

@@ -10,7 +10,7 @@
 #![tactic(auto)]
 
 pub mod against;
+mod due;
 mod elements;
 pub mod laws;
 pub mod predecessors;
-mod rules;

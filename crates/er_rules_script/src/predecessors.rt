@@ -1,64 +1,35 @@
-//! The sources of edges to the action that a record would begin.
+//! The latest pieces that must come before the action that a record would begin.
 
-ghost use Rattle.std.specs.Prelude.{◌≡◌, ℕ, false, List, [], ◌∷◌, ◌++◌, length, take, cond, None, OnOk, OnErr};
-ghost use Rattle.er_trace.specs.declared.record.Record.{Record};
-ghost use Rattle.er_history.specs.History.{told};
-ghost use Rattle.er_history.specs.Rules.{Rule, script_rules};
-ghost use Rattle.er_history.specs.Edges.{path};
-ghost use Rattle.er_history.specs.Naming.{naming_now};
-ghost use Rattle.er_history.specs.Handed.{HasGroup, HasHanded, HasHandedSome};
-ghost use Rattle.er_history.specs.Sound.{IsSound, out_of_order};
-ghost use Rattle.er_page.specs.Page.{IsPage, IsSomePage, HasBegun};
-ghost use Rattle.er_rules_script.specs.Scripts.{precedes};
+ghost use Rattle.std.specs.Prelude.{◌≡◌, length, take, OnOk, OnErr};
+ghost use Rattle.er_history.specs.Rules.{script_rules};
+ghost use Rattle.er_page.specs.Page.{IsPage, IsSomePage};
+ghost use Rattle.er_pieces.specs.Contract.{HandsExactly, HandsFront, HandsEnough, HandsSources, HandsFew};
+ghost use Rattle.er_pieces.specs.Counts.{most_script};
+ghost use Rattle.er_pieces.specs.HandedPieces.{script_handed};
 
-use crate::rules::{has_rule, leads};
+use crate::due::hand_due;
 use er_outside::NoMemory;
 use er_page::page::Page;
 use er_trace::record::Record;
 use smallvec::SmallVec;
 
-/// Hands sources of edges by rules 3 to 7 to the action that the record would begin, newest first.
+/// Hands, before a parse step, the latest run of a blocking script of the document; before the run of a script the event that made it, and for a deferred one the latest parse step, blocking run and deferred run of its document too (rules 3 to 7).
 ///
-/// A record of which no rule speaks is handed nothing, and the actions are not gone through.
+/// They are sources of edges, and each other source has a path to one of them. Before another record nothing is handed.
 pub fn predecessors(page: &Page, rec: &Record, out: &mut SmallVec<u32, 8>) -> Result<(), NoMemory>
     requires some { ∥ IsSomePage page.now ∥₁ }
-    ensures handed { OnOk result ((table : List (ℕ × Rule)) (h : List Record) → IsPage page.now h → HasGroup table script_rules → IsSound table h → naming_now h rec.now ≡ None → out_of_order table h rec.now ≡ false
-        → HasHanded script_rules (path table h) (told h) rec.now out.old.items out.new.items) }
+    ensures exact { OnOk result
+        (HandsExactly (IsPage page.now) script_handed rec.now out.old.items out.new.items) }
+    ensures enough { OnOk result
+        (HandsEnough (IsPage page.now) script_rules rec.now out.old.items out.new.items) }
     // Memory ran out.
-    ensures some_handed { OnErr result ((table : List (ℕ × Rule)) (h : List Record) → IsPage page.now h → HasGroup table script_rules → IsSound table h → naming_now h rec.now ≡ None → out_of_order table h rec.now ≡ false
-        → HasHandedSome script_rules (path table h) (told h) rec.now out.old.items out.new.items) }
+    ensures front { OnErr result
+        (HandsFront (IsPage page.now) script_handed rec.now out.old.items out.new.items) }
+    ensures sources { OnErr result
+        (HandsSources (IsPage page.now) script_rules rec.now out.old.items out.new.items) }
+    ensures few { HandsFew (IsPage page.now) most_script rec.now out.old.items out.new.items }
     // What was handed before stays in front.
     ensures kept { take (length out.old.items) out.new.items ≡ out.old.items }
 {
-    if !has_rule(rec) {
-        return Ok(());
-    }
-    let count = page.actions();
-    for back in 0..count {
-        put_source(page, count - 1 - back, rec, out)?;
-    }
-    Ok(())
-}
-
-/// Hands the action, where a rule leads from its event to the one that the record would begin.
-fn put_source(
-    page: &Page,
-    action: u32,
-    rec: &Record,
-    out: &mut SmallVec<u32, 8>,
-) -> Result<(), NoMemory>
-    requires begun { ∥ HasBegun page.now action ∥₁ }
-    ensures put { OnOk result ((h : List Record) → IsPage page.now h → out.new.items ≡ out.old.items ++ cond (precedes h rec.now action) (action ∷ []) []) }
-    ensures kept { OnErr result (out.new.items ≡ out.old.items) }
-    ensures longer { take (length out.old.items) out.new.items ≡ out.old.items }
-{
-    let event = page.event_of(action);
-    let begin = page.begin_of(event);
-    if !leads(page, event, begin, rec) {
-        return Ok(());
-    }
-    let Ok(()) = out.push(action) else {
-        return Err(NoMemory);
-    };
-    Ok(())
+    hand_due(page, rec, out)
 }

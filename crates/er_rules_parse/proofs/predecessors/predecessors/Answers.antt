@@ -1,29 +1,21 @@
-use Rattle.std.proofs.Common.{sym, ◌∙◌, arith}
-use Rattle.er_trace.proofs.PrintLaws.{on_err}
-use Rattle.er_history.proofs.HandedLemmas.{handed_all, handed_more, handed_nothing, handed_some, stays_in_front}
-use Rattle.er_page.proofs.PageLemmas.{begun_of_count}
-use Rattle.er_rules_parse.specs.Steps.{precedes}
-use Rattle.er_rules_parse.proofs.RulesLemmas.{scanned}
+use Rattle.er_history.specs.Rules.{parse_rules}
+use Rattle.er_page.specs.Page.{IsPage}
+use Rattle.er_pieces.specs.Counts.{most_parse}
+use Rattle.er_pieces.specs.HandedPieces.{parse_handed}
+use Rattle.er_pieces.proofs.ContractLemmas.{enough_by, sources_by, few_by}
+use Rattle.er_pieces.proofs.CountLaws.{parse_hands_at_most}
+use Rattle.er_pieces.proofs.HandsParse.{hands_parse}
+use Rattle.er_hand.proofs.HandingLemmas.{stays_in_front}
 use Rattle.er_rules_parse.proofs.predecessors.predecessors.Goals as goal
 
-pub returns-then-not-has_rule-clause-handed : goal.returns-then-not-has_rule-clause-handed
-returns-then-not-has_rule-clause-handed c = λ table h page group sound named order.
-    handed_nothing c.args.out.now.items (scanned table h c.args.rec.now sound named) (sym c.has_rule.ensures ∙ c.if-not-has_rule.true)
+pub returns-clause-enough : goal.returns-clause-enough
+returns-clause-enough c = enough_by (IsPage c.args.page.now) parse_rules parse_handed hands_parse c.hand_due.result c.args.rec.now c.args.out.now.items c.hand_due.new.out.items c.hand_due.ensures.whole
 
-pub put_source-requires : goal.put_source-requires
-put_source-requires c = record { begun = begun_of_count c.args.page.now _ c.actions-count.result c.requires.some c.actions-count.ensures (omega arith) }
+pub returns-clause-sources : goal.returns-clause-sources
+returns-clause-sources c = sources_by (IsPage c.args.page.now) parse_rules parse_handed hands_parse c.hand_due.result c.args.rec.now c.args.out.now.items c.hand_due.new.out.items c.hand_due.ensures.part
 
-pub returns-in_err-put_source-clause-some_handed : goal.returns-in_err-put_source-clause-some_handed
-returns-in_err-put_source-clause-some_handed c = on_err c.from_residual.result _ (λ table h page group sound named order.
-    handed_some c.loop-back.back c.args.out.now.items c.loop-back.out.items c.put_source.new.out.items (scanned table h c.args.rec.now sound named) (c.loop-back.invariant.found h page) c.in_err-put_source.ensures.kept)
+pub returns-clause-few : goal.returns-clause-few
+returns-clause-few c = few_by (IsPage c.args.page.now) parse_handed most_parse parse_hands_at_most c.hand_due.result c.args.rec.now c.args.out.now.items c.hand_due.new.out.items c.hand_due.ensures.whole c.hand_due.ensures.part
 
-pub loop-back-preserved : goal.loop-back-preserved
-loop-back-preserved c = record {
-  found = λ h page. handed_more h (precedes h c.args.rec.now) c.loop-back.back _ c.args.out.now.items c.loop-back.out.items c.put_source.new.out.items (omega (arith, c.actions-count.ensures h page))
-      (c.loop-back.invariant.found h page) (c.in_ok-put_source.ensures.put h page);
-  kept = stays_in_front c.args.out.now.items c.loop-back.out.items c.put_source.new.out.items c.loop-back.invariant.kept c.put_source.ensures.longer;
-}
-
-pub returns-clause-handed : goal.returns-clause-handed
-returns-clause-handed c = λ table h page group sound named order.
-    handed_all c.loop-back.back c.args.out.now.items c.loop-back.out.items (scanned table h c.args.rec.now sound named) (omega (arith, c.actions-count.ensures h page, c.loop-back-test.false)) (c.loop-back.invariant.found h page)
+pub returns-clause-kept : goal.returns-clause-kept
+returns-clause-kept c = stays_in_front c.args.page.now parse_handed c.hand_due.result c.args.rec.now c.args.out.now.items c.hand_due.new.out.items c.requires.some c.hand_due.ensures.whole c.hand_due.ensures.part

@@ -1,5 +1,5 @@
 use Rattle.std.proofs.Common.{sym, ◌∙◌}
-use Rattle.er_page.specs.LookUps.{element_made}
+use Rattle.er_history.specs.LookUps.{element_made}
 use Rattle.er_rules_script.proofs.LateLemmas.{told_of_run}
 use Rattle.er_rules_script.proofs.against.is_run_late.Goals as goal
 

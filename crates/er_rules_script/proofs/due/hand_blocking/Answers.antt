@@ -1,0 +1,7 @@
+use Rattle.er_history.specs.Kinds.{is_run_of}
+use Rattle.er_history.specs.Rules.{is_blocking}
+use Rattle.er_hand.proofs.HandingLemmas.{newest_events}
+use Rattle.er_rules_script.proofs.due.hand_blocking.Goals as goal
+
+pub hand_latest-requires : goal.hand_latest-requires
+hand_latest-requires c = record { events = newest_events c.args.page.now (is_run_of is_blocking c.args.doc) c.last_blocking_run.result c.requires.some c.last_blocking_run.ensures }
