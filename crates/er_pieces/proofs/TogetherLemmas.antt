@@ -1,6 +1,6 @@
 -- Proof that what the six groups of rules hand is enough for all edges. Lists of records stand newest first.
 use Rattle.std.proofs.Common.{◌≡◌, ◌⊎◌, ℕ, ◌<◌, Bool, true, false, List, [], ◌∷◌, ◌++◌, length, take, None, refl, sym, ap, subst, ◌∙◌, arith, inl, inr, append_assoc}
-use Rattle.std.specs.Prelude.{◌==◌, ◌&&◌, ◌||◌, nat_lt, if◌then◌else◌}
+use Rattle.std.specs.Prelude.{◌==◌, ◌&&◌, ◌||◌, nat_lt, if◌then◌else◌, Result, Ok, Err, OnOk, OnErr}
 use Rattle.std.specs.List.{list_any, AllByRecursion}
 use Rattle.std.proofs.lemmas.Bool.{eq-eqb, lt-ltb}
 use Rattle.std.proofs.lemmas.List.Elements.{All-from_recursion}
@@ -20,10 +20,10 @@ use Rattle.er_history.specs.Sound.{out_of_order}
 use Rattle.er_history.proofs.HistoryLemmas.{actions_are_numbered, among_below, among_from, edge_newest}
 use Rattle.er_history.proofs.NamedLemmas.{sound_lists_are_named}
 use Rattle.er_history.proofs.OrderLemmas.{holds_append}
-use Rattle.er_pieces.specs.Contract.{ComesNext, GrewBy, GrewInPart}
+use Rattle.er_pieces.specs.Contract.{ComesNext, GrewBy, GrewInPart, HandsExactly, HandsFront}
 use Rattle.er_pieces.specs.Enough.{IsSteady}
 use Rattle.er_pieces.specs.HandedPieces.{dispatch_handed}
-use Rattle.er_pieces.specs.PiecesHanded.{is_led, ArePieceSources, AreEnoughPieces, ArePiecesHanded, HasHandedPieces, HasHandedSomePieces}
+use Rattle.er_pieces.specs.PiecesHanded.{is_led, ArePieceSources, AreEnoughPieces, ArePiecesHanded, HasHandedPieces, HasHandedSomePieces, HandsEnoughPieces, HandsSourcePieces}
 use Rattle.er_pieces.specs.Together.{SoundListsAreSteady, AllHand, HandedStayEnough, HandedAreBelow, HandsDispatches}
 use Rattle.er_pieces.proofs.ContractLemmas.{in_order, steady_by, among_front}
 use Rattle.er_pieces.proofs.PathLemmas.{and_right, path_on, Reaches, reach_left, reach_right}
@@ -280,3 +280,11 @@ has_handed_some_pieces table h x old new next (n, below, came) = record {
   grown = came;
   sources = λ k among. dispatch_hands_sources table h x (path table h) (steady_by table h x next) next.named k (among_front n k (dispatch_handed (told h) x) among);
 }
+
+pub enough_pieces_of : {E : Type 0} → (stands : List Record → Type 0) (x : Record) (old new : List ℕ) (r : Result (Unit {0}) E) → OnOk r (HandsExactly stands dispatch_handed x old new) → OnOk r (HandsEnoughPieces stands dispatch_rules x old new)
+enough_pieces_of stands x old new (Ok u) exact = λ table h is next. has_handed_pieces table h x old new next (exact h is)
+enough_pieces_of stands x old new (Err e) exact = tt
+
+pub source_pieces_of : {E : Type 0} → (stands : List Record → Type 0) (x : Record) (old new : List ℕ) (r : Result (Unit {0}) E) → OnErr r (HandsFront stands dispatch_handed x old new) → OnErr r (HandsSourcePieces stands dispatch_rules x old new)
+source_pieces_of stands x old new (Ok u) front = tt
+source_pieces_of stands x old new (Err e) front = λ table h is next. has_handed_some_pieces table h x old new next (front h is)

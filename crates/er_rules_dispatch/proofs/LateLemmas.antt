@@ -1,20 +1,18 @@
 -- Proof that a handler is late exactly where one of a greater group of its dispatch has run, and no other record is. Lists of records stand newest first.
-use Rattle.std.proofs.Common.{◌≡◌, ℕ, Bool, true, false, List, [], ◌∷◌, length, Option, Some, None, refl, sym, ap, subst, ◌∙◌, arith, inl, inr}
+use Rattle.std.proofs.Common.{◌≡◌, ℕ, Bool, true, false, List, [], ◌∷◌, length, Option, Some, None, refl, sym, ap, ◌∙◌, arith}
 use Rattle.std.specs.Prelude.{◌==◌, ◌&&◌, ◌||◌, not, nat_lt, if◌then◌else◌}
 use Rattle.std.specs.List.{list_any}
 use Rattle.std.proofs.lemmas.Bool.{ne_eqb}
 use Rattle.std.proofs.lemmas.Bool.Decides.{nat_tests}
 use Rattle.er_trace.specs.declared.record.Record.{Record}
 use Rattle.er_trace.specs.declared.record.Record.TheVariants.{Dcl, Load, Eload, Fire, Wfire, Reply, Inline, Run, Close, Back}
-use Rattle.er_history.specs.History.{Dispatch, What, ParseStep, BeginOf, HandlerOf, CloseOf, Event, Action, told, begins, maker_by, declares_handler, dispatch_begun, what_begun, event_begun}
-use Rattle.er_history.specs.Rules.{Rule, any_holds, of_made, dispatch_rules, target_before_dispatch, registered_before_run, dispatch_in_order, dispatches_of_one_type_in_order}
+use Rattle.er_history.specs.History.{Dispatch, What, BeginOf, HandlerOf, CloseOf, Event, Action, told, begins, maker_by, declares_handler, dispatch_begun, what_begun}
+use Rattle.er_history.specs.Rules.{Rule, any_holds, dispatch_rules, target_before_dispatch, registered_before_run, dispatch_in_order, dispatches_of_one_type_in_order}
 use Rattle.er_history.specs.Edges.{path}
 use Rattle.er_history.specs.Laws.{Among}
 use Rattle.er_history.specs.Naming.{naming, IsNamed}
 use Rattle.er_history.specs.Latest.{greater, group_of, greatest_group}
-use Rattle.er_history.specs.LookUps.{last_group}
 use Rattle.er_history.specs.Sound.{leads_back}
-use Rattle.er_history.proofs.HistoryLemmas.{told_before, event_below}
 use Rattle.er_history.proofs.NamedLemmas.{NoneHolds, none_holds}
 use Rattle.er_history.proofs.OrderLemmas.{events_began, target_never_back, registered_never_back, dispatches_never_back, none_passes, any_same, not_both}
 use Rattle.er_history.proofs.UnfinishedLemmas.{clash}
@@ -23,7 +21,7 @@ use Rattle.er_pieces.proofs.ChainLemmas.{event_with}
 use Rattle.er_pieces.proofs.DispatchLemmas.{served_begun}
 use Rattle.er_pieces.proofs.CloseLemmas.{gone, not_again}
 use Rattle.er_pieces.proofs.ServeLemmas.{serves_handler, serves_close}
-use Rattle.er_rules_dispatch.specs.Against.{is_greater, is_late}
+use Rattle.er_rules_dispatch.specs.Against.{is_greater, is_late, LateHandlersLeadBack}
 
 -- from an event that begins now, rule 16 alone can lead back
 
@@ -145,3 +143,6 @@ late_is table h (Wfire p c n) named is = begin_back (path table h) h (Wfire p c 
 late_is table h (Reply p r) named is = begin_back (path table h) h (Reply p r) _ named (none_holds h (Reply p r) is) refl
 late_is table h (Inline p e n) named is = begin_back (path table h) h (Inline p e n) _ named (none_holds h (Inline p e n) is) refl
 late_is table h x named is = not_both (begins x) _ (none_back (path table h) h (what_begun (told h) x) (λ a among. refl))
+
+pub late_handlers_lead_back : LateHandlersLeadBack
+late_handlers_lead_back table h x named is = late_is table h x named is

@@ -62,9 +62,9 @@ no_callback t (Back p) test is below =
     elim (resumed_goes_on t p) [
       | inl unnamed ↦ not_both (length t.actions == (event_resumed t p).number) (of_timeout test (event_resumed t p).what) (ap (of_timeout test) unnamed)
       | inr found ↦
-        let older = below found.0 found.1 in
-        let number = ap (λ (e : Event). e.number) found.2 in
-        ap (λ b. b && of_timeout test (event_resumed t p).what) (ne_eqb (length t.actions) (event_resumed t p).number (λ same. omega (arith, same, number, older)))
+          let older = below found.0 found.1 in
+          let number = ap (λ (e : Event). e.number) found.2 in
+          ap (λ b. b && of_timeout test (event_resumed t p).what) (ne_eqb (length t.actions) (event_resumed t p).number (λ same. omega (arith, same, number, older)))
     ]
 no_callback t (Run p g x) test is below = not_both (length t.actions == length t.actions) _ (of_run (find_open p t.stack))
   where
@@ -229,11 +229,11 @@ first_timer [] a s o among own what = absurd among
 first_timer (x ∷ h) a s o among own what =
     elim (among_cases h x a among) [
       | inl now ↦
-        let is : a ≡ action_begun (told h) x = now.1 in
-        ap (λ (c : Action). fires_timeout s c.begin) is
-        ∙ timer_begun (told h) x s o (λ c older. event_below (told h).actions c (told_before h) older)
-        (sym (ap (λ (c : Action). c.number) is) ∙ (own ∙ ap (λ (c : Action). c.event.number) is))
-        (ap (λ (c : Action). c.event.what) (sym is) ∙ what)
+          let is : a ≡ action_begun (told h) x = now.1 in
+          ap (λ (c : Action). fires_timeout s c.begin) is
+          ∙ timer_begun (told h) x s o (λ c older. event_below (told h).actions c (told_before h) older)
+          (sym (ap (λ (c : Action). c.number) is) ∙ (own ∙ ap (λ (c : Action). c.event.number) is))
+          (ap (λ (c : Action). c.event.what) (sym is) ∙ what)
       | inr older ↦ first_timer h a s o older own what
     ]
 

@@ -16,8 +16,7 @@ use smallvec::SmallVec;
 pub(crate) fn goes_off_first(page: &Page, first: u32, second: u32) -> bool
     ensures { (h : List Record) → IsPage page.now h → result ≡ says.goes_off_first h first second }
 {
-    page.set_before(first, second)
-        && is_no_longer(page.delay_of(first), page.delay_of(second))
+    page.set_before(first, second) && is_no_longer(page.delay_of(first), page.delay_of(second))
 }
 
 /// Whether there are both delays, and the first is no greater.

@@ -22,4 +22,3 @@ returns-clause-few c = few_of (IsPage c.args.page.now) request_handed most_reque
 pub returns-clause-kept : goal.returns-clause-kept
 returns-clause-kept c = ∥∥₁_elim c.requires.some (hlevel props) (λ (is : IsSomePage c.args.page.now).
     behind (IsPage c.args.page.now) request_handed c.args.rec.now c.args.out.now.items c.hand.new.out.items c.hand.result is.list is.stands c.hand.ensures.exact c.hand.ensures.front)
-
