@@ -2,11 +2,10 @@
 use Rattle.std.proofs.Common.{◌≡◌, ℕ, List, [], ◌++◌, Option, Some, None, refl, sym, ap, ◌∙◌, append-nil}
 use Rattle.std.proofs.Math.Logic.{∥∥₁_map}
 use Rattle.er_trace.specs.declared.record.Record.{Record}
-use Rattle.er_trace.specs.declared.record.Record.TheVariants.{Eload}
 use Rattle.er_history.specs.History.{Form, Kinded, Framing, Element, History, told, first_to, makes_element}
-use Rattle.er_history.specs.Latest.{newest, latest_piece, latest_of}
+use Rattle.er_history.specs.Latest.{newest, latest_of}
 use Rattle.er_history.specs.Kinds.{runs_element}
-use Rattle.er_history.specs.LookUps.{event_of, closes_dispatch, close_event, dcl_of, load_of, run_of, inner_of, element_made}
+use Rattle.er_history.specs.LookUps.{event_of, closes_dispatch, dcl_of, load_of, run_of, inner_of, element_made}
 use Rattle.er_history.specs.Naming.{IsNamed}
 use Rattle.er_page.specs.declared.page.Page.{Page}
 use Rattle.er_page.specs.Page.{IsPage, IsSomePage}

@@ -1,6 +1,6 @@
 use Rattle.std.proofs.Common.{sym, ap, ◌∙◌}
 use Rattle.er_history.specs.History.{History, told}
-use Rattle.er_pieces.specs.HandedPieces.{load_handed, parsed_handed}
+use Rattle.er_pieces.specs.HandedPieces.{load_handed}
 use Rattle.er_hand.proofs.HandingLemmas.{on_ok_as, on_err_as}
 use Rattle.er_rules_load.specs.Loads.{window_parts, eload_parts}
 use Rattle.er_rules_load.proofs.DueLemmas.{eload_parts_are}

@@ -1,6 +1,6 @@
 use Rattle.std.proofs.Common.{reverse}
 use Rattle.er_history.specs.History.{History}
-use Rattle.er_history.specs.Kinds.{is_run_of, is_static_async, closes, is_static_load_of}
+use Rattle.er_history.specs.Kinds.{closes, is_static_load_of}
 use Rattle.er_pieces.specs.Contract.{latest_of_all}
 use Rattle.er_pieces.proofs.LookUpLemmas.{slice_handed}
 use Rattle.er_hand.proofs.HandingLemmas.{slice_events, on_ok_as, on_err_as}

@@ -1,4 +1,3 @@
-use Rattle.std.proofs.Common.{◌++◌}
 use Rattle.er_trace.proofs.PrintLaws.{on_err}
 use Rattle.er_history.specs.History.{History, maker_by, declares_document}
 use Rattle.er_history.specs.Kinds.{is_step_of}
