@@ -12,7 +12,9 @@ use Rattle.er_paths.proofs.Paths.{or_cases, or_left, or_right}
 use Rattle.er_history.specs.History.{History, Event, Action, told, maker_by, element_maker}
 use Rattle.er_history.specs.Latest.{newest_by, newest, latest_piece, latest_of, events_of_each}
 use Rattle.er_history.specs.LookUps.{event_in}
+use Rattle.er_history.specs.Naming.{IsNamed}
 use Rattle.er_page.specs.declared.page.Page.{Page}
+use Rattle.er_page.specs.Accepted.{IsAccepted}
 use Rattle.er_page.specs.Page.{IsPage, IsSomePage, HasEvent}
 use Rattle.er_pieces.specs.Contract.{GrewInPart, HandsExactly, HandsFront, listed, latest_of_all}
 use Rattle.er_pieces.proofs.ContractLemmas.{grew_again, grew_part_first, grew_part_later, kept_by}
@@ -193,3 +195,12 @@ on_err_newest (Err e) page test found old new is part = part_newest page test fo
 pub stays_in_front : {E : Type 0} → (page : Page) (handed : History → Record → List ℕ) (r : Result (Unit {0}) E) (x : Record) (old new : List ℕ) → ∥ IsSomePage page ∥₁
     → OnOk r (HandsExactly (IsPage page) handed x old new) → OnErr r (HandsFront (IsPage page) handed x old new) → take (length old) new ≡ old
 stays_in_front page handed r x old new some exact front = ∥∥₁_elim some (hlevel props) (λ p. kept_by (IsPage page) handed r x old new exact front p.list p.stands)
+
+-- the latest piece of the event that a look-up answers, told by the look-up
+pub look_up_is : (page : Page) (look : History → Option ℕ) (found : Option ℕ) → ((h : List Record) → IsPage page h → found ≡ look (told h)) → (h : List Record) → IsPage page h → latest_in found (told h) ≡ latest_of (look (told h)) (told h).actions
+look_up_is page look found is = λ h stands. ap (λ o. latest_of o (told h).actions) (is h stands)
+
+-- a list that a page stands for is named
+pub named_list : (h : List Record) → IsAccepted h → IsNamed h
+named_list [] accepted = tt
+named_list (x ∷ h) accepted = (accepted.0, named_list h accepted.2)

@@ -1,5 +1,6 @@
 -- The rows, by computing.
 use Rattle.std.proofs.Common.{refl}
+use Rattle.er_history_rows.specs.Apart.{PlainElementNotForLoad, MadeElementNotForLoad, CloseForLoad, OtherDocumentNotForLoad, WindowsApart, ElementAndWindowApart, TypesApart, LongerDelaySetFirst, ShorterDelaySetLast, DeferredOfTwoDocuments}
 use Rattle.er_history_rows.specs.Realistic.{RealisticPage}
 use Rattle.er_history_rows.specs.Nested.{SuspendedScript, CutShort, InAHandler, InAClose, InCallbacks}
 use Rattle.er_history_rows.specs.Late.{StepAfterDeferredScript, StepAfterDcl, StepAfterLoad, BlockingAfterStep, BlockingAfterDeferred, DeferredExchanged, ScriptAfterDcl, ScriptAfterLoad, ScriptAfterItsLoad, DclAfterLoad, HandlerAfterGreaterGroup}
@@ -91,3 +92,33 @@ eleventh_page = record { row = record { edges = refl; legal = refl }; next = ref
 
 pub twelfth_page : TwelfthPage
 twelfth_page = record { row = record { edges = refl; legal = refl }; next = refl }
+
+pub plain_element_not_for_load : PlainElementNotForLoad
+plain_element_not_for_load = record { edges = refl; legal = refl }
+
+pub made_element_not_for_load : MadeElementNotForLoad
+made_element_not_for_load = record { edges = refl; legal = refl }
+
+pub close_for_load : CloseForLoad
+close_for_load = record { edges = refl; legal = refl }
+
+pub other_document_not_for_load : OtherDocumentNotForLoad
+other_document_not_for_load = record { edges = refl; legal = refl }
+
+pub windows_apart : WindowsApart
+windows_apart = record { edges = refl; legal = refl }
+
+pub element_and_window_apart : ElementAndWindowApart
+element_and_window_apart = record { edges = refl; legal = refl }
+
+pub types_apart : TypesApart
+types_apart = record { edges = refl; legal = refl }
+
+pub longer_delay_set_first : LongerDelaySetFirst
+longer_delay_set_first = record { edges = refl; legal = refl }
+
+pub shorter_delay_set_last : ShorterDelaySetLast
+shorter_delay_set_last = record { edges = refl; legal = refl }
+
+pub deferred_of_two_documents : DeferredOfTwoDocuments
+deferred_of_two_documents = record { edges = refl; legal = refl }

@@ -1,3 +1,4 @@
+pub mod Apart
 pub mod Late
 pub mod Nested
 pub mod Random

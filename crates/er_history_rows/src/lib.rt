@@ -3,6 +3,7 @@
 //! No state, and nothing stands on this crate. Each law is a function with no parameters, whose contract is a row; `specs/` has the rows, a topic a file. What they say was found by a program that shares nothing with this one: it asks every rule of every pair of events.
 #![tactic(auto)]
 
+ghost use Rattle.er_history_rows.specs.Apart.{PlainElementNotForLoad, MadeElementNotForLoad, CloseForLoad, OtherDocumentNotForLoad, WindowsApart, ElementAndWindowApart, TypesApart, LongerDelaySetFirst, ShorterDelaySetLast, DeferredOfTwoDocuments};
 ghost use Rattle.er_history_rows.specs.Late.{StepAfterDeferredScript, StepAfterDcl, StepAfterLoad, BlockingAfterStep, BlockingAfterDeferred, DeferredExchanged, ScriptAfterDcl, ScriptAfterLoad, ScriptAfterItsLoad, DclAfterLoad, HandlerAfterGreaterGroup};
 ghost use Rattle.er_history_rows.specs.Nested.{SuspendedScript, CutShort, InAHandler, InAClose, InCallbacks};
 ghost use Rattle.er_history_rows.specs.Random.{FirstPage, SecondPage, ThirdPage, FourthPage, FifthPage, SixthPage, SeventhPage, EighthPage, NinthPage, TenthPage, EleventhPage, TwelfthPage};
@@ -22,6 +23,31 @@ pub fn inline_dispatches()
     ensures in_a_handler { InAHandler }
     ensures in_a_close { InAClose }
     ensures in_callbacks { InCallbacks }
+{}
+
+/// Which first load events rule 11 counts.
+#[tactic(auto, using(crate::proofs::Computed::plain_element_not_for_load, crate::proofs::Computed::made_element_not_for_load, crate::proofs::Computed::close_for_load, crate::proofs::Computed::other_document_not_for_load))]
+pub fn closes_for_load()
+    ensures plain_element_not_for_load { PlainElementNotForLoad }
+    ensures made_element_not_for_load { MadeElementNotForLoad }
+    ensures close_for_load { CloseForLoad }
+    ensures other_document_not_for_load { OtherDocumentNotForLoad }
+{}
+
+/// Which targets rule 17 takes for one.
+#[tactic(auto, using(crate::proofs::Computed::windows_apart, crate::proofs::Computed::element_and_window_apart, crate::proofs::Computed::types_apart))]
+pub fn targets_apart()
+    ensures windows_apart { WindowsApart }
+    ensures element_and_window_apart { ElementAndWindowApart }
+    ensures types_apart { TypesApart }
+{}
+
+/// Which timeouts and deferred scripts are in no order.
+#[tactic(auto, using(crate::proofs::Computed::longer_delay_set_first, crate::proofs::Computed::shorter_delay_set_last, crate::proofs::Computed::deferred_of_two_documents))]
+pub fn callbacks_apart()
+    ensures longer_delay_set_first { LongerDelaySetFirst }
+    ensures shorter_delay_set_last { ShorterDelaySetLast }
+    ensures deferred_of_two_documents { DeferredOfTwoDocuments }
 {}
 
 /// Which parse steps are out of order.

@@ -89,7 +89,3 @@ RequestHandsAtMost = HandsAtMost request_handed most_request
 
 abbrev pub DispatchHandsAtMost : Type 0
 DispatchHandsAtMost = HandsAtMost dispatch_handed most_dispatch
-
--- what a call says of this: it has put no more numbers behind those that stood before
-abbrev pub GrewAtMost : (List Record → Type 0) → (List Record → Record → ℕ) → Record → List ℕ → List ℕ → Type 0
-GrewAtMost stands most x old new = (h : List Record) → stands h → length new ≤ length old + most h x

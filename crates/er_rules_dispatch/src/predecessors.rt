@@ -4,8 +4,8 @@ ghost use Rattle.std.specs.Prelude.{◌≡◌, List, length, take, OnOk, OnErr};
 ghost use Rattle.er_trace.specs.declared.record.Record.{Record};
 ghost use Rattle.er_history.specs.Rules.{dispatch_rules};
 ghost use Rattle.er_page.specs.Page.{IsPage, IsSomePage};
-ghost use Rattle.er_pieces.specs.Contract.{HandsExactly, HandsFront};
-ghost use Rattle.er_pieces.specs.Counts.{GrewAtMost, most_dispatch};
+ghost use Rattle.er_pieces.specs.Contract.{HandsExactly, HandsFront, HandsFew};
+ghost use Rattle.er_pieces.specs.Counts.{most_dispatch};
 ghost use Rattle.er_pieces.specs.HandedPieces.{dispatch_handed};
 ghost use Rattle.er_pieces.specs.PiecesHanded.{HandsEnoughPieces, HandsSourcePieces};
 
@@ -31,7 +31,7 @@ pub fn predecessors(page: &Page, rec: &Record, out: &mut SmallVec<u32, 8>) -> Re
         (HandsEnoughPieces (IsPage page.now) dispatch_rules rec.now out.old.items out.new.items) }
     ensures sources { OnErr result
         (HandsSourcePieces (IsPage page.now) dispatch_rules rec.now out.old.items out.new.items) }
-    ensures few { GrewAtMost (IsPage page.now) most_dispatch rec.now out.old.items out.new.items }
+    ensures few { HandsFew (IsPage page.now) most_dispatch rec.now out.old.items out.new.items }
     // What was handed before stays in front.
     ensures kept { take (length out.old.items) out.new.items ≡ out.old.items }
 {

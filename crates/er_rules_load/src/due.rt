@@ -2,12 +2,12 @@
 
 ghost use Rattle.std.specs.Prelude.{◌≡◌, List, OnOk, OnErr};
 ghost use Rattle.er_trace.specs.declared.record.Record.{Record};
-ghost use Rattle.er_history.specs.History.{History, first_to, makes_element};
+ghost use Rattle.er_history.specs.History.{History};
 ghost use Rattle.er_history.specs.LookUps.{dcl_of, load_of};
 ghost use Rattle.er_page.specs.Page.{IsPage, IsSomePage};
-ghost use Rattle.er_pieces.specs.HandedPieces.{load_handed, parsed_handed, eload_handed};
+ghost use Rattle.er_pieces.specs.HandedPieces.{load_handed};
 ghost use Rattle.er_hand.specs.Handing.{GrewFor, GrewInPartFor};
-ghost use Rattle.er_rules_load.specs.Loads.{window_handed, close_of, inner_close_of};
+ghost use Rattle.er_rules_load.specs.Loads.{window_parts, dcl_part, async_part, static_part, eload_parts, maker_part, run_part, inner_part, close_of, inner_close_of};
 
 use er_hand::handing::{hand_each, hand_latest, hand_parsed};
 use er_outside::NoMemory;
@@ -35,38 +35,80 @@ pub(crate) fn hand_due(
     }
 }
 
-/// Hands what is due before load of the document: the close of DOMContentLoaded (rule 9), what was parsed and run (rule 10) and the closes of its static elements (rule 11).
-fn hand_before_load(
-    page: &Page,
-    doc: u32,
-    out: &mut SmallVec<u32, 8>,
-) -> Result<(), NoMemory>
+/// Hands what is due before load of the document.
+fn hand_before_load(page: &Page, doc: u32, out: &mut SmallVec<u32, 8>) -> Result<(), NoMemory>
     requires some { ∥ IsSomePage page.now ∥₁ }
-    ensures whole { OnOk result
-        (GrewFor page.now (λ (t : History). window_handed t doc) out.old.items out.new.items) }
-    ensures part { OnErr result
-        (GrewInPartFor page.now (λ (t : History). window_handed t doc) out.old.items out.new.items) }
+    ensures whole { OnOk result (GrewFor page.now (window_parts doc) out.old.items out.new.items) }
+    ensures part { OnErr result (GrewInPartFor page.now (window_parts doc) out.old.items out.new.items) }
 {
-    hand_latest(page, dcl_close(page, doc), out)?;
+    hand_dcl(page, doc, out)?;
     hand_parsed(page, doc, out)?;
-    hand_each(page, page.async_runs(doc), out)?;
+    hand_async(page, doc, out)?;
+    hand_static(page, doc, out)
+}
+
+/// Hands the close of DOMContentLoaded of the document (rule 9).
+fn hand_dcl(page: &Page, doc: u32, out: &mut SmallVec<u32, 8>) -> Result<(), NoMemory>
+    requires some { ∥ IsSomePage page.now ∥₁ }
+    ensures whole { OnOk result (GrewFor page.now (dcl_part doc) out.old.items out.new.items) }
+    ensures part { OnErr result (GrewInPartFor page.now (dcl_part doc) out.old.items out.new.items) }
+{
+    hand_latest(page, dcl_close(page, doc), out)
+}
+
+/// Hands the runs of the static async scripts of the document (rule 10).
+fn hand_async(page: &Page, doc: u32, out: &mut SmallVec<u32, 8>) -> Result<(), NoMemory>
+    requires some { ∥ IsSomePage page.now ∥₁ }
+    ensures whole { OnOk result (GrewFor page.now (async_part doc) out.old.items out.new.items) }
+    ensures part { OnErr result (GrewInPartFor page.now (async_part doc) out.old.items out.new.items) }
+{
+    hand_each(page, page.async_runs(doc), out)
+}
+
+/// Hands the closes of the first load events of the static elements of the document that are not plain (rule 11).
+fn hand_static(page: &Page, doc: u32, out: &mut SmallVec<u32, 8>) -> Result<(), NoMemory>
+    requires some { ∥ IsSomePage page.now ∥₁ }
+    ensures whole { OnOk result (GrewFor page.now (static_part doc) out.old.items out.new.items) }
+    ensures part { OnErr result (GrewInPartFor page.now (static_part doc) out.old.items out.new.items) }
+{
     hand_each(page, page.static_closes(doc), out)
 }
 
-/// Hands what is due before the first load event of the element: the event that made it and the run of it (rule 12), and the close of load of its inner document (rule 13).
-fn hand_before_eload(
-    page: &Page,
-    element: u32,
-    out: &mut SmallVec<u32, 8>,
-) -> Result<(), NoMemory>
+/// Hands what is due before the first load event of the element.
+fn hand_before_eload(page: &Page, element: u32, out: &mut SmallVec<u32, 8>) -> Result<(), NoMemory>
     requires some { ∥ IsSomePage page.now ∥₁ }
-    ensures whole { OnOk result
-        (GrewFor page.now (λ (t : History). eload_handed t element (first_to (makes_element element) t.entries)) out.old.items out.new.items) }
-    ensures part { OnErr result
-        (GrewInPartFor page.now (λ (t : History). eload_handed t element (first_to (makes_element element) t.entries)) out.old.items out.new.items) }
+    ensures whole { OnOk result (GrewFor page.now (eload_parts element) out.old.items out.new.items) }
+    ensures part { OnErr result (GrewInPartFor page.now (eload_parts element) out.old.items out.new.items) }
 {
-    hand_latest(page, page.maker_of_element(element), out)?;
-    hand_latest(page, page.run_of(element), out)?;
+    hand_maker(page, element, out)?;
+    hand_run(page, element, out)?;
+    hand_inner(page, element, out)
+}
+
+/// Hands the event that made the element (rule 12).
+fn hand_maker(page: &Page, element: u32, out: &mut SmallVec<u32, 8>) -> Result<(), NoMemory>
+    requires some { ∥ IsSomePage page.now ∥₁ }
+    ensures whole { OnOk result (GrewFor page.now (maker_part element) out.old.items out.new.items) }
+    ensures part { OnErr result (GrewInPartFor page.now (maker_part element) out.old.items out.new.items) }
+{
+    hand_latest(page, page.maker_of_element(element), out)
+}
+
+/// Hands the run of the script element (rule 12).
+fn hand_run(page: &Page, element: u32, out: &mut SmallVec<u32, 8>) -> Result<(), NoMemory>
+    requires some { ∥ IsSomePage page.now ∥₁ }
+    ensures whole { OnOk result (GrewFor page.now (run_part element) out.old.items out.new.items) }
+    ensures part { OnErr result (GrewInPartFor page.now (run_part element) out.old.items out.new.items) }
+{
+    hand_latest(page, page.run_of(element), out)
+}
+
+/// Hands the close of load of the document in the frame element (rule 13).
+fn hand_inner(page: &Page, element: u32, out: &mut SmallVec<u32, 8>) -> Result<(), NoMemory>
+    requires some { ∥ IsSomePage page.now ∥₁ }
+    ensures whole { OnOk result (GrewFor page.now (inner_part element) out.old.items out.new.items) }
+    ensures part { OnErr result (GrewInPartFor page.now (inner_part element) out.old.items out.new.items) }
+{
     hand_latest(page, inner_load_close(page, element), out)
 }
 

@@ -5,8 +5,8 @@ ghost use Rattle.er_trace.specs.declared.record.Record.{Record};
 ghost use Rattle.er_history.specs.History.{History};
 ghost use Rattle.er_history.specs.Rules.{request_rules};
 ghost use Rattle.er_page.specs.Page.{IsPage, IsSomePage};
-ghost use Rattle.er_pieces.specs.Contract.{HandsExactly, HandsFront, HandsEnough, HandsSources};
-ghost use Rattle.er_pieces.specs.Counts.{GrewAtMost, most_request};
+ghost use Rattle.er_pieces.specs.Contract.{HandsExactly, HandsFront, HandsEnough, HandsSources, HandsFew};
+ghost use Rattle.er_pieces.specs.Counts.{most_request};
 ghost use Rattle.er_pieces.specs.HandedPieces.{request_handed};
 ghost use Rattle.er_rules_request.specs.Replies.{reply_handed};
 ghost use Rattle.er_hand.specs.Handing.{GrewFor, GrewInPartFor};
@@ -29,7 +29,7 @@ pub fn predecessors(page: &Page, rec: &Record, out: &mut SmallVec<u32, 8>) -> Re
         (HandsEnough (IsPage page.now) request_rules rec.now out.old.items out.new.items) }
     ensures sources { OnErr result
         (HandsSources (IsPage page.now) request_rules rec.now out.old.items out.new.items) }
-    ensures few { GrewAtMost (IsPage page.now) most_request rec.now out.old.items out.new.items }
+    ensures few { HandsFew (IsPage page.now) most_request rec.now out.old.items out.new.items }
     // What was handed before stays in front.
     ensures kept { take (length out.old.items) out.new.items ≡ out.old.items }
 {

@@ -1,11 +1,11 @@
 -- What the newest event of a kind says of all of them. Lists of records stand newest first.
 use Rattle.std.proofs.Common.{◌≡◌, ℕ, ◌<◌, ◌≤◌, Bool, true, false, List, [], ◌∷◌, Option, Some, None, refl, sym, ap, ◌∙◌, arith, inl, inr}
-use Rattle.std.specs.Prelude.{◌==◌, ◌&&◌, ◌||◌, nat_lt, if◌then◌else◌, is_some}
+use Rattle.std.specs.Prelude.{◌&&◌, ◌||◌, nat_lt, if◌then◌else◌, is_some}
 use Rattle.std.specs.List.{list_any}
 use Rattle.std.proofs.lemmas.Bool.{lt-ltb, ltb-true}
 use Rattle.er_trace.specs.declared.record.Record.{Record}
 use Rattle.er_paths.proofs.Paths.{or_cases, or_left, or_right, place_cases}
-use Rattle.er_history.specs.History.{Element, What, ScriptRun, Event, Action, told}
+use Rattle.er_history.specs.History.{Element, ScriptRun, Event, Action, told}
 use Rattle.er_history.specs.Rules.{Rule, of_made, is_deferred, script_rules}
 use Rattle.er_history.specs.Handed.{HasGroup}
 use Rattle.er_history.specs.Kinds.{is_step_of, is_run_of}
@@ -15,7 +15,6 @@ use Rattle.er_history.specs.LookUps.{event_in}
 use Rattle.er_history.specs.Naming.{IsNamed}
 use Rattle.er_history.proofs.HistoryLemmas.{and_left, same_test, actions_are_numbered, told_before, event_before}
 use Rattle.er_pieces.specs.Enough.{AreInOrder}
-use Rattle.er_pieces.proofs.StartsLemmas.{bound}
 use Rattle.er_pieces.proofs.PathLemmas.{both, and_right, newest_is}
 use Rattle.er_pieces.proofs.InOrderLemmas.{script_asks_none, not_late, pieces_before}
 use Rattle.er_pieces.proofs.RunLemmas.{same_event, run_bound, deferred_leads}
@@ -122,7 +121,7 @@ deferred_pass_on table h has named ordered d p a i first last e f le after =
               let up = event_before (told h).actions i (told_before h) last in
               absurd (omega (arith, gone, up.1, le))
           | inr rest ↦ elim rest [
-              | inl same ↦ omega (arith, same, behind)
-              | inr more ↦ omega (arith, more, behind)
-            ]
+            | inl same ↦ omega (arith, same, behind)
+            | inr more ↦ omega (arith, more, behind)
+          ]
         ]

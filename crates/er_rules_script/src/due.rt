@@ -51,11 +51,7 @@ fn hand_blocking(page: &Page, doc: u32, out: &mut SmallVec<u32, 8>) -> Result<()
 }
 
 /// Hands what is due before the run of the script.
-fn hand_before_run(
-    page: &Page,
-    element: u32,
-    out: &mut SmallVec<u32, 8>,
-) -> Result<(), NoMemory>
+fn hand_before_run(page: &Page, element: u32, out: &mut SmallVec<u32, 8>) -> Result<(), NoMemory>
     requires some { ∥ IsSomePage page.now ∥₁ }
     ensures whole { OnOk result
         (GrewFor page.now (λ (t : History). run_handed t (first_to (makes_element element) t.entries)) out.old.items out.new.items) }

@@ -6,8 +6,8 @@ ghost use Rattle.er_history.specs.History.{told};
 ghost use Rattle.er_history.specs.Rules.{timer_rules};
 ghost use Rattle.er_history.specs.Latest.{latest_piece};
 ghost use Rattle.er_page.specs.Page.{IsPage, IsSomePage};
-ghost use Rattle.er_pieces.specs.Contract.{HandsExactly, HandsFront, HandsSources, HandsEnough, GrewForEach, GrewInPartForEach};
-ghost use Rattle.er_pieces.specs.Counts.{GrewAtMost, most_timer};
+ghost use Rattle.er_pieces.specs.Contract.{HandsExactly, HandsFront, HandsSources, HandsEnough, GrewForEach, GrewInPartForEach, HandsFew};
+ghost use Rattle.er_pieces.specs.Counts.{most_timer};
 ghost use Rattle.er_pieces.specs.HandedPieces.{timer_handed};
 ghost use Rattle.er_hand.specs.Handing.{HasEvents};
 ghost use Rattle.er_rules_timer.specs.Fired.{fired_handed, due_for, tick_handed};
@@ -32,7 +32,7 @@ pub fn predecessors(page: &Page, rec: &Record, out: &mut SmallVec<u32, 8>) -> Re
         (HandsEnoughTimers (IsPage page.now) rec.now out.old.items out.new.items) }
     ensures sources { OnErr result
         (HandsSourceTimers (IsPage page.now) rec.now out.old.items out.new.items) }
-    ensures few { GrewAtMost (IsPage page.now) most_timer rec.now out.old.items out.new.items }
+    ensures few { HandsFew (IsPage page.now) most_timer rec.now out.old.items out.new.items }
     // What was handed before stays in front.
     ensures kept { take (length out.old.items) out.new.items ≡ out.old.items }
 {

@@ -8,12 +8,12 @@ use Rattle.er_rules_dispatch.proofs.DueLemmas.{document_maker_is_event}
 use Rattle.er_rules_dispatch.proofs.targets.hand_document.Goals as goal
 
 pub hand_latest-requires : goal.hand_latest-requires
-hand_latest-requires c = record { events = has_event c.args.page.now c.maker_of_document.result c.requires.some (λ h is. document_maker_is_event h c.args.doc c.maker_of_document.result (c.maker_of_document.ensures h is)) }
+hand_latest-requires c = record { events = has_event c.args.page.now c.maker_of_document.result c.requires.some (λ h is. document_maker_is_event h c.args.doc c.maker_of_document.result (c.maker_of_document.ensures.maker h is)) }
 
 pub returns-clause-whole : goal.returns-clause-whole
 returns-clause-whole c = whole_of (IsPage c.args.page.now) (λ h. latest_of c.maker_of_document.result (told h).actions) (λ h. latest_of (maker_of_document h c.args.doc) (told h).actions) c.args.out.now.items c.hand_latest.new.out.items c.hand_latest.result
-    (λ h is i. latest_of (c.maker_of_document.ensures h is i) (told h).actions) c.hand_latest.ensures.whole
+    (λ h is i. latest_of (c.maker_of_document.ensures.maker h is i) (told h).actions) c.hand_latest.ensures.whole
 
 pub returns-clause-part : goal.returns-clause-part
 returns-clause-part c = part_of (IsPage c.args.page.now) (λ h. latest_of c.maker_of_document.result (told h).actions) (λ h. latest_of (maker_of_document h c.args.doc) (told h).actions) c.args.out.now.items c.hand_latest.new.out.items c.hand_latest.result
-    (λ h is i. latest_of (c.maker_of_document.ensures h is i) (told h).actions) c.hand_latest.ensures.part
+    (λ h is i. latest_of (c.maker_of_document.ensures.maker h is i) (told h).actions) c.hand_latest.ensures.part

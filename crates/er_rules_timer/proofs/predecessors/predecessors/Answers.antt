@@ -3,7 +3,7 @@ use Rattle.std.proofs.Props.{props}
 use Rattle.er_page.specs.Page.{IsPage, IsSomePage}
 use Rattle.er_pieces.specs.Counts.{most_timer}
 use Rattle.er_pieces.specs.HandedPieces.{timer_handed}
-use Rattle.er_pieces.proofs.ContractLemmas.{behind, few_of}
+use Rattle.er_pieces.proofs.ContractLemmas.{few_by, kept_by}
 use Rattle.er_pieces.proofs.CountLaws.{timer_hands_at_most}
 use Rattle.er_rules_timer.proofs.TimersLemmas.{enough_timers, source_timers}
 use Rattle.er_rules_timer.proofs.predecessors.predecessors.Goals as goal
@@ -15,8 +15,8 @@ pub returns-clause-sources : goal.returns-clause-sources
 returns-clause-sources c = source_timers (IsPage c.args.page.now) c.args.rec.now c.args.out.now.items c.hand.new.out.items c.hand.result c.hand.ensures.front
 
 pub returns-clause-few : goal.returns-clause-few
-returns-clause-few c = few_of (IsPage c.args.page.now) timer_handed most_timer timer_hands_at_most c.args.rec.now c.args.out.now.items c.hand.new.out.items c.hand.result c.hand.ensures.exact c.hand.ensures.front
+returns-clause-few c = few_by (IsPage c.args.page.now) timer_handed most_timer timer_hands_at_most c.hand.result c.args.rec.now c.args.out.now.items c.hand.new.out.items c.hand.ensures.exact c.hand.ensures.front
 
 pub returns-clause-kept : goal.returns-clause-kept
 returns-clause-kept c = ∥∥₁_elim c.requires.some (hlevel props) (λ (is : IsSomePage c.args.page.now).
-    behind (IsPage c.args.page.now) timer_handed c.args.rec.now c.args.out.now.items c.hand.new.out.items c.hand.result is.list is.stands c.hand.ensures.exact c.hand.ensures.front)
+    kept_by (IsPage c.args.page.now) timer_handed c.hand.result c.args.rec.now c.args.out.now.items c.hand.new.out.items c.hand.ensures.exact c.hand.ensures.front is.list is.stands)

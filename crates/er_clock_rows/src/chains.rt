@@ -1,0 +1,16 @@
+//! The lengths of chains.
+
+use er_chains::Chains;
+use std::test::Fail;
+
+#[test]
+fn lowest_full(rt: HostRuntime) -> Result<(), Fail> {
+    let mut chains = Chains::new(rt.alloc());
+    assert_eq!(rt; chains.first_full(&[]), None);
+    chains.append(0)?;
+    assert_eq!(rt; chains.count(), 1);
+    assert_eq!(rt; chains.length(0), 1);
+    assert_eq!(rt; chains.first_full(&[1]), Some(0));
+    assert_eq!(rt; chains.first_full(&[0]), None);
+    Ok(())
+}
