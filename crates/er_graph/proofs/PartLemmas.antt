@@ -11,12 +11,12 @@ use Rattle.er_trace.specs.declared.record.Record.{Record}
 use Rattle.er_paths.specs.Paths.{joins}
 use Rattle.er_paths.specs.Laws.{IsEnough}
 use Rattle.er_paths.proofs.Paths.{enough_long, handed_paths, any_from, paths_stand}
-use Rattle.er_history.specs.History.{told, begins, or_else, action_begun, Action}
+use Rattle.er_history.specs.History.{told, begins, or_else, action_begun, Action, History}
 use Rattle.er_history.specs.Edges.{edge, edges, sources, path}
 use Rattle.er_history.specs.Laws.{IsNumbered}
 use Rattle.er_history.specs.Naming.{naming, room, first_cause, too_deep}
 use Rattle.er_paths.specs.Limits.{most_actions}
-use Rattle.er_pieces.specs.PiecesHanded.{ArePiecesHanded}
+use Rattle.er_pieces.specs.PiecesHanded.{ArePiecesHanded, HasHandedPieces}
 use Rattle.er_pieces.proofs.TogetherLemmas.{handed_stay_enough, handed_are_below}
 use Rattle.er_history.specs.Sound.{out_of_order, IsSound}
 use Rattle.er_history.proofs.HistoryLemmas.{edges_length, actions_are_numbered, among_from, among_below}
@@ -106,6 +106,10 @@ clocks_room page links kept x some begin = ∥∥₁_elim some (hlevel props) (�
     room_of next =
         let h = records next.accepted in
         omega (arith, clocks_counted links next.accepted next.timed, room_left h x (no_cause rules h x next.legal).fits begin)
+
+-- handed from the start
+pub from_nothing : (table : List (ℕ × Rule)) (joined : ℕ → ℕ → Bool) (h : History) (x : Record) (new : List ℕ) → HasHandedPieces table joined h x [] new → ArePiecesHanded table joined h x new
+from_nothing table joined h x new has = subst (ArePiecesHanded table joined h x) (sym has.grown) has.are_handed
 
 -- all sources are enough
 enough_itself : (table : List (ℕ × Rule)) (actions : List Action) → IsNumbered actions → IsEnough (edges table actions) (edges table actions)
