@@ -9,4 +9,6 @@ pub mod ReportableLemmas
 pub mod CompleteLemmas
 pub mod RepeatLemmas
 pub mod OneAnswer
+pub mod EveryText
+pub mod EveryAnswer
 pub mod BufferedLemmas
