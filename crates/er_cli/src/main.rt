@@ -1,6 +1,10 @@
 //! The program: standard input, standard output and the words of the command, and what `run` makes of them.
 #![tactic(auto)]
 
+ghost use Rattle.std.specs.Prelude.{◌≡◌};
+ghost use Rattle.std.specs.Process.{exit_status};
+ghost use Rattle.er_run.specs.Status.{status_of};
+
 use er_outside::{FromRead, ToWrite};
 use er_run::outcome::Outcome;
 use er_run::run;
@@ -34,7 +38,9 @@ fn words(rt: &(impl Env + AllocGlobal)) -> io::Result<Vec<String>> {
 }
 
 /// Prints the line of the outcome, where it has one, and answers its status.
-fn finish(rt: &impl Eprint, outcome: Outcome) -> ExitCode {
+fn finish(rt: &impl Eprint, outcome: Outcome) -> ExitCode
+    ensures { exit_status result ≡ status_of outcome }
+{
     if let Some(line) = outcome.line() {
         let _ = rt.eprintln(line);
     }

@@ -48,3 +48,11 @@ IsTwin stored twins links twin = (twin ≡ length stored) ⊎ ((k : ℕ) × (k <
 -- Clocks stand for each list of predecessor lists of which they keep the links.
 pub record StandsFor (kept lists : List (List ℕ)) : Type 0 where
   pub are_links : kept ≡ links lists
+
+-- Whatever list the clocks stand for has this.
+abbrev pub Tells : List (List ℕ) → (List (List ℕ) → Type 0) → Type 0
+Tells kept has = (lists : List (List ℕ)) → StandsFor kept lists → has lists
+
+-- For whatever list they stood, they stand now for that list with one action more, which has these predecessors.
+abbrev pub StandsForMore : List (List ℕ) → List ℕ → List (List ℕ) → Type 0
+StandsForMore old preds new = (lists : List (List ℕ)) → StandsFor old lists → StandsFor new (preds ∷ lists)

@@ -1,3 +1,4 @@
 pub mod Clock
+pub mod Rows
 pub mod Sources
 pub mod Laws

@@ -25,3 +25,11 @@ IsTaken lists row links xs = IsReach lists row xs × (links ≡ reverse (uncover
 -- One of these has the same links as i.
 abbrev pub HasTwin : List (List ℕ) → List ℕ → ℕ → Type 0
 HasTwin lists links i = (n : ℕ) × (n < length links) × (links_of lists i ≡ links_of lists (slice_index links n))
+
+-- Whatever was taken before it, i is taken now too: the row reaches it.
+abbrev pub ReachesToo : List (List ℕ) → ℕ → List ℕ → List ℕ → List ℕ → Type 0
+ReachesToo lists i row links new = (later : List ℕ) → IsTaken lists row links later → IsReach lists new (i ∷ later)
+
+-- The same of the row and of the links.
+abbrev pub TakesToo : List (List ℕ) → ℕ → List ℕ → List ℕ → List ℕ → List ℕ → Type 0
+TakesToo lists i row links new found = (later : List ℕ) → IsTaken lists row links later → IsTaken lists new found (i ∷ later)

@@ -1,10 +1,11 @@
 //! What is kept for each action, and what may be read.
 
-ghost use Rattle.std.specs.Prelude.{◌≡◌, ◌<◌, ℕ, nat_lt, List, [], length, slice_index};
+ghost use Rattle.std.specs.Prelude.{◌≡◌, ◌<◌, [], length};
 ghost use Rattle.er_paths.specs.Paths.{joins};
 ghost use Rattle.er_links.specs.Chains.{chains, chain_of, place_of, entry};
 ghost use Rattle.er_links.specs.Links.{links_of, link_count};
-ghost use Rattle.er_clocks.specs.Clock.{StandsFor};
+ghost use Rattle.er_clocks.specs.Clock.{StandsFor, Tells};
+ghost use Rattle.er_clocks.specs.Rows.{is_covered};
 
 use crate::row::Row;
 use crate::{Meter, Paths};
@@ -57,7 +58,7 @@ impl Clocks {
     /// How many members of the chain have a path to j.
     pub fn entry(&self, j: u32, chain: u32) -> u32
         requires { j < length self.now }
-        ensures { (lists : List (List ℕ)) → StandsFor self.now lists → result ≡ entry lists j chain }
+        ensures { Tells self.now (λ lists. result ≡ entry lists j chain) }
     {
         self.rows[j as usize].at(chain)
     }
@@ -65,7 +66,7 @@ impl Clocks {
     /// The chain of j, from 0.
     pub fn chain_of(&self, j: u32) -> u32
         requires { j < length self.now }
-        ensures { (lists : List (List ℕ)) → StandsFor self.now lists → result ≡ chain_of lists j }
+        ensures { Tells self.now (λ lists. result ≡ chain_of lists j) }
     {
         self.numbers[j as usize]
     }
@@ -73,7 +74,7 @@ impl Clocks {
     /// The place of j in its chain, from 0.
     pub fn place_of(&self, j: u32) -> u32
         requires { j < length self.now }
-        ensures { (lists : List (List ℕ)) → StandsFor self.now lists → result ≡ place_of lists j }
+        ensures { Tells self.now (λ lists. result ≡ place_of lists j) }
     {
         self.places[j as usize]
     }
@@ -81,20 +82,20 @@ impl Clocks {
     /// The sources of the links into j, ascending.
     pub fn links_of(&self, j: u32) -> &[u32]
         requires { j < length self.now }
-        ensures { (lists : List (List ℕ)) → StandsFor self.now lists → result.now ≡ links_of lists j }
+        ensures { Tells self.now (λ lists. result.now ≡ links_of lists j) }
     {
         self.links[j as usize].numbers()
     }
 
     pub fn chain_count(&self) -> u32
-        ensures { (lists : List (List ℕ)) → StandsFor self.now lists → result ≡ length (chains lists) }
+        ensures { Tells self.now (λ lists. result ≡ length (chains lists)) }
     {
         self.chains.count()
     }
 
     /// The number of all links.
     pub fn link_count(&self) -> u64
-        ensures { (lists : List (List ℕ)) → StandsFor self.now lists → result ≡ link_count lists }
+        ensures { Tells self.now (λ lists. result ≡ link_count lists) }
     {
         self.count
     }
@@ -102,7 +103,7 @@ impl Clocks {
     /// Whether the row has as many members of the chain of i as come before i, and one more.
     pub(crate) fn covers(&self, row: &Row, i: u32) -> bool
         requires { i < length self.now }
-        ensures { result ≡ nat_lt (place_of self.now i) (slice_index row.now (chain_of self.now i)) }
+        ensures { result ≡ is_covered self.now row.now i }
     {
         self.places[i as usize] < row.at(self.numbers[i as usize])
     }

@@ -1,8 +1,9 @@
 //! One action more.
 
-ghost use Rattle.std.specs.Prelude.{◌≡◌, ◌+◌, ◌≤◌, ◌<◌, ◌∷◌, ◌++◌, ℕ, List, [], All, length, slice_index, IfOk, OnOk, OnErr};
+ghost use Rattle.std.specs.Prelude.{◌≡◌, ◌+◌, ◌≤◌, ◌<◌, ◌∷◌, ◌++◌, [], All, length, slice_index, IfOk, OnOk, OnErr};
 ghost use Rattle.std.specs.Vec.{vec_len, vec_capacity};
-ghost use Rattle.er_clocks.specs.Clock.{full_number, IsTwin, StandsFor};
+ghost use Rattle.er_clocks.specs.Clock.{full_number, IsTwin, StandsForMore};
+ghost use Rattle.er_clocks.specs.Rows.{IsFull};
 ghost use Rattle.er_paths.specs.Limits.{most_actions};
 
 use crate::Clocks;
@@ -20,7 +21,7 @@ impl Clocks {
         requires known { All (λ k. k < length self.old) preds.now }
         requires room { length self.old < most_actions }
         ensures number { IfOk result (λ n. n ≡ length self.old) }
-        ensures pushed { OnOk result ((lists : List (List ℕ)) → StandsFor self.old lists → StandsFor self.new (preds.now ∷ lists)) }
+        ensures pushed { OnOk result (StandsForMore self.old preds.now self.new) }
         ensures grown { OnOk result (length self.new ≡ length self.old + 1) }
         ensures kept { OnErr result (self.new ≡ self.old) }
     {
@@ -49,7 +50,7 @@ fn choose(chains: &Chains, row: &[u32]) -> u32
     requires { length row.now ≡ length chains.now }
     ensures chain { result ≡ full_number chains.now row.now }
     ensures within { result ≤ length chains.now }
-    ensures full { result < length chains.now → slice_index row.now result ≡ slice_index chains.now result }
+    ensures full { result < length chains.now → IsFull row.now chains.now result }
 {
     match chains.first_full(row) {
         Some(chain) => chain,

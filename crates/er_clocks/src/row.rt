@@ -1,6 +1,7 @@
 //! A row of numbers, one a chain.
 
-ghost use Rattle.std.specs.Prelude.{◌≡◌, ◌+◌, ◌≤◌, ◌<◌, ◌^◌, ℕ, length, max, replicate, slice_index, ◌==◌, if◌then◌else◌, IfOk, OnOk};
+ghost use Rattle.std.specs.Prelude.{◌≡◌, ◌+◌, ◌≤◌, ◌<◌, ◌^◌, length, replicate, slice_index, IfOk, OnOk};
+ghost use Rattle.er_clocks.specs.Rows.{IsRaised, IsSet};
 ghost use Rattle.er_chains.specs.Lengths.{one_more};
 
 use er_outside::NoMemory;
@@ -58,7 +59,7 @@ impl Row {
     pub(crate) fn raise(&mut self, other: &Row)
         requires { length other.now ≤ length self.old }
         ensures len { length self.new ≡ length self.old }
-        ensures raised { (c : ℕ) → slice_index self.new c ≡ max (slice_index self.old c) (slice_index other.now c) }
+        ensures raised { IsRaised self.old other.now self.new }
     {
         raise_numbers(&mut self.numbers, &other.numbers);
     }
@@ -67,7 +68,7 @@ impl Row {
     pub(crate) fn set(&mut self, chain: u32, number: u32)
         requires { chain < length self.old }
         ensures len { length self.new ≡ length self.old }
-        ensures set { (c : ℕ) → slice_index self.new c ≡ (if c == chain then number else slice_index self.old c) }
+        ensures set { IsSet self.old chain number self.new }
     {
         set_number(&mut self.numbers, chain as usize, number);
     }
@@ -95,7 +96,7 @@ fn number_at(numbers: &[u32], chain: usize) -> u32
 
 fn raise_numbers(numbers: &mut [u32], more: &[u32])
     requires { length more.now ≤ length numbers.old }
-    ensures { (c : ℕ) → slice_index numbers.new c ≡ max (slice_index numbers.old c) (slice_index more.now c) }
+    ensures { IsRaised numbers.old more.now numbers.new }
 {
     for c in 0..more.len() {
         numbers[c] = numbers[c].max(more[c]);
@@ -104,7 +105,7 @@ fn raise_numbers(numbers: &mut [u32], more: &[u32])
 
 fn set_number(numbers: &mut [u32], chain: usize, number: u32)
     requires { chain < length numbers.old }
-    ensures { (c : ℕ) → slice_index numbers.new c ≡ (if c == chain then number else slice_index numbers.old c) }
+    ensures { IsSet numbers.old chain number numbers.new }
 {
     numbers[chain] = number;
 }

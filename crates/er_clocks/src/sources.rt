@@ -2,12 +2,12 @@
 //!
 //! The numbers are sorted and taken from the greatest down. One that the row covers already is no link, and costs a look-up.
 
-ghost use Rattle.std.specs.Prelude.{◌≡◌, ◌≤◌, ◌<◌, ◌∷◌, ℕ, true, List, [], All, length, map, replicate, slice_index, IfOk, OnOk};
-ghost use Rattle.er_paths.specs.Paths.{is_among, joins};
-ghost use Rattle.er_links.specs.Chains.{chains, chain_of, place_of, count_in};
-ghost use Rattle.er_links.specs.Links.{links_of};
+ghost use Rattle.std.specs.Prelude.{◌≡◌, ◌≤◌, ◌<◌, ℕ, true, [], All, length, replicate, slice_index, IfOk, OnOk};
+ghost use Rattle.er_paths.specs.Paths.{is_among};
+ghost use Rattle.er_links.specs.Chains.{chains, chain_of, place_of};
 ghost use Rattle.std.specs.List.Sorted.{IsStrictlyIncreasing};
-ghost use Rattle.er_clocks.specs.Sources.{HasTwin, IsReach, IsTaken};
+ghost use Rattle.er_clocks.specs.Sources.{HasTwin, IsTaken, ReachesToo, TakesToo};
+ghost use Rattle.er_clocks.specs.Rows.{links_before, row_before};
 
 use crate::Clocks;
 use crate::row::Row;
@@ -43,7 +43,7 @@ impl Clocks {
         requires long { length row.old ≡ length (chains self.now) }
         requires low { slice_index row.old (chain_of self.now i) ≤ place_of self.now i }
         ensures long { length row.new ≡ length row.old }
-        ensures joined { (later : List ℕ) → IsTaken self.now row.old links.now later → IsReach self.now row.new (i ∷ later) }
+        ensures joined { ReachesToo self.now i row.old links.now row.new }
     {
         if self.has_twin(i, links) {
             row.set(self.numbers[i as usize], self.places[i as usize] + 1);
@@ -59,7 +59,7 @@ impl Clocks {
         requires long { length row.old ≡ length (chains self.now) }
         ensures long { OnOk result (length row.new ≡ length row.old) }
         ensures known { OnOk result (All (λ k. k < length self.now) links.new.items) }
-        ensures taken { OnOk result ((later : List ℕ) → IsTaken self.now row.old links.old.items later → IsTaken self.now row.new links.new.items (i ∷ later)) }
+        ensures taken { OnOk result (TakesToo self.now i row.old links.old.items row.new links.new.items) }
     {
         if self.covers(row, i) {
             return Ok(());
@@ -90,8 +90,8 @@ impl Clocks {
     /// The links into an action with these predecessors, and the row that they make.
     pub(crate) fn sources_of(&self, alloc: Global, preds: &[u32]) -> Result<Sources, NoMemory>
         requires { All (λ k. k < length self.now) preds.now }
-        ensures links { IfOk result (λ s. s.links ≡ links_of (preds.now ∷ self.now) (length self.now)) }
-        ensures row { IfOk result (λ s. s.row ≡ map (count_in (λ i. joins (preds.now ∷ self.now) i (length self.now))) (chains self.now)) }
+        ensures links { IfOk result (λ s. s.links ≡ links_before preds.now self.now) }
+        ensures row { IfOk result (λ s. s.row ≡ row_before preds.now self.now) }
     {
         let sorted = sorted_once(alloc, preds)?;
         let mut row = Row::zeros(alloc, self.chains.count() as usize)?;

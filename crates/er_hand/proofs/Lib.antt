@@ -1,2 +1,1 @@
-pub mod EventsLemmas
 pub mod HandingLemmas

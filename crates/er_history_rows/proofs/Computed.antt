@@ -1,6 +1,7 @@
 -- The rows, by computing.
 use Rattle.std.proofs.Common.{refl}
 use Rattle.er_history_rows.specs.Apart.{PlainElementNotForLoad, MadeElementNotForLoad, CloseForLoad, OtherDocumentNotForLoad, WindowsApart, ElementAndWindowApart, TypesApart, LongerDelaySetFirst, ShorterDelaySetLast, DeferredOfTwoDocuments}
+use Rattle.er_history_rows.specs.Full.{FullParse, FullScript, FullLoad, FullEload, LegalEload, FullTimer, FullRequest, FullBegins, FullDispatch}
 use Rattle.er_history_rows.specs.Realistic.{RealisticPage}
 use Rattle.er_history_rows.specs.Nested.{SuspendedScript, CutShort, InAHandler, InAClose, InCallbacks}
 use Rattle.er_history_rows.specs.Late.{StepAfterDeferredScript, StepAfterDcl, StepAfterLoad, BlockingAfterStep, BlockingAfterDeferred, DeferredExchanged, ScriptAfterDcl, ScriptAfterLoad, ScriptAfterItsLoad, DclAfterLoad, HandlerAfterGreaterGroup}
@@ -122,3 +123,30 @@ shorter_delay_set_last = record { edges = refl; legal = refl }
 
 pub deferred_of_two_documents : DeferredOfTwoDocuments
 deferred_of_two_documents = record { edges = refl; legal = refl }
+
+pub full_parse : FullParse
+full_parse = record { given = refl; allowed = refl; legal = refl }
+
+pub full_script : FullScript
+full_script = record { given = refl; allowed = refl; legal = refl }
+
+pub full_load : FullLoad
+full_load = record { given = refl; allowed = refl; legal = refl }
+
+pub full_eload : FullEload
+full_eload = record { given = refl; allowed = refl }
+
+pub legal_eload : LegalEload
+legal_eload = (refl, refl)
+
+pub full_timer : FullTimer
+full_timer = record { given = refl; allowed = refl; legal = refl }
+
+pub full_request : FullRequest
+full_request = record { given = refl; allowed = refl; legal = refl }
+
+pub full_begins : FullBegins
+full_begins = record { given = refl; allowed = refl; legal = refl }
+
+pub full_dispatch : FullDispatch
+full_dispatch = record { given = refl; allowed = refl; legal = refl }

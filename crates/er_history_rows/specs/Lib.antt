@@ -1,4 +1,5 @@
 pub mod Apart
+pub mod Full
 pub mod Late
 pub mod Nested
 pub mod Random

@@ -1,9 +1,10 @@
-//! What the definitions of er_history say of lists of records, by all rules: the edges between actions, and which records are refused.
+//! What the definitions of er_history say of lists of records, by all rules: the edges between actions, and which records are refused; and lists that reach the counts of er_pieces.
 //!
-//! No state, and nothing stands on this crate. Each law is a function with no parameters, whose contract is a row; `specs/` has the rows, a topic a file. What they say was found by a program that shares nothing with this one: it asks every rule of every pair of events.
+//! No state, and nothing stands on this crate. Each law is a function with no parameters, whose contract is a row; `specs/` has the rows, a topic a file. What they say of edges and causes was found by a program that shares nothing with this one: it asks every rule of every pair of events.
 #![tactic(auto)]
 
 ghost use Rattle.er_history_rows.specs.Apart.{PlainElementNotForLoad, MadeElementNotForLoad, CloseForLoad, OtherDocumentNotForLoad, WindowsApart, ElementAndWindowApart, TypesApart, LongerDelaySetFirst, ShorterDelaySetLast, DeferredOfTwoDocuments};
+ghost use Rattle.er_history_rows.specs.Full.{FullParse, FullScript, FullLoad, FullEload, LegalEload, FullTimer, FullRequest, FullBegins, FullDispatch};
 ghost use Rattle.er_history_rows.specs.Late.{StepAfterDeferredScript, StepAfterDcl, StepAfterLoad, BlockingAfterStep, BlockingAfterDeferred, DeferredExchanged, ScriptAfterDcl, ScriptAfterLoad, ScriptAfterItsLoad, DclAfterLoad, HandlerAfterGreaterGroup};
 ghost use Rattle.er_history_rows.specs.Nested.{SuspendedScript, CutShort, InAHandler, InAClose, InCallbacks};
 ghost use Rattle.er_history_rows.specs.Random.{FirstPage, SecondPage, ThirdPage, FourthPage, FifthPage, SixthPage, SeventhPage, EighthPage, NinthPage, TenthPage, EleventhPage, TwelfthPage};
@@ -48,6 +49,25 @@ pub fn callbacks_apart()
     ensures longer_delay_set_first { LongerDelaySetFirst }
     ensures shorter_delay_set_last { ShorterDelaySetLast }
     ensures deferred_of_two_documents { DeferredOfTwoDocuments }
+{}
+
+/// Lists that reach the most pieces that the rules of parsing, scripts and loads hand.
+#[tactic(auto, using(crate::proofs::Computed::full_parse, crate::proofs::Computed::full_script, crate::proofs::Computed::full_load, crate::proofs::Computed::full_eload, crate::proofs::Computed::legal_eload))]
+pub fn full_pages()
+    ensures full_parse { FullParse }
+    ensures full_script { FullScript }
+    ensures full_load { FullLoad }
+    ensures full_eload { FullEload }
+    ensures legal_eload { LegalEload }
+{}
+
+/// Lists that reach the most pieces that the rules of timeouts, requests and dispatches hand.
+#[tactic(auto, using(crate::proofs::Computed::full_timer, crate::proofs::Computed::full_request, crate::proofs::Computed::full_begins, crate::proofs::Computed::full_dispatch))]
+pub fn full_callbacks()
+    ensures full_timer { FullTimer }
+    ensures full_request { FullRequest }
+    ensures full_begins { FullBegins }
+    ensures full_dispatch { FullDispatch }
 {}
 
 /// Which parse steps are out of order.

@@ -36,6 +36,10 @@ pub record LatestAre (latest : Latest) (actions : List Action) : Type 0 where
   pub elements : (e : ℕ) (n : List ℕ) → by_name latest.elements n e ≡ closes_at_element e n actions
   pub windows : (d : ℕ) (n : List ℕ) → by_name latest.windows n d ≡ closes_at_window d n actions
 
+-- for every list that the tables stand for, the answer is what is said of it
+abbrev pub Answers : {A : Type 0} → Latest → (List Action → A) → A → Type 0
+Answers latest said result = (actions : List Action) → LatestAre latest actions → result ≡ said actions
+
 -- the action is this one, and its event has this role
 pub record IsTold (role : Role) (now : Now) (a : Action) : Type 0 where
   pub says : said_by role ≡ role_of a.event.what

@@ -71,10 +71,8 @@ fn make_list<K: Eq + Hash + Copy + Drop>(
     if lists.contains_key(&key) {
         return Ok(());
     }
-    match lists.insert(key, Vec::new(alloc)) {
-        Ok(_) => Ok(()),
-        Err(_) => Err(NoMemory),
-    }
+    lists.insert(key, Vec::new(alloc))?;
+    Ok(())
 }
 
 /// Makes room in the list of the key.
@@ -89,8 +87,6 @@ fn make_place<K: Eq + Hash + Copy + Drop>(
     let Some(list) = lists.get_mut(&key) else {
         unreachable!()
     };
-    match list.reserve(1) {
-        Ok(()) => Ok(()),
-        Err(_) => Err(NoMemory),
-    }
+    list.reserve(1)?;
+    Ok(())
 }

@@ -71,10 +71,8 @@ fn make_table(
     if tables.contains_key(name) {
         return Ok(());
     }
-    match tables.insert(name.copy()?, IndexMap::new(alloc)) {
-        Ok(_) => Ok(()),
-        Err(_) => Err(NoMemory),
-    }
+    tables.insert(name.copy()?, IndexMap::new(alloc))?;
+    Ok(())
 }
 
 /// Makes room in the table of the name.
@@ -86,8 +84,6 @@ fn make_place(tables: &mut IndexMap<Name, IndexMap<u32, u32>>, name: &Name) -> R
     let Some(table) = tables.get_mut(name) else {
         unreachable!()
     };
-    match table.reserve(1) {
-        Ok(()) => Ok(()),
-        Err(_) => Err(NoMemory),
-    }
+    table.reserve(1)?;
+    Ok(())
 }

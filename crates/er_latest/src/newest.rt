@@ -15,10 +15,8 @@ pub(crate) fn make_room(table: &mut IndexMap<u32, u32>, number: Option<u32>) -> 
     if number.is_none() {
         return Ok(());
     }
-    match table.reserve(1) {
-        Ok(()) => Ok(()),
-        Err(_) => Err(NoMemory),
-    }
+    table.reserve(1)?;
+    Ok(())
 }
 
 /// Puts a value under a number, if there is one.

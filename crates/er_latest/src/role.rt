@@ -16,7 +16,7 @@ pub enum Role<'a> {
     Blocking { doc: u32 },
     /// The run of this deferred script of the document.
     Deferred { doc: u32, element: u32 },
-    /// The run of a static script of the document for which the parser does not wait.
+    /// The run of a static script of kind async of the document.
     Async { doc: u32 },
     /// A callback of the interval.
     Tick { interval: u32 },

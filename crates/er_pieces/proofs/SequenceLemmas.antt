@@ -1,8 +1,7 @@
 -- Calls that hand one behind the other, for each list that a page stands for. Lists of records stand newest first.
-use Rattle.std.proofs.Common.{◌≡◌, ℕ, List, ◌++◌, ap, subst, ◌∙◌}
+use Rattle.std.proofs.Common.{◌≡◌, ℕ, List, ◌++◌, subst}
 use Rattle.std.specs.Prelude.{Result, Ok, Err, OnOk, OnErr}
 use Rattle.er_trace.specs.declared.record.Record.{Record}
-use Rattle.er_history.specs.History.{History, told}
 use Rattle.er_pieces.specs.Contract.{GrewBy, GrewInPart, GrewForEach, GrewInPartForEach}
 use Rattle.er_pieces.proofs.ContractLemmas.{grew_again, grew_part_first, grew_part_later}
 

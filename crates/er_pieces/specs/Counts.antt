@@ -55,7 +55,7 @@ abbrev pub most_request : List Record → Record → ℕ
 most_request h (Reply p r) = 2
 most_request h _ = 0
 
--- the maker of the target, the latest close there and the suspended piece; before a handler or a close the runs of the greatest smaller group, or the begin
+-- the maker of the target, the latest close there and the suspended piece; before a handler the event that registered it, and the runs of the greatest smaller group or the begin; before a close the runs of the greatest group, or the begin
 abbrev pub most_dispatch : List Record → Record → ℕ
 most_dispatch h (Fire p e n) = 2
 most_dispatch h (Wfire p d n) = 2

@@ -61,6 +61,24 @@ fn a_failing_last_read(rt: HostRuntime) -> Result<(), Fail> {
     Ok(())
 }
 
+/// The read that gives nothing is the last: those after it would fail.
+#[test]
+fn no_read_after_the_end(rt: HostRuntime) -> Result<(), Fail> {
+    let alloc = rt.alloc();
+    for (input, output, end) in [(INPUT, OUTPUT, 2), ("", "refused 1 no-end\n", 1)] {
+        let ends = Ends {
+            piece: 1000,
+            failing_reads: vec![in alloc; end + 1, end + 2, end + 3]?,
+            failing_writes: Vec::new(alloc),
+            room: 1000,
+        };
+        let done = through(alloc, &[], input.as_bytes(), ends)?;
+        assert_eq!(rt; done.written.as_slice(), output.as_bytes(), "{input}");
+        assert_eq!(rt; done.read_faults, 0, "{input}");
+    }
+    Ok(())
+}
+
 #[test]
 fn a_failing_write(rt: HostRuntime) -> Result<(), Fail> {
     let alloc = rt.alloc();

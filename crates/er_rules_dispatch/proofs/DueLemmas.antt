@@ -1,49 +1,18 @@
 -- What the look-ups of a dispatch give is what comes before a record of it. Lists of records stand newest first.
-use Rattle.std.proofs.Common.{◌≡◌, ℕ, true, List, ◌++◌, Option, Some, None, refl, sym, ap, subst, ◌∙◌}
+use Rattle.std.proofs.Common.{◌≡◌, ℕ, List, ◌++◌, Option, Some, None, sym, ap, ◌∙◌}
 use Rattle.std.specs.Prelude.{◌==◌, reverse, Result, Ok, Err, OnOk, OnErr}
 use Rattle.er_trace.specs.declared.record.Record.{Record}
-use Rattle.er_paths.specs.Paths.{is_among}
-use Rattle.er_history.specs.History.{Element, FireAt, WindowFire, told, running, first_to, makes_element, declares_document, declares_handler}
+use Rattle.er_history.specs.History.{FireAt, WindowFire, told, running}
 use Rattle.er_history.specs.Rules.{same_target}
 use Rattle.er_history.specs.Latest.{newest_by, number_of, latest_of}
 use Rattle.er_history.specs.Kinds.{closes, is_handler_of}
-use Rattle.er_history.specs.LookUps.{event_of, running_action, maker_of_element, maker_of_document, maker_of_handler, begin_event, last_element_close, last_window_close, group_below, runs_in}
-use Rattle.er_history.specs.Naming.{IsNamed, begins_dispatch}
+use Rattle.er_history.specs.LookUps.{running_action, maker_of_element, maker_of_document, maker_of_handler, begin_event, last_element_close, last_window_close, group_below, runs_in}
+use Rattle.er_history.specs.Naming.{IsNamed}
 use Rattle.er_pieces.specs.Contract.{GrewBy, GrewInPart, GrewForEach, GrewInPartForEach, listed, latest_of_all}
 use Rattle.er_pieces.specs.HandedPieces.{runs_or_begin}
-use Rattle.er_pieces.proofs.BegunLemmas.{maker_is_event, element_is_event, newest_begin}
-use Rattle.er_pieces.proofs.LookUpLemmas.{piece_listed, slice_handed, slice_is_events}
+use Rattle.er_pieces.proofs.BegunLemmas.{newest_begin}
+use Rattle.er_pieces.proofs.LookUpLemmas.{piece_listed, slice_handed}
 use Rattle.er_rules_dispatch.specs.Due.{at_element, at_window, in_piece, before_run}
-
--- what they answer is events
-
-maker_found : (h : List Record) (e u : ℕ) → maker_of_element h e ≡ Some u → event_of h u ≡ Some u
-maker_found h e u found = by (first_to (makes_element e) (told h).entries) refl found
-  where
-    maker_of : Option Element → Option ℕ
-    maker_of None = None
-    maker_of (Some x) = Some x.maker
-
-    by : (o : Option Element) → first_to (makes_element e) (told h).entries ≡ o → maker_of o ≡ Some u → event_of h u ≡ Some u
-    by None is made = absurd (cc)
-    by (Some x) is made = let same : x.maker ≡ u = cc in subst (λ k. event_of h k ≡ Some k) same (element_is_event h e x is)
-
-pub element_maker_is_event : (h : List Record) (e : ℕ) (found : Option ℕ) → found ≡ maker_of_element h e → (u : ℕ) → found ≡ Some u → event_of h u ≡ Some u
-element_maker_is_event h e found is u some = maker_found h e u (sym is ∙ some)
-
-pub document_maker_is_event : (h : List Record) (d : ℕ) (found : Option ℕ) → found ≡ maker_of_document h d → (u : ℕ) → found ≡ Some u → event_of h u ≡ Some u
-document_maker_is_event h d found is u some = maker_is_event (declares_document d) h u (sym is ∙ some)
-
-pub handler_maker_is_event : (h : List Record) (x : ℕ) (found : Option ℕ) → found ≡ maker_of_handler h x → (u : ℕ) → found ≡ Some u → event_of h u ≡ Some u
-handler_maker_is_event h x found is u some = maker_is_event (declares_handler x) h u (sym is ∙ some)
-
-pub begin_is_event : (h : List Record) (p : ℕ) (found : Option ℕ) → found ≡ begin_event h p → (u : ℕ) → found ≡ Some u → event_of h u ≡ Some u
-begin_is_event h p found is u some = maker_is_event (begins_dispatch p) h u (sym is ∙ some)
-
-pub runs_are_events : (h : List Record) (p g : ℕ) (found : List ℕ) → found ≡ runs_in h p g → (u : ℕ) → is_among u found ≡ true → event_of h u ≡ Some u
-runs_are_events h p g found is u among = slice_is_events h (is_handler_of p (λ k. k == g)) u (ap (is_among u) (sym is) ∙ among)
-
--- and what is due
 
 pub element_is_due : (h : List Record) (e : ℕ) (n : List ℕ) (maker close : Option ℕ) → maker ≡ maker_of_element h e → close ≡ last_element_close h e n → latest_of maker (told h).actions ++ listed close ≡ at_element h e n
 element_is_due h e n maker close is also =

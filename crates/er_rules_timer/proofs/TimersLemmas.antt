@@ -1,23 +1,27 @@
 -- What the look-ups of a timeout and of an interval give is what comes before a callback. Lists of records stand newest first.
 use Rattle.std.proofs.Common.{◌≡◌, ℕ, ◌+◌, ◌-◌, ◌<◌, ◌≤◌, Bool, true, false, List, [], ◌∷◌, ◌++◌, length, take, drop, reverse, Option, Some, None, option_map, refl, sym, ap, subst, ◌∙◌, arith, append_assoc, append-nil}
 use Rattle.std.specs.Prelude.{if◌then◌else◌, Result, Ok, Err, OnOk, OnErr}
+use Rattle.std.proofs.Math.Logic.{∥∥₁_map}
 use Rattle.std.proofs.Math.ListN.{get_or}
 use Rattle.std.proofs.lemmas.List.{take_more, drop_more, length-reverse, get_or-reverse, take-append-drop, take_all}
 use Rattle.er_trace.specs.declared.record.Record.{Record}
 use Rattle.er_trace.specs.declared.record.Record.TheVariants.{Timer}
-use Rattle.er_history.specs.History.{Timeout, TimeoutRun, told, declares_interval}
+use Rattle.er_history.specs.History.{Timeout, TimeoutRun, told}
 use Rattle.er_history.specs.Rules.{timer_rules}
 use Rattle.er_history.specs.Latest.{latest_piece, latest_of}
 use Rattle.er_history.specs.Kinds.{is_tick_of}
 use Rattle.er_history.specs.LookUps.{event_of, timeout_made, maker_of_timeout, maker_of_interval, last_tick, timer_event}
-use Rattle.er_history.specs.Naming.{IsNamed, fires_timeout}
-use Rattle.er_pieces.specs.Contract.{GrewBy, GrewInPart, GrewForEach, GrewInPartForEach, HandsExactly, HandsFront}
+use Rattle.er_history.specs.Naming.{IsNamed}
+use Rattle.er_page.specs.declared.page.Page.{Page}
+use Rattle.er_page.specs.Page.{IsPage, IsSomePage}
+use Rattle.er_hand.specs.Handing.{HasEvents}
+use Rattle.er_pieces.specs.Contract.{listed, GrewBy, GrewInPart, GrewForEach, GrewInPartForEach, HandsExactly, HandsFront}
 use Rattle.er_pieces.specs.HandedPieces.{timeout_handed, timer_handed}
-use Rattle.er_pieces.proofs.BegunLemmas.{maker_is_event, timeout_is_event}
+use Rattle.er_pieces.proofs.BegunLemmas.{timeout_is_event}
 use Rattle.er_pieces.proofs.ChainLemmas.{event_with}
 use Rattle.er_pieces.proofs.ContractLemmas.{grew_again, grew_part_first, grew_part_later, has_handed, has_handed_some}
 use Rattle.er_pieces.proofs.HandsTimer.{hands_timer}
-use Rattle.er_pieces.proofs.LookUpLemmas.{newest_found, newest_is_event}
+use Rattle.er_pieces.proofs.LookUpLemmas.{newest_found, listed_is}
 use Rattle.er_pieces.proofs.NestedLaws.{nested_facts}
 use Rattle.er_rules_timer.specs.Enough.{HandsEnoughTimers, HandsSourceTimers}
 use Rattle.er_rules_timer.specs.Fired.{goes_off_first, handed_for, handed_for_each, set_by, due_for, tick_handed}
@@ -39,19 +43,14 @@ setter_found h t u e = by (timeout_made h t) refl e
     by None is e = absurd (cc)
     by (Some x) is e = let same : x.maker ≡ u = cc in subst (λ k. event_of h k ≡ Some k) same (timeout_is_event h t x is)
 
-pub setter_is_event : (h : List Record) (t : ℕ) (found : Option ℕ) → found ≡ maker_of_timeout h t → (u : ℕ) → found ≡ Some u → event_of h u ≡ Some u
-setter_is_event h t found is u some = setter_found h t u (sym is ∙ some)
-
-pub callback_is_event : (h : List Record) (t : ℕ) (found : Option ℕ) → found ≡ timer_event h t → (u : ℕ) → found ≡ Some u → event_of h u ≡ Some u
-callback_is_event h t found is u some = maker_is_event (fires_timeout t) h u (sym is ∙ some)
+pub setter_events : (page : Page) (t : ℕ) (found : Option ℕ) → ∥ IsSomePage page ∥₁ → ((h : List Record) → IsPage page h → found ≡ maker_of_timeout h t) → ∥ HasEvents page (listed found) ∥₁
+setter_events page t found some is = ∥∥₁_map some (λ (p : IsSomePage page). record {
+  list = p.list;
+  stands = p.stands;
+  each = λ u among. setter_found p.list t u (sym (is p.list p.stands) ∙ listed_is found u among);
+})
 
 -- of an interval
-
-pub interval_is_event : (h : List Record) (i : ℕ) (found : Option ℕ) → found ≡ maker_of_interval h i → (u : ℕ) → found ≡ Some u → event_of h u ≡ Some u
-interval_is_event h i found is u some = maker_is_event (declares_interval i) h u (sym is ∙ some)
-
-pub tick_is_event : (h : List Record) (i : ℕ) (found : Option ℕ) → found ≡ last_tick h i → (u : ℕ) → found ≡ Some u → event_of h u ≡ Some u
-tick_is_event h i found is u some = newest_is_event h (is_tick_of i) u (sym is ∙ some)
 
 pub tick_is_due : (h : List Record) (i : ℕ) (maker tick : Option ℕ) → maker ≡ maker_of_interval h i → tick ≡ last_tick h i
     → latest_of maker (told h).actions ++ latest_of tick (told h).actions ≡ tick_handed h i

@@ -16,7 +16,7 @@ empty_or_not {X} [] = inl refl
 empty_or_not {X} (x ∷ xs) = inr (λ e. cc)
 
 -- a legal trace answers its report, whichever outcome that is
-legal_answer : (bytes : List ℕ) (records : List Record) → IsLegalTrace bytes records → (outcome : Outcome) × Answers bytes outcome (report (reverse records))
+pub legal_answer : (bytes : List ℕ) (records : List Record) → IsLegalTrace bytes records → (outcome : Outcome) × Answers bytes outcome (report (reverse records))
 legal_answer bytes records legal =
     elim (empty_or_not (races (reverse records))) [ inl none ↦ (Clean, (records, legal, none, refl)) | inr some ↦ (Races, (records, legal, some, refl)) ]
 

@@ -9,5 +9,7 @@ pub mod ReportableLemmas
 pub mod CompleteLemmas
 pub mod RepeatLemmas
 pub mod OneAnswer
+pub mod EveryText
+pub mod EveryAnswer
 pub mod BufferedLemmas
 pub mod ComparedLemmas

@@ -10,12 +10,13 @@ use Rattle.er_history.specs.Sound as sound
 use Rattle.er_history.specs.Rules.{rules}
 use Rattle.er_run.specs.Races.{races}
 use Rattle.er_run.specs.Report.{report, refusal}
+use Rattle.er_run.specs.declared.input.TheConstants.{MOST_BYTES}
 use Rattle.er_run.specs.declared.outcome.Outcome.{Outcome}
 use Rattle.er_run.specs.declared.outcome.Outcome.TheVariants.{Clean, Races, Refused}
 
 -- the most bytes of an input
 abbrev pub most_bytes : ℕ
-most_bytes = 67108864
+most_bytes = MOST_BYTES
 
 -- the bytes are those of this legal trace, oldest record first
 pub record IsLegalTrace (bytes : List ℕ) (records : List Record) : Type 0 where

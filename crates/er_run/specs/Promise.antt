@@ -4,6 +4,7 @@ use Rattle.er_outside.specs.Ends.{Gives, Gets, GetsPart, IsSpent}
 use Rattle.er_run.specs.declared.outcome.Outcome.{Outcome}
 use Rattle.er_run.specs.declared.outcome.Outcome.TheVariants.{Clean, Races, Refused, Usage, ReadFault, NoMemory}
 use Rattle.er_run.specs.Answer.{most_bytes, Answers}
+use Rattle.er_run.specs.declared.input.TheConstants.{PIECE}
 
 -- an outcome that bytes can answer
 abbrev pub IsAnswer : Outcome → Type 0
@@ -14,7 +15,7 @@ IsAnswer _ = ⊥
 
 -- the most bytes that one read asks for
 abbrev pub piece_bytes : ℕ
-piece_bytes = 4096
+piece_bytes = PIECE
 
 -- nothing is left, or enough came to know that it is too much; and no more was read than that takes
 abbrev pub IsReadWhole : List ℕ → Option (List ℕ) → Type 0

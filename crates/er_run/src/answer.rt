@@ -26,10 +26,14 @@ use std::alloc::Global;
 
 /// Answers the bytes, and writes the text that is due.
 pub(crate) fn answer<K: Sink>(alloc: Global, bytes: &[u8], sink: &mut K) -> Outcome
-    ensures answered { IsAnswer result → IsGiven bytes.now result (K.got sink.old) (K.got sink.new) }
-    ensures write_fault { result ≡ Outcome.WriteFault → Rose (K.faults sink.old) (K.faults sink.new) }
-    ensures cut_short { result ≡ Outcome.WriteFault → IsPartGiven bytes.now (K.got sink.old) (K.got sink.new) }
-    ensures kept { result ≡ Outcome.NoMemory → K.got sink.new ≡ K.got sink.old }
+    ensures answered { IsAnswer result
+        → IsGiven bytes.now result (K.got sink.old) (K.got sink.new) }
+    ensures write_fault { result ≡ Outcome.WriteFault
+        → Rose (K.faults sink.old) (K.faults sink.new) }
+    ensures cut_short { result ≡ Outcome.WriteFault
+        → IsPartGiven bytes.now (K.got sink.old) (K.got sink.new) }
+    ensures kept { result ≡ Outcome.NoMemory → sink.new ≡ sink.old }
+    ensures stands { IsAnswer result → K.faults sink.new ≡ K.faults sink.old }
     ensures no_usage { result ≢ Outcome.Usage }
     ensures no_read_fault { result ≢ Outcome.ReadFault }
     ensures writes { K.faults sink.old ≤ K.faults sink.new }
@@ -116,8 +120,12 @@ fn fault_of(refusal: LineRefusal) -> FeedFault
 /// Writes the report of an accepted trace.
 fn report_of<K: Sink>(alloc: Global, session: &Session, sink: &mut K) -> Outcome
     requires { IsReportable session.now }
-    ensures reported { (h : List Record) → StandsFor session.now h → ReportsOf h result (K.got sink.old) (K.got sink.new) }
-    ensures write_fault { result ≡ Outcome.WriteFault → Rose (K.faults sink.old) (K.faults sink.new) }
+    ensures kept { result ≡ Outcome.NoMemory → sink.new ≡ sink.old }
+    ensures stands { IsAnswer result → K.faults sink.new ≡ K.faults sink.old }
+    ensures reported { (h : List Record) → StandsFor session.now h
+        → ReportsOf h result (K.got sink.old) (K.got sink.new) }
+    ensures write_fault { result ≡ Outcome.WriteFault
+        → Rose (K.faults sink.old) (K.faults sink.new) }
     ensures writes { K.faults sink.old ≤ K.faults sink.new }
 {
     let Ok(listed) = list(alloc, &session.kept, &session.graph) else {
@@ -151,8 +159,10 @@ fn counts_of(session: &Session, listed: &Listed) -> Counts
 
 /// Writes a refusal.
 fn refuse<K: Sink>(sink: &mut K, line: u32, cause: Cause) -> Outcome
+    ensures stands { IsAnswer result → K.faults sink.new ≡ K.faults sink.old }
     ensures refused { RefusedAs line cause result (K.got sink.old) (K.got sink.new) }
-    ensures write_fault { result ≡ Outcome.WriteFault → Rose (K.faults sink.old) (K.faults sink.new) }
+    ensures write_fault { result ≡ Outcome.WriteFault
+        → Rose (K.faults sink.old) (K.faults sink.new) }
     ensures writes { K.faults sink.old ≤ K.faults sink.new }
 {
     match write_refusal(sink, line, cause) {

@@ -1,26 +1,30 @@
 //! A buffer of fixed size.
 
-ghost use Rattle.std.specs.Prelude.{◌≡◌, ◌<◌, ◌≤◌, [], Some, length, take, IfOk, OnErr};
+ghost use Rattle.std.specs.Prelude.{◌≡◌, ◌<◌, ◌≤◌, [], Some, length, take, IfOk, OnOk, OnErr};
 ghost use Rattle.er_outside.specs.Ends.{Gets, Rose, last_count};
 
 use er_outside::{Failed, Sink};
 use std::marker::Model;
 
+/// How many bytes the buffer holds at most.
+const ROOM: usize = 4096;
+
 /// Holds bytes in place, and takes no memory. As a sink it fails where it is full.
 #[derive(Drop)]
 pub(crate) struct Buffer {
-    bytes: [u8; 4096],
+    bytes: [u8; ROOM],
     count: usize,
 }
 
 impl Model for Buffer {
     ghost use Rattle.std.specs.Prelude.{ℕ, ◌≤◌, List, take};
+    ghost use Rattle.er_run.specs.declared.buffer.TheConstants.{ROOM};
 
     ghost Value = { List ℕ };
 
     ghost view = { λ b. take b.count b.bytes };
 
-    ghost invariant = { λ b. b.count ≤ 4096 };
+    ghost invariant = { λ b. b.count ≤ ROOM };
 }
 
 impl Buffer {
@@ -29,7 +33,7 @@ impl Buffer {
         ensures { result ≡ [] }
     {
         Buffer {
-            bytes: [0; 4096],
+            bytes: [0; ROOM],
             count: 0,
         }
     }
@@ -70,8 +74,9 @@ impl Sink for Buffer {
         ensures kept { OnErr result (Some self.new ≡ Some self.old) }
         ensures cause { OnErr result (Rose last_count last_count) }
         ensures count { last_count ≤ last_count }
+        ensures stands { OnOk result (last_count ≡ last_count) }
     {
-        let count = piece.len().min(4096 - self.count);
+        let count = piece.len().min(ROOM - self.count);
         if count == 0 && !piece.is_empty() {
             return Err(Failed);
         }

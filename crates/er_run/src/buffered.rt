@@ -1,8 +1,8 @@
 //! A buffer in front of a sink, so that a text of many small pieces takes few writes.
 
 ghost use Rattle.std.specs.Prelude.{◌≡◌, ℕ, ◌≤◌, List, [], ◌++◌, length, take, OnOk, OnErr};
-ghost use Rattle.er_outside.specs.Ends.{Gets, GetsPart, Rose};
-ghost use Rattle.er_run.specs.Buffered.{HoldsRest};
+ghost use Rattle.er_outside.specs.Ends.{GetsPart, Puts};
+ghost use Rattle.er_run.specs.Buffered.{CountsFaults, HoldsRest};
 
 use crate::buffer::Buffer;
 use er_outside::{Failed, Sink, put_all};
@@ -14,10 +14,7 @@ pub(crate) trait Text {
 
     /// Writes the text. It stops at the first write that fails.
     fn put<K: Sink>(&self, sink: &mut K) -> Result<(), Failed>
-        ensures whole { OnOk result (Gets (K.got sink.old) (text self.now) (K.got sink.new)) }
-        ensures part { OnErr result (GetsPart (K.got sink.old) (text self.now) (K.got sink.new)) }
-        ensures cause { OnErr result (Rose (K.faults sink.old) (K.faults sink.new)) }
-        ensures count { K.faults sink.old ≤ K.faults sink.new };
+        ensures { Puts K.got K.faults sink.old (text self.now) sink.new result };
 }
 
 /// Puts the text behind what the buffer holds, as a whole or not at all.
@@ -42,10 +39,11 @@ pub(crate) fn put_text<K: Sink, T: Text>(
     buffer: &mut Buffer,
     text: &T,
 ) -> Result<(), Failed>
-    ensures whole { OnOk result (HoldsRest (K.got sink.old) (buffer.old ++ T.text text.now) (K.got sink.new) buffer.new) }
-    ensures part { OnErr result (GetsPart (K.got sink.old) (buffer.old ++ T.text text.now) (K.got sink.new)) }
-    ensures cause { OnErr result (Rose (K.faults sink.old) (K.faults sink.new)) }
-    ensures count { K.faults sink.old ≤ K.faults sink.new }
+    ensures whole { OnOk result (HoldsRest (K.got sink.old) (buffer.old ++ T.text text.now)
+        (K.got sink.new) buffer.new) }
+    ensures part { OnErr result (GetsPart (K.got sink.old) (buffer.old ++ T.text text.now)
+        (K.got sink.new)) }
+    ensures counts { CountsFaults K.faults sink.old sink.new result }
 {
     if let Ok(()) = hold(buffer, text) {
         return Ok(());
@@ -60,10 +58,7 @@ pub(crate) fn put_text<K: Sink, T: Text>(
 /// Writes what the buffer holds, and empties it.
 pub(crate) fn flush<K: Sink>(sink: &mut K, buffer: &mut Buffer) -> Result<(), Failed>
     ensures emptied { buffer.new ≡ [] }
-    ensures whole { OnOk result (Gets (K.got sink.old) buffer.old (K.got sink.new)) }
-    ensures part { OnErr result (GetsPart (K.got sink.old) buffer.old (K.got sink.new)) }
-    ensures cause { OnErr result (Rose (K.faults sink.old) (K.faults sink.new)) }
-    ensures count { K.faults sink.old ≤ K.faults sink.new }
+    ensures puts { Puts K.got K.faults sink.old buffer.old sink.new result }
 {
     let flushed = put_all(sink, buffer.bytes());
     buffer.cut(0);

@@ -1,6 +1,6 @@
 //! Reads the whole input.
 
-ghost use Rattle.std.specs.Prelude.{◌≡◌, ℕ, ◌<◌, ◌≤◌, List, ◌++◌, length, IfOk, OnErr, IsErrOf};
+ghost use Rattle.std.specs.Prelude.{◌≡◌, ℕ, ◌<◌, ◌≤◌, List, ◌++◌, length, IfOk, OnOk, OnErr, IsErrOf};
 ghost use Rattle.er_outside.specs.Ends.{Gives, IsSpent, Rose};
 ghost use Rattle.er_run.specs.Promise.{IsReadWhole, piece_bytes};
 
@@ -22,10 +22,13 @@ pub(crate) enum InputFault {
 
 /// The bytes of the source to its end, or more than an input may have. It reads no more than it needs to know which.
 pub(crate) fn read_input<S: Source>(alloc: Global, source: &mut S) -> Result<Vec<u8>, InputFault>
-    ensures read { IfOk result (λ bytes. Gives (S.left source.old) bytes.items (S.left source.new)) }
+    ensures read { IfOk result (λ bytes. Gives (S.left source.old) bytes.items
+        (S.left source.new)) }
     ensures whole { IfOk result (λ bytes. IsReadWhole bytes.items (S.left source.new)) }
-    ensures failed { IsErrOf result InputFault.Failed → Rose (S.faults source.old) (S.faults source.new) }
+    ensures failed { IsErrOf result InputFault.Failed
+        → Rose (S.faults source.old) (S.faults source.new) }
     ensures count { S.faults source.old ≤ S.faults source.new }
+    ensures stands { OnOk result (S.faults source.new ≡ S.faults source.old) }
 {
     let mut bytes = Vec::new(alloc);
     while bytes.len() <= MOST_BYTES {
@@ -42,8 +45,10 @@ fn read_piece<S: Source>(source: &mut S, bytes: &mut Vec<u8>) -> Result<usize, I
         × (bytes.new.items ≡ bytes.old.items ++ piece) × Gives (S.left source.old) piece (S.left source.new)) }
     ensures few { IfOk result (λ n. n ≤ piece_bytes) }
     ensures end { IfOk result (λ n. n ≡ 0 → IsSpent (S.left source.new)) }
-    ensures failed { IsErrOf result InputFault.Failed → Rose (S.faults source.old) (S.faults source.new) }
+    ensures failed { IsErrOf result InputFault.Failed
+        → Rose (S.faults source.old) (S.faults source.new) }
     ensures count { S.faults source.old ≤ S.faults source.new }
+    ensures stands { OnOk result (S.faults source.new ≡ S.faults source.old) }
 {
     let mut buffer = [0u8; PIECE];
     let Ok(n) = source.read(&mut buffer) else {

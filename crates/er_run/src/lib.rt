@@ -34,14 +34,22 @@ pub fn run<S: Source, K: Sink>(
     sink: &mut K,
 ) -> Outcome
     // What was read answers the outcome, and the text that is due was written.
-    ensures answered { IsAnswer result → IsAnswered (S.left source.old) (S.left source.new) (K.got sink.old) (K.got sink.new) result }
+    ensures answered { IsAnswer result
+        → IsAnswered (S.left source.old) (S.left source.new) (K.got sink.old) (K.got sink.new) result }
     // Any word gives `Usage`, and nothing else does.
     ensures usage { (result ≡ Outcome.Usage) ↔ (0 < length words.now) }
-    ensures read_fault { result ≡ Outcome.ReadFault → Rose (S.faults source.old) (S.faults source.new) }
-    ensures write_fault { result ≡ Outcome.WriteFault → Rose (K.faults sink.old) (K.faults sink.new) }
-    ensures cut_short { result ≡ Outcome.WriteFault → IsCutShort (S.left source.old) (S.left source.new) (K.got sink.old) (K.got sink.new) }
-    // A refused command, a failed read and want of memory leave the sink as it was.
-    ensures kept { IsSilent result → K.got sink.new ≡ K.got sink.old }
+    ensures read_fault { result ≡ Outcome.ReadFault
+        → Rose (S.faults source.old) (S.faults source.new) }
+    ensures write_fault { result ≡ Outcome.WriteFault
+        → Rose (K.faults sink.old) (K.faults sink.new) }
+    ensures cut_short { result ≡ Outcome.WriteFault
+        → IsCutShort (S.left source.old) (S.left source.new) (K.got sink.old) (K.got sink.new) }
+    // No answer comes over a fault.
+    ensures no_fault { IsAnswer result
+        → (S.faults source.new ≡ S.faults source.old) × (K.faults sink.new ≡ K.faults sink.old) }
+    // A refused command leaves the source as it was, and so do a failed read and want of memory the sink.
+    ensures unread { result ≡ Outcome.Usage → source.new ≡ source.old }
+    ensures unwritten { IsSilent result → sink.new ≡ sink.old }
     // Where no fault came, the outcome is the answer of the bytes that the source held, unless memory ran out.
     ensures complete { length words.now ≡ 0
         → (Rose (S.faults source.old) (S.faults source.new) → ⊥)

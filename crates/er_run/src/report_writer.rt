@@ -1,10 +1,10 @@
 //! The writer of the report, and of a refusal.
 
 ghost use Rattle.std.specs.Prelude.{◌≡◌, ◌≤◌, List, [], ◌∷◌, ◌++◌, length, codes, All, OnOk, OnErr};
-ghost use Rattle.er_outside.specs.Ends.{Gets, GetsPart, Rose};
+ghost use Rattle.er_outside.specs.Ends.{Gets, GetsPart, Puts};
 ghost use Rattle.er_trace.specs.Items.{Word, Number};
 ghost use Rattle.er_trace.specs.Spelling.{mode_word, loc_items};
-ghost use Rattle.er_run.specs.Buffered.{HoldsRest};
+ghost use Rattle.er_run.specs.Buffered.{CountsFaults, HoldsRest};
 ghost use Rattle.er_run.specs.Listing.{IsWithin};
 ghost use Rattle.er_run.specs.Pieces.{item_start};
 ghost use Rattle.er_run.specs.Races.{ArePairs};
@@ -19,23 +19,10 @@ use er_text::{Cause, put_number};
 use er_trace::print::print_loc;
 use er_trace::record::{Loc, Mode};
 
-/// The letter of a mode.
-fn mode_letter(mode: Mode) -> &'static str
-    ensures { result.now ≡ mode_word mode }
-{
-    match mode {
-        Mode::R => "r",
-        Mode::W => "w",
-    }
-}
-
 /// Writes a word and a space.
 #[tactic(auto, using(er_outside::proofs::Puts::composes, crate::proofs::ReportLemmas::word_start))]
 fn put_word<K: Sink>(sink: &mut K, word: &str) -> Result<(), Failed>
-    ensures whole { OnOk result (Gets (K.got sink.old) (item_start (Word word.now)) (K.got sink.new)) }
-    ensures part { OnErr result (GetsPart (K.got sink.old) (item_start (Word word.now)) (K.got sink.new)) }
-    ensures cause { OnErr result (Rose (K.faults sink.old) (K.faults sink.new)) }
-    ensures count { K.faults sink.old ≤ K.faults sink.new }
+    ensures { Puts K.got K.faults sink.old (item_start (Word word.now)) sink.new result }
 {
     put_all(sink, word.as_bytes())?;
     put_all(sink, b" ")
@@ -44,10 +31,7 @@ fn put_word<K: Sink>(sink: &mut K, word: &str) -> Result<(), Failed>
 /// Writes a number and a space.
 #[tactic(auto, using(er_outside::proofs::Puts::composes, crate::proofs::ReportLemmas::number_start))]
 fn put_field<K: Sink>(sink: &mut K, number: u64) -> Result<(), Failed>
-    ensures whole { OnOk result (Gets (K.got sink.old) (item_start (Number number)) (K.got sink.new)) }
-    ensures part { OnErr result (GetsPart (K.got sink.old) (item_start (Number number)) (K.got sink.new)) }
-    ensures cause { OnErr result (Rose (K.faults sink.old) (K.faults sink.new)) }
-    ensures count { K.faults sink.old ≤ K.faults sink.new }
+    ensures { Puts K.got K.faults sink.old (item_start (Number number)) sink.new result }
 {
     put_number(sink, number)?;
     put_all(sink, b" ")
@@ -56,23 +40,18 @@ fn put_field<K: Sink>(sink: &mut K, number: u64) -> Result<(), Failed>
 /// Writes the letters of two modes and a space.
 #[tactic(auto, using(er_outside::proofs::Puts::composes, crate::proofs::ReportLemmas::modes_start))]
 fn put_modes<K: Sink>(sink: &mut K, first: Mode, second: Mode) -> Result<(), Failed>
-    ensures whole { OnOk result (Gets (K.got sink.old) (item_start (Word (mode_word first ++ mode_word second))) (K.got sink.new)) }
-    ensures part { OnErr result (GetsPart (K.got sink.old) (item_start (Word (mode_word first ++ mode_word second))) (K.got sink.new)) }
-    ensures cause { OnErr result (Rose (K.faults sink.old) (K.faults sink.new)) }
-    ensures count { K.faults sink.old ≤ K.faults sink.new }
+    ensures { Puts K.got K.faults sink.old
+        (item_start (Word (mode_word first ++ mode_word second))) sink.new result }
 {
-    put_all(sink, mode_letter(first).as_bytes())?;
-    put_all(sink, mode_letter(second).as_bytes())?;
+    put_all(sink, first.word().as_bytes())?;
+    put_all(sink, second.word().as_bytes())?;
     put_all(sink, b" ")
 }
 
 /// Writes a location and ends the line.
 #[tactic(auto, using(er_outside::proofs::Puts::composes, crate::proofs::ReportLemmas::loc_line))]
 fn end_with_loc<K: Sink>(sink: &mut K, loc: &Loc) -> Result<(), Failed>
-    ensures whole { OnOk result (Gets (K.got sink.old) (item_line (loc_items loc.now)) (K.got sink.new)) }
-    ensures part { OnErr result (GetsPart (K.got sink.old) (item_line (loc_items loc.now)) (K.got sink.new)) }
-    ensures cause { OnErr result (Rose (K.faults sink.old) (K.faults sink.new)) }
-    ensures count { K.faults sink.old ≤ K.faults sink.new }
+    ensures { Puts K.got K.faults sink.old (item_line (loc_items loc.now)) sink.new result }
 {
     print_loc(loc, sink)?;
     put_all(sink, b"\n")
@@ -81,10 +60,7 @@ fn end_with_loc<K: Sink>(sink: &mut K, loc: &Loc) -> Result<(), Failed>
 /// Writes a number and ends the line.
 #[tactic(auto, using(er_outside::proofs::Puts::composes, crate::proofs::ReportLemmas::number_line))]
 fn end_with_number<K: Sink>(sink: &mut K, number: u64) -> Result<(), Failed>
-    ensures whole { OnOk result (Gets (K.got sink.old) (item_line (Number number ∷ [])) (K.got sink.new)) }
-    ensures part { OnErr result (GetsPart (K.got sink.old) (item_line (Number number ∷ [])) (K.got sink.new)) }
-    ensures cause { OnErr result (Rose (K.faults sink.old) (K.faults sink.new)) }
-    ensures count { K.faults sink.old ≤ K.faults sink.new }
+    ensures { Puts K.got K.faults sink.old (item_line (Number number ∷ [])) sink.new result }
 {
     put_number(sink, number)?;
     put_all(sink, b"\n")
@@ -93,10 +69,7 @@ fn end_with_number<K: Sink>(sink: &mut K, number: u64) -> Result<(), Failed>
 /// Writes a word and ends the line.
 #[tactic(auto, using(er_outside::proofs::Puts::composes, crate::proofs::ReportLemmas::word_line))]
 fn end_with_word<K: Sink>(sink: &mut K, word: &str) -> Result<(), Failed>
-    ensures whole { OnOk result (Gets (K.got sink.old) (item_line (Word word.now ∷ [])) (K.got sink.new)) }
-    ensures part { OnErr result (GetsPart (K.got sink.old) (item_line (Word word.now ∷ [])) (K.got sink.new)) }
-    ensures cause { OnErr result (Rose (K.faults sink.old) (K.faults sink.new)) }
-    ensures count { K.faults sink.old ≤ K.faults sink.new }
+    ensures { Puts K.got K.faults sink.old (item_line (Word word.now ∷ [])) sink.new result }
 {
     put_all(sink, word.as_bytes())?;
     put_all(sink, b"\n")
@@ -105,10 +78,7 @@ fn end_with_word<K: Sink>(sink: &mut K, word: &str) -> Result<(), Failed>
 /// Writes the line of a count.
 #[tactic(auto, using(er_outside::proofs::Puts::composes, crate::proofs::ReportLemmas::count_pieces))]
 fn put_count<K: Sink>(sink: &mut K, name: &str, number: u64) -> Result<(), Failed>
-    ensures whole { OnOk result (Gets (K.got sink.old) (count_line name.now number) (K.got sink.new)) }
-    ensures part { OnErr result (GetsPart (K.got sink.old) (count_line name.now number) (K.got sink.new)) }
-    ensures cause { OnErr result (Rose (K.faults sink.old) (K.faults sink.new)) }
-    ensures count { K.faults sink.old ≤ K.faults sink.new }
+    ensures { Puts K.got K.faults sink.old (count_line name.now number) sink.new result }
 {
     put_word(sink, name)?;
     end_with_number(sink, number)
@@ -191,10 +161,13 @@ fn put_races<K: Sink>(
     races: &[Race],
 ) -> Result<(), Failed>
     requires in_range { All (IsWithin kept.now) races.now }
-    ensures whole { (pairs : List (Kept × Kept)) → ArePairs kept.now races.now pairs → OnOk result (HoldsRest (K.got sink.old) (buffer.old ++ race_lines 1 pairs) (K.got sink.new) buffer.new) }
-    ensures part { (pairs : List (Kept × Kept)) → ArePairs kept.now races.now pairs → OnErr result (GetsPart (K.got sink.old) (buffer.old ++ race_lines 1 pairs) (K.got sink.new)) }
-    ensures cause { OnErr result (Rose (K.faults sink.old) (K.faults sink.new)) }
-    ensures count { K.faults sink.old ≤ K.faults sink.new }
+    ensures whole { (pairs : List (Kept × Kept)) → ArePairs kept.now races.now pairs
+        → OnOk result (HoldsRest (K.got sink.old) (buffer.old ++ race_lines 1 pairs)
+        (K.got sink.new) buffer.new) }
+    ensures part { (pairs : List (Kept × Kept)) → ArePairs kept.now races.now pairs
+        → OnErr result (GetsPart (K.got sink.old) (buffer.old ++ race_lines 1 pairs)
+        (K.got sink.new)) }
+    ensures counts { CountsFaults K.faults sink.old sink.new result }
 {
     for (place, race) in races.iter().enumerate() {
         let first = &kept[race.first as usize];
@@ -222,10 +195,13 @@ pub(crate) fn write_report<K: Sink>(
     counts: &Counts,
 ) -> Result<(), Failed>
     requires in_range { All (IsWithin kept.now) races.now }
-    ensures whole { (found : List (Kept × Kept)) → ArePairs kept.now races.now found → OnOk result (Gets (K.got sink.old) (report_of found counts.now) (K.got sink.new)) }
-    ensures part { (found : List (Kept × Kept)) → ArePairs kept.now races.now found → OnErr result (GetsPart (K.got sink.old) (report_of found counts.now) (K.got sink.new)) }
-    ensures cause { OnErr result (Rose (K.faults sink.old) (K.faults sink.new)) }
-    ensures count { K.faults sink.old ≤ K.faults sink.new }
+    ensures whole { (found : List (Kept × Kept)) → ArePairs kept.now races.now found
+        → OnOk result (Gets (K.got sink.old) (report_of found counts.now)
+        (K.got sink.new)) }
+    ensures part { (found : List (Kept × Kept)) → ArePairs kept.now races.now found
+        → OnErr result (GetsPart (K.got sink.old) (report_of found counts.now)
+        (K.got sink.new)) }
+    ensures counts { CountsFaults K.faults sink.old sink.new result }
 {
     let mut buffer = Buffer::new();
     put_text(sink, &mut buffer, &Opening)?;
@@ -237,10 +213,7 @@ pub(crate) fn write_report<K: Sink>(
 /// Writes the line of a refusal.
 #[tactic(auto, using(er_outside::proofs::Puts::composes))]
 pub(crate) fn write_refusal<K: Sink>(sink: &mut K, line: u32, cause: Cause) -> Result<(), Failed>
-    ensures whole { OnOk result (Gets (K.got sink.old) (refusal line cause) (K.got sink.new)) }
-    ensures part { OnErr result (GetsPart (K.got sink.old) (refusal line cause) (K.got sink.new)) }
-    ensures cause { OnErr result (Rose (K.faults sink.old) (K.faults sink.new)) }
-    ensures count { K.faults sink.old ≤ K.faults sink.new }
+    ensures { Puts K.got K.faults sink.old (refusal line cause) sink.new result }
 {
     let mut buffer = Buffer::new();
     put_text(sink, &mut buffer, &Refusal { line, cause })?;

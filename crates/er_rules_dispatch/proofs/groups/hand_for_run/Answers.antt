@@ -3,15 +3,16 @@ use Rattle.std.specs.Prelude.{nat_lt}
 use Rattle.er_history.specs.History.{told}
 use Rattle.er_history.specs.Latest.{latest_of}
 use Rattle.er_page.specs.Page.{IsPage}
-use Rattle.er_hand.proofs.EventsLemmas.{has_event}
+use Rattle.er_hand.proofs.HandingLemmas.{made_events}
+use Rattle.er_history.specs.History.{declares_handler}
 use Rattle.er_pieces.specs.HandedPieces.{runs_or_begin, group_handed}
 use Rattle.er_pieces.proofs.SequenceLemmas.{whole_then, part_then, part_first}
 use Rattle.er_rules_dispatch.specs.Due.{before_run}
-use Rattle.er_rules_dispatch.proofs.DueLemmas.{handler_maker_is_event, run_is_due}
+use Rattle.er_rules_dispatch.proofs.DueLemmas.{run_is_due}
 use Rattle.er_rules_dispatch.proofs.groups.hand_for_run.Goals as goal
 
 pub hand_latest-requires : goal.hand_latest-requires
-hand_latest-requires c = record { events = has_event c.args.page.now c.maker_of_handler.result c.requires.some (λ h is. handler_maker_is_event h c.args.handler c.maker_of_handler.result (c.maker_of_handler.ensures h is)) }
+hand_latest-requires c = record { events = made_events c.args.page.now (declares_handler c.args.handler) c.maker_of_handler.result c.requires.some c.maker_of_handler.ensures }
 
 pub returns-in_err-hand_latest-clause-part : goal.returns-in_err-hand_latest-clause-part
 returns-in_err-hand_latest-clause-part c = part_first (IsPage c.args.page.now) (λ h. latest_of c.maker_of_handler.result (told h).actions) (λ h. group_handed c.args.dispatch (λ k. nat_lt k c.args.group) (told h).actions) (λ h. before_run h c.args.dispatch c.args.group c.args.handler) c.args.out.now.items c.hand_latest.new.out.items c.from_residual.result

@@ -2,15 +2,15 @@ use Rattle.std.proofs.Common.{◌++◌}
 use Rattle.er_history.specs.History.{told}
 use Rattle.er_history.specs.Latest.{latest_of}
 use Rattle.er_page.specs.Page.{IsPage}
-use Rattle.er_hand.proofs.EventsLemmas.{has_event}
+use Rattle.er_hand.proofs.HandingLemmas.{element_events}
 use Rattle.er_pieces.specs.Contract.{listed}
 use Rattle.er_pieces.proofs.SequenceLemmas.{whole_then, part_then, part_first}
 use Rattle.er_rules_dispatch.specs.Due.{closed_at, at_element}
-use Rattle.er_rules_dispatch.proofs.DueLemmas.{element_maker_is_event, element_is_due, each_whole, each_part}
+use Rattle.er_rules_dispatch.proofs.DueLemmas.{element_is_due, each_whole, each_part}
 use Rattle.er_rules_dispatch.proofs.targets.hand_at_element.Goals as goal
 
 pub hand_latest-requires : goal.hand_latest-requires
-hand_latest-requires c = record { events = has_event c.args.page.now c.maker_of_element.result c.requires.some (λ h is. element_maker_is_event h c.args.element c.maker_of_element.result (c.maker_of_element.ensures h is)) }
+hand_latest-requires c = record { events = element_events c.args.page.now c.args.element c.maker_of_element.result c.requires.some c.maker_of_element.ensures }
 
 pub returns-in_err-hand_latest-clause-part : goal.returns-in_err-hand_latest-clause-part
 returns-in_err-hand_latest-clause-part c = part_first (IsPage c.args.page.now) (λ h. latest_of c.maker_of_element.result (told h).actions) (λ h. closed_at h c.args.element c.args.name.now) (λ h. at_element h c.args.element c.args.name.now) c.args.out.now.items c.hand_latest.new.out.items c.from_residual.result

@@ -2,18 +2,17 @@ use Rattle.std.proofs.Common.{ℕ, List, ◌++◌, Some, ap, sym, ◌∙◌, sub
 use Rattle.er_history.specs.History.{told}
 use Rattle.er_history.specs.Latest.{latest_piece}
 use Rattle.er_page.specs.Page.{IsPage}
-use Rattle.er_hand.proofs.EventsLemmas.{has_event}
 use Rattle.er_pieces.specs.Contract.{GrewBy}
 use Rattle.er_pieces.proofs.ContractLemmas.{grew_nothing}
 use Rattle.er_pieces.proofs.SequenceLemmas.{whole_of, part_of}
 use Rattle.er_rules_timer.specs.Fired.{fired_handed, set_by, due_for}
-use Rattle.er_rules_timer.proofs.TimersLemmas.{setter_is_event}
+use Rattle.er_rules_timer.proofs.TimersLemmas.{setter_events}
 use Rattle.er_rules_timer.proofs.predecessors.hand_for_timer.Goals as goal
 
 pub hand_set_by-requires : goal.hand_set_by-requires
 hand_set_by-requires c = record {
   some = c.requires.some;
-  events = has_event c.args.page.now (Some c.in-Some.setter) c.requires.some (λ h is. setter_is_event h c.args.timeout (Some c.in-Some.setter) (sym c.in-Some.is ∙ c.maker_of_timeout.ensures h is));
+  events = setter_events c.args.page.now c.args.timeout (Some c.in-Some.setter) c.requires.some (λ h is. sym c.in-Some.is ∙ c.maker_of_timeout.ensures h is);
 }
 
 pub returns-in-Some-clause-whole : goal.returns-in-Some-clause-whole

@@ -1,4 +1,4 @@
-use Rattle.std.proofs.Common.{◌+◌, ◌-◌, ◌≤◌, vec_len}
+use Rattle.std.proofs.Common.{◌≡◌, ◌+◌, ◌-◌, ◌≤◌, vec_len}
 use Rattle.er_outside.specs.Ends.{Gives}
 use Rattle.er_run.specs.Answer.{most_bytes}
 use Rattle.er_run.specs.Promise.{piece_bytes}
@@ -8,7 +8,7 @@ abbrev pub invariant-loop-source : goal.invariant-loop-source
 invariant-loop-source g l = record {
   given : Gives (g.S.Source.left l.fn.source) l.bytes.items (g.S.Source.left l.source);
   few : vec_len l.bytes ≤ most_bytes + piece_bytes;
-  counted : g.S.Source.faults l.fn.source ≤ g.S.Source.faults l.source;
+  stands : g.S.Source.faults l.source ≡ g.S.Source.faults l.fn.source;
 }
 
 abbrev pub decreases-loop-source : goal.decreases-loop-source

@@ -1,4 +1,4 @@
-use Rattle.std.proofs.Common.{arith, rules}
+use Rattle.std.proofs.Common.{rules, refl, ◌∙◌}
 use Rattle.er_run.specs.declared.accesses.Race.{Race}
 use Rattle.er_run.proofs.ReportLemmas.{reads_race, races_more, races_part}
 use Rattle.er_run.proofs.BufferedLemmas.{holds_start}
@@ -19,11 +19,11 @@ loop-place-preserved g c = record {
       let range = c.requires.in_range c.loop-place.place d c.loop-place-test.true in
       let at = reads_race c.args.kept.now c.args.races.now c.loop-place.place d _ _ c.loop-place-test.true range c.index-kept-race.is c.index-kept-race-in-loop-place.is in
       races_more _ _ _ _ _ _ _ _ _ _ _ pairs at are (c.loop-place.invariant.came pairs are) c.in_ok-put_text.ensures.whole;
-  counted = omega (arith, c.loop-place.invariant.counted, c.put_text.ensures.count);
+  stands = c.in_ok-put_text.ensures.counts.stands ∙ c.loop-place.invariant.stands;
 }
 
 pub loop-place-init : goal.loop-place-init
 loop-place-init g c = record {
   came = λ pairs are. holds_start _ _;
-  counted = omega arith;
+  stands = refl;
 }

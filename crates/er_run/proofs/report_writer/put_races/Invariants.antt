@@ -1,4 +1,4 @@
-use Rattle.std.proofs.Common.{List, ◌≤◌, ◌++◌, take}
+use Rattle.std.proofs.Common.{◌≡◌, List, ◌++◌, take}
 use Rattle.er_run.specs.Buffered.{HoldsRest}
 use Rattle.er_run.specs.declared.accesses.Kept.{Kept}
 use Rattle.er_run.specs.Races.{ArePairs}
@@ -9,5 +9,5 @@ use Rattle.er_run.proofs.report_writer.put_races.Given as goal
 abbrev pub invariant-loop-place : goal.invariant-loop-place
 invariant-loop-place g l = record {
   came : (pairs : List (Kept × Kept)) → ArePairs l.kept l.races pairs → HoldsRest (g.K.Sink.got l.fn.sink) (l.fn.buffer ++ race_lines 1 (take l.place pairs)) (g.K.Sink.got l.sink) l.buffer;
-  counted : g.K.Sink.faults l.fn.sink ≤ g.K.Sink.faults l.sink;
+  stands : g.K.Sink.faults l.sink ≡ g.K.Sink.faults l.fn.sink;
 }

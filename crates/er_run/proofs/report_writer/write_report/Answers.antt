@@ -29,7 +29,7 @@ returns-clause-whole g c = λ found are.
     let held : HoldsRest (sink c.args.sink.now) (c.new-buffer.result ++ report_of found c.args.counts.now) (sink c.put_text-2.new.sink) c.put_text-2.new.buffer =
     report_held (sink c.args.sink.now) (sink c.put_text.new.sink) (sink c.put_races.new.sink) (sink c.put_text-2.new.sink) c.new-buffer.result c.put_text.new.buffer c.put_races.new.buffer c.put_text-2.new.buffer found c.args.counts.now
     c.in_ok-put_text.ensures.whole (c.in_ok-put_races.ensures.whole found are) c.in_ok-put_text-2.ensures.whole in
-    flushed _ _ _ _ _ _ _ c.new-buffer.ensures held c.flush.ensures.whole
+    flushed _ _ _ _ _ _ _ c.new-buffer.ensures held c.flush.ensures.puts.whole
 
 pub returns-clause-part : goal.returns-clause-part
 returns-clause-part g c = λ found are.
@@ -37,4 +37,4 @@ returns-clause-part g c = λ found are.
     let held : HoldsRest (sink c.args.sink.now) (c.new-buffer.result ++ report_of found c.args.counts.now) (sink c.put_text-2.new.sink) c.put_text-2.new.buffer =
     report_held (sink c.args.sink.now) (sink c.put_text.new.sink) (sink c.put_races.new.sink) (sink c.put_text-2.new.sink) c.new-buffer.result c.put_text.new.buffer c.put_races.new.buffer c.put_text-2.new.buffer found c.args.counts.now
     c.in_ok-put_text.ensures.whole (c.in_ok-put_races.ensures.whole found are) c.in_ok-put_text-2.ensures.whole in
-    flushed_part _ _ _ _ _ _ _ c.new-buffer.ensures held c.flush.ensures.part
+    flushed_part _ _ _ _ _ _ _ c.new-buffer.ensures held c.flush.ensures.puts.part

@@ -1,0 +1,103 @@
+-- Every byte string has an answer.
+use Rattle.std.proofs.Common.{◌≡◌, ◌⊎◌, ℕ, ◌+◌, ◌≤◌, List, [], ◌∷◌, ◌++◌, length, take, reverse, Bool, true, false, nat_lt, Option, None, Some, refl, ap, sym, ◌∙◌, subst, inl, inr, arith, slice_get, append_assoc, MatchBool}
+use Rattle.std.proofs.lemmas.Grind.{common_steps}
+use Rattle.std.proofs.lemmas.List.{reverse-append, length-reverse}
+use Rattle.std.proofs.lemmas.Bool.Decides.{nat_tests}
+use Rattle.er_text.specs.declared.causes.Cause.{Cause}
+use Rattle.er_text.specs.declared.causes.Cause.TheVariants.{TooManyLines}
+use Rattle.er_trace.specs.declared.record.Record.{Record}
+use Rattle.er_history.specs.Sound.{IsLegal}
+use Rattle.er_history.specs.Sound as sound
+use Rattle.er_graph.specs.Rules.{rules_now}
+use Rattle.er_graph.specs.declared.fault.GraphFault.TheVariants as graph_faults
+use Rattle.er_run.specs.declared.answer.LineRefusal.{LineRefusal}
+use Rattle.er_run.specs.declared.outcome.Outcome.{Outcome}
+use Rattle.er_run.specs.declared.outcome.Outcome.TheVariants.{Refused}
+use Rattle.er_run.specs.Accepted.{IsReading}
+use Rattle.er_run.specs.Answer.{most_bytes, FirstIllegal, IsRefused, Answers}
+use Rattle.er_run.specs.Report.{report, refusal}
+use Rattle.er_run.specs.Session.{IsFaultOf}
+use Rattle.er_run.proofs.AcceptLemmas.{refused_judged, refused_line}
+use Rattle.er_run.proofs.AnswerLemmas.{legal_answer}
+use Rattle.er_run.proofs.EveryText.{Reads, Whole, Until, every_text}
+
+-- the first record of a list, newest first, that has a cause
+record Faulty (h : List Record) : Type 0 where
+  newer : List Record
+  read : Record
+  older : List Record
+  cause : Cause
+  is : h ≡ newer ++ read ∷ older
+  legal : IsLegal rules_now older
+  why : sound.cause rules_now older read ≡ Some cause
+
+newest : (h : List Record) (x : Record) (o : Option Cause) → o ≡ sound.cause rules_now h x → IsLegal rules_now h → IsLegal rules_now (x ∷ h) ⊎ Faulty (x ∷ h)
+newest h x None is legal = inl (sym is, legal)
+newest h x (Some c) is legal = inr (record { newer = []; read = x; older = h; cause = c; is = refl; legal = legal; why = sym is })
+
+legal_or_faulty : (h : List Record) → IsLegal rules_now h ⊎ Faulty h
+legal_or_faulty [] = inl tt
+legal_or_faulty (x ∷ h) = elim (legal_or_faulty h) [
+  | inl legal ↦ newest h x (sound.cause rules_now h x) refl legal
+  | inr faulty ↦ inr (record { newer = x ∷ faulty.newer; read = faulty.read; older = faulty.older; cause = faulty.cause; is = ap (λ l. x ∷ l) faulty.is; legal = faulty.legal; why = faulty.why })
+]
+
+at_place : (front back : List Record) (x : Record) → slice_get (front ++ x ∷ back) (length front) ≡ Some x
+at_place [] back x = refl
+at_place (y ∷ front) back x = at_place front back x
+
+front_taken : (front back : List Record) → take (length front) (front ++ back) ≡ front
+front_taken [] back = grind (arith, common_steps)
+front_taken (y ∷ front) back = ap (λ l. y ∷ l) (front_taken front back)
+
+reverse_twice : (h : List Record) → reverse (reverse h) ≡ h
+reverse_twice h = grind (arith, common_steps)
+
+-- as a judgement of the records, oldest first
+fault_of : (records : List Record) → (f : Faulty (reverse records)) → IsFaultOf records (graph_faults.Refused (length f.older + 2) f.cause)
+fault_of records f =
+    let back : records ≡ reverse f.older ++ f.read ∷ reverse f.newer =
+    sym (reverse_twice records) ∙ (ap reverse f.is ∙ (reverse-append f.newer (f.read ∷ f.older) ∙ (ap (λ l. l ++ reverse f.newer) (reverse-append (f.read ∷ []) f.older) ∙ append_assoc (reverse f.older) (f.read ∷ []) (reverse f.newer)))) in
+    let long : length (reverse f.older) ≡ length f.older = length-reverse f.older in
+    let front : take (length f.older) records ≡ reverse f.older = ap (take (length f.older)) back ∙ (ap (λ n. take n (reverse f.older ++ f.read ∷ reverse f.newer)) (sym long) ∙ front_taken (reverse f.older) (f.read ∷ reverse f.newer)) in
+    let older : f.older ≡ reverse (take (length f.older) records) = sym (ap reverse front ∙ reverse_twice f.older) in
+    let there : slice_get records (length f.older) ≡ Some f.read = ap (λ l. slice_get l (length f.older)) back ∙ (ap (slice_get (reverse f.older ++ f.read ∷ reverse f.newer)) (sym long) ∙ at_place (reverse f.older) (reverse f.newer) f.read) in
+    (length f.older, refl, subst (IsLegal rules_now) older f.legal, (f.read, there, subst (λ l. sound.cause rules_now l f.read ≡ Some f.cause) older f.why))
+
+-- an answer, and the text that is due
+abbrev HasAnswer : List ℕ → Type 0
+HasAnswer bytes = (o : Outcome) × (due : List ℕ) × Answers bytes o due
+
+refused : (bytes : List ℕ) (n : ℕ) (c : Cause) → IsRefused bytes n c → HasAnswer bytes
+refused bytes n c is = (Refused n c, refusal n c, (is, refl))
+
+answered : (bytes : List ℕ) (records : List Record) (line : Option LineRefusal) → length bytes ≤ most_bytes → IsReading bytes records line → IsLegal rules_now (reverse records) → HasAnswer bytes
+answered bytes records None few reading legal =
+    let found = legal_answer bytes records (record { few = few; is_trace = reading.0; spelled = reading.1; legal = legal }) in
+    (found.0, report (reverse records), found.1)
+answered bytes records (Some line) few reading legal = refused bytes line.line line.cause (refused_line bytes records (Some line) line few reading refl legal)
+
+from_reading : (bytes : List ℕ) (records : List Record) (line : Option LineRefusal) → length bytes ≤ most_bytes → IsReading bytes records line → HasAnswer bytes
+from_reading bytes records line few reading = elim (legal_or_faulty (reverse records)) [
+  | inl legal ↦ answered bytes records line few reading legal
+  | inr f ↦ refused bytes (length f.older + 2) f.cause (refused_judged bytes records line (length f.older + 2) f.cause few reading (fault_of records f))
+]
+
+from_text : (bytes : List ℕ) → length bytes ≤ most_bytes → Reads bytes → HasAnswer bytes
+from_text bytes few (Whole records (read, is, e, same)) =
+    from_reading bytes records None few (subst (λ l. IsReading bytes l None) (sym same) (is, e))
+from_text bytes few (Until number c records (place, refuses, numbered, same)) =
+    from_reading bytes records (Some (record { line = number; cause = c })) few (place, refuses, numbered, same)
+
+by_length : (bytes : List ℕ) (many : Bool) → many ≡ nat_lt most_bytes (length bytes) → (HasAnswer bytes → ⊥) → ⊥
+by_length bytes true is = λ refute.
+    let one : ℕ = 1 in
+    let both : (one ≡ one) × (TooManyLines ≡ TooManyLines) = (refl, refl) in
+    let too_many : IsRefused bytes one TooManyLines = subst (λ b. MatchBool b ((one ≡ one) × (TooManyLines ≡ TooManyLines)) (FirstIllegal bytes one TooManyLines)) is both in
+    refute (refused bytes one TooManyLines too_many)
+by_length bytes false is = λ refute.
+    let few : length bytes ≤ most_bytes = grind (arith, nat_tests) in
+    every_text bytes (λ read. refute (from_text bytes few read))
+
+pub every_answer : (bytes : List ℕ) → (HasAnswer bytes → ⊥) → ⊥
+every_answer bytes = by_length bytes (nat_lt most_bytes (length bytes)) refl
