@@ -8,7 +8,7 @@ use Rattle.er_text.specs.declared.causes.Cause.TheVariants.{TooManyLines}
 use Rattle.er_trace.specs.declared.record.Record.{Record}
 use Rattle.er_history.specs.Sound.{IsLegal}
 use Rattle.er_history.specs.Sound as sound
-use Rattle.er_graph.specs.Rules.{rules_now}
+use Rattle.er_history.specs.Rules.{rules}
 use Rattle.er_graph.specs.declared.fault.GraphFault.TheVariants as graph_faults
 use Rattle.er_run.specs.declared.answer.LineRefusal.{LineRefusal}
 use Rattle.er_run.specs.declared.outcome.Outcome.{Outcome}
@@ -28,17 +28,17 @@ record Faulty (h : List Record) : Type 0 where
   older : List Record
   cause : Cause
   is : h ≡ newer ++ read ∷ older
-  legal : IsLegal rules_now older
-  why : sound.cause rules_now older read ≡ Some cause
+  legal : IsLegal rules older
+  why : sound.cause rules older read ≡ Some cause
 
-newest : (h : List Record) (x : Record) (o : Option Cause) → o ≡ sound.cause rules_now h x → IsLegal rules_now h → IsLegal rules_now (x ∷ h) ⊎ Faulty (x ∷ h)
+newest : (h : List Record) (x : Record) (o : Option Cause) → o ≡ sound.cause rules h x → IsLegal rules h → IsLegal rules (x ∷ h) ⊎ Faulty (x ∷ h)
 newest h x None is legal = inl (sym is, legal)
 newest h x (Some c) is legal = inr (record { newer = []; read = x; older = h; cause = c; is = refl; legal = legal; why = sym is })
 
-legal_or_faulty : (h : List Record) → IsLegal rules_now h ⊎ Faulty h
+legal_or_faulty : (h : List Record) → IsLegal rules h ⊎ Faulty h
 legal_or_faulty [] = inl tt
 legal_or_faulty (x ∷ h) = elim (legal_or_faulty h) [
-  | inl legal ↦ newest h x (sound.cause rules_now h x) refl legal
+  | inl legal ↦ newest h x (sound.cause rules h x) refl legal
   | inr faulty ↦ inr (record { newer = x ∷ faulty.newer; read = faulty.read; older = faulty.older; cause = faulty.cause; is = ap (λ l. x ∷ l) faulty.is; legal = faulty.legal; why = faulty.why })
 ]
 
@@ -62,7 +62,7 @@ fault_of records f =
     let front : take (length f.older) records ≡ reverse f.older = ap (take (length f.older)) back ∙ (ap (λ n. take n (reverse f.older ++ f.read ∷ reverse f.newer)) (sym long) ∙ front_taken (reverse f.older) (f.read ∷ reverse f.newer)) in
     let older : f.older ≡ reverse (take (length f.older) records) = sym (ap reverse front ∙ reverse_twice f.older) in
     let there : slice_get records (length f.older) ≡ Some f.read = ap (λ l. slice_get l (length f.older)) back ∙ (ap (slice_get (reverse f.older ++ f.read ∷ reverse f.newer)) (sym long) ∙ at_place (reverse f.older) (reverse f.newer) f.read) in
-    (length f.older, refl, subst (IsLegal rules_now) older f.legal, (f.read, there, subst (λ l. sound.cause rules_now l f.read ≡ Some f.cause) older f.why))
+    (length f.older, refl, subst (IsLegal rules) older f.legal, (f.read, there, subst (λ l. sound.cause rules l f.read ≡ Some f.cause) older f.why))
 
 -- an answer, and the text that is due
 abbrev HasAnswer : List ℕ → Type 0
@@ -71,7 +71,7 @@ HasAnswer bytes = (o : Outcome) × (due : List ℕ) × Answers bytes o due
 refused : (bytes : List ℕ) (n : ℕ) (c : Cause) → IsRefused bytes n c → HasAnswer bytes
 refused bytes n c is = (Refused n c, refusal n c, (is, refl))
 
-answered : (bytes : List ℕ) (records : List Record) (line : Option LineRefusal) → length bytes ≤ most_bytes → IsReading bytes records line → IsLegal rules_now (reverse records) → HasAnswer bytes
+answered : (bytes : List ℕ) (records : List Record) (line : Option LineRefusal) → length bytes ≤ most_bytes → IsReading bytes records line → IsLegal rules (reverse records) → HasAnswer bytes
 answered bytes records None few reading legal =
     let found = legal_answer bytes records (record { few = few; is_trace = reading.0; spelled = reading.1; legal = legal }) in
     (found.0, report (reverse records), found.1)
