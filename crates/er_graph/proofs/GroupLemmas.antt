@@ -8,6 +8,8 @@ use Rattle.er_history.specs.History.{History, Action, told, event_begun, begins}
 use Rattle.er_history.specs.Rules.{Rule, any_holds, rules, parse_rules, script_rules, load_rules, dispatch_rules, timer_rules, request_rules}
 use Rattle.er_history.specs.Edges.{path}
 use Rattle.er_history.specs.Sound.{leads_back, out_of_order}
+use Rattle.er_history.specs.Handed.{HasGroup}
+use Rattle.er_pieces.proofs.SteadyLemmas.{has_first, has_second, has_itself}
 use Rattle.er_history.proofs.OrderLemmas.{leads_append, none_passes, not_both}
 
 -- one a crate of rules, in the order of their numbers
@@ -18,6 +20,12 @@ groups = parse_rules ∷ script_rules ∷ load_rules ∷ dispatch_rules ∷ time
 abbrev pub together : List (List (ℕ × Rule)) → List (ℕ × Rule)
 together [] = []
 together (group ∷ rest) = group ++ together rest
+
+-- the table of all rules has those of timers
+pub has_timers : HasGroup rules timer_rules
+has_timers =
+    let four : List (ℕ × Rule) = parse_rules ++ script_rules ++ load_rules ++ dispatch_rules in
+    has_first (four ++ timer_rules) request_rules timer_rules (has_second four timer_rules timer_rules (has_itself timer_rules))
 
 -- an empty table puts no record out of order
 nothing_leads : (joined : ℕ → ℕ → Bool) (h : History) (x : Record) → leads_back [] joined h x ≡ false

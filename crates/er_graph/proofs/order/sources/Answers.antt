@@ -2,15 +2,17 @@ use Rattle.std.proofs.Common.{sym, subst, List, ℕ}
 use Rattle.er_history.specs.History.{told}
 use Rattle.er_history.specs.Rules.{rules}
 use Rattle.er_history.specs.Edges.{path}
+use Rattle.er_pieces.specs.Contract.{ComesNext}
 use Rattle.er_pieces.specs.PiecesHanded.{HasHandedPieces}
 use Rattle.er_pieces.proofs.SteadyLemmas.{all_rules_are_steady}
 use Rattle.er_pieces.proofs.TogetherLemmas.{all_hand, sound_lists_are_steady}
+use Rattle.er_graph.proofs.GroupLemmas.{has_timers}
 use Rattle.er_graph.proofs.PartLemmas.{from_nothing}
 use Rattle.er_graph.proofs.order.sources.Goals as goal
 
 pub returns : goal.returns
 returns c = λ h page sound named order.
-    let next = record { has = all_rules_are_steady; sound = sound; named = named; ordered = order } in
+    let next : ComesNext rules h c.args.rec.now = record { has = all_rules_are_steady; sound = sound; named = named; ordered = order } in
     let handed = all_hand h c.args.rec.now c.new-found.result.items c.predecessors-6.new.out.items (sound_lists_are_steady h sound) named (record {
       steps = c.predecessors.new.out.items;
       runs = c.predecessors-2.new.out.items;
@@ -21,7 +23,7 @@ returns c = λ h page sound named order.
       script = c.in_ok-predecessors-2.ensures.enough rules h page next;
       load = c.in_ok-predecessors-3.ensures.enough rules h page next;
       dispatch = c.in_ok-predecessors-4.ensures.enough rules h page next;
-      timer = c.in_ok-predecessors-5.ensures.enough rules h page next;
+      timer = c.in_ok-predecessors-5.ensures.enough rules h page has_timers next;
       request = c.in_ok-predecessors-6.ensures.enough rules h page next;
     }) in
     from_nothing rules (path rules h) (told h) c.args.rec.now c.predecessors-6.new.out.items (subst (λ (old : List ℕ). HasHandedPieces rules (path rules h) (told h) c.args.rec.now old c.predecessors-6.new.out.items) c.new-found.ensures.items handed)
