@@ -68,28 +68,27 @@ fn parse_steps(rt: HostRuntime) -> Result<(), Fail> {
 const MOST_INLINE: u32 = 256;
 
 /// Lines before the first inline dispatch. The dispatch that they begin is not inline, and does not count.
-static CALLER: [&str; 4] = [
-    "parse 0 1 plain",
-    "on 1",
-    "fire 0 1 a",
-    "run 0 0 1",
-];
+static CALLER: [&str; 4] = ["parse 0 1 plain", "on 1", "fire 999 1 a", "run 999 0 1"];
 
 /// Lines after the last inline dispatch that the stack may hold, and a handler of it. Naming comes first; a close leaves an inline dispatch where it is, and its `back` makes room.
 static DEEP: [(&str, Option<Cause>); 9] = [
-    ("inline 257 1 a", Some(Cause::TooDeep)),
-    ("inline 256 1 a", Some(Cause::Again)),
-    ("inline 257 9 a", Some(Cause::Unknown)),
-    ("fire 257 1 a", Some(Cause::Misplaced)),
-    ("close 256", None),
-    ("inline 257 1 a", Some(Cause::TooDeep)),
-    ("back 256", None),
-    ("inline 257 1 a", None),
-    ("inline 258 1 a", Some(Cause::Misplaced)),
+    ("inline 256 1 a", Some(Cause::TooDeep)),
+    ("inline 255 1 a", Some(Cause::Again)),
+    ("inline 256 9 a", Some(Cause::Unknown)),
+    ("fire 256 1 a", Some(Cause::Misplaced)),
+    ("close 255", None),
+    ("inline 256 1 a", Some(Cause::TooDeep)),
+    ("back 255", None),
+    ("inline 256 1 a", None),
+    ("inline 257 1 a", Some(Cause::Misplaced)),
 ];
 
 /// Takes lines, up to the first that is refused.
-fn read_all(reading: &mut Reading, alloc: Global, lines: &[&str]) -> Result<Option<Cause>, LineFault> {
+fn read_all(
+    reading: &mut Reading,
+    alloc: Global,
+    lines: &[&str],
+) -> Result<Option<Cause>, LineFault> {
     for line in lines {
         let refused = reading.read(alloc, line)?;
         if refused.is_some() {
@@ -99,9 +98,9 @@ fn read_all(reading: &mut Reading, alloc: Global, lines: &[&str]) -> Result<Opti
     Ok(None)
 }
 
-/// Takes inline dispatches from 1 up to the count, each called by a handler of the one before, up to the first that is refused.
+/// Takes inline dispatches, the numbers below the count, each called by a handler of the one before, up to the first that is refused.
 fn nest(reading: &mut Reading, name: &Name, count: u32) -> Result<Option<Cause>, NoMemory> {
-    for dispatch in 1..count + 1 {
+    for dispatch in 0..count {
         let begin = Record::Inline {
             dispatch,
             element: 1,

@@ -113,7 +113,10 @@ static BELOW: [(u32, u32, Option<u32>); 5] = [
 
 fn by_group(rt: &impl Abort, page: &Page) {
     for (dispatch, group, due) in BELOW {
-        assert!(rt; page.group_below(dispatch, group) == due, "{dispatch} {group}");
+        assert!(rt;
+            page.group_below(dispatch, group) == due,
+            "{dispatch} {group}"
+        );
     }
     assert!(rt; page.runs_in(10, 5) == [7, 9].as_slice());
     assert!(rt; page.runs_in(10, 2) == [8].as_slice());

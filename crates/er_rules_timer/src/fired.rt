@@ -37,10 +37,10 @@ fn hand_earlier(
     out: &mut SmallVec<u32, 8>,
 ) -> Result<(), NoMemory>
     requires some { ∥ IsSomePage page.now ∥₁ }
-    ensures whole { OnOk result
-        (GrewForEach (IsPage page.now) (λ h. handed_for h timeout earlier) out.old.items out.new.items) }
-    ensures part { OnErr result
-        (GrewInPartForEach (IsPage page.now) (λ h. handed_for h timeout earlier) out.old.items out.new.items) }
+    ensures whole { OnOk result (GrewForEach (IsPage page.now)
+        (λ h. handed_for h timeout earlier) out.old.items out.new.items) }
+    ensures part { OnErr result (GrewInPartForEach (IsPage page.now)
+        (λ h. handed_for h timeout earlier) out.old.items out.new.items) }
 {
     if !goes_off_first(page, earlier, timeout) {
         return Ok(());
