@@ -116,11 +116,14 @@ enough_itself : (table : List (ℕ × Rule)) (actions : List Action) → IsNumbe
 enough_itself table [] n = tt
 enough_itself table (j ∷ older) n =
     let lists = edges table older in
-    let own = sources table (joins lists) older j in
-    (enough_itself table older n.1, λ k among. among, λ i among.
-        let found = among_from (λ a. edge table (joins lists) a j) older i among in
-        let below : i < length lists = omega (arith, edges_length table older, found.2, among_below older found.0 n.1 found.1) in
-        any_from (λ k. joins lists i k) i own among (paths_stand lists i below))
+    let own = sources table (joins lists) older j in (
+      enough_itself table older n.1,
+      λ k among. among,
+      λ i among.
+          let found = among_from (λ a. edge table (joins lists) a j) older i among in
+          let below : i < length lists = omega (arith, edges_length table older, found.2, among_below older found.0 n.1 found.1) in
+          any_from (λ k. joins lists i k) i own among (paths_stand lists i below),
+    )
 
 -- one record more
 

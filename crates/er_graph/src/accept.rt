@@ -93,13 +93,7 @@ impl Graph {
         ensures kept { OnErr result ((accepted : List Accepted) → IsListed self.old accepted → IsListed self.new accepted) }
     {
         self.has_failed = true;
-        grow(
-            &mut self.page,
-            &mut self.clocks,
-            &mut self.lines,
-            line,
-            rec,
-        )?;
+        grow(&mut self.page, &mut self.clocks, &mut self.lines, line, rec)?;
         self.has_failed = false;
         Ok(())
     }
