@@ -79,7 +79,10 @@ fn comparisons(rt: HostRuntime) -> Result<(), Fail> {
     if made < 5 {
         sum.absorb(meter);
     }
-    assert!(rt; is_right, "over either side, and not between the sides or back");
+    assert!(rt;
+        is_right,
+        "over either side, and not between the sides or back"
+    );
     assert_eq!(rt; sum.made(), 4);
     Ok(())
 }
