@@ -12,6 +12,8 @@ mod first_path;
 #[cfg(test)]
 mod graph;
 #[cfg(test)]
+mod handed;
+#[cfg(test)]
 mod large;
 #[cfg(test)]
 mod loads;
