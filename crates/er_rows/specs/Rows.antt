@@ -9,15 +9,14 @@ use Rattle.er_trace.specs.declared.record.Mode.TheVariants as modes
 use Rattle.er_trace.specs.declared.record.Loc.TheVariants.{Var, Elem}
 use Rattle.er_trace.specs.Trace.{text}
 use Rattle.er_history.specs.Sound.{cause}
-use Rattle.er_graph.specs.Rules.{rules_now}
-use Rattle.er_history.specs.Rules.{same_bytes}
+use Rattle.er_history.specs.Rules.{same_bytes, rules}
 use Rattle.er_run.specs.Answer.{IsRefused}
 use Rattle.er_run.specs.Report.{report, refusal}
 
 -- each record with none of the causes after those before it, newest first
 abbrev pub causes : List Record → List (Option Cause)
 causes [] = []
-causes (x ∷ h) = cause rules_now h x ∷ causes h
+causes (x ∷ h) = cause rules h x ∷ causes h
 
 -- The records are spelled so, each is legal, and this is their report.
 pub record Reports (records : List Record) (spelled reported : List ℕ) (none : List (Option Cause)) : Type 0 where
@@ -34,9 +33,9 @@ reads name = Access modes.R (Var 0 name)
 abbrev pub step : ℕ → Record
 step e = Parse 0 e kinds.Plain
 
-abbrev pub TimeoutsThatRace : Type 0
-TimeoutsThatRace = Reports (step 1 ∷ Set 1 10 ∷ Set 2 0 ∷ Timer 2 ∷ writes (codes "x") ∷ Timer 1 ∷ reads (codes "x") ∷ []) (codes "webtrace 1\nparse 0 1 plain\nset 1 10\nset 2 0\ntimer 2\nw var 0 x\ntimer 1\nr var 0 x\nend\n")
-    (codes "report 1\nrace 1 6 8 wr 1 2 var 0 x\nactions 3\naccesses 2\npairs 1\nraces 1\nend\n") (None ∷ None ∷ None ∷ None ∷ None ∷ None ∷ None ∷ [])
+abbrev pub TimeoutsThatRace : List ℕ → List ℕ → Type 0
+TimeoutsThatRace spelled reported = Reports (step 1 ∷ Set 1 10 ∷ Set 2 0 ∷ Timer 2 ∷ writes)
+    spelled reported (None ∷ None ∷ None ∷ None ∷ None ∷ None ∷ None ∷ [])
 
 abbrev pub TimeoutsInOrder : Type 0
 TimeoutsInOrder = Reports (step 1 ∷ Set 1 0 ∷ Set 2 10 ∷ Timer 1 ∷ writes (codes "x") ∷ Timer 2 ∷ reads (codes "x") ∷ []) (codes "webtrace 1\nparse 0 1 plain\nset 1 0\nset 2 10\ntimer 1\nw var 0 x\ntimer 2\nr var 0 x\nend\n")
@@ -99,35 +98,35 @@ OtherDocuments = Reports (ParseFrame 0 1 1 ∷ writes (codes "x") ∷ Parse 1 2 
 
 -- the causes of single records
 pub record Causes : Type 0 where
-  pub unknown_timeout : cause rules_now (step 1 ∷ []) (Timer 9) ≡ Some Unknown
-  pub unknown_document : cause rules_now (step 1 ∷ []) (Parse 1 2 kinds.Plain) ≡ Some Unknown
-  pub not_script : cause rules_now (step 1 ∷ []) (Exec 1) ≡ Some NotScript
-  pub script : cause rules_now (Parse 0 1 kinds.Inline ∷ []) (Exec 1) ≡ None
-  pub element_location : cause rules_now (step 1 ∷ []) (Access modes.R (Elem 0 (codes "x"))) ≡ None
-  pub note_first : cause rules_now [] (Set 1 0) ≡ Some Misplaced
-  pub timer_first : cause rules_now [] (Timer 9) ≡ Some Unknown
-  pub handler_first : cause rules_now [] (On 7) ≡ Some Misplaced
-  pub timer_within : cause rules_now (Fire 1 1 (codes "x") ∷ Set 1 0 ∷ step 1 ∷ []) (Timer 1) ≡ Some Misplaced
-  pub closed : cause rules_now (Fire 1 1 (codes "x") ∷ step 1 ∷ []) (Close 1) ≡ None
-  pub closed_again : cause rules_now (Close 1 ∷ Fire 1 1 (codes "x") ∷ step 1 ∷ []) (Close 1) ≡ Some Misplaced
-  pub element_again : cause rules_now (step 1 ∷ []) (step 1) ≡ Some Again
-  pub unknown_before_again : cause rules_now (step 1 ∷ []) (Parse 5 1 kinds.Plain) ≡ Some Unknown
-  pub set_again : cause rules_now (Set 1 5 ∷ step 1 ∷ []) (Set 1 6) ≡ Some Again
-  pub fired_again : cause rules_now (Timer 1 ∷ Set 1 0 ∷ step 1 ∷ []) (Timer 1) ≡ Some Again
+  pub unknown_timeout : cause rules (step 1 ∷ []) (Timer 9) ≡ Some Unknown
+  pub unknown_document : cause rules (step 1 ∷ []) (Parse 1 2 kinds.Plain) ≡ Some Unknown
+  pub not_script : cause rules (step 1 ∷ []) (Exec 1) ≡ Some NotScript
+  pub script : cause rules (Parse 0 1 kinds.Inline ∷ []) (Exec 1) ≡ None
+  pub element_location : cause rules (step 1 ∷ []) (Access modes.R (Elem 0 (codes "x"))) ≡ None
+  pub note_first : cause rules [] (Set 1 0) ≡ Some Misplaced
+  pub timer_first : cause rules [] (Timer 9) ≡ Some Unknown
+  pub handler_first : cause rules [] (On 7) ≡ Some Misplaced
+  pub timer_within : cause rules (Fire 1 1 (codes "x") ∷ Set 1 0 ∷ step 1 ∷ []) (Timer 1) ≡ Some Misplaced
+  pub closed : cause rules (Fire 1 1 (codes "x") ∷ step 1 ∷ []) (Close 1) ≡ None
+  pub closed_again : cause rules (Close 1 ∷ Fire 1 1 (codes "x") ∷ step 1 ∷ []) (Close 1) ≡ Some Misplaced
+  pub element_again : cause rules (step 1 ∷ []) (step 1) ≡ Some Again
+  pub unknown_before_again : cause rules (step 1 ∷ []) (Parse 5 1 kinds.Plain) ≡ Some Unknown
+  pub set_again : cause rules (Set 1 5 ∷ step 1 ∷ []) (Set 1 6) ≡ Some Again
+  pub fired_again : cause rules (Timer 1 ∷ Set 1 0 ∷ step 1 ∷ []) (Timer 1) ≡ Some Again
   pub line : same_bytes (refusal 3 Unknown) (codes "refused 3 unknown\n") ≡ true
 
 -- which records of parsing and scripts come too late
 pub record Orders : Type 0 where
-  pub step_after_deferred : cause rules_now (Exec 1 ∷ Parse 0 1 kinds.Defer ∷ []) (step 2) ≡ Some OutOfOrder
-  pub step_after_async : cause rules_now (Exec 1 ∷ Parse 0 1 kinds.Async ∷ []) (step 2) ≡ None
-  pub step_before_deferred : cause rules_now (Parse 0 1 kinds.Defer ∷ []) (step 2) ≡ None
-  pub blocking_after_step : cause rules_now (step 2 ∷ Parse 0 1 kinds.Sync ∷ []) (Exec 1) ≡ Some OutOfOrder
-  pub blocking_after_step_of_another : cause rules_now (Parse 1 3 kinds.Plain ∷ Parse 0 2 kinds.Sync ∷ ParseFrame 0 1 1 ∷ []) (Exec 2) ≡ None
-  pub blocking_after_deferred : cause rules_now (Exec 1 ∷ Parse 0 2 kinds.Inline ∷ Parse 0 1 kinds.Defer ∷ []) (Exec 2) ≡ Some OutOfOrder
-  pub deferred_after_blocking : cause rules_now (Exec 2 ∷ Parse 0 2 kinds.Inline ∷ Parse 0 1 kinds.Defer ∷ []) (Exec 1) ≡ None
-  pub deferred_after_later : cause rules_now (Exec 2 ∷ Parse 0 2 kinds.Defer ∷ Parse 0 1 kinds.Defer ∷ []) (Exec 1) ≡ Some OutOfOrder
-  pub deferred_after_earlier : cause rules_now (Exec 1 ∷ Parse 0 2 kinds.Defer ∷ Parse 0 1 kinds.Defer ∷ []) (Exec 2) ≡ None
-  pub naming_first : cause rules_now (Exec 1 ∷ Parse 0 1 kinds.Defer ∷ []) (step 1) ≡ Some Again
+  pub step_after_deferred : cause rules (Exec 1 ∷ Parse 0 1 kinds.Defer ∷ []) (step 2) ≡ Some OutOfOrder
+  pub step_after_async : cause rules (Exec 1 ∷ Parse 0 1 kinds.Async ∷ []) (step 2) ≡ None
+  pub step_before_deferred : cause rules (Parse 0 1 kinds.Defer ∷ []) (step 2) ≡ None
+  pub blocking_after_step : cause rules (step 2 ∷ Parse 0 1 kinds.Sync ∷ []) (Exec 1) ≡ Some OutOfOrder
+  pub blocking_after_step_of_another : cause rules (Parse 1 3 kinds.Plain ∷ Parse 0 2 kinds.Sync ∷ ParseFrame 0 1 1 ∷ []) (Exec 2) ≡ None
+  pub blocking_after_deferred : cause rules (Exec 1 ∷ Parse 0 2 kinds.Inline ∷ Parse 0 1 kinds.Defer ∷ []) (Exec 2) ≡ Some OutOfOrder
+  pub deferred_after_blocking : cause rules (Exec 2 ∷ Parse 0 2 kinds.Inline ∷ Parse 0 1 kinds.Defer ∷ []) (Exec 1) ≡ None
+  pub deferred_after_later : cause rules (Exec 2 ∷ Parse 0 2 kinds.Defer ∷ Parse 0 1 kinds.Defer ∷ []) (Exec 1) ≡ Some OutOfOrder
+  pub deferred_after_earlier : cause rules (Exec 1 ∷ Parse 0 2 kinds.Defer ∷ Parse 0 1 kinds.Defer ∷ []) (Exec 2) ≡ None
+  pub naming_first : cause rules (Exec 1 ∷ Parse 0 1 kinds.Defer ∷ []) (step 1) ≡ Some Again
 
 -- line 3 is the first illegal one of these bytes
 abbrev pub UnknownTimeout : Type 0

@@ -2,7 +2,7 @@
 
 use crate::row::{Refusal, Row};
 use crate::through::{sound, through};
-use crate::{dispatches, first_path, loads, naming, orders, pieces, requests, scripts, timers};
+use crate::{dispatches, first_path, loads, naming, orders, pieces, requests, rows, scripts, timers};
 use std::alloc::{AllocError, Global};
 use std::process::Abort;
 use std::test::Fail;
@@ -25,6 +25,17 @@ fn refusals(rt: &impl Abort, alloc: Global, rows: &[Refusal]) -> Result<(), Allo
         let due = row.text(alloc)?;
         assert!(rt; done.outcome.status() == 3, "{}", row.trace);
         assert!(rt; done.written.as_slice() == due.as_bytes(), "{}", row.trace);
+    }
+    Ok(())
+}
+
+/// The rows that stand as laws.
+#[test]
+fn worked_rows(rt: HostRuntime) -> Result<(), Fail> {
+    let alloc = rt.alloc();
+    for row in &rows::all() {
+        let done = through(alloc, &[], row.trace.as_bytes(), sound(alloc))?;
+        assert_eq!(rt; done.written.as_slice(), row.report.as_bytes(), "{}", row.trace);
     }
     Ok(())
 }
