@@ -2,72 +2,7 @@
 
 use crate::row::{Counts, Row, Refusal};
 
-pub(crate) static REPORTS: [Row; 12] = [
-    // two timeouts that race
-    Row {
-        trace: "webtrace 1\nparse 0 1 plain\nset 1 10\nset 2 0\ntimer 2\nw var 0 x\ntimer 1\nr var 0 x\nend\n",
-        races: "race 1 6 8 wr 1 2 var 0 x\n",
-        counts: Counts {
-            actions: 3,
-            accesses: 2,
-            pairs: 1,
-            races: 1,
-            chains: 2,
-            links: 2,
-        },
-    },
-    // set first, and no longer delay
-    Row {
-        trace: "webtrace 1\nparse 0 1 plain\nset 1 0\nset 2 10\ntimer 1\nw var 0 x\ntimer 2\nr var 0 x\nend\n",
-        races: "",
-        counts: Counts {
-            actions: 3,
-            accesses: 2,
-            pairs: 1,
-            races: 0,
-            chains: 1,
-            links: 2,
-        },
-    },
-    // equal delays
-    Row {
-        trace: "webtrace 1\nparse 0 1 plain\nset 1 5\nset 2 5\ntimer 1\nw var 0 x\ntimer 2\nr var 0 x\nend\n",
-        races: "",
-        counts: Counts {
-            actions: 3,
-            accesses: 2,
-            pairs: 1,
-            races: 0,
-            chains: 1,
-            links: 2,
-        },
-    },
-    // a trace that disagrees with the delays
-    Row {
-        trace: "webtrace 1\nparse 0 1 plain\nset 1 0\nset 2 10\ntimer 2\nw var 0 x\ntimer 1\nr var 0 x\nend\n",
-        races: "race 1 6 8 wr 1 2 var 0 x\n",
-        counts: Counts {
-            actions: 3,
-            accesses: 2,
-            pairs: 1,
-            races: 1,
-            chains: 2,
-            links: 2,
-        },
-    },
-    // two setters
-    Row {
-        trace: "webtrace 1\nparse 0 1 plain\nset 1 5\nparse 0 2 plain\nset 2 5\ntimer 1\nw var 0 x\ntimer 2\nw var 0 x\nend\n",
-        races: "race 1 7 9 ww 2 3 var 0 x\n",
-        counts: Counts {
-            actions: 4,
-            accesses: 2,
-            pairs: 1,
-            races: 1,
-            chains: 2,
-            links: 3,
-        },
-    },
+pub(crate) static REPORTS: [Row; 6] = [
     // repeats, and three modes
     Row {
         trace: "webtrace 1\nparse 0 1 plain\nset 1 10\nset 2 0\ntimer 2\nr var 0 x\nr var 0 x\nw var 0 x\ntimer 1\nw var 0 x\nend\n",
@@ -143,19 +78,6 @@ pub(crate) static REPORTS: [Row; 12] = [
             pairs: 0,
             races: 0,
             chains: 1,
-            links: 0,
-        },
-    },
-    // nothing at all
-    Row {
-        trace: "webtrace 1\nend\n",
-        races: "",
-        counts: Counts {
-            actions: 0,
-            accesses: 0,
-            pairs: 0,
-            races: 0,
-            chains: 0,
             links: 0,
         },
     },

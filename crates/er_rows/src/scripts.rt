@@ -2,7 +2,7 @@
 
 use crate::row::{Counts, Row, Refusal};
 
-pub(crate) static REPORTS: [Row; 32] = [
+pub(crate) static REPORTS: [Row; 30] = [
     // two timeouts that a script set race
     Row {
         trace: "webtrace 1\nparse 0 1 inline\nexec 1\nset 1 10\nset 2 0\ntimer 2\nw var 0 x\ntimer 1\nr var 0 x\nend\n",
@@ -156,32 +156,6 @@ pub(crate) static REPORTS: [Row; 32] = [
             pairs: 1,
             races: 0,
             chains: 1,
-            links: 2,
-        },
-    },
-    // rule 4: a blocking script before a later parse step
-    Row {
-        trace: "webtrace 1\nparse 0 1 sync\nexec 1\nw var 0 x\nparse 0 2 plain\nr var 0 x\nend\n",
-        races: "",
-        counts: Counts {
-            actions: 3,
-            accesses: 2,
-            pairs: 1,
-            races: 0,
-            chains: 1,
-            links: 2,
-        },
-    },
-    // and not an async one
-    Row {
-        trace: "webtrace 1\nparse 0 1 async\nexec 1\nw var 0 x\nparse 0 2 plain\nr var 0 x\nend\n",
-        races: "race 1 4 6 wr 1 2 var 0 x\n",
-        counts: Counts {
-            actions: 3,
-            accesses: 2,
-            pairs: 1,
-            races: 1,
-            chains: 2,
             links: 2,
         },
     },
