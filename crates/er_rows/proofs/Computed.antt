@@ -5,63 +5,7 @@ use Rattle.er_run.specs.Report.{item_line}
 use Rattle.er_trace.specs.declared.record.Record.TheVariants.{Parse, Timer, Exec}
 use Rattle.er_trace.specs.declared.record.Kind.TheVariants as kinds
 use Rattle.er_trace.specs.Trace.{After}
-use Rattle.er_rows.specs.Rows.{TimeoutsThatRace, TimeoutsInOrder, EqualDelays, DelaysThatDisagree, TwoSetters, Repeats, OneAction, TwoReads, ParseSteps, NothingAtAll, BlockingScripts, AsyncScripts, DeferredScripts, OtherDocuments, Causes, Orders, UnknownTimeout, NotAScript, RunTooLate, step}
-
-pub timeouts_that_race : TimeoutsThatRace
-unfolding digits item_line
-timeouts_that_race = record { text = refl; legal = refl; report = refl }
-
-pub timeouts_in_order : TimeoutsInOrder
-unfolding digits item_line
-timeouts_in_order = record { text = refl; legal = refl; report = refl }
-
-pub equal_delays : EqualDelays
-unfolding digits item_line
-equal_delays = record { text = refl; legal = refl; report = refl }
-
-pub delays_that_disagree : DelaysThatDisagree
-unfolding digits item_line
-delays_that_disagree = record { text = refl; legal = refl; report = refl }
-
-pub two_setters : TwoSetters
-unfolding digits item_line
-two_setters = record { text = refl; legal = refl; report = refl }
-
-pub repeats : Repeats
-unfolding digits item_line
-repeats = record { text = refl; legal = refl; report = refl }
-
-pub one_action : OneAction
-unfolding digits item_line
-one_action = record { text = refl; legal = refl; report = refl }
-
-pub two_reads : TwoReads
-unfolding digits item_line
-two_reads = record { text = refl; legal = refl; report = refl }
-
-pub parse_steps : ParseSteps
-unfolding digits item_line
-parse_steps = record { text = refl; legal = refl; report = refl }
-
-pub nothing_at_all : NothingAtAll
-unfolding digits item_line
-nothing_at_all = record { text = refl; legal = refl; report = refl }
-
-pub blocking_scripts : BlockingScripts
-unfolding digits item_line
-blocking_scripts = record { text = refl; legal = refl; report = refl }
-
-pub async_scripts : AsyncScripts
-unfolding digits item_line
-async_scripts = record { text = refl; legal = refl; report = refl }
-
-pub deferred_scripts : DeferredScripts
-unfolding digits item_line
-deferred_scripts = record { text = refl; legal = refl; report = refl }
-
-pub other_documents : OtherDocuments
-unfolding digits item_line
-other_documents = record { text = refl; legal = refl; report = refl }
+use Rattle.er_rows.specs.Rows.{Causes, Orders, UnknownTimeout, NotAScript, RunTooLate, step}
 
 pub causes_of_records : Causes
 unfolding digits item_line

@@ -9,7 +9,7 @@ use Rattle.er_trace.specs.declared.record.Mode.TheVariants as modes
 use Rattle.er_trace.specs.declared.record.Loc.TheVariants.{Var, Elem}
 use Rattle.er_trace.specs.Trace.{text}
 use Rattle.er_history.specs.Sound.{cause}
-use Rattle.er_history.specs.Rules.{rules, same_bytes}
+use Rattle.er_history.specs.Rules.{same_bytes, rules}
 use Rattle.er_run.specs.Answer.{IsRefused}
 use Rattle.er_run.specs.Report.{report, refusal}
 
@@ -33,68 +33,69 @@ reads name = Access modes.R (Var 0 name)
 abbrev pub step : ℕ → Record
 step e = Parse 0 e kinds.Plain
 
-abbrev pub TimeoutsThatRace : Type 0
-TimeoutsThatRace = Reports (step 1 ∷ Set 1 10 ∷ Set 2 0 ∷ Timer 2 ∷ writes (codes "x") ∷ Timer 1 ∷ reads (codes "x") ∷ []) (codes "webtrace 1\nparse 0 1 plain\nset 1 10\nset 2 0\ntimer 2\nw var 0 x\ntimer 1\nr var 0 x\nend\n")
-    (codes "report 1\nrace 1 6 8 wr 1 2 var 0 x\nactions 3\naccesses 2\npairs 1\nraces 1\nend\n") (None ∷ None ∷ None ∷ None ∷ None ∷ None ∷ None ∷ [])
+abbrev pub TimeoutsThatRace : List ℕ → List ℕ → Type 0
+TimeoutsThatRace spelled reported = Reports (step 1 ∷ Set 1 10 ∷ Set 2 0 ∷ Timer 2 ∷ writes (codes "x") ∷ Timer 1 ∷ reads (codes "x") ∷ [])
+    spelled reported (None ∷ None ∷ None ∷ None ∷ None ∷ None ∷ None ∷ [])
 
-abbrev pub TimeoutsInOrder : Type 0
-TimeoutsInOrder = Reports (step 1 ∷ Set 1 0 ∷ Set 2 10 ∷ Timer 1 ∷ writes (codes "x") ∷ Timer 2 ∷ reads (codes "x") ∷ []) (codes "webtrace 1\nparse 0 1 plain\nset 1 0\nset 2 10\ntimer 1\nw var 0 x\ntimer 2\nr var 0 x\nend\n")
-    (codes "report 1\nactions 3\naccesses 2\npairs 1\nraces 0\nend\n") (None ∷ None ∷ None ∷ None ∷ None ∷ None ∷ None ∷ [])
+abbrev pub TimeoutsInOrder : List ℕ → List ℕ → Type 0
+TimeoutsInOrder spelled reported = Reports (step 1 ∷ Set 1 0 ∷ Set 2 10 ∷ Timer 1 ∷ writes (codes "x") ∷ Timer 2 ∷ reads (codes "x") ∷ [])
+    spelled reported (None ∷ None ∷ None ∷ None ∷ None ∷ None ∷ None ∷ [])
 
-abbrev pub EqualDelays : Type 0
-EqualDelays = Reports (step 1 ∷ Set 1 5 ∷ Set 2 5 ∷ Timer 1 ∷ writes (codes "x") ∷ Timer 2 ∷ reads (codes "x") ∷ []) (codes "webtrace 1\nparse 0 1 plain\nset 1 5\nset 2 5\ntimer 1\nw var 0 x\ntimer 2\nr var 0 x\nend\n")
-    (codes "report 1\nactions 3\naccesses 2\npairs 1\nraces 0\nend\n") (None ∷ None ∷ None ∷ None ∷ None ∷ None ∷ None ∷ [])
+abbrev pub EqualDelays : List ℕ → List ℕ → Type 0
+EqualDelays spelled reported = Reports (step 1 ∷ Set 1 5 ∷ Set 2 5 ∷ Timer 1 ∷ writes (codes "x") ∷ Timer 2 ∷ reads (codes "x") ∷ [])
+    spelled reported (None ∷ None ∷ None ∷ None ∷ None ∷ None ∷ None ∷ [])
 
 -- recorded against the delays
-abbrev pub DelaysThatDisagree : Type 0
-DelaysThatDisagree = Reports (step 1 ∷ Set 1 0 ∷ Set 2 10 ∷ Timer 2 ∷ writes (codes "x") ∷ Timer 1 ∷ reads (codes "x") ∷ []) (codes "webtrace 1\nparse 0 1 plain\nset 1 0\nset 2 10\ntimer 2\nw var 0 x\ntimer 1\nr var 0 x\nend\n")
-    (codes "report 1\nrace 1 6 8 wr 1 2 var 0 x\nactions 3\naccesses 2\npairs 1\nraces 1\nend\n") (None ∷ None ∷ None ∷ None ∷ None ∷ None ∷ None ∷ [])
+abbrev pub DelaysThatDisagree : List ℕ → List ℕ → Type 0
+DelaysThatDisagree spelled reported = Reports (step 1 ∷ Set 1 0 ∷ Set 2 10 ∷ Timer 2 ∷ writes (codes "x") ∷ Timer 1 ∷ reads (codes "x") ∷ [])
+    spelled reported (None ∷ None ∷ None ∷ None ∷ None ∷ None ∷ None ∷ [])
 
 -- set by two events
-abbrev pub TwoSetters : Type 0
-TwoSetters = Reports (step 1 ∷ Set 1 5 ∷ step 2 ∷ Set 2 5 ∷ Timer 1 ∷ writes (codes "x") ∷ Timer 2 ∷ writes (codes "x") ∷ []) (codes "webtrace 1\nparse 0 1 plain\nset 1 5\nparse 0 2 plain\nset 2 5\ntimer 1\nw var 0 x\ntimer 2\nw var 0 x\nend\n")
-    (codes "report 1\nrace 1 7 9 ww 2 3 var 0 x\nactions 4\naccesses 2\npairs 1\nraces 1\nend\n") (None ∷ None ∷ None ∷ None ∷ None ∷ None ∷ None ∷ None ∷ [])
+abbrev pub TwoSetters : List ℕ → List ℕ → Type 0
+TwoSetters spelled reported = Reports (step 1 ∷ Set 1 5 ∷ step 2 ∷ Set 2 5 ∷ Timer 1 ∷ writes (codes "x") ∷ Timer 2 ∷ writes (codes "x") ∷ [])
+    spelled reported (None ∷ None ∷ None ∷ None ∷ None ∷ None ∷ None ∷ None ∷ [])
 
 -- a repeat is not kept; a read and a write of one action are two accesses
-abbrev pub Repeats : Type 0
-Repeats = Reports (step 1 ∷ Set 1 9 ∷ Set 2 0 ∷ Timer 2 ∷ reads (codes "x") ∷ reads (codes "x") ∷ writes (codes "x") ∷ Timer 1 ∷ writes (codes "x") ∷ []) (codes "webtrace 1\nparse 0 1 plain\nset 1 9\nset 2 0\ntimer 2\nr var 0 x\nr var 0 x\nw var 0 x\ntimer 1\nw var 0 x\nend\n")
-    (codes "report 1\nrace 1 6 10 rw 1 2 var 0 x\nrace 2 8 10 ww 1 2 var 0 x\nactions 3\naccesses 3\npairs 2\nraces 2\nend\n") (None ∷ None ∷ None ∷ None ∷ None ∷ None ∷ None ∷ None ∷ None ∷ [])
+abbrev pub Repeats : List ℕ → List ℕ → Type 0
+Repeats spelled reported = Reports (step 1 ∷ Set 1 9 ∷ Set 2 0 ∷ Timer 2 ∷ reads (codes "x") ∷ reads (codes "x") ∷ writes (codes "x") ∷ Timer 1 ∷ writes (codes "x") ∷ [])
+    spelled reported (None ∷ None ∷ None ∷ None ∷ None ∷ None ∷ None ∷ None ∷ None ∷ [])
 
-abbrev pub OneAction : Type 0
-OneAction = Reports (step 1 ∷ writes (codes "x") ∷ reads (codes "x") ∷ []) (codes "webtrace 1\nparse 0 1 plain\nw var 0 x\nr var 0 x\nend\n")
-    (codes "report 1\nactions 1\naccesses 2\npairs 0\nraces 0\nend\n") (None ∷ None ∷ None ∷ [])
+abbrev pub OneAction : List ℕ → List ℕ → Type 0
+OneAction spelled reported = Reports (step 1 ∷ writes (codes "x") ∷ reads (codes "x") ∷ [])
+    spelled reported (None ∷ None ∷ None ∷ [])
 
-abbrev pub TwoReads : Type 0
-TwoReads = Reports (step 1 ∷ Set 1 9 ∷ Set 2 0 ∷ Timer 2 ∷ reads (codes "x") ∷ Timer 1 ∷ reads (codes "x") ∷ []) (codes "webtrace 1\nparse 0 1 plain\nset 1 9\nset 2 0\ntimer 2\nr var 0 x\ntimer 1\nr var 0 x\nend\n")
-    (codes "report 1\nactions 3\naccesses 2\npairs 0\nraces 0\nend\n") (None ∷ None ∷ None ∷ None ∷ None ∷ None ∷ None ∷ [])
+abbrev pub TwoReads : List ℕ → List ℕ → Type 0
+TwoReads spelled reported = Reports (step 1 ∷ Set 1 9 ∷ Set 2 0 ∷ Timer 2 ∷ reads (codes "x") ∷ Timer 1 ∷ reads (codes "x") ∷ [])
+    spelled reported (None ∷ None ∷ None ∷ None ∷ None ∷ None ∷ None ∷ [])
 
 -- parse steps are in order, and before a timeout that a later one set
-abbrev pub ParseSteps : Type 0
-ParseSteps = Reports (step 1 ∷ writes (codes "a b") ∷ step 2 ∷ reads (codes "a b") ∷ Set 1 0 ∷ Timer 1 ∷ writes (codes "a b") ∷ []) (codes "webtrace 1\nparse 0 1 plain\nw var 0 a%20b\nparse 0 2 plain\nr var 0 a%20b\nset 1 0\ntimer 1\nw var 0 a%20b\nend\n")
-    (codes "report 1\nactions 3\naccesses 3\npairs 3\nraces 0\nend\n") (None ∷ None ∷ None ∷ None ∷ None ∷ None ∷ None ∷ [])
+abbrev pub ParseSteps : List ℕ → List ℕ → Type 0
+ParseSteps spelled reported = Reports (step 1 ∷ writes (codes "a b") ∷ step 2 ∷ reads (codes "a b") ∷ Set 1 0 ∷ Timer 1 ∷ writes (codes "a b") ∷ [])
+    spelled reported (None ∷ None ∷ None ∷ None ∷ None ∷ None ∷ None ∷ [])
 
-abbrev pub NothingAtAll : Type 0
-NothingAtAll = Reports [] (codes "webtrace 1\nend\n") (codes "report 1\nactions 0\naccesses 0\npairs 0\nraces 0\nend\n") []
+abbrev pub NothingAtAll : List ℕ → List ℕ → Type 0
+NothingAtAll spelled reported = Reports ([])
+    spelled reported []
 
 -- a blocking script runs before a later parse step
-abbrev pub BlockingScripts : Type 0
-BlockingScripts = Reports (Parse 0 1 kinds.Sync ∷ Exec 1 ∷ writes (codes "x") ∷ step 2 ∷ reads (codes "x") ∷ []) (codes "webtrace 1\nparse 0 1 sync\nexec 1\nw var 0 x\nparse 0 2 plain\nr var 0 x\nend\n")
-    (codes "report 1\nactions 3\naccesses 2\npairs 1\nraces 0\nend\n") (None ∷ None ∷ None ∷ None ∷ None ∷ [])
+abbrev pub BlockingScripts : List ℕ → List ℕ → Type 0
+BlockingScripts spelled reported = Reports (Parse 0 1 kinds.Sync ∷ Exec 1 ∷ writes (codes "x") ∷ step 2 ∷ reads (codes "x") ∷ [])
+    spelled reported (None ∷ None ∷ None ∷ None ∷ None ∷ [])
 
 -- an async one does not
-abbrev pub AsyncScripts : Type 0
-AsyncScripts = Reports (Parse 0 1 kinds.Async ∷ Exec 1 ∷ writes (codes "x") ∷ step 2 ∷ reads (codes "x") ∷ []) (codes "webtrace 1\nparse 0 1 async\nexec 1\nw var 0 x\nparse 0 2 plain\nr var 0 x\nend\n")
-    (codes "report 1\nrace 1 4 6 wr 1 2 var 0 x\nactions 3\naccesses 2\npairs 1\nraces 1\nend\n") (None ∷ None ∷ None ∷ None ∷ None ∷ [])
+abbrev pub AsyncScripts : List ℕ → List ℕ → Type 0
+AsyncScripts spelled reported = Reports (Parse 0 1 kinds.Async ∷ Exec 1 ∷ writes (codes "x") ∷ step 2 ∷ reads (codes "x") ∷ [])
+    spelled reported (None ∷ None ∷ None ∷ None ∷ None ∷ [])
 
 -- deferred scripts run as they were parsed, after each blocking one
-abbrev pub DeferredScripts : Type 0
-DeferredScripts = Reports (Parse 0 1 kinds.Defer ∷ Parse 0 2 kinds.Inline ∷ Exec 2 ∷ writes (codes "x") ∷ Parse 0 3 kinds.Defer ∷ Exec 1 ∷ writes (codes "x") ∷ Exec 3 ∷ reads (codes "x") ∷ [])
-    (codes "webtrace 1\nparse 0 1 defer\nparse 0 2 inline\nexec 2\nw var 0 x\nparse 0 3 defer\nexec 1\nw var 0 x\nexec 3\nr var 0 x\nend\n") (codes "report 1\nactions 6\naccesses 3\npairs 3\nraces 0\nend\n") (None ∷ None ∷ None ∷ None ∷ None ∷ None ∷ None ∷ None ∷ None ∷ [])
+abbrev pub DeferredScripts : List ℕ → List ℕ → Type 0
+DeferredScripts spelled reported = Reports (Parse 0 1 kinds.Defer ∷ Parse 0 2 kinds.Inline ∷ Exec 2 ∷ writes (codes "x") ∷ Parse 0 3 kinds.Defer ∷ Exec 1 ∷ writes (codes "x") ∷ Exec 3 ∷ reads (codes "x") ∷ [])
+    spelled reported (None ∷ None ∷ None ∷ None ∷ None ∷ None ∷ None ∷ None ∷ None ∷ [])
 
 -- the step that declared a document is before its parse steps, which are in no order with others of the first
-abbrev pub OtherDocuments : Type 0
-OtherDocuments = Reports (ParseFrame 0 1 1 ∷ writes (codes "x") ∷ Parse 1 2 kinds.Plain ∷ writes (codes "x") ∷ step 3 ∷ reads (codes "x") ∷ []) (codes "webtrace 1\nparse 0 1 frame 1\nw var 0 x\nparse 1 2 plain\nw var 0 x\nparse 0 3 plain\nr var 0 x\nend\n")
-    (codes "report 1\nrace 1 5 7 wr 1 2 var 0 x\nactions 3\naccesses 3\npairs 3\nraces 1\nend\n") (None ∷ None ∷ None ∷ None ∷ None ∷ None ∷ [])
+abbrev pub OtherDocuments : List ℕ → List ℕ → Type 0
+OtherDocuments spelled reported = Reports (ParseFrame 0 1 1 ∷ writes (codes "x") ∷ Parse 1 2 kinds.Plain ∷ writes (codes "x") ∷ step 3 ∷ reads (codes "x") ∷ [])
+    spelled reported (None ∷ None ∷ None ∷ None ∷ None ∷ None ∷ [])
 
 -- the causes of single records
 pub record Causes : Type 0 where

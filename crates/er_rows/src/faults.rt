@@ -9,7 +9,7 @@ const INPUT: &str =
     "webtrace 1\nparse 0 1 plain\nset 1 10\nset 2 0\ntimer 2\nw var 0 x\ntimer 1\nr var 0 x\nend\n";
 
 const OUTPUT: &str =
-    "report 1\nrace 1 6 8 wr 1 2 var 0 x\nactions 3\naccesses 2\npairs 1\nraces 1\nend\n";
+    "report 1\nrace 1 6 8 wr 1 2 var 0 x\nactions 3\naccesses 2\npairs 1\nraces 1\nchains 2\nlinks 2\nend\n";
 
 #[test]
 fn a_word(rt: HostRuntime) -> Result<(), Fail> {

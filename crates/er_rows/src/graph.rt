@@ -1,9 +1,9 @@
-//! Records handed straight to a graph, and its page to the crates of rules.
+//! Records handed straight to a graph, and what its clocks and its crates of rules answer.
 
 ghost use Rattle.std.specs.Prelude.{◌≡◌, false, OnOk};
 
+use er_clocks::{Meter, Paths};
 use er_graph::{Graph, GraphFault};
-use er_outside::NoMemory;
 use er_rules_parse as parse;
 use er_rules_script as script;
 use er_text::Cause;
@@ -19,11 +19,14 @@ struct Row {
     lines: &'static [(u32, &'static str, Option<Cause>)],
     /// The actions with their lines.
     lines_of: &'static [(u32, Option<u32>)],
-    joined: &'static [(u32, u32, Option<bool>)],
-    /// A next record, and the sources that the rules of parsing hand.
-    parse_sources: (&'static str, &'static [u32]),
-    /// A next record, and the sources that the rules of scripts hand.
-    script_sources: (&'static str, &'static [u32]),
+    /// Whether a path leads from the first action to the second.
+    paths: &'static [(u32, u32, Option<bool>)],
+    /// Actions with their chains, their places there and the sources of their links.
+    clocks: &'static [(u32, u32, u32, &'static [u32])],
+    /// A next record, and the pieces that the rules of parsing hand.
+    parse_handed: (&'static str, &'static [u32]),
+    /// A next record, and the pieces that the rules of scripts hand.
+    script_handed: (&'static str, &'static [u32]),
     /// Next records, and whether the rules of scripts hold them back.
     late: &'static [(&'static str, bool)],
 }
@@ -38,14 +41,15 @@ static ROWS: [Row; 2] = [
             (41, "parse 0 3 plain", None), // 2
         ],
         lines_of: &[(0, Some(7)), (1, Some(20)), (2, Some(41)), (3, None)],
-        joined: &[
+        paths: &[
             (0, 1, Some(true)),
             (0, 2, Some(true)),
-            (1, 2, Some(true)),
+            (1, 0, Some(false)),
             (0, 3, None),
         ],
-        parse_sources: ("parse 0 4 plain", &[2, 1, 0]),
-        script_sources: ("parse 0 4 plain", &[]),
+        clocks: &[(0, 0, 0, &[]), (1, 0, 1, &[0]), (2, 0, 2, &[1])],
+        parse_handed: ("parse 0 4 plain", &[2]),
+        script_handed: ("parse 0 4 plain", &[]),
         late: &[("exec 1", true), ("parse 0 4 plain", false)],
     },
     // an async script and a deferred one
@@ -56,9 +60,10 @@ static ROWS: [Row; 2] = [
             (4, "exec 1", None), // 2
         ],
         lines_of: &[(0, Some(2)), (1, Some(3)), (2, Some(4)), (3, None)],
-        joined: &[(0, 1, Some(true)), (0, 2, Some(true)), (1, 2, Some(false))],
-        parse_sources: ("exec 2", &[]),
-        script_sources: ("exec 2", &[1, 0]),
+        paths: &[(0, 1, Some(true)), (0, 2, Some(true)), (1, 2, Some(false))],
+        clocks: &[(0, 0, 0, &[]), (1, 0, 1, &[0]), (2, 1, 0, &[0])],
+        parse_handed: ("exec 2", &[]),
+        script_handed: ("exec 2", &[1, 1]),
         late: &[("exec 2", false)],
     },
 ];
@@ -107,36 +112,49 @@ fn line_of(graph: &Graph, action: u32) -> Option<u32> {
 }
 
 /// Whether a path leads from action i to action j, if both have begun.
-fn joined(graph: &Graph, i: u32, j: u32) -> Option<bool>
-    requires whole { graph.now.has_failed ≡ false }
-{
-    let count = graph.page().actions();
+fn path(graph: &Graph, i: u32, j: u32) -> Option<bool> {
+    let clocks = graph.clocks();
+    let count = clocks.len();
     if i >= count {
         return None;
     }
     if j >= count {
         return None;
     }
-    Some(graph.joined(i, j))
+    let mut meter = Meter::new();
+    Some(clocks.before(i, j, &mut meter))
 }
 
-/// The sources that the rules of parsing hand to the action of a next record.
-fn parse_sources(graph: &Graph, alloc: Global, text: &str) -> Result<SmallVec<u32, 8>, LineFault> {
+/// Whether the action is at this place of the chain, with these links.
+fn has_clock(graph: &Graph, action: u32, chain: u32, place: u32, links: &[u32]) -> bool {
+    let clocks = graph.clocks();
+    if action >= clocks.len() {
+        return false;
+    }
+    let entry = clocks.entry(action, chain);
+    clocks.chain_of(action) == chain
+        && clocks.place_of(action) == place
+        && entry == place.saturating_add(1)
+        && clocks.links_of(action) == links
+}
+
+/// The pieces that the rules of parsing hand to the action of a next record.
+fn parse_handed(graph: &Graph, alloc: Global, text: &str) -> Result<SmallVec<u32, 8>, LineFault> {
     let rec = parse_record(alloc, text.as_bytes())?;
     let mut found = SmallVec::new(alloc);
     match parse::predecessors::predecessors(graph.page(), &rec, &mut found) {
         Ok(()) => Ok(found),
-        Err(NoMemory) => Err(LineFault::NoMemory),
+        Err(_) => Err(LineFault::NoMemory),
     }
 }
 
-/// The sources that the rules of scripts hand to the action of a next record.
-fn script_sources(graph: &Graph, alloc: Global, text: &str) -> Result<SmallVec<u32, 8>, LineFault> {
+/// The pieces that the rules of scripts hand to the action of a next record.
+fn script_handed(graph: &Graph, alloc: Global, text: &str) -> Result<SmallVec<u32, 8>, LineFault> {
     let rec = parse_record(alloc, text.as_bytes())?;
     let mut found = SmallVec::new(alloc);
     match script::predecessors::predecessors(graph.page(), &rec, &mut found) {
         Ok(()) => Ok(found),
-        Err(NoMemory) => Err(LineFault::NoMemory),
+        Err(_) => Err(LineFault::NoMemory),
     }
 }
 
@@ -151,27 +169,28 @@ fn held_back(graph: &Graph, alloc: Global, text: &str) -> Result<(bool, bool), L
 }
 
 /// What the graph answers.
-fn ask_graph(rt: &impl Abort, graph: &Graph, row: &Row)
-    requires whole { graph.now.has_failed ≡ false }
-{
+fn ask_graph(rt: &impl Abort, graph: &Graph, row: &Row) {
     for (action, due) in row.lines_of {
         assert!(rt; line_of(graph, *action) == *due, "{action}");
     }
-    for (i, j, due) in row.joined {
-        assert!(rt; joined(graph, *i, *j) == *due, "{i} {j}");
+    for (i, j, due) in row.paths {
+        assert!(rt; path(graph, *i, *j) == *due, "{i} {j}");
+    }
+    for (action, chain, place, links) in row.clocks {
+        assert!(rt; has_clock(graph, *action, *chain, *place, links), "{action}");
     }
 }
 
 /// What the crates of rules answer.
 fn ask_rules(rt: &impl Abort, graph: &Graph, alloc: Global, row: &Row) -> Result<(), LineFault> {
-    let (text, due) = row.parse_sources;
+    let (text, due) = row.parse_handed;
     assert!(rt;
-        parse_sources(graph, alloc, text)?.as_slice() == due,
+        parse_handed(graph, alloc, text)?.as_slice() == due,
         "{text}"
     );
-    let (text, due) = row.script_sources;
+    let (text, due) = row.script_handed;
     assert!(rt;
-        script_sources(graph, alloc, text)?.as_slice() == due,
+        script_handed(graph, alloc, text)?.as_slice() == due,
         "{text}"
     );
     for (text, due) in row.late {
@@ -190,7 +209,7 @@ fn go_through(rt: &impl Abort, graph: &mut Graph, alloc: Global, row: &Row) -> R
 }
 
 /// Lets the graph go. The proof of that is long, and a caller that goes through this needs none of its own.
-fn let_go(_graph: Graph) {}
+pub(crate) fn let_go(_graph: Graph) {}
 
 #[test]
 fn rows(rt: HostRuntime) -> Result<(), Fail> {

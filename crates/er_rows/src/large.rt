@@ -1,4 +1,4 @@
-//! Rows at a limit.
+//! Rows at a limit: of lines, of a line's length, of actions and of inline dispatches.
 
 use crate::through::{sound, through};
 use std::alloc::{AllocError, Global};
@@ -6,6 +6,12 @@ use std::test::Fail;
 
 /// The most lines of a trace.
 const MOST_LINES: u32 = 2_097_152;
+
+/// The most actions of a trace.
+const MOST_ACTIONS: u32 = 16_384;
+
+/// The most inline dispatches on the stack.
+const MOST_INLINE: u32 = 256;
 
 /// The header, a parse step, and this many lines of one read.
 fn reads(alloc: Global, count: u32) -> Result<Vec<u8>, AllocError> {
@@ -25,7 +31,7 @@ fn as_many_lines_as_may_be(rt: HostRuntime) -> Result<(), Fail> {
     assert_eq!(rt; done.outcome.status(), 0);
     assert_eq!(rt;
         done.written.as_slice(),
-        b"report 1\nactions 1\naccesses 1\npairs 0\nraces 0\nend\n".as_slice()
+        b"report 1\nactions 1\naccesses 1\npairs 0\nraces 0\nchains 1\nlinks 0\nend\n".as_slice()
     );
     Ok(())
 }
@@ -58,5 +64,75 @@ fn a_long_line(rt: HostRuntime) -> Result<(), Fail> {
         let done = through(alloc, &[], &input, sound(alloc))?;
         assert_eq!(rt; done.written.as_slice(), output.as_bytes());
     }
+    Ok(())
+}
+
+/// As many parse steps as this.
+fn parse_steps(alloc: Global, count: u32) -> Result<Vec<u8>, AllocError> {
+    let mut input = Vec::from_slice(alloc, b"webtrace 1\n")?;
+    for element in 0..count {
+        input.extend_from_slice(format!(in alloc; "parse 0 {element} plain\n")?.as_bytes())?;
+    }
+    input.extend_from_slice(b"end\n")?;
+    Ok(input)
+}
+
+#[test]
+fn as_many_actions_as_may_be(rt: HostRuntime) -> Result<(), Fail> {
+    let alloc = rt.alloc();
+    for (count, output) in [
+        (
+            MOST_ACTIONS,
+            "report 1\nactions 16384\naccesses 0\npairs 0\nraces 0\nchains 1\nlinks 16383\nend\n",
+        ),
+        (MOST_ACTIONS + 1, "refused 16386 too-many-actions\n"),
+    ] {
+        let input = parse_steps(alloc, count)?;
+        let done = through(alloc, &[], &input, sound(alloc))?;
+        assert_eq!(rt; done.written.as_slice(), output.as_bytes());
+    }
+    Ok(())
+}
+
+/// A script whose handlers call inline dispatches, one in the other.
+fn nested(alloc: Global, depth: u32) -> Result<Vec<u8>, AllocError> {
+    let mut input = Vec::from_slice(alloc, b"webtrace 1\nparse 0 1 inline\nexec 1\non 1\n")?;
+    for dispatch in 1..=depth {
+        input.extend_from_slice(
+            format!(in alloc; "inline {dispatch} 1 a\nrun {dispatch} 0 1\n")?.as_bytes(),
+        )?;
+    }
+    Ok(input)
+}
+
+/// The dispatches closed from the inside.
+fn close_all(alloc: Global, input: &mut Vec<u8>, depth: u32) -> Result<(), AllocError> {
+    for dispatch in (1..=depth).rev() {
+        input.extend_from_slice(
+            format!(in alloc; "close {dispatch}\nback {dispatch}\n")?.as_bytes(),
+        )?;
+    }
+    Ok(())
+}
+
+#[test]
+fn as_deep_as_may_be(rt: HostRuntime) -> Result<(), Fail> {
+    let alloc = rt.alloc();
+    let mut open = nested(alloc, MOST_INLINE)?;
+    let mut deeper = open.clone()?;
+    let mut closed = open.clone()?;
+    open.extend_from_slice(b"end\n")?;
+    let done = through(alloc, &[], &open, sound(alloc))?;
+    assert_eq!(rt;
+        done.written.as_slice(),
+        b"report 1\nactions 514\naccesses 0\npairs 0\nraces 0\nchains 1\nlinks 513\nend\n".as_slice()
+    );
+    deeper.extend_from_slice(b"inline 257 1 a\nend\n")?;
+    let done = through(alloc, &[], &deeper, sound(alloc))?;
+    assert_eq!(rt; done.written.as_slice(), b"refused 517 too-deep\n".as_slice());
+    close_all(alloc, &mut closed, MOST_INLINE)?;
+    closed.extend_from_slice(b"end\n")?;
+    let done = through(alloc, &[], &closed, sound(alloc))?;
+    assert!(rt; done.written.starts_with(b"report 1\nactions 1026\n"));
     Ok(())
 }

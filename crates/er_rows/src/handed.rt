@@ -1,0 +1,138 @@
+//! How many numbers each crate of rules hands for each record of the realistic load.
+
+use crate::graph::let_go;
+use er_graph::{Graph, GraphFault};
+use er_outside::NoMemory;
+use er_page::page::Page;
+use er_rules_dispatch as dispatch;
+use er_rules_load as load;
+use er_rules_parse as parse;
+use er_rules_request as request;
+use er_rules_script as script;
+use er_rules_timer as timer;
+use er_trace::fault::LineFault;
+use er_trace::parse::parse_record;
+use er_trace::record::Record;
+use smallvec::SmallVec;
+use std::alloc::Global;
+use std::process::Abort;
+use std::test::Fail;
+
+/// The records of the realistic load, and the most numbers for each: of parsing, scripts, loads, timers, requests and dispatches.
+static MOST: [(&str, [usize; 6]); 53] = [
+    ("parse 0 1 plain", [2, 1, 0, 0, 0, 0]),
+    ("parse 0 2 sync", [2, 1, 0, 0, 0, 0]),
+    ("exec 2", [0, 4, 0, 0, 0, 0]),
+    ("w var 0 app", [0, 0, 0, 0, 0, 0]),
+    ("parse 0 3 defer", [2, 1, 0, 0, 0, 0]),
+    ("parse 0 4 async", [2, 1, 0, 0, 0, 0]),
+    ("parse 0 5 frame 1", [2, 1, 0, 0, 0, 0]),
+    ("parse 0 6 frame 2", [2, 1, 0, 0, 0, 0]),
+    ("parse 1 7 plain", [2, 1, 0, 0, 0, 0]),
+    ("exec 4", [0, 4, 0, 0, 0, 0]),
+    ("r var 0 app", [0, 0, 0, 0, 0, 0]),
+    ("w var 0 count", [0, 0, 0, 0, 0, 0]),
+    ("parse 2 8 inline", [2, 1, 0, 0, 0, 0]),
+    ("exec 8", [0, 4, 0, 0, 0, 0]),
+    ("w var 2 ready", [0, 0, 0, 0, 0, 0]),
+    ("parse 0 9 plain", [2, 1, 0, 0, 0, 0]),
+    ("w elem 0 buy", [0, 0, 0, 0, 0, 0]),
+    ("exec 3", [0, 4, 0, 0, 0, 0]),
+    ("r elem 0 buy", [0, 0, 0, 0, 0, 0]),
+    ("on 1", [0, 0, 0, 0, 0, 0]),
+    ("w slot 9 click", [0, 0, 0, 0, 0, 0]),
+    ("send 1", [0, 0, 0, 0, 0, 0]),
+    ("on 2", [0, 0, 0, 0, 0, 0]),
+    ("every 1 50", [0, 0, 0, 0, 0, 0]),
+    ("dcl 1 0", [0, 0, 3, 0, 0, 1]),
+    ("close 1", [0, 0, 0, 0, 0, 1]),
+    ("dcl 2 1", [0, 0, 3, 0, 0, 1]),
+    ("close 2", [0, 0, 0, 0, 0, 1]),
+    ("load 3 1", [0, 0, 4, 0, 0, 1]),
+    ("close 3", [0, 0, 0, 0, 0, 1]),
+    ("eload 4 5", [0, 0, 3, 0, 0, 0]),
+    ("close 4", [0, 0, 0, 0, 0, 1]),
+    ("dcl 5 2", [0, 0, 3, 0, 0, 1]),
+    ("close 5", [0, 0, 0, 0, 0, 1]),
+    ("load 6 2", [0, 0, 4, 0, 0, 1]),
+    ("close 6", [0, 0, 0, 0, 0, 1]),
+    ("eload 7 6", [0, 0, 3, 0, 0, 0]),
+    ("close 7", [0, 0, 0, 0, 0, 1]),
+    ("tick 1", [0, 0, 0, 2, 0, 0]),
+    ("r var 0 count", [0, 0, 0, 0, 0, 0]),
+    ("reply 8 1", [0, 0, 0, 0, 2, 0]),
+    ("run 8 0 2", [0, 0, 0, 0, 0, 2]),
+    ("w var 0 count", [0, 0, 0, 0, 0, 0]),
+    ("close 8", [0, 0, 0, 0, 0, 1]),
+    ("load 9 0", [0, 0, 7, 0, 0, 1]),
+    ("close 9", [0, 0, 0, 0, 0, 1]),
+    ("fire 10 9 click", [0, 0, 0, 0, 0, 2]),
+    ("r slot 9 click", [0, 0, 0, 0, 0, 0]),
+    ("run 10 0 1", [0, 0, 0, 0, 0, 2]),
+    ("r var 0 count", [0, 0, 0, 0, 0, 0]),
+    ("close 10", [0, 0, 0, 0, 0, 1]),
+    ("tick 1", [0, 0, 0, 2, 0, 0]),
+    ("r var 0 count", [0, 0, 0, 0, 0, 0]),
+];
+
+/// How many numbers the six groups hand for the record.
+fn handed(page: &Page, rec: &Record, alloc: Global) -> Result<[usize; 6], NoMemory> {
+    let mut steps = SmallVec::new(alloc);
+    parse::predecessors::predecessors(page, rec, &mut steps)?;
+    let mut runs = SmallVec::new(alloc);
+    script::predecessors::predecessors(page, rec, &mut runs)?;
+    let mut loads = SmallVec::new(alloc);
+    load::predecessors::predecessors(page, rec, &mut loads)?;
+    let mut timers = SmallVec::new(alloc);
+    timer::predecessors::predecessors(page, rec, &mut timers)?;
+    let mut replies = SmallVec::new(alloc);
+    request::predecessors::predecessors(page, rec, &mut replies)?;
+    let mut dispatches = SmallVec::new(alloc);
+    dispatch::predecessors::predecessors(page, rec, &mut dispatches)?;
+    Ok([
+        steps.len(),
+        runs.len(),
+        loads.len(),
+        timers.len(),
+        replies.len(),
+        dispatches.len(),
+    ])
+}
+
+/// How many numbers were handed in all, where each record gets no more than it may.
+fn add_up(rt: &impl Abort, graph: &mut Graph, alloc: Global) -> Result<usize, LineFault>
+    requires whole { graph.old.has_failed ≡ false }
+{
+    let mut sum: usize = 0;
+    for (text, most) in &MOST {
+        let rec = parse_record(alloc, text.as_bytes())?;
+        let Ok(counts) = handed(graph.page(), &rec, alloc) else {
+            return Err(LineFault::NoMemory);
+        };
+        for (count, most) in counts.iter().zip(most.iter()) {
+            assert!(rt; count <= most, "{text}");
+            sum = sum.saturating_add(*count);
+        }
+        match graph.accept(2, &rec) {
+            Ok(()) => (),
+            Err(GraphFault::Refused { .. }) => assert!(rt; false, "{text}"),
+            Err(GraphFault::NoMemory) => return Err(LineFault::NoMemory),
+        }
+    }
+    Ok(sum)
+}
+
+/// Each link was handed, and no number beyond the most.
+#[test]
+fn realistic_load(rt: HostRuntime) -> Result<(), Fail> {
+    let alloc = rt.alloc();
+    let mut graph = Graph::new(alloc)?;
+    let sum = add_up(&rt, &mut graph, alloc);
+    let links = graph.clocks().link_count();
+    let_go(graph);
+    let sum = sum?;
+    assert!(rt; links == 40);
+    assert!(rt; sum >= 40);
+    assert!(rt; sum <= 101);
+    Ok(())
+}
