@@ -8,7 +8,7 @@ use Rattle.er_page.specs.declared.page.Page.{Page}
 use Rattle.er_page.specs.Page.{IsPage, IsSomePage}
 use Rattle.er_graph.specs.declared.graph.Graph.{Graph}
 use Rattle.er_graph.specs.Accepted.{Accepted, records, cause_now}
-use Rattle.er_graph.specs.Graph.{IsListed, IsGraph, HasBegun, HaveBegun}
+use Rattle.er_graph.specs.Graph.{IsListed, IsGraph, HasBegun}
 
 pub some_page : (graph : Graph) (page : Page) → ((accepted : List Accepted) → IsListed graph accepted → IsPage page (records accepted)) → ∥ IsSomePage page ∥₁
 some_page graph page shown = ∥∥₁_map graph.stands (λ one. record { list = records one.accepted; stands = shown one.accepted one.told })
@@ -21,15 +21,6 @@ has_begun graph page action count shown is below = ∥∥₁_map graph.stands (�
   begun = omega (arith, is (records one.accepted) (shown one.accepted one.told), below);
 })
 
-pub have_begun : (graph : Graph) (page : Page) (i j count : ℕ) → graph.has_failed ≡ false → ((accepted : List Accepted) → IsListed graph accepted → IsPage page (records accepted))
-    → ((h : List Record) → IsPage page h → count ≡ length (told h).actions) → i < count → j < count → ∥ HaveBegun graph i j ∥₁
-have_begun graph page i j count whole shown is first second = ∥∥₁_map graph.stands (λ one. record {
-  accepted = one.accepted;
-  stands = record { listed = one.told; joined = one.joined whole; whole = whole };
-  first = omega (arith, is (records one.accepted) (shown one.accepted one.told), first);
-  second = omega (arith, is (records one.accepted) (shown one.accepted one.told), second);
-})
-
 pub whole_after : (old new : Graph) (line : ℕ) (x : Record) → old.has_failed ≡ false
     → ((accepted : List Accepted) → IsGraph old accepted → (cause_now accepted x ≡ None) × IsGraph new (record { line = line; read = x } ∷ accepted)) → new.has_failed ≡ false
-whole_after old new line x whole taken = ∥∥₁_elim old.stands (hlevel props) (λ one. (taken one.accepted (record { listed = one.told; joined = one.joined whole; whole = whole })).1.whole)
+whole_after old new line x whole taken = ∥∥₁_elim old.stands (hlevel props) (λ one. (taken one.accepted (record { listed = one.told; timed = one.timed whole; whole = whole })).1.whole)
