@@ -18,7 +18,7 @@ use Rattle.er_run.specs.Races.{kept, accesses_of, without_repeats, repeats}
 use Rattle.er_run.specs.Session.{has_action, is_access, IsFalling, AreInOrder}
 use Rattle.er_page.specs.declared.page.Page.{Page}
 use Rattle.er_page.specs.Page.{IsPage}
-use Rattle.er_page.specs.LookUps.{running_action}
+use Rattle.er_history.specs.LookUps.{running_action}
 
 pub or_swaps : (a b : Bool) → (a || b) ≡ (b || a)
 or_swaps true true = refl
