@@ -13,7 +13,7 @@ use Rattle.er_trace.proofs.RecordLaws.{spelling_is_no_end}
 use Rattle.er_trace.proofs.OneTrace.{one_refusal, trace_not_refused, one_trace, SameRefusal, a_line, bytes_of, whole_header, whole_end, whole_record, same_first}
 use Rattle.er_history.specs.Sound.{IsLegal}
 use Rattle.er_history.specs.Sound as sound
-use Rattle.er_history.specs.Rules.{rules}
+use Rattle.er_history.specs.Rules.{Rule, rules}
 use Rattle.er_run.specs.Races.{races}
 use Rattle.er_run.specs.Report.{report, refusal}
 use Rattle.er_run.specs.declared.outcome.Outcome.{Outcome}
@@ -44,39 +44,39 @@ meets (x ∷ a) (y ∷ b) r s first second e =
     meets_more x y a b r s same.0 (meets a b r s first.1 second.1 same.1)
 
 -- in a legal list no record has a cause
-legal_older : (newer older : List Record) → IsLegal rules (newer ++ older) → IsLegal rules older
-legal_older [] older h = h
-legal_older (x ∷ newer) older h = legal_older newer older h.1
+legal_older : (table : List (ℕ × Rule)) (newer older : List Record) → IsLegal table (newer ++ older) → IsLegal table older
+legal_older table [] older h = h
+legal_older table (x ∷ newer) older h = legal_older table newer older h.1
 
 reverse_front : (earlier more : List Record) (x : Record) → reverse (earlier ++ x ∷ more) ≡ reverse more ++ x ∷ reverse earlier
 reverse_front earlier more x =
     (reverse-append earlier (x ∷ more) ∙ ap (λ (l : List Record). l ++ reverse earlier) (reverse-append (x ∷ []) more))
     ∙ append_assoc (reverse more) (x ∷ []) (reverse earlier)
 
-no_cause : (list earlier more : List Record) (x : Record) (c : Cause) → IsLegal rules (reverse list) → list ≡ earlier ++ x ∷ more → sound.cause rules (reverse earlier) x ≡ Some c → ⊥
-no_cause list earlier more x c legal e cause =
+no_cause : (table : List (ℕ × Rule)) (list earlier more : List Record) (x : Record) (c : Cause) → IsLegal table (reverse list) → list ≡ earlier ++ x ∷ more → sound.cause table (reverse earlier) x ≡ Some c → ⊥
+no_cause table list earlier more x c legal e cause =
     let back : reverse list ≡ reverse more ++ x ∷ reverse earlier = ap reverse e ∙ reverse_front earlier more x in
-    let older : IsLegal rules (x ∷ reverse earlier) = legal_older (reverse more) (x ∷ reverse earlier) (subst (IsLegal rules) back legal) in
-    let none : sound.cause rules (reverse earlier) x ≡ None = older.0 in
+    let older : IsLegal table (x ∷ reverse earlier) = legal_older table (reverse more) (x ∷ reverse earlier) (subst (IsLegal table) back legal) in
+    let none : sound.cause table (reverse earlier) x ≡ None = older.0 in
     let both : None ≡ Some c = sym none ∙ cause in
     absurd (cc)
 
 -- behind the header these records stand, and then a record that has a cause after them
-record Faulty (bytes : List ℕ) (earlier : List Record) (x : Record) (c : Cause) : Type 0 where
+record Faulty (table : List (ℕ × Rule)) (bytes : List ℕ) (earlier : List Record) (x : Record) (c : Cause) : Type 0 where
   each : AllByRecursion IsRecord earlier
   few : length earlier + 2 ≤ most_lines
   is_record : IsRecord x
   rest : List ℕ
   begins : bytes ≡ line header ++ (lines earlier ++ (line (spelling x) ++ rest))
-  cause : sound.cause rules (reverse earlier) x ≡ Some c
+  cause : sound.cause table (reverse earlier) x ≡ Some c
 
 -- behind the header these legal records stand, and then these bytes
-record Legally (bytes : List ℕ) (records : List Record) (rest : List ℕ) : Type 0 where
+record Legally (table : List (ℕ × Rule)) (bytes : List ℕ) (records : List Record) (rest : List ℕ) : Type 0 where
   each : AllByRecursion IsRecord records
   begins : bytes ≡ line header ++ (lines records ++ rest)
-  legal : IsLegal rules (reverse records)
+  legal : IsLegal table (reverse records)
 
-faulty : (bytes : List ℕ) (earlier : List Record) (c : Cause) (h : RefusesRecord bytes earlier c) → Faulty bytes earlier h.read c
+faulty : (bytes : List ℕ) (earlier : List Record) (c : Cause) (h : RefusesRecord bytes earlier c) → Faulty rules bytes earlier h.read c
 faulty bytes earlier c h = record {
   each = h.is_place.each;
   few = h.few;
@@ -90,20 +90,20 @@ faulty bytes earlier c h = record {
 abbrev NoRecord : List ℕ → Type 0
 NoRecord bytes = (x : Record) (rest : List ℕ) → IsRecord x → bytes ≡ line (spelling x) ++ rest → ⊥
 
-not_legally_by : (earlier records : List Record) (x : Record) (c : Cause) (r s : List ℕ) → Meets earlier records (line (spelling x) ++ r) s → IsRecord x → sound.cause rules (reverse earlier) x ≡ Some c → IsLegal rules (reverse records)
+not_legally_by : (table : List (ℕ × Rule)) (earlier records : List Record) (x : Record) (c : Cause) (r s : List ℕ) → Meets earlier records (line (spelling x) ++ r) s → IsRecord x → sound.cause table (reverse earlier) x ≡ Some c → IsLegal table (reverse records)
     → (length records ≤ length earlier → NoRecord s) → ⊥
-not_legally_by earlier records x c r s (Equal e there) is cause legal stops = stops (omega (arith, ap length e)) x r is (sym there)
-not_legally_by earlier records x c r s (Shorter y more rest is_y e there) is cause legal stops =
+not_legally_by table earlier records x c r s (Equal e there) is cause legal stops = stops (omega (arith, ap length e)) x r is (sym there)
+not_legally_by table earlier records x c r s (Shorter y more rest is_y e there) is cause legal stops =
     let same : x ≡ y = (same_first x y r rest is is_y there).0 in
-    no_cause records earlier more x c legal (e ∙ ap (λ z. earlier ++ z ∷ more) (sym same)) cause
-not_legally_by earlier records x c r s (Longer y more rest is_y e there) is cause legal stops =
+    no_cause table records earlier more x c legal (e ∙ ap (λ z. earlier ++ z ∷ more) (sym same)) cause
+not_legally_by table earlier records x c r s (Longer y more rest is_y e there) is cause legal stops =
     stops (omega (arith, ap length e, length-append records (y ∷ more))) y rest is_y there
 
 -- a record that has a cause stands before no place that legal records lead to, where no record follows
-not_legally : (bytes : List ℕ) (earlier records : List Record) (x : Record) (c : Cause) (s : List ℕ) → Faulty bytes earlier x c → Legally bytes records s → (length records ≤ length earlier → NoRecord s) → ⊥
-not_legally bytes earlier records x c s first second stops =
+not_legally : (table : List (ℕ × Rule)) (bytes : List ℕ) (earlier records : List Record) (x : Record) (c : Cause) (s : List ℕ) → Faulty table bytes earlier x c → Legally table bytes records s → (length records ≤ length earlier → NoRecord s) → ⊥
+not_legally table bytes earlier records x c s first second stops =
     let e : lines earlier ++ (line (spelling x) ++ first.rest) ≡ lines records ++ s = append_cancel_left (line header) (lines earlier ++ (line (spelling x) ++ first.rest)) (lines records ++ s) (sym first.begins ∙ second.begins) in
-    not_legally_by earlier records x c first.rest s (meets earlier records (line (spelling x) ++ first.rest) s first.each second.each e) first.is_record first.cause second.legal stops
+    not_legally_by table earlier records x c first.rest s (meets earlier records (line (spelling x) ++ first.rest) s first.each second.each e) first.is_record first.cause second.legal stops
 
 no_record_at_end : (later : List ℕ) → NoRecord (line end_word ++ later)
 no_record_at_end later x rest is e =
@@ -130,57 +130,57 @@ no_header (Ok l) c rest h e = h.0 cc
 no_header (Err why) c rest h e = absurd (cc)
 
 -- a record that has a cause, and a line that has one, where each stands behind legal records
-record_not_line : (bytes : List ℕ) (earlier : List Record) (x : Record) (c d : Cause) (place : Place) → Faulty bytes earlier x c → IsLegal rules (reverse (records_before place)) → Refuses bytes place d → ⊥
-record_not_line bytes earlier x c d Start first legal second =
+record_not_line : (table : List (ℕ × Rule)) (bytes : List ℕ) (earlier : List Record) (x : Record) (c d : Cause) (place : Place) → Faulty table bytes earlier x c → IsLegal table (reverse (records_before place)) → Refuses bytes place d → ⊥
+record_not_line table bytes earlier x c d Start first legal second =
     let same : bytes ≡ second.rest = second.begins in
     no_header (whole_line bytes) d (lines earlier ++ (line (spelling x) ++ first.rest)) (rw same second.cause) (ap whole_line first.begins ∙ whole_header (lines earlier ++ (line (spelling x) ++ first.rest)))
-record_not_line bytes earlier x c d (After records) first legal second =
-    let behind : Legally bytes records second.rest = record { each = second.is_place.each; begins = second.begins ∙ append_assoc (line header) (lines records) second.rest; legal = legal } in
-    not_legally bytes earlier records x c second.rest first behind (λ (fits : length records ≤ length earlier). no_record_at_cause (length records + 2) second.rest d second.cause (omega (arith, first.few)))
-record_not_line bytes earlier x c d (Ended records) first legal second =
-    let behind : Legally bytes records (line end_word ++ second.rest) = record {
+record_not_line table bytes earlier x c d (After records) first legal second =
+    let behind : Legally table bytes records second.rest = record { each = second.is_place.each; begins = second.begins ∙ append_assoc (line header) (lines records) second.rest; legal = legal } in
+    not_legally table bytes earlier records x c second.rest first behind (λ (fits : length records ≤ length earlier). no_record_at_cause (length records + 2) second.rest d second.cause (omega (arith, first.few)))
+record_not_line table bytes earlier x c d (Ended records) first legal second =
+    let behind : Legally table bytes records (line end_word ++ second.rest) = record {
       each = second.is_place.each;
       begins = (second.begins ∙ append_assoc (line header ++ lines records) (line end_word) second.rest) ∙ append_assoc (line header) (lines records) (line end_word ++ second.rest);
       legal = legal;
     } in
-    not_legally bytes earlier records x c (line end_word ++ second.rest) first behind (λ (fits : length records ≤ length earlier). no_record_at_end second.rest)
+    not_legally table bytes earlier records x c (line end_word ++ second.rest) first behind (λ (fits : length records ≤ length earlier). no_record_at_end second.rest)
 
 -- a record that has a cause stands in no legal trace
-record_not_trace : (bytes : List ℕ) (earlier records : List Record) (x : Record) (c : Cause) → Faulty bytes earlier x c → IsLegalTrace bytes records → ⊥
+record_not_trace : (bytes : List ℕ) (earlier records : List Record) (x : Record) (c : Cause) → Faulty rules bytes earlier x c → IsLegalTrace bytes records → ⊥
 record_not_trace bytes earlier records x c first second =
-    let behind : Legally bytes records (line end_word ++ []) = record {
+    let behind : Legally rules bytes records (line end_word ++ []) = record {
       each = second.is_trace.each;
       begins = (second.spelled ∙ append_assoc (line header) (lines records) (line end_word)) ∙ ap (λ l. line header ++ (lines records ++ l)) (sym (append-nil (line end_word)));
       legal = second.legal;
     } in
-    not_legally bytes earlier records x c (line end_word ++ []) first behind (λ (fits : length records ≤ length earlier). no_record_at_end [])
+    not_legally rules bytes earlier records x c (line end_word ++ []) first behind (λ (fits : length records ≤ length earlier). no_record_at_end [])
 
 -- the first records that have a cause are the same
-same_record_by : (a b : List Record) (x y : Record) (c d : Cause) (r s : List ℕ) → Meets a b (line (spelling x) ++ r) (line (spelling y) ++ s) → IsRecord x → IsRecord y
-    → sound.cause rules (reverse a) x ≡ Some c → sound.cause rules (reverse b) y ≡ Some d → IsLegal rules (reverse a) → IsLegal rules (reverse b) → (a ≡ b) × (c ≡ d)
-same_record_by a b x y c d r s (Equal e there) is_x is_y cause_x cause_y legal_a legal_b =
+same_record_by : (table : List (ℕ × Rule)) (a b : List Record) (x y : Record) (c d : Cause) (r s : List ℕ) → Meets a b (line (spelling x) ++ r) (line (spelling y) ++ s) → IsRecord x → IsRecord y
+    → sound.cause table (reverse a) x ≡ Some c → sound.cause table (reverse b) y ≡ Some d → IsLegal table (reverse a) → IsLegal table (reverse b) → (a ≡ b) × (c ≡ d)
+same_record_by table a b x y c d r s (Equal e there) is_x is_y cause_x cause_y legal_a legal_b =
     let same : x ≡ y = (same_first x y r s is_x is_y there).0 in
-    let twice : sound.cause rules (reverse a) x ≡ sound.cause rules (reverse b) y = ap (λ l. sound.cause rules (reverse l) x) e ∙ ap (sound.cause rules (reverse b)) same in
+    let twice : sound.cause table (reverse a) x ≡ sound.cause table (reverse b) y = ap (λ l. sound.cause table (reverse l) x) e ∙ ap (sound.cause table (reverse b)) same in
     let causes : Some c ≡ Some d = (sym cause_x ∙ twice) ∙ cause_y in
     (e, cc)
-same_record_by a b x y c d r s (Shorter z more rest is_z e there) is_x is_y cause_x cause_y legal_a legal_b =
+same_record_by table a b x y c d r s (Shorter z more rest is_z e there) is_x is_y cause_x cause_y legal_a legal_b =
     let same : x ≡ z = (same_first x z r rest is_x is_z there).0 in
-    absurd (no_cause b a more x c legal_b (e ∙ ap (λ w. a ++ w ∷ more) (sym same)) cause_x)
-same_record_by a b x y c d r s (Longer z more rest is_z e there) is_x is_y cause_x cause_y legal_a legal_b =
+    absurd (no_cause table b a more x c legal_b (e ∙ ap (λ w. a ++ w ∷ more) (sym same)) cause_x)
+same_record_by table a b x y c d r s (Longer z more rest is_z e there) is_x is_y cause_x cause_y legal_a legal_b =
     let same : y ≡ z = (same_first y z s rest is_y is_z there).0 in
-    absurd (no_cause a b more y d legal_a (e ∙ ap (λ w. b ++ w ∷ more) (sym same)) cause_y)
+    absurd (no_cause table a b more y d legal_a (e ∙ ap (λ w. b ++ w ∷ more) (sym same)) cause_y)
 
-same_record : (bytes : List ℕ) (a b : List Record) (x y : Record) (c d : Cause) → Faulty bytes a x c → Faulty bytes b y d → IsLegal rules (reverse a) → IsLegal rules (reverse b) → (a ≡ b) × (c ≡ d)
-same_record bytes a b x y c d first second legal_a legal_b =
+same_record : (table : List (ℕ × Rule)) (bytes : List ℕ) (a b : List Record) (x y : Record) (c d : Cause) → Faulty table bytes a x c → Faulty table bytes b y d → IsLegal table (reverse a) → IsLegal table (reverse b) → (a ≡ b) × (c ≡ d)
+same_record table bytes a b x y c d first second legal_a legal_b =
     let r : List ℕ = line (spelling x) ++ first.rest in
     let s : List ℕ = line (spelling y) ++ second.rest in
     let e : lines a ++ r ≡ lines b ++ s = append_cancel_left (line header) (lines a ++ r) (lines b ++ s) (sym first.begins ∙ second.begins) in
-    same_record_by a b x y c d first.rest second.rest (meets a b r s first.each second.each e) first.is_record second.is_record first.cause second.cause legal_a legal_b
+    same_record_by table a b x y c d first.rest second.rest (meets a b r s first.each second.each e) first.is_record second.is_record first.cause second.cause legal_a legal_b
 
 -- what refuses the bytes first: a line, or a record
 data Illegal (bytes : List ℕ) (n : ℕ) (c : Cause) : Type 0 where
   ByLine : (place : Place) → n ≡ line_number place → IsLegal rules (reverse (records_before place)) → Refuses bytes place c → Illegal bytes n c
-  ByRecord : (earlier : List Record) (x : Record) → n ≡ length earlier + 2 → IsLegal rules (reverse earlier) → Faulty bytes earlier x c → Illegal bytes n c
+  ByRecord : (earlier : List Record) (x : Record) → n ≡ length earlier + 2 → IsLegal rules (reverse earlier) → Faulty rules bytes earlier x c → Illegal bytes n c
 
 illegal_by : (bytes : List ℕ) (n : ℕ) (c : Cause) (place : Place) → n ≡ line_number place → IsLegal rules (reverse (records_before place))
     → Refuses bytes place c ⊎ ((place ≡ After (records_before place)) × RefusesRecord bytes (records_before place) c) → Illegal bytes n c
@@ -194,10 +194,10 @@ illegal_once : (bytes : List ℕ) (n m : ℕ) (c d : Cause) → Illegal bytes n 
 illegal_once bytes n m c d (ByLine p number_p legal_p first) (ByLine q number_q legal_q second) =
     let same : SameRefusal p q c d = one_refusal bytes p q c d first second in
     (number_p ∙ (same.number ∙ sym number_q), same.cause)
-illegal_once bytes n m c d (ByLine p number_p legal_p first) (ByRecord b y number_b legal_b second) = absurd (record_not_line bytes b y d c p second legal_p first)
-illegal_once bytes n m c d (ByRecord a x number_a legal_a first) (ByLine q number_q legal_q second) = absurd (record_not_line bytes a x c d q first legal_q second)
+illegal_once bytes n m c d (ByLine p number_p legal_p first) (ByRecord b y number_b legal_b second) = absurd (record_not_line rules bytes b y d c p second legal_p first)
+illegal_once bytes n m c d (ByRecord a x number_a legal_a first) (ByLine q number_q legal_q second) = absurd (record_not_line rules bytes a x c d q first legal_q second)
 illegal_once bytes n m c d (ByRecord a x number_a legal_a first) (ByRecord b y number_b legal_b second) =
-    let same : (a ≡ b) × (c ≡ d) = same_record bytes a b x y c d first second legal_a legal_b in
+    let same : (a ≡ b) × (c ≡ d) = same_record rules bytes a b x y c d first second legal_a legal_b in
     (number_a ∙ (ap (λ l. length l + 2) same.0 ∙ sym number_b), same.1)
 
 not_illegal : (bytes : List ℕ) (records : List Record) (n : ℕ) (c : Cause) → IsLegalTrace bytes records → Illegal bytes n c → ⊥

@@ -62,13 +62,19 @@ fn list_from(
             first: first as u32,
             second: second as u32,
         };
-        judge(listed, pair, a, &kept[second], graph)?;
+        compare(listed, pair, a, &kept[second], graph)?;
     }
     Ok(())
 }
 
 /// Compares the pair where it is a candidate, and lists it where it races.
-fn judge(listed: &mut Listed, pair: Race, a: &Kept, b: &Kept, graph: &Graph) -> Result<(), NoMemory>
+fn compare(
+    listed: &mut Listed,
+    pair: Race,
+    a: &Kept,
+    b: &Kept,
+    graph: &Graph,
+) -> Result<(), NoMemory>
     requires begun { ∥ HaveBegun graph.now a.now.action b.now.action ∥₁ }
     requires room { listed.old.compares < 2 ^ 61 }
     ensures races { OnOk result ((accepted : List Accepted) → IsGraph graph.now accepted → listed.new.races.items ≡ cond (is_race (path rules (records accepted)) a.now b.now) (listed.old.races.items ++ pair ∷ []) listed.old.races.items) }

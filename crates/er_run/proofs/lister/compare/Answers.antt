@@ -3,7 +3,7 @@ use Rattle.er_history.specs.Edges.{path}
 use Rattle.er_graph.specs.Accepted.{records}
 use Rattle.er_history.specs.Rules.{rules}
 use Rattle.er_run.proofs.ComparedLemmas.{first_within, second_within, compared, joined_none, apart_one}
-use Rattle.er_run.proofs.lister.judge.Goals as goal
+use Rattle.er_run.proofs.lister.compare.Goals as goal
 
 pub before-requires-clause-first : goal.before-requires-clause-first
 before-requires-clause-first c = first_within c.args.graph.now c.clocks-clocks.result.now c.args.a.now.action c.args.b.now.action c.clocks-clocks.ensures c.requires.begun
