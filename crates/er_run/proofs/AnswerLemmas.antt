@@ -1,5 +1,6 @@
 -- From what was written to the promise of an answer.
-use Rattle.std.proofs.Common.{◌≡◌, ◌≢◌, ℕ, List, [], ◌∷◌, Option, refl, sym, ap, ◌∙◌, subst, inl, inr, ◌⊎◌, reverse}
+use Rattle.std.proofs.Common.{◌≡◌, ◌≢◌, ℕ, List, [], ◌∷◌, Option, refl, sym, ap, ◌∙◌, subst, inl, inr, ◌⊎◌, reverse, length, arith}
+use Rattle.std.proofs.lemmas.List.{length-reverse}
 use Rattle.er_outside.specs.Ends.{GetsPart}
 use Rattle.er_text.specs.declared.causes.Cause.{Cause}
 use Rattle.er_trace.specs.declared.record.Record.{Record}
@@ -9,7 +10,8 @@ use Rattle.er_run.specs.Races.{races}
 use Rattle.er_run.specs.Report.{report, refusal}
 use Rattle.er_run.specs.Answer.{IsLegalTrace, IsRefused, Answers}
 use Rattle.er_run.specs.Promise.{IsAnswer, IsGiven, IsPartGiven}
-use Rattle.er_run.specs.Accepted.{ReportsOf, RefusedAs}
+use Rattle.er_run.specs.declared.session.Session.{Session}
+use Rattle.er_run.specs.Accepted.{IsAccepted, IsReportable, ReportsOf, RefusedAs}
 
 empty_or_not : {X : Type 0} (xs : List X) → (xs ≡ []) ⊎ (xs ≢ [])
 empty_or_not {X} [] = inl refl
@@ -49,3 +51,15 @@ given_report bytes records WriteFault old new legal came answer = absurd answer
 given_report bytes records Usage old new legal came answer = absurd answer
 given_report bytes records ReadFault old new legal came answer = absurd answer
 given_report bytes records NoMemory old new legal came answer = absurd answer
+
+-- an accepted trace has a report
+pub reportable : (bytes : List ℕ) (session : Session) → IsAccepted bytes session → IsReportable session
+reportable bytes session accepted =
+    record { list = reverse accepted.records; stands = accepted.stands; few = omega (arith, accepted.legal.is_trace.few, length-reverse accepted.records) }
+
+-- a report comes neither of words nor of a failed read
+pub reports_no_usage : (h : List Record) (result : Outcome) (old new : Option (List ℕ)) → ReportsOf h result old new → result ≢ Usage
+reports_no_usage h result old new came is = subst (λ r. ReportsOf h r old new) is came
+
+pub reports_no_read_fault : (h : List Record) (result : Outcome) (old new : Option (List ℕ)) → ReportsOf h result old new → result ≢ ReadFault
+reports_no_read_fault h result old new came is = subst (λ r. ReportsOf h r old new) is came

@@ -1,6 +1,19 @@
 use Rattle.std.proofs.Common.{reverse}
-use Rattle.er_run.proofs.AnswerLemmas.{cut_report, given_report, cut_refusal, given_refusal}
+use Rattle.er_run.proofs.AnswerLemmas.{cut_report, given_report, cut_refusal, given_refusal, reportable, reports_no_usage, reports_no_read_fault}
 use Rattle.er_run.proofs.answer.answer.Goals as goal
+
+pub report_of-requires : goal.report_of-requires
+report_of-requires g c = reportable _ c.in-Ok.session c.in-Ok.ensures.accepted
+
+pub returns-in-Ok-clause-no_usage : goal.returns-in-Ok-clause-no_usage
+returns-in-Ok-clause-no_usage g c =
+    let accepted = c.in-Ok.ensures.accepted in
+    reports_no_usage (reverse accepted.records) _ _ _ (c.report_of.ensures.reported (reverse accepted.records) accepted.stands)
+
+pub returns-in-Ok-clause-no_read_fault : goal.returns-in-Ok-clause-no_read_fault
+returns-in-Ok-clause-no_read_fault g c =
+    let accepted = c.in-Ok.ensures.accepted in
+    reports_no_read_fault (reverse accepted.records) _ _ _ (c.report_of.ensures.reported (reverse accepted.records) accepted.stands)
 
 pub returns-in-Ok-clause-cut_short : goal.returns-in-Ok-clause-cut_short
 returns-in-Ok-clause-cut_short g c =
