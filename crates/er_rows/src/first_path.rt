@@ -1,6 +1,6 @@
 //! Rows of timeouts and variables, of lines and of names.
 
-use crate::row::{Counts, Row, Refusal};
+use crate::row::{Counts, Refusal, Row};
 
 pub(crate) static REPORTS: [Row; 6] = [
     // repeats, and three modes

@@ -69,7 +69,7 @@ static ROWS: [Row; 2] = [
 ];
 
 /// Hands in the line, and answers with which number and cause it was refused.
-fn hand(
+pub(crate) fn hand(
     graph: &mut Graph,
     alloc: Global,
     line: u32,
@@ -177,7 +177,10 @@ fn ask_graph(rt: &impl Abort, graph: &Graph, row: &Row) {
         assert!(rt; path(graph, *i, *j) == *due, "{i} {j}");
     }
     for (action, chain, place, links) in row.clocks {
-        assert!(rt; has_clock(graph, *action, *chain, *place, links), "{action}");
+        assert!(rt;
+            has_clock(graph, *action, *chain, *place, links),
+            "{action}"
+        );
     }
 }
 

@@ -1,7 +1,10 @@
 //! How many numbers each crate of rules hands for each record of the realistic load.
 
-use crate::graph::let_go;
-use er_graph::{Graph, GraphFault};
+ghost use Rattle.std.specs.Prelude.{◌≡◌, false};
+ghost use Rattle.er_page.specs.Page.{IsSomePage};
+
+use crate::graph::{hand, let_go};
+use er_graph::Graph;
 use er_outside::NoMemory;
 use er_page::page::Page;
 use er_rules_dispatch as dispatch;
@@ -76,7 +79,9 @@ static MOST: [(&str, [usize; 6]); 53] = [
 ];
 
 /// How many numbers the six groups hand for the record.
-fn handed(page: &Page, rec: &Record, alloc: Global) -> Result<[usize; 6], NoMemory> {
+fn handed(page: &Page, rec: &Record, alloc: Global) -> Result<[usize; 6], NoMemory>
+    requires some { ∥ IsSomePage page.now ∥₁ }
+{
     let mut steps = SmallVec::new(alloc);
     parse::predecessors::predecessors(page, rec, &mut steps)?;
     let mut runs = SmallVec::new(alloc);
@@ -99,25 +104,28 @@ fn handed(page: &Page, rec: &Record, alloc: Global) -> Result<[usize; 6], NoMemo
     ])
 }
 
+/// How many numbers the six groups hand for the next line.
+fn handed_next(graph: &Graph, alloc: Global, text: &str) -> Result<[usize; 6], LineFault> {
+    let rec = parse_record(alloc, text.as_bytes())?;
+    match handed(graph.page(), &rec, alloc) {
+        Ok(counts) => Ok(counts),
+        Err(NoMemory) => Err(LineFault::NoMemory),
+    }
+}
+
 /// How many numbers were handed in all, where each record gets no more than it may.
 fn add_up(rt: &impl Abort, graph: &mut Graph, alloc: Global) -> Result<usize, LineFault>
     requires whole { graph.old.has_failed ≡ false }
 {
     let mut sum: usize = 0;
     for (text, most) in &MOST {
-        let rec = parse_record(alloc, text.as_bytes())?;
-        let Ok(counts) = handed(graph.page(), &rec, alloc) else {
-            return Err(LineFault::NoMemory);
-        };
+        let counts = handed_next(graph, alloc, text)?;
         for (count, most) in counts.iter().zip(most.iter()) {
             assert!(rt; count <= most, "{text}");
             sum = sum.saturating_add(*count);
         }
-        match graph.accept(2, &rec) {
-            Ok(()) => (),
-            Err(GraphFault::Refused { .. }) => assert!(rt; false, "{text}"),
-            Err(GraphFault::NoMemory) => return Err(LineFault::NoMemory),
-        }
+        let refused = hand(graph, alloc, 2, text)?;
+        assert!(rt; refused.is_none(), "{text}");
     }
     Ok(sum)
 }

@@ -98,9 +98,9 @@ fn as_many_actions_as_may_be(rt: HostRuntime) -> Result<(), Fail> {
 fn nested(alloc: Global, depth: u32) -> Result<Vec<u8>, AllocError> {
     let mut input = Vec::from_slice(alloc, b"webtrace 1\nparse 0 1 inline\nexec 1\non 1\n")?;
     for dispatch in 1..=depth {
-        input.extend_from_slice(
-            format!(in alloc; "inline {dispatch} 1 a\nrun {dispatch} 0 1\n")?.as_bytes(),
-        )?;
+        input.extend_from_slice(format!(in alloc;
+            "inline {dispatch} 1 a\nrun {dispatch} 0 1\n"
+        )?.as_bytes())?;
     }
     Ok(input)
 }
@@ -108,9 +108,9 @@ fn nested(alloc: Global, depth: u32) -> Result<Vec<u8>, AllocError> {
 /// The dispatches closed from the inside.
 fn close_all(alloc: Global, input: &mut Vec<u8>, depth: u32) -> Result<(), AllocError> {
     for dispatch in (1..=depth).rev() {
-        input.extend_from_slice(
-            format!(in alloc; "close {dispatch}\nback {dispatch}\n")?.as_bytes(),
-        )?;
+        input.extend_from_slice(format!(in alloc;
+            "close {dispatch}\nback {dispatch}\n"
+        )?.as_bytes())?;
     }
     Ok(())
 }
@@ -129,7 +129,10 @@ fn as_deep_as_may_be(rt: HostRuntime) -> Result<(), Fail> {
     );
     deeper.extend_from_slice(b"inline 257 1 a\nend\n")?;
     let done = through(alloc, &[], &deeper, sound(alloc))?;
-    assert_eq!(rt; done.written.as_slice(), b"refused 517 too-deep\n".as_slice());
+    assert_eq!(rt;
+        done.written.as_slice(),
+        b"refused 517 too-deep\n".as_slice()
+    );
     close_all(alloc, &mut closed, MOST_INLINE)?;
     closed.extend_from_slice(b"end\n")?;
     let done = through(alloc, &[], &closed, sound(alloc))?;

@@ -1,6 +1,6 @@
 //! Rows of records that come too late, and of their neighbours that do not.
 
-use crate::row::{Counts, Row, Refusal};
+use crate::row::{Counts, Refusal, Row};
 
 pub(crate) static REPORTS: [Row; 7] = [
     // one of another document

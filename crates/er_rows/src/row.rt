@@ -50,11 +50,6 @@ impl Refusal {
 pub(crate) fn report(alloc: Global, races: &str, counts: &Counts) -> Result<String, AllocError> {
     format!(in alloc;
         "report 1\n{races}actions {}\naccesses {}\npairs {}\nraces {}\nchains {}\nlinks {}\nend\n",
-        counts.actions,
-        counts.accesses,
-        counts.pairs,
-        counts.races,
-        counts.chains,
-        counts.links
+        counts.actions, counts.accesses, counts.pairs, counts.races, counts.chains, counts.links
     )
 }

@@ -3,6 +3,7 @@
 ghost use Rattle.er_rows.specs.Rows.{TimeoutsThatRace, TimeoutsInOrder, EqualDelays, DelaysThatDisagree, TwoSetters, Repeats, OneAction, TwoReads, ParseSteps, NothingAtAll, BlockingScripts, AsyncScripts, DeferredScripts, OtherDocuments};
 
 /// A legal trace, and its report.
+#[derive(Drop)]
 pub struct Worked {
     pub trace: &'static str,
     pub report: &'static str,

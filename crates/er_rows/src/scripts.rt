@@ -1,6 +1,6 @@
 //! Rows of parsing and scripts: rules 1 to 7, and the records that they hold back.
 
-use crate::row::{Counts, Row, Refusal};
+use crate::row::{Counts, Refusal, Row};
 
 pub(crate) static REPORTS: [Row; 30] = [
     // two timeouts that a script set race

@@ -2,7 +2,9 @@
 
 use crate::row::{Refusal, Row};
 use crate::through::{sound, through};
-use crate::{dispatches, first_path, loads, naming, orders, pieces, requests, rows, scripts, timers};
+use crate::{
+    dispatches, first_path, loads, naming, orders, pieces, requests, rows, scripts, timers,
+};
 use std::alloc::{AllocError, Global};
 use std::process::Abort;
 use std::test::Fail;
@@ -35,7 +37,12 @@ fn worked_rows(rt: HostRuntime) -> Result<(), Fail> {
     let alloc = rt.alloc();
     for row in &rows::all() {
         let done = through(alloc, &[], row.trace.as_bytes(), sound(alloc))?;
-        assert_eq!(rt; done.written.as_slice(), row.report.as_bytes(), "{}", row.trace);
+        assert_eq!(rt;
+            done.written.as_slice(),
+            row.report.as_bytes(),
+            "{}",
+            row.trace
+        );
     }
     Ok(())
 }
