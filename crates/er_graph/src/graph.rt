@@ -6,7 +6,6 @@ use er_clocks::Clocks;
 use er_page::page::Page;
 
 /// What the accepted records say, the lines that were handed in with them, and the clocks of their actions.
-#[derive(Drop)]
 pub struct Graph {
     pub(crate) page: Page,
     pub(crate) clocks: Clocks,
@@ -15,4 +14,15 @@ pub struct Graph {
     /// Whether memory ran out: then no record is accepted any more.
     pub(crate) has_failed: bool,
     ghost stands: { ∥ IsSomeGraph page clocks lines.items has_failed ∥₁ },
+}
+
+impl Drop for Graph {
+    fn drop(self) {
+        let Graph {
+            page: _,
+            clocks: _,
+            lines: _,
+            has_failed: _,
+        } = self;
+    }
 }

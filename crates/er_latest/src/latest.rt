@@ -13,7 +13,6 @@ use indexmap::IndexMap;
 use std::alloc::Global;
 
 /// What came last among the actions, by document, interval, request, dispatch and target.
-#[derive(Drop)]
 pub struct Latest {
     /// The last parse step, by document.
     pub(crate) steps: IndexMap<u32, u32>,
@@ -40,6 +39,26 @@ pub struct Latest {
     /// The last piece of a close of a dispatch at a window, by type and document.
     pub(crate) windows: IndexMap<Name, IndexMap<u32, u32>>,
     pub(crate) alloc: Global,
+}
+
+impl Drop for Latest {
+    fn drop(self) {
+        let Latest {
+            steps: _,
+            blocking: _,
+            deferred: _,
+            scripts: _,
+            ticks: _,
+            replies: _,
+            asyncs: _,
+            statics: _,
+            runs: _,
+            groups: _,
+            elements: _,
+            windows: _,
+            alloc: _,
+        } = self;
+    }
 }
 
 impl Latest {

@@ -11,10 +11,15 @@ use indexmap::IndexMap;
 use std::alloc::Global;
 
 /// The timeouts that have fired, by the event that set them, in order of firing.
-#[derive(Drop)]
 pub(crate) struct Fired {
     pub(crate) lists: IndexMap<u32, Vec<u32>>,
     pub(crate) alloc: Global,
+}
+
+impl Drop for Fired {
+    fn drop(self) {
+        let Fired { lists: _, alloc: _ } = self;
+    }
 }
 
 impl Fired {

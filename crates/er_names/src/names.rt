@@ -44,10 +44,18 @@ pub struct Now {
 }
 
 /// What the records have declared, started and finished, by number.
-#[derive(Drop)]
 pub struct Names {
     pub(crate) tables: Tables,
     pub(crate) fired: Fired,
+}
+
+impl Drop for Names {
+    fn drop(self) {
+        let Names {
+            tables: _,
+            fired: _,
+        } = self;
+    }
 }
 
 impl Names {

@@ -18,7 +18,6 @@ use indexmap::IndexMap;
 use std::alloc::Global;
 
 /// What was noted first under each number.
-#[derive(Drop)]
 pub(crate) struct Tables {
     pub(crate) elements: IndexMap<u32, Element>,
     pub(crate) timeouts: IndexMap<u32, Timeout>,
@@ -43,6 +42,27 @@ pub(crate) struct Tables {
     pub(crate) loads: IndexMap<u32, u32>,
     /// The dispatch of the first load event of each element.
     pub(crate) eloads: IndexMap<u32, u32>,
+}
+
+impl Drop for Tables {
+    fn drop(self) {
+        let Tables {
+            elements: _,
+            timeouts: _,
+            documents: _,
+            handlers: _,
+            intervals: _,
+            requests: _,
+            runs: _,
+            callbacks: _,
+            begins: _,
+            closes: _,
+            frames: _,
+            dcls: _,
+            loads: _,
+            eloads: _,
+        } = self;
+    }
 }
 
 impl Tables {

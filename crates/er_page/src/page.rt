@@ -30,12 +30,22 @@ const MOST_ACTIONS: usize = 16_384;
 const MOST_INLINE: u32 = 256;
 
 /// What a list of accepted records declares, has run and has on the stack.
-#[derive(Drop)]
 pub struct Page {
     pub(crate) names: Names,
     pub(crate) stack: Stack,
     pub(crate) pieces: Pieces,
     pub(crate) latest: Latest,
+}
+
+impl Drop for Page {
+    fn drop(self) {
+        let Page {
+            names: _,
+            stack: _,
+            pieces: _,
+            latest: _,
+        } = self;
+    }
 }
 
 impl Page {

@@ -41,11 +41,16 @@ pub(crate) struct Piece {
 }
 
 /// All pieces, oldest first, and the latest piece of each event.
-#[derive(Drop)]
 pub(crate) struct Pieces {
     pub(crate) list: Vec<Piece>,
     pub(crate) latest: IndexMap<u32, u32>,
     ghost few: { length list.items < 2 ^ 32 },
+}
+
+impl Drop for Pieces {
+    fn drop(self) {
+        let Pieces { list: _, latest: _ } = self;
+    }
 }
 
 /// Whether the record begins an action. Each other record is a note, which stands in the running one.

@@ -22,9 +22,14 @@ pub(crate) struct Level {
 }
 
 /// The dispatches that are not finished, the top one last.
-#[derive(Drop)]
 pub(crate) struct Stack {
     pub(crate) levels: Vec<Level>,
+}
+
+impl Drop for Stack {
+    fn drop(self) {
+        let Stack { levels: _ } = self;
+    }
 }
 
 impl Stack {

@@ -15,10 +15,15 @@ use er_trace::record::Record;
 use std::alloc::Global;
 
 /// A page that stands for some list of records.
-#[derive(Drop)]
 pub struct Reading {
     pub page: Page,
     ghost some: { ∥ IsSomePage page ∥₁ },
+}
+
+impl Drop for Reading {
+    fn drop(self) {
+        let Reading { page: _ } = self;
+    }
 }
 
 impl Reading {

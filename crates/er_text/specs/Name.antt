@@ -1,11 +1,10 @@
 -- The spelling of a name.
 use Rattle.std.specs.Prelude.{◌≡◌, ℕ, ◌+◌, ◌-◌, ◌*◌, ◌++◌, ◌<◌, ◌≤◌, ◌/◌, ◌%◌, List, [], ◌∷◌, Bool, not, ◌&&◌, ◌==◌, nat_lt, nat_le, if◌then◌else◌, All, length}
 use Rattle.std.specs.List.{flat_map}
-use Rattle.er_text.specs.declared.names.TheConstants.{MOST_NAME}
 
 -- how many bytes a name has at most
 abbrev pub most_name : ℕ
-most_name = MOST_NAME
+most_name = 255
 
 -- 1 to `most_name` bytes
 pub record IsName (name : List ℕ) : Type 0 where

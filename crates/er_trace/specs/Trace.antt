@@ -8,14 +8,13 @@ use Rattle.er_text.specs.declared.causes.Cause.{Cause}
 use Rattle.er_text.specs.declared.causes.Cause.TheVariants.{BadHeader, LongLine, BadRecord, NoEnd, AfterEnd, TooManyLines}
 use Rattle.er_trace.specs.declared.record.Record.{Record}
 use Rattle.er_trace.specs.Spelling.{spelling, IsRecord}
-use Rattle.er_trace.specs.declared.trace.TheConstants.{MOST_LINES, MOST_LINE_BYTES}
 
 -- the most lines of a trace, and the most bytes of a line without its LF
 abbrev pub most_lines : ℕ
-most_lines = MOST_LINES
+most_lines = 2097152
 
 abbrev pub most_line_bytes : ℕ
-most_line_bytes = MOST_LINE_BYTES
+most_line_bytes = 1024
 
 abbrev pub header : List ℕ
 header = codes "webtrace 1"

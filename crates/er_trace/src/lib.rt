@@ -11,6 +11,7 @@ mod named_forms;
 pub mod parse;
 pub mod print;
 pub mod record;
+pub mod sharing;
 #[cfg(test)]
 mod tests;
 pub mod trace;
