@@ -52,13 +52,13 @@ impl Chains {
     }
 
     /// The lowest chain whose length is the row's number.
-    #[tactic(auto, using(crate::proofs::Lengths::few_chains, crate::proofs::Lengths::full_step, crate::proofs::Lengths::full_none))]
+    #[tactic(auto, using(crate::proofs::Lengths::few_chains, crate::proofs::Lengths::full_here, crate::proofs::Lengths::full_nowhere))]
     pub fn first_full(&self, row: &[u32]) -> Option<u32>
         requires { length row.now ≡ length self.now }
         ensures { result ≡ first_full self.now row.now }
     {
         for (chain, number) in row.iter().enumerate() {
-            if self.lengths[chain] == *number {
+            if *number == self.lengths[chain] {
                 return Some(chain as u32);
             }
         }

@@ -2,5 +2,6 @@
 #![tactic(auto)]
 
 mod chains;
+pub mod sharing;
 
 pub use chains::Chains;

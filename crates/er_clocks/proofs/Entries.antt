@@ -18,7 +18,7 @@ use Rattle.er_links.proofs.Links.{links_newest}
 use Rattle.er_clocks.proofs.Uncovered.{uncovered_kept, rises_sorted, known_same}
 use Rattle.er_clocks.specs.Sources.{uncovered, reaches, IsReach, IsTaken}
 
-zero_at : (n c : ℕ) → slice_index (replicate n 0) c ≡ 0
+pub zero_at : (n c : ℕ) → slice_index (replicate n 0) c ≡ 0
 zero_at zero c = refl
 zero_at (suc n) zero = refl
 zero_at (suc n) (suc c) = zero_at n c

@@ -1,14 +1,17 @@
 -- What first fit does to the tables of numbers: which chain it takes, and the counts and lengths after it.
 use Rattle.std.proofs.Common.{◌≡◌, ℕ, suc, ◌+◌, ◌<◌, Bool, true, List, [], ◌∷◌, length, get_or, refl, sym, ap, ◌∙◌, arith, subst, inl, inr}
-use Rattle.std.specs.Prelude.{◌==◌, if◌then◌else◌, map, Some, None}
-use Rattle.std.specs.List.{AllByRecursion}
+use Rattle.std.specs.Prelude.{◌==◌, ◌≤◌, nat_lt, map, Some, None}
+use Rattle.std.specs.List.{AllByRecursion, position_or_len, zip}
 use Rattle.std.proofs.lemmas.Bool.Decides.{nat_tests}
 use Rattle.er_links.specs.Chains.{last_passes, first_fit, count_in}
 use Rattle.er_links.proofs.Tests.{decide}
 use Rattle.er_links.proofs.Chains.{IsFront, count_le}
 use Rattle.er_links.proofs.Fits.{IsBegun, fit_number}
 use Rattle.er_clocks.specs.Clock.{full_number}
-use Rattle.er_chains.specs.Lengths.{full_from, first_full, one_more}
+use Rattle.er_chains.specs.Lengths.{first_full, is_full, one_more}
+use Rattle.er_chains.proofs.Lengths.{zip_long, zip_at}
+use Rattle.std.proofs.lemmas.List.Sums.{passes_at_first}
+use Rattle.std.proofs.lemmas.Bool.{eqb-true}
 
 -- full exactly where the last member passes
 full_where_last : (q : ℕ → Bool) (m : ℕ) (c : List ℕ) → IsFront q (m ∷ c) → (count_in q (m ∷ c) == length (m ∷ c)) ≡ q m
@@ -24,7 +27,11 @@ last_full q (m ∷ c) b f = full_where_last q m c f
 -- the lowest chain whose length is the row's number is the one that first fit takes
 pub full_is_fit : (q : ℕ → Bool) (cs : List (List ℕ)) → AllByRecursion IsBegun cs → AllByRecursion (IsFront q) cs → full_number (map length cs) (map (count_in q) cs) ≡ fit_number q cs
 full_is_fit q [] b f = refl
-full_is_fit q (c ∷ cs) b f = rw (last_full q c b.0 f.0) (ap (λ (n : ℕ). if last_passes q c then 0 else suc n) (full_is_fit q cs b.1 f.1))
+full_is_fit q (c ∷ cs) b f =
+    rw (last_full q c b.0 f.0) (elim (decide (last_passes q c)) [
+      | inl t ↦ rw t refl
+      | inr n ↦ let rest : full_number (map length cs) (map (count_in q) cs) ≡ fit_number q cs = full_is_fit q cs b.1 f.1 in rw n (omega arith)
+    ])
 
 -- the row of the action itself, once it stands in its chain
 pub fit_counts : (q : ℕ → Bool) (j : ℕ) (cs : List (List ℕ)) → q j ≡ true → map (count_in q) (first_fit q j cs) ≡ one_more (fit_number q cs) (map (count_in q) cs)
@@ -43,27 +50,30 @@ fit_lengths q j (c ∷ cs) = elim (decide (last_passes q c)) [
 
 -- what the search in the lengths found
 
-found_from : (n : ℕ) (ls row : List ℕ) (c : ℕ) → full_from n ls row ≡ Some c → (full_number ls row + n ≡ c) × (c < n + length ls) × (get_or row (full_number ls row) 0 ≡ get_or ls (full_number ls row) 0)
-found_from n [] row c e = absurd (cc)
-found_from n (l ∷ ls) [] c e = absurd (cc)
-found_from n (l ∷ ls) (r ∷ row) c e = elim (decide (r == l)) [
-  | inl t ↦ let f : Some n ≡ Some c = sym (rw t refl) ∙ e in let g : n ≡ c = cc in let h : r ≡ l = grind (arith, nat_tests) in rw t (omega arith, omega arith, h)
-  | inr k ↦ let f : full_from (n + 1) ls row ≡ Some c = sym (rw k refl) ∙ e in let r = found_from (n + 1) ls row c f in rw k (omega (arith, r.0), omega (arith, r.1), r.2)
+pub full_found : (ls row : List ℕ) (c : ℕ) → length row ≡ length ls → first_full ls row ≡ Some c → (full_number ls row ≡ c) × (c < length ls) × (get_or row c 0 ≡ get_or ls c 0)
+full_found ls row c long e = elim (decide (nat_lt (full_number ls row) (length (zip ls row)))) [
+  | inl t ↦
+      let f : Some (full_number ls row) ≡ Some c = sym (rw t refl) ∙ e in
+      let s : full_number ls row ≡ c = cc in
+      let less : full_number ls row < length (zip ls row) = grind (arith, nat_tests) in
+      let wide = zip_long ls row long in
+      let at : (get_or row (full_number ls row) 0 == get_or ls (full_number ls row) 0) ≡ true = sym (ap is_full (zip_at ls row (full_number ls row) long)) ∙ passes_at_first is_full (zip ls row) (0, 0) less in
+      let G : ℕ → Type 0 = λ m. get_or row m 0 ≡ get_or ls m 0 in (s, omega (arith, less, wide, s), subst G s (eqb-true _ _ at))
+  | inr n ↦ let f : None ≡ Some c = sym (rw n refl) ∙ e in absurd (cc)
 ]
 
-pub full_found : (ls row : List ℕ) (c : ℕ) → first_full ls row ≡ Some c → (full_number ls row ≡ c) × (c < length ls) × (get_or row c 0 ≡ get_or ls c 0)
-full_found ls row c e =
-    let r = found_from 0 ls row c e in
-    let s : full_number ls row ≡ c = omega (arith, r.0) in
-    let G : ℕ → Type 0 = λ m. get_or row m 0 ≡ get_or ls m 0 in (s, omega (arith, r.1), subst G s r.2)
-
-none_from : (n : ℕ) (ls row : List ℕ) → length row ≡ length ls → full_from n ls row ≡ None → full_number ls row ≡ length ls
-none_from n [] row l e = refl
-none_from n (l ∷ ls) [] h e = absurd (omega arith)
-none_from n (l ∷ ls) (r ∷ row) h e = elim (decide (r == l)) [
-  | inl t ↦ let f : Some n ≡ None = sym (rw t refl) ∙ e in absurd (cc)
-  | inr k ↦ let f : full_from (n + 1) ls row ≡ None = sym (rw k refl) ∙ e in rw k (ap suc (none_from (n + 1) ls row (omega arith) f))
+within : (ls : List (ℕ × ℕ)) → position_or_len is_full ls ≤ length ls
+within [] = omega arith
+within (l ∷ ls) = elim (decide (is_full l)) [
+  | inl t ↦ rw t (omega arith)
+  | inr n ↦ let h : position_or_len is_full ls ≤ length ls = within ls in rw n (omega arith)
 ]
 
 pub full_none : (ls row : List ℕ) → length row ≡ length ls → first_full ls row ≡ None → full_number ls row ≡ length ls
-full_none ls row h e = none_from 0 ls row h e
+full_none ls row long e = elim (decide (nat_lt (full_number ls row) (length (zip ls row)))) [
+  | inl t ↦ let f : Some (full_number ls row) ≡ None = sym (rw t refl) ∙ e in absurd (cc)
+  | inr n ↦
+      let past : length (zip ls row) ≤ full_number ls row = grind (arith, nat_tests) in
+      let most = within (zip ls row) in
+      let wide = zip_long ls row long in omega (arith, past, most, wide)
+]

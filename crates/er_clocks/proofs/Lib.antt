@@ -4,3 +4,4 @@ pub mod Entries
 pub mod Twins
 pub mod Pushes
 pub mod LookUps
+pub mod Again

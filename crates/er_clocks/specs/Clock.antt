@@ -1,15 +1,14 @@
 -- What clocks keep, and for which lists of predecessors they stand. Rows stand oldest first, lists of links newest first.
-use Rattle.std.specs.Prelude.{◌≡◌, ◌⊎◌, ℕ, suc, ◌*◌, ◌<◌, ◌≤◌, ◌==◌, if◌then◌else◌, List, [], ◌∷◌, length, map, All, slice_index, slice_index_or}
-use Rattle.std.specs.List.{sum}
+use Rattle.std.specs.Prelude.{◌≡◌, ◌⊎◌, ℕ, ◌*◌, ◌<◌, ◌≤◌, List, [], ◌∷◌, length, map, All, slice_index, slice_index_or}
+use Rattle.std.specs.List.{sum, position_or_len, zip}
 use Rattle.er_paths.specs.Limits.{most_actions}
+use Rattle.er_chains.specs.Lengths.{is_full}
 use Rattle.er_links.specs.Chains.{chains, chain_of, place_of, entry}
 use Rattle.er_links.specs.Links.{links, total}
 
 -- the lowest chain whose length is the number in the row, or how many chains there are
 abbrev pub full_number : List ℕ → List ℕ → ℕ
-full_number [] row = 0
-full_number (l ∷ ls) [] = 0
-full_number (l ∷ ls) (n ∷ row) = if n == l then 0 else suc (full_number ls row)
+full_number lengths row = position_or_len is_full (zip lengths row)
 
 -- the row of action j: empty past the last
 abbrev pub row_of : List (List ℕ) → ℕ → List ℕ

@@ -1,7 +1,7 @@
 -- Which of the handed numbers are links, and the row that they make.
-use Rattle.std.specs.Prelude.{◌≡◌, ◌<◌, ℕ, Bool, List, [], ◌∷◌, length, reverse, slice_index, if◌then◌else◌}
+use Rattle.std.specs.Prelude.{◌≡◌, ◌<◌, ℕ, Bool, true, List, [], ◌∷◌, length, reverse, slice_index, if◌then◌else◌}
 use Rattle.std.specs.List.{list_any}
-use Rattle.er_paths.specs.Paths.{joins}
+use Rattle.er_paths.specs.Paths.{joins, is_among}
 use Rattle.er_links.specs.Chains.{chains, members, count_in}
 use Rattle.er_links.specs.Links.{links_of}
 
@@ -33,3 +33,12 @@ ReachesToo lists i row links new = (later : List ℕ) → IsTaken lists row link
 -- The same of the row and of the links.
 abbrev pub TakesToo : List (List ℕ) → ℕ → List ℕ → List ℕ → List ℕ → List ℕ → Type 0
 TakesToo lists i row links new found = (later : List ℕ) → IsTaken lists row links later → IsTaken lists new found (i ∷ later)
+
+-- Each of these has a path to j, and is not j.
+abbrev pub ComeBefore : List (List ℕ) → List ℕ → ℕ → Type 0
+ComeBefore lists xs j = (k : ℕ) → is_among k xs ≡ true → (k < j) × (joins lists k j ≡ true)
+
+-- Each of these comes before the newest action, and they have all its links.
+abbrev pub RepeatsNewest : List (List ℕ) → List ℕ → Type 0
+RepeatsNewest [] xs = ⊥
+RepeatsNewest (p ∷ older) xs = ComeBefore (p ∷ older) xs (length older) × ((k : ℕ) → is_among k (links_of (p ∷ older) (length older)) ≡ true → is_among k xs ≡ true)

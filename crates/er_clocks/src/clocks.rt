@@ -16,7 +16,6 @@ use std::marker::Model;
 /// For each action its links, its chain and place there, and a row that says how many members of each chain have a path to it.
 /// The twin of an action is the first of those before it, up to itself, that have its links one after the other.
 /// Callers see the lists of links, newest first.
-#[derive(Drop)]
 pub struct Clocks {
     pub(crate) rows: Vec<Row>,
     pub(crate) numbers: Vec<u32>,
@@ -25,6 +24,20 @@ pub struct Clocks {
     pub(crate) twins: Vec<u32>,
     pub(crate) chains: Chains,
     pub(crate) count: u64,
+}
+
+impl Drop for Clocks {
+    fn drop(self) {
+        let Clocks {
+            rows: _,
+            numbers: _,
+            places: _,
+            links: _,
+            twins: _,
+            chains: _,
+            count: _,
+        } = self;
+    }
 }
 
 impl Model for Clocks {
@@ -108,7 +121,7 @@ impl Clocks {
         self.places[i as usize] < row.at(self.numbers[i as usize])
     }
 
-    fn joined(&self, i: u32, j: u32) -> bool
+    pub(crate) fn joined(&self, i: u32, j: u32) -> bool
         requires first { i < length self.now }
         requires second { j < length self.now }
         ensures { result ≡ joins self.now i j }

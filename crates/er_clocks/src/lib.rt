@@ -7,6 +7,7 @@ mod meter;
 mod paths;
 mod push;
 mod row;
+pub mod sharing;
 mod sources;
 
 pub use clocks::Clocks;

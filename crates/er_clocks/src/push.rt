@@ -16,7 +16,7 @@ impl Clocks {
     /// Adds the next action, to which an edge leads from each of these, and answers its number.
     ///
     /// A number that a greater one covers costs one look-up, and so does a link whose own links are those of the next greater.
-    /// Each other link costs one step a chain.
+    /// Each other link costs one step a chain. Where the links are those of the newest action, they cost one step a chain in all.
     pub fn push(&mut self, preds: &[u32]) -> Result<u32, NoMemory>
         requires known { All (λ k. k < length self.old) preds.now }
         requires room { length self.old < most_actions }

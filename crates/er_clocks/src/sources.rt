@@ -1,12 +1,13 @@
 //! Which of the handed numbers are links, and the row that the rows of these make.
 //!
-//! The numbers are sorted and taken from the greatest down. One that the row covers already is no link, and costs a look-up.
+//! Where the links are those of the newest action, its row is taken, without itself.
+//! Else the numbers, sorted, are taken from the greatest down. One that the row covers already is no link, and costs a look-up.
 
-ghost use Rattle.std.specs.Prelude.{◌≡◌, ◌≤◌, ◌<◌, ℕ, true, [], All, length, replicate, slice_index, IfOk, OnOk};
+ghost use Rattle.std.specs.Prelude.{◌≡◌, ◌≤◌, ◌<◌, ℕ, true, List, [], All, length, replicate, slice_index, IfOk, OnOk};
 ghost use Rattle.er_paths.specs.Paths.{is_among};
 ghost use Rattle.er_links.specs.Chains.{chains, chain_of, place_of};
 ghost use Rattle.std.specs.List.Sorted.{IsStrictlyIncreasing};
-ghost use Rattle.er_clocks.specs.Sources.{HasTwin, IsTaken, ReachesToo, TakesToo};
+ghost use Rattle.er_clocks.specs.Sources.{ComeBefore, HasTwin, IsTaken, ReachesToo, RepeatsNewest, TakesToo};
 ghost use Rattle.er_clocks.specs.Rows.{links_before, row_before};
 
 use crate::Clocks;
@@ -94,6 +95,9 @@ impl Clocks {
         ensures row { IfOk result (λ s. s.row ≡ row_before preds.now self.now) }
     {
         let sorted = sorted_once(alloc, preds)?;
+        if self.repeats_newest(&sorted) {
+            return self.sources_of_newest(alloc);
+        }
         let mut row = Row::zeros(alloc, self.chains.count() as usize)?;
         let mut links = Vec::new(alloc);
         self.take_all(&sorted, &mut row, &mut links)?;
@@ -101,6 +105,65 @@ impl Clocks {
         let links = Row::copied(alloc, &links)?;
         Ok(Sources { links, row })
     }
+
+    /// Whether the next action has the links of the newest, where these ascending numbers are handed.
+    fn repeats_newest(&self, sorted: &[u32]) -> bool
+        requires { All (λ k. k < length self.now) sorted.now }
+        ensures { result ≡ true → RepeatsNewest self.now sorted.now }
+    {
+        let count = self.rows.len() as u32;
+        if count == 0 {
+            return false;
+        }
+        self.come_before(sorted, count - 1) && has_all(sorted, self.links_of(count - 1))
+    }
+
+    /// Whether each of these has a path to j and is not j.
+    fn come_before(&self, numbers: &[u32], j: u32) -> bool
+        requires known { All (λ k. k < length self.now) numbers.now }
+        requires begun { j < length self.now }
+        ensures { result ≡ true → ComeBefore self.now numbers.now j }
+    {
+        for n in 0..numbers.len() {
+            if numbers[n] >= j {
+                return false;
+            }
+            if !self.joined(numbers[n], j) {
+                return false;
+            }
+        }
+        true
+    }
+
+    /// The links of the newest action, and its row without itself.
+    fn sources_of_newest(&self, alloc: Global) -> Result<Sources, NoMemory>
+        requires { 0 < length self.now }
+        ensures links { IfOk result
+            (λ s. (p : List ℕ) → RepeatsNewest self.now p → s.links ≡ links_before p self.now) }
+        ensures row { IfOk result
+            (λ s. (p : List ℕ) → RepeatsNewest self.now p → s.row ≡ row_before p self.now) }
+    {
+        let newest = self.rows.len() - 1;
+        let links = Row::copied(alloc, self.links[newest].numbers())?;
+        let mut row = Row::zeros(alloc, self.chains.count() as usize)?;
+        row.raise(&self.rows[newest]);
+        row.set(self.numbers[newest], self.places[newest]);
+        Ok(Sources { links, row })
+    }
+}
+
+/// Whether the wanted numbers stand among the others in their order.
+fn has_all(numbers: &[u32], wanted: &[u32]) -> bool
+    ensures { result ≡ true → (k : ℕ)
+        → is_among k wanted.now ≡ true → is_among k numbers.now ≡ true }
+{
+    let mut found = 0;
+    for n in 0..numbers.len() {
+        if found < wanted.len() && wanted[found] == numbers[n] {
+            found += 1;
+        }
+    }
+    found == wanted.len()
 }
 
 /// The same numbers, each once, ascending.

@@ -1,6 +1,6 @@
-use Rattle.std.proofs.Common.{◌≡◌, drop}
-use Rattle.er_chains.specs.Lengths.{first_full, full_from}
+use Rattle.std.proofs.Common.{◌≡◌, ◌<◌, ℕ, false, slice_index}
+use Rattle.std.specs.Prelude.{◌==◌}
 use Rattle.er_chains.proofs.chains.Chains.first_full.Given as goal
 
 abbrev pub invariant-loop-chain : goal.invariant-loop-chain
-invariant-loop-chain l = full_from l.chain (drop l.chain l.self) (drop l.chain l.row) ≡ first_full l.self l.row
+invariant-loop-chain l = (k : ℕ) → k < l.chain → (slice_index l.row k == slice_index l.self k) ≡ false

@@ -1,0 +1,10 @@
+//! Threads may take and share chains.
+
+use crate::Chains;
+
+fn may_cross_threads<T: Send + Sync>() {}
+
+/// Where a type could not cross threads, this would be refused.
+pub fn types_may_cross_threads() {
+    may_cross_threads::<Chains>();
+}
