@@ -1,0 +1,5 @@
+pub mod AddLemmas
+pub mod KeptLemmas
+pub mod LocatedLemmas
+pub mod LocationLemmas
+pub mod TableLemmas

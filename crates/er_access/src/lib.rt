@@ -1,0 +1,14 @@
+//! The kept accesses of a trace, by their locations.
+#![tactic(auto)]
+
+pub mod access;
+mod add;
+mod fault;
+pub mod laws;
+mod place;
+pub mod sharing;
+mod table;
+
+pub use access::Access;
+pub use fault::AddFault;
+pub use table::Table;

@@ -1,0 +1,5 @@
+pub mod ListLemmas
+pub mod Order
+pub mod PairLemmas
+pub mod RaceLemmas
+pub mod SortLemmas

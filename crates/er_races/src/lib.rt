@@ -1,0 +1,12 @@
+//! The races among the accesses of a table.
+#![tactic(auto)]
+
+mod fault;
+pub mod laws;
+mod lister;
+mod race;
+pub mod sharing;
+
+pub use fault::ListFault;
+pub use lister::list;
+pub use race::Race;

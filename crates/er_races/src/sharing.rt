@@ -1,0 +1,11 @@
+//! Threads may take and share what a lister answers.
+
+use crate::{ListFault, Race};
+
+fn may_cross_threads<T: Send + Sync>() {}
+
+/// Where a type could not cross threads, this would be refused.
+pub fn types_may_cross_threads() {
+    may_cross_threads::<Race>();
+    may_cross_threads::<ListFault>();
+}
