@@ -1,6 +1,5 @@
 -- What a source gives and a sink takes. The bytes of an end are told (`Some`) or not (`None`).
 use Rattle.std.specs.Prelude.{◌≡◌, ◌⊎◌, ℕ, ◌<◌, ◌≤◌, List, [], ◌++◌, length, take, Option, None, option_map, IfSome, Result, OnOk, OnErr}
-use Rattle.er_outside.specs.declared.ends.Failed.{Failed}
 
 -- the bytes of an end that does not tell them
 abbrev pub untold : Option (List ℕ)
@@ -32,7 +31,7 @@ GetsPart old due new = (n : ℕ) × (n < length due) × Gets old (take n due) ne
 
 -- What writing the bytes that are due comes to, by what the sink got and counted before and after:
 -- all of them came and no fault, or a proper front of them and a fault.
-pub record Puts {S : Type 0} (got : S → Option (List ℕ)) (faults : S → ℕ) (old : S) (due : List ℕ) (new : S) (result : Result Unit Failed) : Type 0 where
+pub record Puts {S E : Type 0} (got : S → Option (List ℕ)) (faults : S → ℕ) (old : S) (due : List ℕ) (new : S) (result : Result Unit E) : Type 0 where
   pub whole : OnOk result (Gets (got old) due (got new))
   pub stands : OnOk result (faults new ≡ faults old)
   pub part : OnErr result (GetsPart (got old) due (got new))

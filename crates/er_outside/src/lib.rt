@@ -9,7 +9,7 @@ mod memory_source;
 mod put;
 
 pub use adapters::{FromRead, ToWrite};
-pub use ends::{Failed, NoMemory, Sink, Source};
+pub use ends::{Failed, NoMemory, Sink, Source, WriteFault};
 pub use memory_sink::MemorySink;
 pub use memory_source::MemorySource;
 pub use put::put_all;

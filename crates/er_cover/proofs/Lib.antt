@@ -1,0 +1,9 @@
+pub mod ClockLemmas
+pub mod CoverLemmas
+pub mod GroupLemmas
+pub mod LawLemmas
+pub mod NumberLemmas
+pub mod OrderLemmas
+pub mod PassLemmas
+pub mod RaceLemmas
+pub mod RowLemmas

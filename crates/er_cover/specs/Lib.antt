@@ -1,0 +1,6 @@
+pub mod Classes
+pub mod Groups
+pub mod Laws
+pub mod Passes
+pub mod Rows
+pub mod Told

@@ -1,0 +1,122 @@
+-- What the passes over the classes keep.
+use Rattle.std.specs.Prelude.{◌≡◌, ℕ, ◌+◌, ◌-◌, ◌*◌, ◌^◌, ◌<◌, ◌≤◌, ◌++◌, ◌||◌, ◌&&◌, not, Bool, true, false, List, [], ◌∷◌, map, filter, length, if◌then◌else◌, slice_index, slice_index_or}
+use Rattle.std.specs.List.{AllByRecursion, position_or_len}
+use Rattle.er_paths.specs.Paths.{joins}
+use Rattle.er_access.specs.declared.access.Access.{Access}
+use Rattle.er_access.specs.Numbers.{access_at}
+use Rattle.er_races.specs.declared.race.Race.{Race}
+use Rattle.er_races.specs.Races.{most_races}
+use Rattle.er_cover.specs.declared.class.Class.{Class}
+use Rattle.er_cover.specs.Classes.{same, is_among, each_once}
+use Rattle.er_cover.specs.Groups.{covers, maximal_of, most_classes, name_of, representative, size_of}
+
+-- the action of the access of a number
+abbrev pub action_at : List Access → ℕ → ℕ
+action_at accesses n = (access_at accesses n).action
+
+-- the class of a race, by the numbers of its accesses
+abbrev pub class_by_number : List Access → Race → Class
+class_by_number accesses race = record { first = action_at accesses race.first; second = action_at accesses race.second }
+
+abbrev pub classes_by_number : List Access → List Race → List Class
+classes_by_number accesses races = map (class_by_number accesses) races
+
+-- both actions are below the number of actions
+abbrev pub IsKnown : ℕ → Class → Type 0
+IsKnown actions x = (x.first < actions) × (x.second < actions)
+
+-- the difference of the two actions, raised by the number of all actions, so that it is never below zero
+abbrev pub raised_width : ℕ → Class → ℕ
+raised_width actions x = x.second + (actions - x.first)
+
+abbrev pub IsNoWider : ℕ → Class → Class → Type 0
+IsNoWider actions x y = raised_width actions x ≤ raised_width actions y
+
+-- no class is wider than a later one
+abbrev pub AreRising : ℕ → List Class → Type 0
+AreRising actions [] = Unit {0}
+AreRising actions (x ∷ later) = AllByRecursion (IsNoWider actions x) later × AreRising actions later
+
+-- no class is there twice
+abbrev pub AreDistinct : List Class → Type 0
+AreDistinct [] = Unit {0}
+AreDistinct (x ∷ later) = AllByRecursion (λ y. same x y ≡ false) later × AreDistinct later
+
+-- x at the end, where it is new
+abbrev pub with_new : Class → List Class → List Class
+with_new x classes = if is_among x classes then classes else classes ++ x ∷ []
+
+-- its race goes last, where x is new
+abbrev pub Adds : List Class → Class → ℕ → List ℕ → List ℕ → Type 0
+Adds classes x race old new = new ≡ (if is_among x classes then old else old ++ race ∷ [])
+
+-- class number j is marked as covered
+abbrev pub is_marked : List Bool → ℕ → Bool
+is_marked covered j = slice_index_or covered j false
+
+-- class number i goes last, where it is not marked as covered
+abbrev pub Keeps : List Class → ℕ → List Bool → List Class → List Class → Type 0
+Keeps classes i covered old new = (x : Class) → x ≡ slice_index_or classes i x → new ≡ (if is_marked covered i then old else old ++ x ∷ [])
+
+-- from a number on, marked are those that were, and those that the group covers
+abbrev pub MarksFrom : List (List ℕ) → Class → List Class → ℕ → List Bool → List Bool → Type 0
+MarksFrom links group classes from old new = (j : ℕ) (y : Class) → from ≤ j → j < length classes → y ≡ slice_index_or classes j y
+    → is_marked new j ≡ (is_marked old j || covers (joins links) group y)
+
+-- the same behind class number i, with this class as the group, where it is not marked
+abbrev pub Marks : List (List ℕ) → List Class → ℕ → List Bool → List Bool → Type 0
+Marks links classes i old new = (x : Class) (j : ℕ) (y : Class) → x ≡ slice_index_or classes i x → i < j → j < length classes → y ≡ slice_index_or classes j y
+    → is_marked new j ≡ (is_marked old j || (not (is_marked old i) && covers (joins links) x y))
+
+-- x goes last, where it is one of these
+abbrev pub Chooses : List Class → Class → List Class → List Class → Type 0
+Chooses these x old new = new ≡ (if is_among x these then old ++ x ∷ [] else old)
+
+-- those that are among these
+abbrev pub chosen_of : List Class → List Class → List Class
+chosen_of these classes = filter (λ x. is_among x these) classes
+
+-- of these each is covered by itself alone
+abbrev pub AreMaximal : (ℕ → ℕ → Bool) → List Class → Type 0
+AreMaximal joined groups = (x y : Class) → is_among x groups ≡ true → is_among y groups ≡ true
+    → covers joined y x ≡ same x y
+
+-- what each of these classes names
+abbrev pub names_of : List (List ℕ) → List Class → List Class → List ℕ
+names_of links groups classes = map (name_of (joins links) groups) classes
+
+-- the first race of each of these classes
+abbrev pub representatives_of : List Class → List Class → List ℕ
+representatives_of by_race classes = map (representative by_race) classes
+
+-- and of all classes
+abbrev pub first_races : List Class → List ℕ
+first_races by_race = representatives_of by_race (each_once by_race)
+
+-- the value under the number of a class
+abbrev pub value_of : List Class → List ℕ → Class → ℕ
+value_of classes values x = slice_index values (position_or_len (λ y. same x y) classes)
+
+-- at most this many comparisons in one pass: two for each class and each group
+abbrev pub pass_tests : List Class → List Class → ℕ
+pass_tests classes groups = 2 * (length classes * length groups)
+
+-- in the pass that finds the groups
+abbrev pub maximal_tests : (ℕ → ℕ → Bool) → List Class → ℕ
+maximal_tests joined classes = pass_tests classes (maximal_of joined classes)
+
+-- in both passes
+abbrev pub all_tests : (ℕ → ℕ → Bool) → List Class → ℕ
+all_tests joined by_race = 2 * maximal_tests joined (each_once by_race)
+
+-- these are the sizes of so many groups
+pub record AreSizes (names : List ℕ) (count : ℕ) (sizes : List ℕ) : Type 0 where
+  pub long : length sizes ≡ count
+  pub each : (g : ℕ) → g < count → slice_index sizes g ≡ size_of names g
+
+abbrev pub HasTooMany : List Class → Type 0
+HasTooMany by_race = most_classes < length (each_once by_race)
+
+-- no more races name groups than are listed; each representative has a size, and their numbers fit
+abbrev pub AreWhole : List ℕ → List ℕ → List ℕ → Type 0
+AreWhole names representatives sizes = (length names ≤ most_races) × (length sizes ≡ length representatives) × (length representatives < 2 ^ 32)

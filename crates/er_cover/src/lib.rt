@@ -1,0 +1,16 @@
+//! Which races cover which: classes of races, the maximal ones among them, and the group that each race names.
+#![tactic(auto)]
+
+mod class;
+mod classes;
+mod fault;
+mod grouping;
+mod groups;
+pub mod laws;
+mod maximal;
+mod names;
+
+pub use class::Class;
+pub use fault::CoverFault;
+pub use grouping::group;
+pub use groups::Groups;

@@ -1,0 +1,4 @@
+pub mod BufferedLemmas
+pub mod CountLemmas
+pub mod LineLemmas
+pub mod ReportLemmas

@@ -1,0 +1,12 @@
+use Rattle.std.proofs.Common.{◌≡◌, ◌++◌, take}
+use Rattle.std.specs.List.{zip}
+use Rattle.er_report.specs.Buffered.{HoldsRest}
+use Rattle.er_report.specs.Report.{lines_from, group_line}
+use Rattle.er_report.proofs.writer.put_groups.Given as goal
+
+-- the lines of the groups so far came, or are held
+abbrev pub invariant-loop-g : goal.invariant-loop-g
+invariant-loop-g g l = record {
+  came : HoldsRest (g.K.Sink.got l.fn.sink) (l.fn.buffer ++ lines_from group_line 1 (take l.g (zip l.groups.representatives l.groups.sizes))) (g.K.Sink.got l.sink) l.buffer;
+  stands : g.K.Sink.faults l.sink ≡ g.K.Sink.faults l.fn.sink;
+}

@@ -1,0 +1,13 @@
+use Rattle.std.proofs.Common.{◌≡◌, List, ◌++◌, take}
+use Rattle.er_access.specs.Kept.{Kept}
+use Rattle.er_races.specs.Races.{ArePairs}
+use Rattle.er_report.specs.Buffered.{HoldsRest}
+use Rattle.er_report.specs.Report.{lines_from, race_line}
+use Rattle.er_report.proofs.writer.put_races.Given as goal
+
+-- the lines of the races so far came, or are held
+abbrev pub invariant-loop-place : goal.invariant-loop-place
+invariant-loop-place g l = record {
+  came : (pairs : List (Kept × Kept)) → ArePairs l.table l.races pairs → HoldsRest (g.K.Sink.got l.fn.sink) (l.fn.buffer ++ lines_from race_line 1 (take l.place pairs)) (g.K.Sink.got l.sink) l.buffer;
+  stands : g.K.Sink.faults l.sink ≡ g.K.Sink.faults l.fn.sink;
+}

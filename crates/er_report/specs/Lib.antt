@@ -1,0 +1,4 @@
+pub mod Report
+pub mod Buffered
+pub mod Pieces
+pub mod Rows
