@@ -5,6 +5,7 @@ ghost use Rattle.std.specs.Prelude.{◌≡◌};
 ghost use Rattle.std.specs.Process.{exit_status};
 ghost use Rattle.er_run.specs.Status.{status_of};
 
+use er_clocks::Meter;
 use er_outside::{FromRead, ToWrite};
 use er_run::outcome::Outcome;
 use er_run::run;
@@ -20,7 +21,16 @@ fn main(rt: HostRuntime) -> ExitCode {
         Ok(words) => {
             let mut source = FromRead::new(rt.stdin());
             let mut sink = ToWrite::new(rt.stdout());
-            let outcome = run(rt.alloc(), &words, &mut source, &mut sink);
+            let mut compares = Meter::new();
+            let mut tests = Meter::new();
+            let outcome = run(
+                rt.alloc(),
+                &words,
+                &mut source,
+                &mut sink,
+                &mut compares,
+                &mut tests,
+            );
             finish(&rt, outcome)
         }
         Err(error) if error.kind() == io::ErrorKind::OutOfMemory => finish(&rt, Outcome::NoMemory),

@@ -1,10 +1,10 @@
 -- The worked rows, by computing.
-use Rattle.std.proofs.Common.{refl, inr, [], ◌∷◌, codes, arith}
+use Rattle.std.proofs.Common.{refl, [], ◌∷◌, codes, arith}
 use Rattle.std.specs.Fmt.{digits}
-use Rattle.er_run.specs.Report.{item_line}
+use Rattle.er_report.specs.Report.{item_line}
 use Rattle.er_trace.specs.declared.record.Record.TheVariants.{Parse, Timer, Exec}
 use Rattle.er_trace.specs.declared.record.Kind.TheVariants as kinds
-use Rattle.er_trace.specs.Trace.{After}
+use Rattle.er_run.specs.Answer.{OfRecord}
 use Rattle.er_rows.specs.Rows.{Causes, Orders, UnknownTimeout, NotAScript, RunTooLate, step}
 
 pub causes_of_records : Causes
@@ -16,60 +16,36 @@ orders_of_records = record { step_after_deferred = refl; step_after_async = refl
 
 pub unknown_timeout : UnknownTimeout
 unfolding digits item_line
-unknown_timeout = record {
-  place = After (step 1 ∷ []);
-  number = refl;
-  legal = (refl, tt);
-  refused = inr (
-    refl,
-    record {
-      is_place = record { each = ((tt, (omega arith, (omega arith, (tt, tt)))), tt); few = omega arith };
-      few = omega arith;
-      read = Timer 9;
-      is_record = (tt, (omega arith, tt));
-      rest = codes "end\n";
-      begins = refl;
-      cause = refl;
-    },
-  );
-}
+unknown_timeout = OfRecord (step 1 ∷ []) refl (refl, tt) (record {
+  is_place = record { each = ((tt, (omega arith, (omega arith, (tt, tt)))), tt); few = omega arith };
+  few = omega arith;
+  read = Timer 9;
+  is_record = (tt, (omega arith, tt));
+  rest = codes "end\n";
+  begins = refl;
+  cause = refl;
+})
 
 pub not_a_script : NotAScript
 unfolding digits item_line
-not_a_script = record {
-  place = After (step 1 ∷ []);
-  number = refl;
-  legal = (refl, tt);
-  refused = inr (
-    refl,
-    record {
-      is_place = record { each = ((tt, (omega arith, (omega arith, (tt, tt)))), tt); few = omega arith };
-      few = omega arith;
-      read = Exec 1;
-      is_record = (tt, (omega arith, tt));
-      rest = codes "end\n";
-      begins = refl;
-      cause = refl;
-    },
-  );
-}
+not_a_script = OfRecord (step 1 ∷ []) refl (refl, tt) (record {
+  is_place = record { each = ((tt, (omega arith, (omega arith, (tt, tt)))), tt); few = omega arith };
+  few = omega arith;
+  read = Exec 1;
+  is_record = (tt, (omega arith, tt));
+  rest = codes "end\n";
+  begins = refl;
+  cause = refl;
+})
 
 pub run_too_late : RunTooLate
 unfolding digits item_line
-run_too_late = record {
-  place = After (Parse 0 1 kinds.Sync ∷ step 2 ∷ []);
-  number = refl;
-  legal = (refl, (refl, tt));
-  refused = inr (
-    refl,
-    record {
-      is_place = record { each = ((tt, (omega arith, (omega arith, (tt, tt)))), ((tt, (omega arith, (omega arith, (tt, tt)))), tt)); few = omega arith };
-      few = omega arith;
-      read = Exec 1;
-      is_record = (tt, (omega arith, tt));
-      rest = codes "end\n";
-      begins = refl;
-      cause = refl;
-    },
-  );
-}
+run_too_late = OfRecord (Parse 0 1 kinds.Sync ∷ step 2 ∷ []) refl (refl, (refl, tt)) (record {
+  is_place = record { each = ((tt, (omega arith, (omega arith, (tt, tt)))), ((tt, (omega arith, (omega arith, (tt, tt)))), tt)); few = omega arith };
+  few = omega arith;
+  read = Exec 1;
+  is_record = (tt, (omega arith, tt));
+  rest = codes "end\n";
+  begins = refl;
+  cause = refl;
+})

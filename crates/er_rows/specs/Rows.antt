@@ -8,20 +8,22 @@ use Rattle.er_trace.specs.declared.record.Kind.TheVariants as kinds
 use Rattle.er_trace.specs.declared.record.Mode.TheVariants as modes
 use Rattle.er_trace.specs.declared.record.Loc.TheVariants.{Var, Elem}
 use Rattle.er_trace.specs.Trace.{text}
-use Rattle.er_history.specs.Sound.{cause}
 use Rattle.er_history.specs.Rules.{same_bytes, rules}
+use Rattle.er_report.specs.Report.{refusal}
 use Rattle.er_run.specs.Answer.{IsRefused}
-use Rattle.er_run.specs.Report.{report, refusal}
+use Rattle.er_run.specs.Legal.{cause, end_cause}
+use Rattle.er_run.specs.Report.{report}
 
 -- each record with none of the causes after those before it, newest first
 abbrev pub causes : List Record → List (Option Cause)
 causes [] = []
 causes (x ∷ h) = cause rules h x ∷ causes h
 
--- The records are spelled so, each is legal, and this is their report.
+-- The records are spelled so, each is legal, they are within the limits, and this is their report.
 pub record Reports (records : List Record) (spelled reported : List ℕ) (none : List (Option Cause)) : Type 0 where
   pub text : same_bytes (text records) spelled ≡ true
   pub legal : causes (reverse records) ≡ none
+  pub within : end_cause (reverse records) ≡ None
   pub report : same_bytes (report (reverse records)) reported ≡ true
 
 abbrev pub writes : List ℕ → Record
@@ -96,6 +98,16 @@ DeferredScripts spelled reported = Reports (Parse 0 1 kinds.Defer ∷ Parse 0 2 
 abbrev pub OtherDocuments : List ℕ → List ℕ → Type 0
 OtherDocuments spelled reported = Reports (ParseFrame 0 1 1 ∷ writes (codes "x") ∷ Parse 1 2 kinds.Plain ∷ writes (codes "x") ∷ step 3 ∷ reads (codes "x") ∷ [])
     spelled reported (None ∷ None ∷ None ∷ None ∷ None ∷ None ∷ [])
+
+-- two races of one pair of actions are one class
+abbrev pub OneClass : List ℕ → List ℕ → Type 0
+OneClass spelled reported = Reports (Parse 0 1 kinds.Inline ∷ Exec 1 ∷ Set 1 10 ∷ Set 2 0 ∷ Timer 2 ∷ writes (codes "x") ∷ writes (codes "y") ∷ Timer 1 ∷ writes (codes "x") ∷ reads (codes "y") ∷ [])
+    spelled reported (None ∷ None ∷ None ∷ None ∷ None ∷ None ∷ None ∷ None ∷ None ∷ None ∷ [])
+
+-- a later race covers the first
+abbrev pub LaterRepresentative : List ℕ → List ℕ → Type 0
+LaterRepresentative spelled reported = Reports (Parse 0 1 kinds.Inline ∷ Exec 1 ∷ Set 1 10 ∷ Set 2 0 ∷ Timer 2 ∷ writes (codes "x") ∷ Set 3 0 ∷ Timer 3 ∷ writes (codes "f") ∷ Timer 1 ∷ reads (codes "f") ∷ Set 4 0 ∷ Timer 4 ∷ reads (codes "x") ∷ [])
+    spelled reported (None ∷ None ∷ None ∷ None ∷ None ∷ None ∷ None ∷ None ∷ None ∷ None ∷ None ∷ None ∷ None ∷ None ∷ [])
 
 -- the causes of single records
 pub record Causes : Type 0 where

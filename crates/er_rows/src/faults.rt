@@ -1,15 +1,10 @@
 //! Words, failing reads and writes, and want of memory. After a failed call all later ones would fail too, so one fault shows that none came.
 
+use crate::rows::timeouts_that_race;
 use crate::through::{Done, Ends, sound, through};
 use er_run::outcome::Outcome;
 use std::alloc::{AllocError, Global};
 use std::test::Fail;
-
-const INPUT: &str =
-    "webtrace 1\nparse 0 1 plain\nset 1 10\nset 2 0\ntimer 2\nw var 0 x\ntimer 1\nr var 0 x\nend\n";
-
-const OUTPUT: &str =
-    "report 1\nrace 1 6 8 wr 1 2 var 0 x\nactions 3\naccesses 2\npairs 1\nraces 1\nchains 2\nlinks 2\nend\n";
 
 #[test]
 fn a_word(rt: HostRuntime) -> Result<(), Fail> {
@@ -25,13 +20,15 @@ fn a_word(rt: HostRuntime) -> Result<(), Fail> {
 #[test]
 fn a_failing_read(rt: HostRuntime) -> Result<(), Fail> {
     let alloc = rt.alloc();
+    let row = timeouts_that_race();
     let ends = Ends {
         piece: 16,
         failing_reads: vec![in alloc; 2, 3, 4, 5, 6]?,
+        taken: 4096,
         failing_writes: Vec::new(alloc),
         room: 1000,
     };
-    let done = through(alloc, &[], INPUT.as_bytes(), ends)?;
+    let done = through(alloc, &[], row.trace.as_bytes(), ends)?;
     assert_eq!(rt; done.outcome, Outcome::ReadFault);
     assert_eq!(rt; done.read_faults, 1);
     assert_eq!(rt; done.written.len(), 0);
@@ -46,10 +43,12 @@ fn a_failing_read(rt: HostRuntime) -> Result<(), Fail> {
 #[test]
 fn a_failing_last_read(rt: HostRuntime) -> Result<(), Fail> {
     let alloc = rt.alloc();
-    for (input, first) in [(INPUT, 2), ("nonsense\n", 2), ("", 1)] {
+    let row = timeouts_that_race();
+    for (input, first) in [(row.trace, 2), ("nonsense\n", 2), ("", 1)] {
         let ends = Ends {
             piece: 1000,
             failing_reads: vec![in alloc; first, first + 1, first + 2]?,
+            taken: 4096,
             failing_writes: Vec::new(alloc),
             room: 1000,
         };
@@ -65,10 +64,12 @@ fn a_failing_last_read(rt: HostRuntime) -> Result<(), Fail> {
 #[test]
 fn no_read_after_the_end(rt: HostRuntime) -> Result<(), Fail> {
     let alloc = rt.alloc();
-    for (input, output, end) in [(INPUT, OUTPUT, 2), ("", "refused 1 no-end\n", 1)] {
+    let row = timeouts_that_race();
+    for (input, output, end) in [(row.trace, row.report, 2), ("", "refused 1 no-end\n", 1)] {
         let ends = Ends {
             piece: 1000,
             failing_reads: vec![in alloc; end + 1, end + 2, end + 3]?,
+            taken: 4096,
             failing_writes: Vec::new(alloc),
             room: 1000,
         };
@@ -85,6 +86,7 @@ fn a_failing_write(rt: HostRuntime) -> Result<(), Fail> {
     let ends = Ends {
         piece: 16,
         failing_reads: Vec::new(alloc),
+        taken: 4096,
         failing_writes: vec![in alloc; 1, 2, 3]?,
         room: 1000,
     };
@@ -103,7 +105,8 @@ fn a_failing_write(rt: HostRuntime) -> Result<(), Fail> {
 #[test]
 fn little_room(rt: HostRuntime) -> Result<(), Fail> {
     let alloc = rt.alloc();
-    for input in [INPUT, "nonsense\n"] {
+    let row = timeouts_that_race();
+    for input in [row.trace, "nonsense\n"] {
         let mut ends = sound(alloc);
         ends.room = 12;
         let done = through(alloc, &[], input.as_bytes(), ends)?;
@@ -118,24 +121,27 @@ fn little_room(rt: HostRuntime) -> Result<(), Fail> {
 #[test]
 fn pieces(rt: HostRuntime) -> Result<(), Fail> {
     let alloc = rt.alloc();
+    let row = timeouts_that_race();
     for piece in [1, 2, 3, 7, 16, 85] {
         let mut ends = sound(alloc);
         ends.piece = piece;
-        let done = through(alloc, &[], INPUT.as_bytes(), ends)?;
-        assert_eq!(rt; done.written.as_slice(), OUTPUT.as_bytes());
+        let done = through(alloc, &[], row.trace.as_bytes(), ends)?;
+        assert_eq!(rt; done.written.as_slice(), row.report.as_bytes());
     }
     Ok(())
 }
 
 fn is_right(alloc: Global) -> Result<bool, AllocError> {
-    let done = through(alloc, &[], INPUT.as_bytes(), sound(alloc))?;
+    let row = timeouts_that_race();
+    let done = through(alloc, &[], row.trace.as_bytes(), sound(alloc))?;
     Ok(is_report_or_nothing(&done))
 }
 
 fn is_report_or_nothing(done: &Done) -> bool {
+    let row = timeouts_that_race();
     match done.outcome {
         Outcome::NoMemory => done.written.is_empty(),
-        Outcome::Races => done.written.as_slice() == OUTPUT.as_bytes(),
+        Outcome::Races => done.written.as_slice() == row.report.as_bytes(),
         _ => false,
     }
 }

@@ -2,16 +2,33 @@
 
 use crate::row::{Counts, Refusal, Row};
 
-pub(crate) static REPORTS: [Row; 6] = [
+pub(crate) static REPORTS: [Row; 7] = [
+    // repeats, after a script set both timeouts
+    Row {
+        trace: "webtrace 1\nparse 0 1 inline\nexec 1\nset 1 10\nset 2 0\ntimer 2\nr var 0 x\nr var 0 x\nw var 0 x\ntimer 1\nw var 0 x\nend\n",
+        races: "race 1 7 11 rw 2 3 var 0 x\nrace 2 9 11 ww 2 3 var 0 x\n",
+        groups: "cover 1 1\ncover 2 1\ngroup 1 1 2\n",
+        counts: Counts {
+            actions: 4,
+            accesses: 3,
+            pairs: 2,
+            races: 2,
+            groups: 1,
+            chains: 2,
+            links: 3,
+        },
+    },
     // repeats, and three modes
     Row {
         trace: "webtrace 1\nparse 0 1 plain\nset 1 10\nset 2 0\ntimer 2\nr var 0 x\nr var 0 x\nw var 0 x\ntimer 1\nw var 0 x\nend\n",
         races: "race 1 6 10 rw 1 2 var 0 x\nrace 2 8 10 ww 1 2 var 0 x\n",
+        groups: "cover 1 1\ncover 2 1\ngroup 1 1 2\n",
         counts: Counts {
             actions: 3,
             accesses: 3,
             pairs: 2,
             races: 2,
+            groups: 1,
             chains: 2,
             links: 2,
         },
@@ -20,11 +37,13 @@ pub(crate) static REPORTS: [Row; 6] = [
     Row {
         trace: "webtrace 1\nparse 0 1 plain\nw var 3 a%20b\nr var 3 a%20b\nset 1 1\nset 2 0\ntimer 2\nr var 3 a%20b\nw var 4 a%20b\nw var 3 ab\ntimer 1\nr var 3 a%20b\nend\n",
         races: "",
+        groups: "",
         counts: Counts {
             actions: 3,
             accesses: 6,
             pairs: 2,
             races: 0,
+            groups: 0,
             chains: 2,
             links: 2,
         },
@@ -33,11 +52,13 @@ pub(crate) static REPORTS: [Row; 6] = [
     Row {
         trace: "webtrace 1\nparse 0 1 plain\nw var 3 a%20b\nparse 0 2 plain\nr var 3 a%20b\nend\n",
         races: "",
+        groups: "",
         counts: Counts {
             actions: 2,
             accesses: 2,
             pairs: 1,
             races: 0,
+            groups: 0,
             chains: 1,
             links: 1,
         },
@@ -46,11 +67,13 @@ pub(crate) static REPORTS: [Row; 6] = [
     Row {
         trace: "webtrace 1\nparse 0 1 frame 1\nw var 0 x\nparse 0 2 plain\nr var 0 x\nend\n",
         races: "",
+        groups: "",
         counts: Counts {
             actions: 2,
             accesses: 2,
             pairs: 1,
             races: 0,
+            groups: 0,
             chains: 1,
             links: 1,
         },
@@ -59,11 +82,13 @@ pub(crate) static REPORTS: [Row; 6] = [
     Row {
         trace: "webtrace 1\nparse 0 1 plain\nset 1 10\nset 2 0\ntimer 2\nw elem 0 x\ntimer 1\nr elem 0 x\nend\n",
         races: "race 1 6 8 wr 1 2 elem 0 x\n",
+        groups: "cover 1 1\ngroup 1 1 1\n",
         counts: Counts {
             actions: 3,
             accesses: 2,
             pairs: 1,
             races: 1,
+            groups: 1,
             chains: 2,
             links: 2,
         },
@@ -72,11 +97,13 @@ pub(crate) static REPORTS: [Row; 6] = [
     Row {
         trace: "webtrace 1\nparse 0 1 plain\nw elem 0 a%20b\nend\n",
         races: "",
+        groups: "",
         counts: Counts {
             actions: 1,
             accesses: 1,
             pairs: 0,
             races: 0,
+            groups: 0,
             chains: 1,
             links: 0,
         },

@@ -1,4 +1,4 @@
-//! Rows at a limit: of lines, of a line's length, of actions and of inline dispatches.
+//! Rows at a limit: of lines, of a line's length, of actions, of inline dispatches, and of accesses.
 
 use crate::through::{sound, through};
 use std::alloc::{AllocError, Global};
@@ -9,6 +9,9 @@ const MOST_LINES: u32 = 2_097_152;
 
 /// The most actions of a trace.
 const MOST_ACTIONS: u32 = 16_384;
+
+/// The most kept accesses.
+const MOST_ACCESSES: u32 = 1_048_576;
 
 /// The most inline dispatches on the stack.
 const MOST_INLINE: u32 = 256;
@@ -31,7 +34,7 @@ fn as_many_lines_as_may_be(rt: HostRuntime) -> Result<(), Fail> {
     assert_eq!(rt; done.outcome.status(), 0);
     assert_eq!(rt;
         done.written.as_slice(),
-        b"report 1\nactions 1\naccesses 1\npairs 0\nraces 0\nchains 1\nlinks 0\nend\n".as_slice()
+        b"report 1\nactions 1\naccesses 1\npairs 0\nraces 0\ngroups 0\nchains 1\nlinks 0\nend\n".as_slice()
     );
     Ok(())
 }
@@ -83,7 +86,7 @@ fn as_many_actions_as_may_be(rt: HostRuntime) -> Result<(), Fail> {
     for (count, output) in [
         (
             MOST_ACTIONS,
-            "report 1\nactions 16384\naccesses 0\npairs 0\nraces 0\nchains 1\nlinks 16383\nend\n",
+            "report 1\nactions 16384\naccesses 0\npairs 0\nraces 0\ngroups 0\nchains 1\nlinks 16383\nend\n",
         ),
         (MOST_ACTIONS + 1, "refused 16386 too-many-actions\n"),
     ] {
@@ -125,7 +128,7 @@ fn as_deep_as_may_be(rt: HostRuntime) -> Result<(), Fail> {
     let done = through(alloc, &[], &open, sound(alloc))?;
     assert_eq!(rt;
         done.written.as_slice(),
-        b"report 1\nactions 514\naccesses 0\npairs 0\nraces 0\nchains 1\nlinks 513\nend\n".as_slice()
+        b"report 1\nactions 514\naccesses 0\npairs 0\nraces 0\ngroups 0\nchains 1\nlinks 513\nend\n".as_slice()
     );
     deeper.extend_from_slice(b"inline 257 1 a\nend\n")?;
     let done = through(alloc, &[], &deeper, sound(alloc))?;
@@ -137,5 +140,34 @@ fn as_deep_as_may_be(rt: HostRuntime) -> Result<(), Fail> {
     closed.extend_from_slice(b"end\n")?;
     let done = through(alloc, &[], &closed, sound(alloc))?;
     assert!(rt; done.written.starts_with(b"report 1\nactions 1026\n"));
+    Ok(())
+}
+
+/// Reads of as many variables, all by one action.
+fn variables(alloc: Global, count: u32) -> Result<Vec<u8>, AllocError> {
+    let mut input = Vec::from_slice(alloc, b"webtrace 1\nparse 0 1 plain\n")?;
+    for object in 0..count {
+        input.extend_from_slice(format!(in alloc; "r var {object} x\n")?.as_bytes())?;
+    }
+    Ok(input)
+}
+
+#[test]
+fn as_many_accesses_as_may_be(rt: HostRuntime) -> Result<(), Fail> {
+    let alloc = rt.alloc();
+    let mut full = variables(alloc, MOST_ACCESSES)?;
+    let mut more = full.clone()?;
+    full.extend_from_slice(b"r var 0 x\nend\n")?;
+    let done = through(alloc, &[], &full, sound(alloc))?;
+    assert_eq!(rt;
+        done.written.as_slice(),
+        b"report 1\nactions 1\naccesses 1048576\npairs 0\nraces 0\ngroups 0\nchains 1\nlinks 0\nend\n".as_slice()
+    );
+    more.extend_from_slice(b"r var 1048576 x\n")?;
+    let done = through(alloc, &[], &more, sound(alloc))?;
+    assert_eq!(rt;
+        done.written.as_slice(),
+        b"refused 1048579 too-many-accesses\n".as_slice()
+    );
     Ok(())
 }

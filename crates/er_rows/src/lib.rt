@@ -4,6 +4,8 @@
 ghost use Rattle.er_rows.specs.Rows.{Causes, Orders, UnknownTimeout, NotAScript, RunTooLate};
 
 #[cfg(test)]
+mod coverage;
+#[cfg(test)]
 mod dispatches;
 #[cfg(test)]
 mod faults;
@@ -15,6 +17,8 @@ mod graph;
 mod handed;
 #[cfg(test)]
 mod large;
+#[cfg(test)]
+mod limits;
 #[cfg(test)]
 mod loads;
 #[cfg(test)]
@@ -47,7 +51,6 @@ pub fn worked_causes()
 {}
 
 /// The first illegal line of small inputs, as the definitions give it.
-#[tactic(auto, using(crate::proofs::Computed::unknown_timeout, crate::proofs::Computed::not_a_script, crate::proofs::Computed::run_too_late))]
 pub fn worked_refusals()
     ensures unknown_timeout { UnknownTimeout }
     ensures not_a_script { NotAScript }

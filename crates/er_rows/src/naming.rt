@@ -21,7 +21,7 @@ pub(crate) static REFUSALS: [Refusal; 13] = [
         line: 4,
         cause: "misplaced",
     },
-    // one in the begin, behind a handler's registration
+    // the close of a dispatch below an inline one that its handler called
     Refusal {
         trace: "webtrace 1\nparse 0 1 plain\non 7\nfire 1 1 click\nrun 1 0 7\ninline 2 1 focus\nclose 1\nend\n",
         line: 7,

@@ -7,11 +7,13 @@ pub(crate) static REPORTS: [Row; 7] = [
     Row {
         trace: "webtrace 1\nparse 0 1 frame 1\nparse 1 2 plain\ndcl 1 0\nclose 1\nparse 1 3 plain\nend\n",
         races: "",
+        groups: "",
         counts: Counts {
             actions: 5,
             accesses: 0,
             pairs: 0,
             races: 0,
+            groups: 0,
             chains: 2,
             links: 4,
         },
@@ -20,11 +22,13 @@ pub(crate) static REPORTS: [Row; 7] = [
     Row {
         trace: "webtrace 1\nparse 0 1 async\ndcl 1 0\nclose 1\nexec 1\nend\n",
         races: "",
+        groups: "",
         counts: Counts {
             actions: 4,
             accesses: 0,
             pairs: 0,
             races: 0,
+            groups: 0,
             chains: 2,
             links: 3,
         },
@@ -33,11 +37,13 @@ pub(crate) static REPORTS: [Row; 7] = [
     Row {
         trace: "webtrace 1\nparse 0 1 inline\nexec 1\nnew 0 2 async\nload 1 0\nclose 1\nexec 2\nend\n",
         races: "",
+        groups: "",
         counts: Counts {
             actions: 5,
             accesses: 0,
             pairs: 0,
             races: 0,
+            groups: 0,
             chains: 2,
             links: 4,
         },
@@ -46,11 +52,13 @@ pub(crate) static REPORTS: [Row; 7] = [
     Row {
         trace: "webtrace 1\nparse 0 1 inline\nexec 1\nnew 0 2 async\nnew 0 3 async\neload 1 3\nclose 1\nexec 2\nend\n",
         races: "",
+        groups: "",
         counts: Counts {
             actions: 5,
             accesses: 0,
             pairs: 0,
             races: 0,
+            groups: 0,
             chains: 2,
             links: 4,
         },
@@ -59,11 +67,13 @@ pub(crate) static REPORTS: [Row; 7] = [
     Row {
         trace: "webtrace 1\nparse 0 1 frame 1\nparse 1 2 plain\nload 1 1\nclose 1\ndcl 2 0\nclose 2\nend\n",
         races: "",
+        groups: "",
         counts: Counts {
             actions: 6,
             accesses: 0,
             pairs: 0,
             races: 0,
+            groups: 0,
             chains: 2,
             links: 5,
         },
@@ -72,11 +82,13 @@ pub(crate) static REPORTS: [Row; 7] = [
     Row {
         trace: "webtrace 1\nparse 0 1 plain\non 1\non 2\nfire 1 1 click\nrun 1 1 1\nrun 1 1 2\nclose 1\nend\n",
         races: "",
+        groups: "",
         counts: Counts {
             actions: 5,
             accesses: 0,
             pairs: 0,
             races: 0,
+            groups: 0,
             chains: 2,
             links: 5,
         },
@@ -85,18 +97,20 @@ pub(crate) static REPORTS: [Row; 7] = [
     Row {
         trace: "webtrace 1\nparse 0 1 plain\non 1\non 2\nfire 1 1 click\nrun 1 1 1\nclose 1\nfire 2 1 click\nrun 2 0 2\nclose 2\nend\n",
         races: "",
+        groups: "",
         counts: Counts {
             actions: 7,
             accesses: 0,
             pairs: 0,
             races: 0,
+            groups: 0,
             chains: 1,
             links: 6,
         },
     },
 ];
 
-pub(crate) static REFUSALS: [Refusal; 11] = [
+pub(crate) static REFUSALS: [Refusal; 12] = [
     // a parse step behind DOMContentLoaded
     Refusal {
         trace: "webtrace 1\nparse 0 1 plain\ndcl 1 0\nclose 1\nparse 0 2 plain\nend\n",
@@ -155,6 +169,12 @@ pub(crate) static REFUSALS: [Refusal; 11] = [
     Refusal {
         trace: "webtrace 1\nparse 0 1 plain\non 1\non 2\nfire 1 1 click\nrun 1 1 1\nrun 1 0 2\nend\n",
         line: 7,
+        cause: "out-of-order",
+    },
+    // the same behind an access of the greater one
+    Refusal {
+        trace: "webtrace 1\nparse 0 1 plain\non 1\non 2\nfire 1 1 click\nrun 1 1 1\nw var 0 x\nrun 1 0 2\nw var 0 x\nclose 1\nend\n",
+        line: 8,
         cause: "out-of-order",
     },
     // nesting is asked before order

@@ -7,6 +7,8 @@ pub(crate) struct Row {
     pub(crate) trace: &'static str,
     /// The lines of the races.
     pub(crate) races: &'static str,
+    /// The lines of what each race names, and of the groups.
+    pub(crate) groups: &'static str,
     pub(crate) counts: Counts,
 }
 
@@ -16,6 +18,7 @@ pub(crate) struct Counts {
     pub(crate) accesses: u64,
     pub(crate) pairs: u64,
     pub(crate) races: u64,
+    pub(crate) groups: u64,
     pub(crate) chains: u64,
     pub(crate) links: u64,
 }
@@ -30,7 +33,7 @@ pub(crate) struct Refusal {
 impl Row {
     /// The report that is due.
     pub(crate) fn report(&self, alloc: Global) -> Result<String, AllocError> {
-        report(alloc, self.races, &self.counts)
+        report(alloc, self.races, self.groups, &self.counts)
     }
 
     /// The status that is due.
@@ -46,10 +49,21 @@ impl Refusal {
     }
 }
 
-/// The text of a report with these lines of races and these counts.
-pub(crate) fn report(alloc: Global, races: &str, counts: &Counts) -> Result<String, AllocError> {
+/// The text of a report with these lines of races and of groups, and these counts.
+pub(crate) fn report(
+    alloc: Global,
+    races: &str,
+    groups: &str,
+    counts: &Counts,
+) -> Result<String, AllocError> {
     format!(in alloc;
-        "report 1\n{races}actions {}\naccesses {}\npairs {}\nraces {}\nchains {}\nlinks {}\nend\n",
-        counts.actions, counts.accesses, counts.pairs, counts.races, counts.chains, counts.links
+        "report 1\n{races}{groups}actions {}\naccesses {}\npairs {}\nraces {}\ngroups {}\nchains {}\nlinks {}\nend\n",
+        counts.actions,
+        counts.accesses,
+        counts.pairs,
+        counts.races,
+        counts.groups,
+        counts.chains,
+        counts.links
     )
 }

@@ -1,6 +1,6 @@
 //! Worked rows: each function answers a small trace with its report, and its contract is that the definitions give this report for the trace's records.
 
-ghost use Rattle.er_rows.specs.Rows.{TimeoutsThatRace, TimeoutsInOrder, EqualDelays, DelaysThatDisagree, TwoSetters, Repeats, OneAction, TwoReads, ParseSteps, NothingAtAll, BlockingScripts, AsyncScripts, DeferredScripts, OtherDocuments};
+ghost use Rattle.er_rows.specs.Rows.{TimeoutsThatRace, TimeoutsInOrder, EqualDelays, DelaysThatDisagree, TwoSetters, Repeats, OneAction, TwoReads, ParseSteps, NothingAtAll, BlockingScripts, AsyncScripts, DeferredScripts, OtherDocuments, OneClass, LaterRepresentative};
 
 /// A legal trace, and its report.
 #[derive(Drop)]
@@ -15,7 +15,7 @@ pub fn timeouts_that_race() -> Worked
 {
     Worked {
         trace: "webtrace 1\nparse 0 1 plain\nset 1 10\nset 2 0\ntimer 2\nw var 0 x\ntimer 1\nr var 0 x\nend\n",
-        report: "report 1\nrace 1 6 8 wr 1 2 var 0 x\nactions 3\naccesses 2\npairs 1\nraces 1\nchains 2\nlinks 2\nend\n",
+        report: "report 1\nrace 1 6 8 wr 1 2 var 0 x\ncover 1 1\ngroup 1 1 1\nactions 3\naccesses 2\npairs 1\nraces 1\ngroups 1\nchains 2\nlinks 2\nend\n",
     }
 }
 
@@ -25,7 +25,7 @@ pub fn timeouts_in_order() -> Worked
 {
     Worked {
         trace: "webtrace 1\nparse 0 1 plain\nset 1 0\nset 2 10\ntimer 1\nw var 0 x\ntimer 2\nr var 0 x\nend\n",
-        report: "report 1\nactions 3\naccesses 2\npairs 1\nraces 0\nchains 1\nlinks 2\nend\n",
+        report: "report 1\nactions 3\naccesses 2\npairs 1\nraces 0\ngroups 0\nchains 1\nlinks 2\nend\n",
     }
 }
 
@@ -35,7 +35,7 @@ pub fn equal_delays() -> Worked
 {
     Worked {
         trace: "webtrace 1\nparse 0 1 plain\nset 1 5\nset 2 5\ntimer 1\nw var 0 x\ntimer 2\nr var 0 x\nend\n",
-        report: "report 1\nactions 3\naccesses 2\npairs 1\nraces 0\nchains 1\nlinks 2\nend\n",
+        report: "report 1\nactions 3\naccesses 2\npairs 1\nraces 0\ngroups 0\nchains 1\nlinks 2\nend\n",
     }
 }
 
@@ -45,7 +45,7 @@ pub fn delays_that_disagree() -> Worked
 {
     Worked {
         trace: "webtrace 1\nparse 0 1 plain\nset 1 0\nset 2 10\ntimer 2\nw var 0 x\ntimer 1\nr var 0 x\nend\n",
-        report: "report 1\nrace 1 6 8 wr 1 2 var 0 x\nactions 3\naccesses 2\npairs 1\nraces 1\nchains 2\nlinks 2\nend\n",
+        report: "report 1\nrace 1 6 8 wr 1 2 var 0 x\ncover 1 1\ngroup 1 1 1\nactions 3\naccesses 2\npairs 1\nraces 1\ngroups 1\nchains 2\nlinks 2\nend\n",
     }
 }
 
@@ -55,7 +55,7 @@ pub fn two_setters() -> Worked
 {
     Worked {
         trace: "webtrace 1\nparse 0 1 plain\nset 1 5\nparse 0 2 plain\nset 2 5\ntimer 1\nw var 0 x\ntimer 2\nw var 0 x\nend\n",
-        report: "report 1\nrace 1 7 9 ww 2 3 var 0 x\nactions 4\naccesses 2\npairs 1\nraces 1\nchains 2\nlinks 3\nend\n",
+        report: "report 1\nrace 1 7 9 ww 2 3 var 0 x\ncover 1 1\ngroup 1 1 1\nactions 4\naccesses 2\npairs 1\nraces 1\ngroups 1\nchains 2\nlinks 3\nend\n",
     }
 }
 
@@ -65,7 +65,7 @@ pub fn repeats() -> Worked
 {
     Worked {
         trace: "webtrace 1\nparse 0 1 plain\nset 1 9\nset 2 0\ntimer 2\nr var 0 x\nr var 0 x\nw var 0 x\ntimer 1\nw var 0 x\nend\n",
-        report: "report 1\nrace 1 6 10 rw 1 2 var 0 x\nrace 2 8 10 ww 1 2 var 0 x\nactions 3\naccesses 3\npairs 2\nraces 2\nchains 2\nlinks 2\nend\n",
+        report: "report 1\nrace 1 6 10 rw 1 2 var 0 x\nrace 2 8 10 ww 1 2 var 0 x\ncover 1 1\ncover 2 1\ngroup 1 1 2\nactions 3\naccesses 3\npairs 2\nraces 2\ngroups 1\nchains 2\nlinks 2\nend\n",
     }
 }
 
@@ -75,7 +75,7 @@ pub fn one_action() -> Worked
 {
     Worked {
         trace: "webtrace 1\nparse 0 1 plain\nw var 0 x\nr var 0 x\nend\n",
-        report: "report 1\nactions 1\naccesses 2\npairs 0\nraces 0\nchains 1\nlinks 0\nend\n",
+        report: "report 1\nactions 1\naccesses 2\npairs 0\nraces 0\ngroups 0\nchains 1\nlinks 0\nend\n",
     }
 }
 
@@ -85,7 +85,7 @@ pub fn two_reads() -> Worked
 {
     Worked {
         trace: "webtrace 1\nparse 0 1 plain\nset 1 9\nset 2 0\ntimer 2\nr var 0 x\ntimer 1\nr var 0 x\nend\n",
-        report: "report 1\nactions 3\naccesses 2\npairs 0\nraces 0\nchains 2\nlinks 2\nend\n",
+        report: "report 1\nactions 3\naccesses 2\npairs 0\nraces 0\ngroups 0\nchains 2\nlinks 2\nend\n",
     }
 }
 
@@ -95,7 +95,7 @@ pub fn parse_steps() -> Worked
 {
     Worked {
         trace: "webtrace 1\nparse 0 1 plain\nw var 0 a%20b\nparse 0 2 plain\nr var 0 a%20b\nset 1 0\ntimer 1\nw var 0 a%20b\nend\n",
-        report: "report 1\nactions 3\naccesses 3\npairs 3\nraces 0\nchains 1\nlinks 2\nend\n",
+        report: "report 1\nactions 3\naccesses 3\npairs 3\nraces 0\ngroups 0\nchains 1\nlinks 2\nend\n",
     }
 }
 
@@ -105,7 +105,7 @@ pub fn nothing_at_all() -> Worked
 {
     Worked {
         trace: "webtrace 1\nend\n",
-        report: "report 1\nactions 0\naccesses 0\npairs 0\nraces 0\nchains 0\nlinks 0\nend\n",
+        report: "report 1\nactions 0\naccesses 0\npairs 0\nraces 0\ngroups 0\nchains 0\nlinks 0\nend\n",
     }
 }
 
@@ -115,7 +115,7 @@ pub fn blocking_scripts() -> Worked
 {
     Worked {
         trace: "webtrace 1\nparse 0 1 sync\nexec 1\nw var 0 x\nparse 0 2 plain\nr var 0 x\nend\n",
-        report: "report 1\nactions 3\naccesses 2\npairs 1\nraces 0\nchains 1\nlinks 2\nend\n",
+        report: "report 1\nactions 3\naccesses 2\npairs 1\nraces 0\ngroups 0\nchains 1\nlinks 2\nend\n",
     }
 }
 
@@ -125,7 +125,7 @@ pub fn async_scripts() -> Worked
 {
     Worked {
         trace: "webtrace 1\nparse 0 1 async\nexec 1\nw var 0 x\nparse 0 2 plain\nr var 0 x\nend\n",
-        report: "report 1\nrace 1 4 6 wr 1 2 var 0 x\nactions 3\naccesses 2\npairs 1\nraces 1\nchains 2\nlinks 2\nend\n",
+        report: "report 1\nrace 1 4 6 wr 1 2 var 0 x\ncover 1 1\ngroup 1 1 1\nactions 3\naccesses 2\npairs 1\nraces 1\ngroups 1\nchains 2\nlinks 2\nend\n",
     }
 }
 
@@ -135,7 +135,7 @@ pub fn deferred_scripts() -> Worked
 {
     Worked {
         trace: "webtrace 1\nparse 0 1 defer\nparse 0 2 inline\nexec 2\nw var 0 x\nparse 0 3 defer\nexec 1\nw var 0 x\nexec 3\nr var 0 x\nend\n",
-        report: "report 1\nactions 6\naccesses 3\npairs 3\nraces 0\nchains 1\nlinks 5\nend\n",
+        report: "report 1\nactions 6\naccesses 3\npairs 3\nraces 0\ngroups 0\nchains 1\nlinks 5\nend\n",
     }
 }
 
@@ -145,12 +145,32 @@ pub fn other_documents() -> Worked
 {
     Worked {
         trace: "webtrace 1\nparse 0 1 frame 1\nw var 0 x\nparse 1 2 plain\nw var 0 x\nparse 0 3 plain\nr var 0 x\nend\n",
-        report: "report 1\nrace 1 5 7 wr 1 2 var 0 x\nactions 3\naccesses 3\npairs 3\nraces 1\nchains 2\nlinks 2\nend\n",
+        report: "report 1\nrace 1 5 7 wr 1 2 var 0 x\ncover 1 1\ngroup 1 1 1\nactions 3\naccesses 3\npairs 3\nraces 1\ngroups 1\nchains 2\nlinks 2\nend\n",
+    }
+}
+
+/// Two races of one pair of actions are one class.
+pub fn one_class() -> Worked
+    ensures { OneClass result.trace.now result.report.now }
+{
+    Worked {
+        trace: "webtrace 1\nparse 0 1 inline\nexec 1\nset 1 10\nset 2 0\ntimer 2\nw var 0 x\nw var 0 y\ntimer 1\nw var 0 x\nr var 0 y\nend\n",
+        report: "report 1\nrace 1 7 10 ww 2 3 var 0 x\nrace 2 8 11 wr 2 3 var 0 y\ncover 1 1\ncover 2 1\ngroup 1 1 2\nactions 4\naccesses 4\npairs 2\nraces 2\ngroups 1\nchains 2\nlinks 3\nend\n",
+    }
+}
+
+/// A later race covers the first.
+pub fn later_representative() -> Worked
+    ensures { LaterRepresentative result.trace.now result.report.now }
+{
+    Worked {
+        trace: "webtrace 1\nparse 0 1 inline\nexec 1\nset 1 10\nset 2 0\ntimer 2\nw var 0 x\nset 3 0\ntimer 3\nw var 0 f\ntimer 1\nr var 0 f\nset 4 0\ntimer 4\nr var 0 x\nend\n",
+        report: "report 1\nrace 1 7 15 wr 2 5 var 0 x\nrace 2 10 12 wr 3 4 var 0 f\ncover 1 1\ncover 2 1\ngroup 1 2 2\nactions 6\naccesses 4\npairs 2\nraces 2\ngroups 1\nchains 2\nlinks 5\nend\n",
     }
 }
 
 /// All of them.
-pub fn all() -> [Worked; 14] {
+pub fn all() -> [Worked; 16] {
     [
         timeouts_that_race(),
         timeouts_in_order(),
@@ -166,5 +186,7 @@ pub fn all() -> [Worked; 14] {
         async_scripts(),
         deferred_scripts(),
         other_documents(),
+        one_class(),
+        later_representative(),
     ]
 }

@@ -7,11 +7,13 @@ pub(crate) static REPORTS: [Row; 30] = [
     Row {
         trace: "webtrace 1\nparse 0 1 inline\nexec 1\nset 1 10\nset 2 0\ntimer 2\nw var 0 x\ntimer 1\nr var 0 x\nend\n",
         races: "race 1 7 9 wr 2 3 var 0 x\n",
+        groups: "cover 1 1\ngroup 1 1 1\n",
         counts: Counts {
             actions: 4,
             accesses: 2,
             pairs: 1,
             races: 1,
+            groups: 1,
             chains: 2,
             links: 3,
         },
@@ -20,11 +22,13 @@ pub(crate) static REPORTS: [Row; 30] = [
     Row {
         trace: "webtrace 1\nparse 0 1 inline\nexec 1\nset 1 0\nset 2 10\ntimer 1\nw var 0 x\ntimer 2\nr var 0 x\nend\n",
         races: "",
+        groups: "",
         counts: Counts {
             actions: 4,
             accesses: 2,
             pairs: 1,
             races: 0,
+            groups: 0,
             chains: 1,
             links: 3,
         },
@@ -33,11 +37,13 @@ pub(crate) static REPORTS: [Row; 30] = [
     Row {
         trace: "webtrace 1\nparse 0 1 inline\nexec 1\nset 1 5\nset 2 5\ntimer 1\nw var 0 x\ntimer 2\nr var 0 x\nend\n",
         races: "",
+        groups: "",
         counts: Counts {
             actions: 4,
             accesses: 2,
             pairs: 1,
             races: 0,
+            groups: 0,
             chains: 1,
             links: 3,
         },
@@ -46,11 +52,13 @@ pub(crate) static REPORTS: [Row; 30] = [
     Row {
         trace: "webtrace 1\nparse 0 1 inline\nexec 1\nset 1 0\nset 2 10\ntimer 2\nw var 0 x\ntimer 1\nr var 0 x\nend\n",
         races: "race 1 7 9 wr 2 3 var 0 x\n",
+        groups: "cover 1 1\ngroup 1 1 1\n",
         counts: Counts {
             actions: 4,
             accesses: 2,
             pairs: 1,
             races: 1,
+            groups: 1,
             chains: 2,
             links: 3,
         },
@@ -59,11 +67,13 @@ pub(crate) static REPORTS: [Row; 30] = [
     Row {
         trace: "webtrace 1\nparse 0 1 frame 1\nparse 1 2 plain\nw var 0 x\nparse 1 3 plain\nw var 0 x\nend\n",
         races: "",
+        groups: "",
         counts: Counts {
             actions: 3,
             accesses: 2,
             pairs: 1,
             races: 0,
+            groups: 0,
             chains: 1,
             links: 2,
         },
@@ -72,11 +82,13 @@ pub(crate) static REPORTS: [Row; 30] = [
     Row {
         trace: "webtrace 1\nparse 0 1 frame 1\nparse 1 2 plain\nw var 0 x\nparse 0 3 plain\nw var 0 x\nend\n",
         races: "race 1 4 6 ww 1 2 var 0 x\n",
+        groups: "cover 1 1\ngroup 1 1 1\n",
         counts: Counts {
             actions: 3,
             accesses: 2,
             pairs: 1,
             races: 1,
+            groups: 1,
             chains: 2,
             links: 2,
         },
@@ -85,11 +97,13 @@ pub(crate) static REPORTS: [Row; 30] = [
     Row {
         trace: "webtrace 1\nparse 0 1 frame 1\nw var 0 x\nparse 1 2 plain\nr var 0 x\nend\n",
         races: "",
+        groups: "",
         counts: Counts {
             actions: 2,
             accesses: 2,
             pairs: 1,
             races: 0,
+            groups: 0,
             chains: 1,
             links: 1,
         },
@@ -98,11 +112,13 @@ pub(crate) static REPORTS: [Row; 30] = [
     Row {
         trace: "webtrace 1\nparse 0 1 frame 1\nparse 0 2 frame 2\nw var 0 x\nparse 1 3 plain\nr var 0 x\nend\n",
         races: "race 1 4 6 wr 1 2 var 0 x\n",
+        groups: "cover 1 1\ngroup 1 1 1\n",
         counts: Counts {
             actions: 3,
             accesses: 2,
             pairs: 1,
             races: 1,
+            groups: 1,
             chains: 2,
             links: 2,
         },
@@ -111,11 +127,13 @@ pub(crate) static REPORTS: [Row; 30] = [
     Row {
         trace: "webtrace 1\nparse 0 1 async\nexec 1\nnew 0 2 frame 1\nw var 0 x\nparse 1 3 plain\nr var 0 x\nend\n",
         races: "",
+        groups: "",
         counts: Counts {
             actions: 3,
             accesses: 2,
             pairs: 1,
             races: 0,
+            groups: 0,
             chains: 1,
             links: 2,
         },
@@ -124,11 +142,13 @@ pub(crate) static REPORTS: [Row; 30] = [
     Row {
         trace: "webtrace 1\nparse 0 1 async\nw var 0 x\nexec 1\nr var 0 x\nend\n",
         races: "",
+        groups: "",
         counts: Counts {
             actions: 2,
             accesses: 2,
             pairs: 1,
             races: 0,
+            groups: 0,
             chains: 1,
             links: 1,
         },
@@ -137,11 +157,13 @@ pub(crate) static REPORTS: [Row; 30] = [
     Row {
         trace: "webtrace 1\nparse 0 1 async\nparse 0 2 async\nw var 0 x\nexec 1\nr var 0 x\nend\n",
         races: "race 1 4 6 wr 1 2 var 0 x\n",
+        groups: "cover 1 1\ngroup 1 1 1\n",
         counts: Counts {
             actions: 3,
             accesses: 2,
             pairs: 1,
             races: 1,
+            groups: 1,
             chains: 2,
             links: 2,
         },
@@ -150,11 +172,13 @@ pub(crate) static REPORTS: [Row; 30] = [
     Row {
         trace: "webtrace 1\nparse 0 1 async\nexec 1\nnew 0 2 async\nw var 0 x\nexec 2\nr var 0 x\nend\n",
         races: "",
+        groups: "",
         counts: Counts {
             actions: 3,
             accesses: 2,
             pairs: 1,
             races: 0,
+            groups: 0,
             chains: 1,
             links: 2,
         },
@@ -163,11 +187,13 @@ pub(crate) static REPORTS: [Row; 30] = [
     Row {
         trace: "webtrace 1\nparse 0 1 frame 1\nparse 0 2 inline\nexec 2\nw var 0 x\nparse 1 3 plain\nr var 0 x\nend\n",
         races: "race 1 5 7 wr 2 3 var 0 x\n",
+        groups: "cover 1 1\ngroup 1 1 1\n",
         counts: Counts {
             actions: 4,
             accesses: 2,
             pairs: 1,
             races: 1,
+            groups: 1,
             chains: 2,
             links: 3,
         },
@@ -176,11 +202,13 @@ pub(crate) static REPORTS: [Row; 30] = [
     Row {
         trace: "webtrace 1\nparse 0 1 defer\nparse 0 2 plain\nw var 0 x\nexec 1\nr var 0 x\nend\n",
         races: "",
+        groups: "",
         counts: Counts {
             actions: 3,
             accesses: 2,
             pairs: 1,
             races: 0,
+            groups: 0,
             chains: 1,
             links: 2,
         },
@@ -189,11 +217,13 @@ pub(crate) static REPORTS: [Row; 30] = [
     Row {
         trace: "webtrace 1\nparse 0 1 frame 1\nparse 0 2 defer\nparse 1 3 plain\nw var 0 x\nexec 2\nr var 0 x\nend\n",
         races: "race 1 5 7 wr 2 3 var 0 x\n",
+        groups: "cover 1 1\ngroup 1 1 1\n",
         counts: Counts {
             actions: 4,
             accesses: 2,
             pairs: 1,
             races: 1,
+            groups: 1,
             chains: 2,
             links: 3,
         },
@@ -202,11 +232,13 @@ pub(crate) static REPORTS: [Row; 30] = [
     Row {
         trace: "webtrace 1\nparse 0 1 defer\nparse 0 2 inline\nexec 2\nw var 0 x\nexec 1\nr var 0 x\nend\n",
         races: "",
+        groups: "",
         counts: Counts {
             actions: 4,
             accesses: 2,
             pairs: 1,
             races: 0,
+            groups: 0,
             chains: 1,
             links: 3,
         },
@@ -215,11 +247,13 @@ pub(crate) static REPORTS: [Row; 30] = [
     Row {
         trace: "webtrace 1\nparse 0 1 defer\nparse 0 2 async\nexec 2\nw var 0 x\nexec 1\nr var 0 x\nend\n",
         races: "race 1 5 7 wr 2 3 var 0 x\n",
+        groups: "cover 1 1\ngroup 1 1 1\n",
         counts: Counts {
             actions: 4,
             accesses: 2,
             pairs: 1,
             races: 1,
+            groups: 1,
             chains: 2,
             links: 3,
         },
@@ -228,11 +262,13 @@ pub(crate) static REPORTS: [Row; 30] = [
     Row {
         trace: "webtrace 1\nparse 0 1 frame 1\nparse 0 2 defer\nparse 1 3 inline\nexec 3\nw var 0 x\nexec 2\nr var 0 x\nend\n",
         races: "race 1 6 8 wr 3 4 var 0 x\n",
+        groups: "cover 1 1\ngroup 1 1 1\n",
         counts: Counts {
             actions: 5,
             accesses: 2,
             pairs: 1,
             races: 1,
+            groups: 1,
             chains: 2,
             links: 4,
         },
@@ -241,11 +277,13 @@ pub(crate) static REPORTS: [Row; 30] = [
     Row {
         trace: "webtrace 1\nparse 0 1 defer\nparse 0 2 defer\nexec 1\nw var 0 x\nexec 2\nr var 0 x\nend\n",
         races: "",
+        groups: "",
         counts: Counts {
             actions: 4,
             accesses: 2,
             pairs: 1,
             races: 0,
+            groups: 0,
             chains: 1,
             links: 3,
         },
@@ -254,11 +292,13 @@ pub(crate) static REPORTS: [Row; 30] = [
     Row {
         trace: "webtrace 1\nparse 0 1 frame 1\nparse 0 2 defer\nparse 1 3 defer\nexec 2\nw var 0 x\nexec 3\nr var 0 x\nend\n",
         races: "race 1 6 8 wr 3 4 var 0 x\n",
+        groups: "cover 1 1\ngroup 1 1 1\n",
         counts: Counts {
             actions: 5,
             accesses: 2,
             pairs: 1,
             races: 1,
+            groups: 1,
             chains: 2,
             links: 4,
         },
@@ -267,11 +307,13 @@ pub(crate) static REPORTS: [Row; 30] = [
     Row {
         trace: "webtrace 1\nparse 0 1 defer\nparse 0 2 sync\nexec 2\nw var 0 x\nset 1 0\nparse 0 3 plain\nw var 0 x\nexec 1\nr var 0 x\ntimer 1\nr var 0 x\nend\n",
         races: "race 1 8 12 wr 3 5 var 0 x\n",
+        groups: "cover 1 1\ngroup 1 1 1\n",
         counts: Counts {
             actions: 6,
             accesses: 4,
             pairs: 5,
             races: 1,
+            groups: 1,
             chains: 2,
             links: 5,
         },
@@ -280,11 +322,13 @@ pub(crate) static REPORTS: [Row; 30] = [
     Row {
         trace: "webtrace 1\nparse 0 1 async\nexec 1\nparse 0 2 plain\nend\n",
         races: "",
+        groups: "",
         counts: Counts {
             actions: 3,
             accesses: 0,
             pairs: 0,
             races: 0,
+            groups: 0,
             chains: 2,
             links: 2,
         },
@@ -293,11 +337,13 @@ pub(crate) static REPORTS: [Row; 30] = [
     Row {
         trace: "webtrace 1\nparse 0 1 frame 1\nparse 0 2 defer\nexec 2\nparse 1 3 plain\nend\n",
         races: "",
+        groups: "",
         counts: Counts {
             actions: 4,
             accesses: 0,
             pairs: 0,
             races: 0,
+            groups: 0,
             chains: 2,
             links: 3,
         },
@@ -306,11 +352,13 @@ pub(crate) static REPORTS: [Row; 30] = [
     Row {
         trace: "webtrace 1\nparse 0 1 defer\nparse 0 2 plain\nexec 1\nend\n",
         races: "",
+        groups: "",
         counts: Counts {
             actions: 3,
             accesses: 0,
             pairs: 0,
             races: 0,
+            groups: 0,
             chains: 1,
             links: 2,
         },
@@ -319,11 +367,13 @@ pub(crate) static REPORTS: [Row; 30] = [
     Row {
         trace: "webtrace 1\nparse 0 1 frame 1\nparse 0 2 sync\nparse 1 3 plain\nexec 2\nend\n",
         races: "",
+        groups: "",
         counts: Counts {
             actions: 4,
             accesses: 0,
             pairs: 0,
             races: 0,
+            groups: 0,
             chains: 2,
             links: 3,
         },
@@ -332,11 +382,13 @@ pub(crate) static REPORTS: [Row; 30] = [
     Row {
         trace: "webtrace 1\nparse 0 1 async\nparse 0 2 plain\nexec 1\nend\n",
         races: "",
+        groups: "",
         counts: Counts {
             actions: 3,
             accesses: 0,
             pairs: 0,
             races: 0,
+            groups: 0,
             chains: 2,
             links: 2,
         },
@@ -345,11 +397,13 @@ pub(crate) static REPORTS: [Row; 30] = [
     Row {
         trace: "webtrace 1\nparse 0 1 defer\nparse 0 2 inline\nexec 2\nexec 1\nend\n",
         races: "",
+        groups: "",
         counts: Counts {
             actions: 4,
             accesses: 0,
             pairs: 0,
             races: 0,
+            groups: 0,
             chains: 1,
             links: 3,
         },
@@ -358,11 +412,13 @@ pub(crate) static REPORTS: [Row; 30] = [
     Row {
         trace: "webtrace 1\nparse 0 1 frame 1\nparse 1 2 defer\nparse 0 3 inline\nexec 2\nexec 3\nend\n",
         races: "",
+        groups: "",
         counts: Counts {
             actions: 5,
             accesses: 0,
             pairs: 0,
             races: 0,
+            groups: 0,
             chains: 2,
             links: 4,
         },
@@ -371,11 +427,13 @@ pub(crate) static REPORTS: [Row; 30] = [
     Row {
         trace: "webtrace 1\nparse 0 1 defer\nparse 0 2 async\nexec 1\nexec 2\nend\n",
         races: "",
+        groups: "",
         counts: Counts {
             actions: 4,
             accesses: 0,
             pairs: 0,
             races: 0,
+            groups: 0,
             chains: 2,
             links: 3,
         },
@@ -384,11 +442,13 @@ pub(crate) static REPORTS: [Row; 30] = [
     Row {
         trace: "webtrace 1\nparse 0 1 frame 1\nparse 0 2 defer\nparse 1 3 defer\nexec 3\nexec 2\nend\n",
         races: "",
+        groups: "",
         counts: Counts {
             actions: 5,
             accesses: 0,
             pairs: 0,
             races: 0,
+            groups: 0,
             chains: 2,
             links: 4,
         },

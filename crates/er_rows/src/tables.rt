@@ -3,7 +3,8 @@
 use crate::row::{Refusal, Row};
 use crate::through::{sound, through};
 use crate::{
-    dispatches, first_path, loads, naming, orders, pieces, requests, rows, scripts, timers,
+    coverage, dispatches, first_path, loads, naming, orders, pieces, requests, rows, scripts,
+    timers,
 };
 use std::alloc::{AllocError, Global};
 use std::process::Abort;
@@ -58,6 +59,7 @@ fn legal_traces(rt: HostRuntime) -> Result<(), Fail> {
     reports(&rt, alloc, &dispatches::REPORTS)?;
     reports(&rt, alloc, &pieces::REPORTS)?;
     reports(&rt, alloc, &orders::REPORTS)?;
+    reports(&rt, alloc, &coverage::REPORTS)?;
     Ok(())
 }
 

@@ -2,6 +2,7 @@
 
 ghost use Rattle.std.specs.Prelude.{◌≤◌};
 
+use er_clocks::Meter;
 use er_outside::{MemorySink, MemorySource};
 use er_run::outcome::Outcome;
 use er_run::run;
@@ -11,6 +12,10 @@ use std::alloc::{AllocError, Global};
 #[derive(Drop)]
 pub(crate) struct Done {
     pub(crate) outcome: Outcome,
+    /// How many comparisons of pairs were counted.
+    pub(crate) compares: u64,
+    /// How many comparisons of classes were counted.
+    pub(crate) tests: u64,
     pub(crate) written: Vec<u8>,
     pub(crate) read_faults: u64,
     pub(crate) write_faults: u64,
@@ -22,17 +27,21 @@ pub(crate) struct Ends {
     /// The most bytes that a read gives.
     pub(crate) piece: u32,
     pub(crate) failing_reads: Vec<u32>,
+    /// The most bytes that a write takes.
+    pub(crate) taken: u32,
     pub(crate) failing_writes: Vec<u32>,
     pub(crate) room: u32,
 }
 
 /// Ends that never fail.
 pub(crate) fn sound(alloc: Global) -> Ends
-    ensures { 1 ≤ result.piece }
+    ensures piece { 1 ≤ result.piece }
+    ensures taken { 1 ≤ result.taken }
 {
     Ends {
         piece: 4096,
         failing_reads: Vec::new(alloc),
+        taken: 4096,
         failing_writes: Vec::new(alloc),
         room: 65536,
     }
@@ -44,21 +53,34 @@ pub(crate) fn through(
     input: &[u8],
     ends: Ends,
 ) -> Result<Done, AllocError>
-    requires { 1 ≤ ends.piece }
+    requires piece { 1 ≤ ends.piece }
+    requires taken { 1 ≤ ends.taken }
 {
     let Ends {
         piece,
         failing_reads,
+        taken,
         failing_writes,
         room,
     } = ends;
     let mut source = MemorySource::new(Vec::from_slice(alloc, input)?, piece, failing_reads);
-    let Ok(mut sink) = MemorySink::new(alloc, room, 4096, failing_writes) else {
+    let Ok(mut sink) = MemorySink::new(alloc, room, taken, failing_writes) else {
         return Err(AllocError);
     };
-    let outcome = run(alloc, words, &mut source, &mut sink);
+    let mut compares = Meter::new();
+    let mut tests = Meter::new();
+    let outcome = run(
+        alloc,
+        words,
+        &mut source,
+        &mut sink,
+        &mut compares,
+        &mut tests,
+    );
     Ok(Done {
         outcome,
+        compares: compares.made(),
+        tests: tests.made(),
         written: Vec::from_slice(alloc, sink.bytes())?,
         read_faults: source.fault_count(),
         write_faults: sink.fault_count(),

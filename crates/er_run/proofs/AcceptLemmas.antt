@@ -1,5 +1,5 @@
 -- From what was read and judged to the answer of the bytes.
-use Rattle.std.proofs.Common.{◌≡◌, ℕ, ◌+◌, ◌≤◌, List, [], ◌∷◌, ◌++◌, length, take, refl, sym, ap, ◌∙◌, subst, arith, inl, inr, reverse, Option, Some, None, zero, suc, append_assoc, slice_get, nat_lt, MatchBool, true, false, Bool}
+use Rattle.std.proofs.Common.{◌≡◌, ℕ, ◌+◌, ◌<◌, ◌≤◌, List, [], ◌∷◌, ◌++◌, length, take, refl, sym, ap, ◌∙◌, subst, arith, reverse, Option, Some, None, zero, suc, append_assoc, append-nil, slice_get, nat_lt, MatchBool, true, false, Bool}
 use Rattle.std.specs.List.{AllByRecursion}
 use Rattle.std.proofs.lemmas.List.Concat.{flat_map-append}
 use Rattle.std.proofs.lemmas.Option.{slice_get_within}
@@ -7,15 +7,18 @@ use Rattle.er_run.specs.declared.answer.LineRefusal.{LineRefusal}
 use Rattle.std.proofs.lemmas.Bool.Decides.{nat_tests}
 use Rattle.er_graph.specs.declared.fault.GraphFault.TheVariants as graph_faults
 use Rattle.er_run.specs.Session.{IsFaultOf}
-use Rattle.er_run.specs.Accepted.{IsReading}
+use Rattle.er_trace.specs.declared.fault.FeedFault.{FeedFault}
+use Rattle.er_trace.specs.declared.fault.FeedFault.TheVariants as faults
+use Rattle.std.proofs.lemmas.List.{length-reverse}
+use Rattle.er_run.specs.Accepted.{IsReading, IsRefusal, IsEndFault}
 use Rattle.er_text.specs.declared.causes.Cause.{Cause}
 use Rattle.er_trace.specs.declared.record.Record.{Record}
 use Rattle.er_trace.specs.Spelling.{spelling, IsRecord}
-use Rattle.er_trace.specs.Trace.{Place, Start, After, Ended, records_before, line, lines, header, end_word, most_lines, IsPlace, Refuses}
-use Rattle.er_history.specs.Sound.{IsLegal}
-use Rattle.er_history.specs.Sound as sound
+use Rattle.er_trace.specs.Trace.{Place, Start, After, Ended, records_before, line_number, line, lines, header, end_word, most_lines, IsPlace, Refuses}
+use Rattle.er_run.specs.Legal.{IsLegal, end_cause}
+use Rattle.er_run.specs.Legal as legality
 use Rattle.er_history.specs.Rules.{rules}
-use Rattle.er_run.specs.Answer.{most_bytes, FirstIllegal, IsRefused}
+use Rattle.er_run.specs.Answer.{most_bytes, IsLegalTrace, IsLegalBefore, FirstIllegal, OfLine, OfRecord, OfEnd, IsRefused}
 
 -- a list around one of its members
 pub record Around {X : Type 0} (xs : List X) (at : ℕ) (x : X) : Type 0 where
@@ -45,32 +48,24 @@ lines_around xs x ys front more = rw flat_map-append (simp append_assoc)
 
 -- the record at that place of those that were read is the first illegal one
 pub illegal_record : (bytes more : List ℕ) (records : List Record) (at : ℕ) (x : Record) (c : Cause) → bytes ≡ (line header ++ lines records) ++ more → AllByRecursion IsRecord records → length records + 1 ≤ most_lines
-    → slice_get records at ≡ Some x → IsLegal rules (reverse (take at records)) → sound.cause rules (reverse (take at records)) x ≡ Some c → FirstIllegal bytes (at + 2) c
+    → slice_get records at ≡ Some x → IsLegal rules (reverse (take at records)) → legality.cause rules (reverse (take at records)) x ≡ Some c → FirstIllegal bytes (at + 2) c
 illegal_record bytes more records at x c spelled each few found legal cause =
     let r = around records at x found in
     let there : AllByRecursion IsRecord (r.earlier ++ x ∷ r.later) = subst (AllByRecursion IsRecord) r.is each in
     let within : length r.earlier + 2 ≤ most_lines = omega (arith, r.count, slice_get_within records at x found) in
     let at_most : length r.earlier + 2 ≤ most_lines + 1 = omega arith in
-    record {
-      place = After r.earlier;
-      number = omega (arith, r.count);
-      legal = subst (λ h. IsLegal rules (reverse h)) r.taken legal;
-      refused = inr (
-        refl,
-        record {
-          is_place = record { each = each_before r.earlier (x ∷ r.later) there; few = at_most };
-          few = within;
-          read = x;
-          is_record = each_at r.earlier r.later x there;
-          rest = lines r.later ++ more;
-          begins = spelled ∙ ap (λ rs. (line header ++ lines rs) ++ more) r.is ∙ lines_around r.earlier x r.later (line header) more;
-          cause = subst (λ h. sound.cause rules (reverse h) x ≡ Some c) r.taken cause;
-        },
-      );
-    }
+    OfRecord r.earlier (omega (arith, r.count)) (subst (λ h. IsLegal rules (reverse h)) r.taken legal) (record {
+      is_place = record { each = each_before r.earlier (x ∷ r.later) there; few = at_most };
+      few = within;
+      read = x;
+      is_record = each_at r.earlier r.later x there;
+      rest = lines r.later ++ more;
+      begins = spelled ∙ ap (λ rs. (line header ++ lines rs) ++ more) r.is ∙ lines_around r.earlier x r.later (line header) more;
+      cause = subst (λ h. legality.cause rules (reverse h) x ≡ Some c) r.taken cause;
+    })
 
 illegal_before : (bytes : List ℕ) (place : Place) (records : List Record) (why : Cause) → Refuses bytes place why → records ≡ records_before place → (at : ℕ) (x : Record) (c : Cause)
-    → slice_get records at ≡ Some x → IsLegal rules (reverse (take at records)) → sound.cause rules (reverse (take at records)) x ≡ Some c → FirstIllegal bytes (at + 2) c
+    → slice_get records at ≡ Some x → IsLegal rules (reverse (take at records)) → legality.cause rules (reverse (take at records)) x ≡ Some c → FirstIllegal bytes (at + 2) c
 illegal_before bytes Start records why r same at x c found legal cause = let none : slice_get {X = Record} [] at ≡ Some x = subst (λ rs. slice_get rs at ≡ Some x) same found in absurd (cc)
 illegal_before bytes (After earlier) records why r same at x c found legal cause =
     illegal_record bytes r.rest records at x c (subst (λ rs. bytes ≡ (line header ++ lines rs) ++ r.rest) (sym same) r.begins) (subst (AllByRecursion IsRecord) (sym same) r.is_place.each) (omega (arith, ap length same, r.is_place.few)) found legal cause
@@ -84,7 +79,7 @@ few_before (Ended earlier) records h same = omega (arith, ap length same, h.few)
 
 -- each record that was read stands behind the header and those before it
 pub illegal_read : (bytes : List ℕ) (records : List Record) (refused : Option LineRefusal) (at : ℕ) (x : Record) (c : Cause) → IsReading bytes records refused
-    → slice_get records at ≡ Some x → IsLegal rules (reverse (take at records)) → sound.cause rules (reverse (take at records)) x ≡ Some c → FirstIllegal bytes (at + 2) c
+    → slice_get records at ≡ Some x → IsLegal rules (reverse (take at records)) → legality.cause rules (reverse (take at records)) x ≡ Some c → FirstIllegal bytes (at + 2) c
 illegal_read bytes records None at x c reading found legal cause = illegal_record bytes (line end_word) records at x c reading.1 reading.0.each (omega (arith, reading.0.few)) found legal cause
 illegal_read bytes records (Some refused) at x c reading found legal cause = illegal_before bytes reading.0 records refused.cause reading.1 reading.3 at x c found legal cause
 
@@ -104,8 +99,75 @@ refused_judged bytes records refused line c few reading judged =
     let first : FirstIllegal bytes (judged.0 + 2) c = illegal_read bytes records refused judged.0 judged.3.0 c reading judged.3.1 judged.2 judged.3.2 in
     refused_within bytes line c few (subst (λ n. FirstIllegal bytes n c) (sym judged.1) first)
 
+-- the lines before a place are legal, where its records are, and they are within the limits if the `end` line stands before it
+legal_at : (place : Place) (records : List Record) → records ≡ records_before place → IsLegal rules (reverse records) → (length records + 2 < line_number place → end_cause (reverse records) ≡ None) → IsLegalBefore place
+legal_at Start records same legal within = tt
+legal_at (After earlier) records same legal within = subst (λ rs. IsLegal rules (reverse rs)) same legal
+legal_at (Ended earlier) records same legal within =
+    (subst (λ rs. IsLegal rules (reverse rs)) same legal, ap (λ rs. end_cause (reverse rs)) (sym same) ∙ within (omega (arith, ap length same)))
+
 -- the line behind the records is the first illegal one
-pub refused_line : (bytes : List ℕ) (records : List Record) (refused : Option LineRefusal) (line : LineRefusal) → length bytes ≤ most_bytes → IsReading bytes records refused → refused ≡ Some line → IsLegal rules (reverse records) → IsRefused bytes line.line line.cause
-refused_line bytes records refused line few reading is legal =
+pub refused_line : (bytes : List ℕ) (records : List Record) (refused : Option LineRefusal) (line : LineRefusal) → length bytes ≤ most_bytes → IsReading bytes records refused → refused ≡ Some line → IsLegal rules (reverse records)
+    → (length records + 2 < line.line → end_cause (reverse records) ≡ None) → IsRefused bytes line.line line.cause
+refused_line bytes records refused line few reading is legal within =
     let read : IsReading bytes records (Some line) = subst (IsReading bytes records) is reading in
-    refused_within bytes line.line line.cause few (record { place = read.0; number = read.2; legal = subst (λ rs. IsLegal rules (reverse rs)) read.3 legal; refused = inl read.1 })
+    refused_within bytes line.line line.cause few (OfLine read.0 read.2 (legal_at read.0 records read.3 legal (λ behind. within (omega (arith, behind, read.2)))) read.1)
+
+-- no line up to the one behind the records is refused
+abbrev pub IsRead : List Record → Option LineRefusal → Type 0
+IsRead records None = Unit {0}
+IsRead records (Some refused) = length records + 2 < refused.line
+
+ended_at : (bytes : List ℕ) (place : Place) (records : List Record) (why c : Cause) → Refuses bytes place why → records ≡ records_before place → length records + 2 < line_number place
+    → IsLegal rules (reverse records) → end_cause (reverse records) ≡ Some c → FirstIllegal bytes (length records + 2) c
+ended_at bytes Start records why c h same behind legal cause = absurd (omega arith)
+ended_at bytes (After earlier) records why c h same behind legal cause = absurd (omega (arith, ap length same))
+ended_at bytes (Ended earlier) records why c h same behind legal cause =
+    OfEnd earlier (omega (arith, ap length same)) (subst (λ rs. IsLegal rules (reverse rs)) same legal) (record {
+      is_place = record { each = h.is_place.each; few = omega (arith, h.is_place.few) };
+      few = omega (arith, h.is_place.few);
+      rest = h.rest;
+      begins = h.begins;
+      cause = ap (λ rs. end_cause (reverse rs)) (sym same) ∙ cause;
+    })
+
+ended : (bytes : List ℕ) (records : List Record) (refused : Option LineRefusal) (c : Cause) → IsReading bytes records refused → IsRead records refused → IsLegal rules (reverse records) → end_cause (reverse records) ≡ Some c
+    → FirstIllegal bytes (length records + 2) c
+ended bytes records None c reading read legal cause =
+    OfEnd records refl legal (record {
+      is_place = record { each = reading.0.each; few = omega (arith, reading.0.few) };
+      few = reading.0.few;
+      rest = [];
+      begins = reading.1 ∙ sym (append-nil (line header ++ lines records ++ line end_word));
+      cause = cause;
+    })
+ended bytes records (Some refused) c reading read legal cause = ended_at bytes reading.0 records refused.cause c reading.1 reading.3 (omega (arith, read, reading.2)) legal cause
+
+-- the `end` line behind the records is the first illegal one
+pub refused_end : (bytes : List ℕ) (records : List Record) (refused : Option LineRefusal) (n : ℕ) (c : Cause) → length bytes ≤ most_bytes → IsReading bytes records refused → IsRead records refused → IsLegal rules (reverse records)
+    → n ≡ length records + 2 → end_cause (reverse records) ≡ Some c → IsRefused bytes n c
+refused_end bytes records refused n c few reading read legal at cause =
+    refused_within bytes n c few (subst (λ k. FirstIllegal bytes k c) (sym at) (ended bytes records refused c reading read legal cause))
+
+-- what is known where no line up to the end was refused
+
+pub read_some : (records : List Record) (refused : Option LineRefusal) (line : LineRefusal) (n : ℕ) → refused ≡ Some line → n ≡ length (reverse records) → n + 2 < line.line → IsRead records refused
+read_some records None line n is count past = absurd (cc)
+read_some records (Some other) line n is count past = let same : other.line ≡ line.line = ap (λ (o : Option LineRefusal). line_of o) is in omega (arith, same, count, past, length-reverse records)
+  where
+    line_of : Option LineRefusal → ℕ
+    line_of None = 0
+    line_of (Some l) = l.line
+
+pub read_none : (records : List Record) (refused : Option LineRefusal) → ((line : LineRefusal) → refused ≡ Some line → ⊥) → IsRead records refused
+read_none records None none = tt
+read_none records (Some line) none = absurd (none line refl)
+
+pub legal_read : (bytes : List ℕ) (records : List Record) (refused : Option LineRefusal) → refused ≡ None → length bytes ≤ most_bytes → IsReading bytes records refused → IsLegal rules (reverse records) → end_cause (reverse records) ≡ None → IsLegalTrace bytes records
+legal_read bytes records None is few reading legal within = record { few = few; is_trace = reading.0; spelled = reading.1; legal = legal; within = within }
+legal_read bytes records (Some line) is few reading legal within = absurd (cc)
+
+pub refused_fault : (bytes : List ℕ) (records : List Record) (refused : Option LineRefusal) (fault : FeedFault) → length bytes ≤ most_bytes → IsReading bytes records refused → IsRead records refused → IsLegal rules (reverse records)
+    → IsEndFault (reverse records) fault → IsRefusal bytes fault
+refused_fault bytes records refused (faults.Refused n c) few reading read legal fault = refused_end bytes records refused n c few reading read legal (omega (arith, fault.0, length-reverse records)) fault.1
+refused_fault bytes records refused faults.NoMemory few reading read legal fault = tt

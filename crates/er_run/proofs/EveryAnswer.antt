@@ -1,13 +1,13 @@
 -- Every byte string has an answer.
-use Rattle.std.proofs.Common.{◌≡◌, ◌⊎◌, ℕ, ◌+◌, ◌≤◌, List, [], ◌∷◌, ◌++◌, length, take, reverse, Bool, true, false, nat_lt, Option, None, Some, refl, ap, sym, ◌∙◌, subst, inl, inr, arith, slice_get, append_assoc, MatchBool}
+use Rattle.std.proofs.Common.{◌≡◌, ◌⊎◌, ℕ, ◌+◌, ◌<◌, ◌≤◌, List, [], ◌∷◌, ◌++◌, length, take, reverse, Bool, true, false, nat_lt, Option, None, Some, refl, ap, sym, ◌∙◌, subst, inl, inr, arith, slice_get, append_assoc, MatchBool}
 use Rattle.std.proofs.lemmas.Grind.{common_steps}
 use Rattle.std.proofs.lemmas.List.{reverse-append, length-reverse}
 use Rattle.std.proofs.lemmas.Bool.Decides.{nat_tests}
 use Rattle.er_text.specs.declared.causes.Cause.{Cause}
 use Rattle.er_text.specs.declared.causes.Cause.TheVariants.{TooManyLines}
 use Rattle.er_trace.specs.declared.record.Record.{Record}
-use Rattle.er_history.specs.Sound.{IsLegal}
-use Rattle.er_history.specs.Sound as sound
+use Rattle.er_run.specs.Legal.{IsLegal, end_cause}
+use Rattle.er_run.specs.Legal as legality
 use Rattle.er_history.specs.Rules.{rules}
 use Rattle.er_graph.specs.declared.fault.GraphFault.TheVariants as graph_faults
 use Rattle.er_run.specs.declared.answer.LineRefusal.{LineRefusal}
@@ -15,9 +15,10 @@ use Rattle.er_run.specs.declared.outcome.Outcome.{Outcome}
 use Rattle.er_run.specs.declared.outcome.Outcome.TheVariants.{Refused}
 use Rattle.er_run.specs.Accepted.{IsReading}
 use Rattle.er_run.specs.Answer.{most_bytes, FirstIllegal, IsRefused, Answers}
-use Rattle.er_run.specs.Report.{report, refusal}
+use Rattle.er_report.specs.Report.{refusal}
+use Rattle.er_run.specs.Report.{report}
 use Rattle.er_run.specs.Session.{IsFaultOf}
-use Rattle.er_run.proofs.AcceptLemmas.{refused_judged, refused_line}
+use Rattle.er_run.proofs.AcceptLemmas.{IsRead, refused_judged, refused_line, refused_end}
 use Rattle.er_run.proofs.AnswerLemmas.{legal_answer}
 use Rattle.er_run.proofs.EveryText.{Reads, Whole, Until, every_text}
 
@@ -29,16 +30,16 @@ record Faulty (h : List Record) : Type 0 where
   cause : Cause
   is : h ≡ newer ++ read ∷ older
   legal : IsLegal rules older
-  why : sound.cause rules older read ≡ Some cause
+  why : legality.cause rules older read ≡ Some cause
 
-newest : (h : List Record) (x : Record) (o : Option Cause) → o ≡ sound.cause rules h x → IsLegal rules h → IsLegal rules (x ∷ h) ⊎ Faulty (x ∷ h)
+newest : (h : List Record) (x : Record) (o : Option Cause) → o ≡ legality.cause rules h x → IsLegal rules h → IsLegal rules (x ∷ h) ⊎ Faulty (x ∷ h)
 newest h x None is legal = inl (sym is, legal)
 newest h x (Some c) is legal = inr (record { newer = []; read = x; older = h; cause = c; is = refl; legal = legal; why = sym is })
 
 legal_or_faulty : (h : List Record) → IsLegal rules h ⊎ Faulty h
 legal_or_faulty [] = inl tt
 legal_or_faulty (x ∷ h) = elim (legal_or_faulty h) [
-  | inl legal ↦ newest h x (sound.cause rules h x) refl legal
+  | inl legal ↦ newest h x (legality.cause rules h x) refl legal
   | inr faulty ↦ inr (record { newer = x ∷ faulty.newer; read = faulty.read; older = faulty.older; cause = faulty.cause; is = ap (λ l. x ∷ l) faulty.is; legal = faulty.legal; why = faulty.why })
 ]
 
@@ -62,7 +63,7 @@ fault_of records f =
     let front : take (length f.older) records ≡ reverse f.older = ap (take (length f.older)) back ∙ (ap (λ n. take n (reverse f.older ++ f.read ∷ reverse f.newer)) (sym long) ∙ front_taken (reverse f.older) (f.read ∷ reverse f.newer)) in
     let older : f.older ≡ reverse (take (length f.older) records) = sym (ap reverse front ∙ reverse_twice f.older) in
     let there : slice_get records (length f.older) ≡ Some f.read = ap (λ l. slice_get l (length f.older)) back ∙ (ap (slice_get (reverse f.older ++ f.read ∷ reverse f.newer)) (sym long) ∙ at_place (reverse f.older) (reverse f.newer) f.read) in
-    (length f.older, refl, subst (IsLegal rules) older f.legal, (f.read, there, subst (λ l. sound.cause rules l f.read ≡ Some f.cause) older f.why))
+    (length f.older, refl, subst (IsLegal rules) older f.legal, (f.read, there, subst (λ l. legality.cause rules l f.read ≡ Some f.cause) older f.why))
 
 -- an answer, and the text that is due
 abbrev HasAnswer : List ℕ → Type 0
@@ -71,11 +72,27 @@ HasAnswer bytes = (o : Outcome) × (due : List ℕ) × Answers bytes o due
 refused : (bytes : List ℕ) (n : ℕ) (c : Cause) → IsRefused bytes n c → HasAnswer bytes
 refused bytes n c is = (Refused n c, refusal n c, (is, refl))
 
+-- behind legal records and no line that is refused the `end` line is refused, or it is within the limits
+by_end : (bytes : List ℕ) (records : List Record) (line : Option LineRefusal) (o : Option Cause) → o ≡ end_cause (reverse records) → length bytes ≤ most_bytes → IsReading bytes records line → IsRead records line → IsLegal rules (reverse records)
+    → (end_cause (reverse records) ≡ None → HasAnswer bytes) → HasAnswer bytes
+by_end bytes records line None is few reading read legal answer = answer (sym is)
+by_end bytes records line (Some c) is few reading read legal answer = refused bytes (length records + 2) c (refused_end bytes records line (length records + 2) c few reading read legal refl (sym is))
+
+by_line : (bytes : List ℕ) (records : List Record) (line : LineRefusal) (behind : Bool) → behind ≡ nat_lt (length records + 2) line.line → length bytes ≤ most_bytes → IsReading bytes records (Some line) → IsLegal rules (reverse records) → HasAnswer bytes
+by_line bytes records line false is few reading legal =
+    let up_to : line.line ≤ length records + 2 = grind (arith, nat_tests) in
+    refused bytes line.line line.cause (refused_line bytes records (Some line) line few reading refl legal (λ behind. absurd (omega arith)))
+by_line bytes records line true is few reading legal =
+    let past : length records + 2 < line.line = grind (arith, nat_tests) in
+    by_end bytes records (Some line) (end_cause (reverse records)) refl few reading past legal
+    (λ within. refused bytes line.line line.cause (refused_line bytes records (Some line) line few reading refl legal (λ behind. within)))
+
 answered : (bytes : List ℕ) (records : List Record) (line : Option LineRefusal) → length bytes ≤ most_bytes → IsReading bytes records line → IsLegal rules (reverse records) → HasAnswer bytes
 answered bytes records None few reading legal =
-    let found = legal_answer bytes records (record { few = few; is_trace = reading.0; spelled = reading.1; legal = legal }) in
-    (found.0, report (reverse records), found.1)
-answered bytes records (Some line) few reading legal = refused bytes line.line line.cause (refused_line bytes records (Some line) line few reading refl legal)
+    by_end bytes records None (end_cause (reverse records)) refl few reading tt legal (λ within.
+    let found = legal_answer bytes records (record { few = few; is_trace = reading.0; spelled = reading.1; legal = legal; within = within }) in
+    (found.0, report (reverse records), found.1))
+answered bytes records (Some line) few reading legal = by_line bytes records line (nat_lt (length records + 2) line.line) refl few reading legal
 
 from_reading : (bytes : List ℕ) (records : List Record) (line : Option LineRefusal) → length bytes ≤ most_bytes → IsReading bytes records line → HasAnswer bytes
 from_reading bytes records line few reading = elim (legal_or_faulty (reverse records)) [

@@ -1,15 +1,10 @@
 pub mod AcceptLemmas
 pub mod AnswerLemmas
-pub mod ListerLemmas
-pub mod ReportLemmas
-pub mod Sameness
 pub mod SessionLemmas
+pub mod AccessLemmas
 pub mod JudgeLemmas
-pub mod ReportableLemmas
+pub mod JudgedLemmas
 pub mod CompleteLemmas
-pub mod RepeatLemmas
 pub mod OneAnswer
 pub mod EveryText
 pub mod EveryAnswer
-pub mod BufferedLemmas
-pub mod ComparedLemmas

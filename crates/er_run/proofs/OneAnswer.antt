@@ -1,5 +1,5 @@
 -- A byte string has one answer.
-use Rattle.std.proofs.Common.{◌≡◌, ◌≢◌, ◌⊎◌, ℕ, ◌+◌, ◌≤◌, List, [], ◌∷◌, ◌++◌, length, reverse, Bool, true, false, ◌&&◌, Some, None, Ok, Err, refl, ap, sym, ◌∙◌, subst, inl, inr, arith, append_assoc, append-nil, length-append}
+use Rattle.std.proofs.Common.{◌≡◌, ◌≢◌, ℕ, ◌+◌, ◌≤◌, List, [], ◌∷◌, ◌++◌, length, reverse, Bool, true, false, ◌&&◌, Option, Some, None, Ok, Err, refl, ap, sym, ◌∙◌, subst, arith, append_assoc, append-nil, length-append}
 use Rattle.std.specs.Prelude.{nat_lt, Result, MatchResult, MatchBool}
 use Rattle.std.specs.List.{AllByRecursion}
 use Rattle.std.proofs.lemmas.List.{append_cancel_left, reverse-append}
@@ -11,14 +11,15 @@ use Rattle.er_trace.specs.Spelling.{spelling, IsRecord}
 use Rattle.er_trace.specs.Trace.{most_lines, header, end_word, line, lines, whole_line, SpellsNone, Place, Start, After, Ended, records_before, line_number, Refuses, RecordCause}
 use Rattle.er_trace.proofs.RecordLaws.{spelling_is_no_end}
 use Rattle.er_trace.proofs.OneTrace.{one_refusal, trace_not_refused, one_trace, SameRefusal, a_line, bytes_of, whole_header, whole_end, whole_record, same_first}
-use Rattle.er_history.specs.Sound.{IsLegal}
-use Rattle.er_history.specs.Sound as sound
 use Rattle.er_history.specs.Rules.{Rule, rules}
+use Rattle.er_run.specs.Legal.{IsLegal, end_cause}
+use Rattle.er_run.specs.Legal as legality
 use Rattle.er_run.specs.Races.{races}
-use Rattle.er_run.specs.Report.{report, refusal}
+use Rattle.er_report.specs.Report.{refusal}
+use Rattle.er_run.specs.Report.{report}
 use Rattle.er_run.specs.declared.outcome.Outcome.{Outcome}
 use Rattle.er_run.specs.declared.outcome.Outcome.TheVariants.{Clean, Races, Usage, Refused, ReadFault, WriteFault, NoMemory}
-use Rattle.er_run.specs.Answer.{most_bytes, IsLegalTrace, RefusesRecord, FirstIllegal, IsRefused, Answers}
+use Rattle.er_run.specs.Answer.{most_bytes, IsLegalTrace, RefusesRecord, RefusesEnd, IsLegalBefore, FirstIllegal, OfLine, OfRecord, OfEnd, IsRefused, Answers}
 
 abbrev Line : Type 0
 Line = Result (List ℕ × List ℕ) Cause
@@ -53,11 +54,11 @@ reverse_front earlier more x =
     (reverse-append earlier (x ∷ more) ∙ ap (λ (l : List Record). l ++ reverse earlier) (reverse-append (x ∷ []) more))
     ∙ append_assoc (reverse more) (x ∷ []) (reverse earlier)
 
-no_cause : (table : List (ℕ × Rule)) (list earlier more : List Record) (x : Record) (c : Cause) → IsLegal table (reverse list) → list ≡ earlier ++ x ∷ more → sound.cause table (reverse earlier) x ≡ Some c → ⊥
+no_cause : (table : List (ℕ × Rule)) (list earlier more : List Record) (x : Record) (c : Cause) → IsLegal table (reverse list) → list ≡ earlier ++ x ∷ more → legality.cause table (reverse earlier) x ≡ Some c → ⊥
 no_cause table list earlier more x c legal e cause =
     let back : reverse list ≡ reverse more ++ x ∷ reverse earlier = ap reverse e ∙ reverse_front earlier more x in
     let older : IsLegal table (x ∷ reverse earlier) = legal_older table (reverse more) (x ∷ reverse earlier) (subst (IsLegal table) back legal) in
-    let none : sound.cause table (reverse earlier) x ≡ None = older.0 in
+    let none : legality.cause table (reverse earlier) x ≡ None = older.0 in
     let both : None ≡ Some c = sym none ∙ cause in
     absurd (cc)
 
@@ -68,7 +69,7 @@ record Faulty (table : List (ℕ × Rule)) (bytes : List ℕ) (earlier : List Re
   is_record : IsRecord x
   rest : List ℕ
   begins : bytes ≡ line header ++ (lines earlier ++ (line (spelling x) ++ rest))
-  cause : sound.cause table (reverse earlier) x ≡ Some c
+  cause : legality.cause table (reverse earlier) x ≡ Some c
 
 -- behind the header these legal records stand, and then these bytes
 record Legally (table : List (ℕ × Rule)) (bytes : List ℕ) (records : List Record) (rest : List ℕ) : Type 0 where
@@ -90,7 +91,7 @@ faulty bytes earlier c h = record {
 abbrev NoRecord : List ℕ → Type 0
 NoRecord bytes = (x : Record) (rest : List ℕ) → IsRecord x → bytes ≡ line (spelling x) ++ rest → ⊥
 
-not_legally_by : (table : List (ℕ × Rule)) (earlier records : List Record) (x : Record) (c : Cause) (r s : List ℕ) → Meets earlier records (line (spelling x) ++ r) s → IsRecord x → sound.cause table (reverse earlier) x ≡ Some c → IsLegal table (reverse records)
+not_legally_by : (table : List (ℕ × Rule)) (earlier records : List Record) (x : Record) (c : Cause) (r s : List ℕ) → Meets earlier records (line (spelling x) ++ r) s → IsRecord x → legality.cause table (reverse earlier) x ≡ Some c → IsLegal table (reverse records)
     → (length records ≤ length earlier → NoRecord s) → ⊥
 not_legally_by table earlier records x c r s (Equal e there) is cause legal stops = stops (omega (arith, ap length e)) x r is (sym there)
 not_legally_by table earlier records x c r s (Shorter y more rest is_y e there) is cause legal stops =
@@ -145,22 +146,12 @@ record_not_line table bytes earlier x c d (Ended records) first legal second =
     } in
     not_legally table bytes earlier records x c (line end_word ++ second.rest) first behind (λ (fits : length records ≤ length earlier). no_record_at_end second.rest)
 
--- a record that has a cause stands in no legal trace
-record_not_trace : (bytes : List ℕ) (earlier records : List Record) (x : Record) (c : Cause) → Faulty rules bytes earlier x c → IsLegalTrace bytes records → ⊥
-record_not_trace bytes earlier records x c first second =
-    let behind : Legally rules bytes records (line end_word ++ []) = record {
-      each = second.is_trace.each;
-      begins = (second.spelled ∙ append_assoc (line header) (lines records) (line end_word)) ∙ ap (λ l. line header ++ (lines records ++ l)) (sym (append-nil (line end_word)));
-      legal = second.legal;
-    } in
-    not_legally rules bytes earlier records x c (line end_word ++ []) first behind (λ (fits : length records ≤ length earlier). no_record_at_end [])
-
 -- the first records that have a cause are the same
 same_record_by : (table : List (ℕ × Rule)) (a b : List Record) (x y : Record) (c d : Cause) (r s : List ℕ) → Meets a b (line (spelling x) ++ r) (line (spelling y) ++ s) → IsRecord x → IsRecord y
-    → sound.cause table (reverse a) x ≡ Some c → sound.cause table (reverse b) y ≡ Some d → IsLegal table (reverse a) → IsLegal table (reverse b) → (a ≡ b) × (c ≡ d)
+    → legality.cause table (reverse a) x ≡ Some c → legality.cause table (reverse b) y ≡ Some d → IsLegal table (reverse a) → IsLegal table (reverse b) → (a ≡ b) × (c ≡ d)
 same_record_by table a b x y c d r s (Equal e there) is_x is_y cause_x cause_y legal_a legal_b =
     let same : x ≡ y = (same_first x y r s is_x is_y there).0 in
-    let twice : sound.cause table (reverse a) x ≡ sound.cause table (reverse b) y = ap (λ l. sound.cause table (reverse l) x) e ∙ ap (sound.cause table (reverse b)) same in
+    let twice : legality.cause table (reverse a) x ≡ legality.cause table (reverse b) y = ap (λ l. legality.cause table (reverse l) x) e ∙ ap (legality.cause table (reverse b)) same in
     let causes : Some c ≡ Some d = (sym cause_x ∙ twice) ∙ cause_y in
     (e, cc)
 same_record_by table a b x y c d r s (Shorter z more rest is_z e there) is_x is_y cause_x cause_y legal_a legal_b =
@@ -177,32 +168,128 @@ same_record table bytes a b x y c d first second legal_a legal_b =
     let e : lines a ++ r ≡ lines b ++ s = append_cancel_left (line header) (lines a ++ r) (lines b ++ s) (sym first.begins ∙ second.begins) in
     same_record_by table a b x y c d first.rest second.rest (meets a b r s first.each second.each e) first.is_record second.is_record first.cause second.cause legal_a legal_b
 
--- what refuses the bytes first: a line, or a record
-data Illegal (bytes : List ℕ) (n : ℕ) (c : Cause) : Type 0 where
-  ByLine : (place : Place) → n ≡ line_number place → IsLegal rules (reverse (records_before place)) → Refuses bytes place c → Illegal bytes n c
-  ByRecord : (earlier : List Record) (x : Record) → n ≡ length earlier + 2 → IsLegal rules (reverse earlier) → Faulty rules bytes earlier x c → Illegal bytes n c
+-- what the lines before a place say of its records
+legal_before : (place : Place) → IsLegalBefore place → IsLegal rules (reverse (records_before place))
+legal_before Start h = tt
+legal_before (After records) h = h
+legal_before (Ended records) h = h.0
 
-illegal_by : (bytes : List ℕ) (n : ℕ) (c : Cause) (place : Place) → n ≡ line_number place → IsLegal rules (reverse (records_before place))
-    → Refuses bytes place c ⊎ ((place ≡ After (records_before place)) × RefusesRecord bytes (records_before place) c) → Illegal bytes n c
-illegal_by bytes n c place number legal (inl h) = ByLine place number legal h
-illegal_by bytes n c place number legal (inr h) = ByRecord (records_before place) h.1.read (number ∙ ap line_number h.0) legal (faulty bytes (records_before place) c h.1)
+-- behind the header these legal records stand, and then the `end` line, and they are over a limit or not
+record Ending (bytes : List ℕ) (records : List Record) (o : Option Cause) : Type 0 where
+  rest : List ℕ
+  behind : Legally rules bytes records (line end_word ++ rest)
+  cause : end_cause (reverse records) ≡ o
+
+ending : (bytes : List ℕ) (earlier : List Record) (c : Cause) → IsLegal rules (reverse earlier) → RefusesEnd bytes earlier c → Ending bytes earlier (Some c)
+ending bytes earlier c legal h = record {
+  rest = h.rest;
+  behind = record {
+    each = h.is_place.each;
+    begins = (h.begins ∙ append_assoc (line header ++ lines earlier) (line end_word) h.rest) ∙ append_assoc (line header) (lines earlier) (line end_word ++ h.rest);
+    legal = legal;
+  };
+  cause = h.cause;
+}
+
+ending_trace : (bytes : List ℕ) (records : List Record) → IsLegalTrace bytes records → Ending bytes records None
+ending_trace bytes records h = record {
+  rest = [];
+  behind = record {
+    each = h.is_trace.each;
+    begins = (h.spelled ∙ append_assoc (line header) (lines records) (line end_word)) ∙ ap (λ l. line header ++ (lines records ++ l)) (sym (append-nil (line end_word)));
+    legal = h.legal;
+  };
+  cause = h.within;
+}
+
+ending_line : (bytes : List ℕ) (records : List Record) (c : Cause) → IsLegalBefore (Ended records) → Refuses bytes (Ended records) c → Ending bytes records None
+ending_line bytes records c legal h = record {
+  rest = h.rest;
+  behind = record {
+    each = h.is_place.each;
+    begins = (h.begins ∙ append_assoc (line header ++ lines records) (line end_word) h.rest) ∙ append_assoc (line header) (lines records) (line end_word ++ h.rest);
+    legal = legal.0;
+  };
+  cause = legal.1;
+}
+
+same_ends_by : (a b : List Record) (r s : List ℕ) → Meets a b (line end_word ++ r) (line end_word ++ s) → a ≡ b
+same_ends_by a b r s (Equal e there) = e
+same_ends_by a b r s (Shorter x more rest is e there) = absurd (no_record_at_end r x rest is there)
+same_ends_by a b r s (Longer x more rest is e there) = absurd (no_record_at_end s x rest is there)
+
+-- the records before the `end` line are the same
+same_ends : (bytes : List ℕ) (a b : List Record) (o p : Option Cause) → Ending bytes a o → Ending bytes b p → (a ≡ b) × (o ≡ p)
+same_ends bytes a b o p first second =
+    let e : lines a ++ (line end_word ++ first.rest) ≡ lines b ++ (line end_word ++ second.rest) =
+    append_cancel_left (line header) (lines a ++ (line end_word ++ first.rest)) (lines b ++ (line end_word ++ second.rest)) (sym first.behind.begins ∙ second.behind.begins) in
+    let same : a ≡ b = same_ends_by a b first.rest second.rest (meets a b (line end_word ++ first.rest) (line end_word ++ second.rest) first.behind.each second.behind.each e) in
+    (same, (sym first.cause ∙ ap (λ l. end_cause (reverse l)) same) ∙ second.cause)
+
+-- records are over a limit or not
+not_both : (bytes : List ℕ) (a b : List Record) (c : Cause) → Ending bytes a (Some c) → Ending bytes b None → ⊥
+not_both bytes a b c first second = let same : Some c ≡ None = (same_ends bytes a b (Some c) None first second).1 in absurd (cc)
+
+-- a record that has a cause stands before no `end` line
+record_not_end : (bytes : List ℕ) (earlier records : List Record) (x : Record) (c : Cause) (o : Option Cause) → Faulty rules bytes earlier x c → Ending bytes records o → ⊥
+record_not_end bytes earlier records x c o first second =
+    not_legally rules bytes earlier records x c (line end_word ++ second.rest) first second.behind (λ (fits : length records ≤ length earlier). no_record_at_end second.rest)
+
+is_end_line : (many : Bool) (whole : Line) (c : Cause) (rest : List ℕ) → CauseBy many whole c → many ≡ false → whole ≡ a_line end_word rest → ⊥
+is_end_line true whole c rest h few is = absurd (cc)
+is_end_line false (Ok found) c rest h few is = h.0 cc
+is_end_line false (Err why) c rest h few is = absurd (cc)
+
+-- a line that has a cause is no `end` line, and no record stands there
+line_not_end_by : (records others : List Record) (d : Cause) (r s : List ℕ) → Meets records others (line end_word ++ r) s → length records + 2 ≤ most_lines → RecordCause (length others + 2) s d → ⊥
+line_not_end_by records others d r s (Equal e there) few h =
+    is_end_line (nat_lt most_lines (length others + 2) && nat_lt 0 (length s)) (whole_line s) d r h (not_many (length others + 2) s (omega (arith, ap length e))) (ap whole_line (sym there) ∙ whole_end r)
+line_not_end_by records others d r s (Shorter x more rest is e there) few h = no_record_at_end r x rest is there
+line_not_end_by records others d r s (Longer x more rest is e there) few h = no_record_at_cause (length others + 2) s d h (omega (arith, ap length e, length-append others (x ∷ more))) x rest is there
+
+-- an `end` line over a limit, and a line that has a cause, where each stands behind legal lines
+end_not_line : (bytes : List ℕ) (records : List Record) (c d : Cause) (place : Place) → RefusesEnd bytes records c → Ending bytes records (Some c) → IsLegalBefore place → Refuses bytes place d → ⊥
+end_not_line bytes records c d Start h first legal second =
+    no_header (whole_line bytes) d (lines records ++ (line end_word ++ first.rest)) (rw second.begins second.cause) (ap whole_line first.behind.begins ∙ whole_header (lines records ++ (line end_word ++ first.rest)))
+end_not_line bytes records c d (After others) h first legal second =
+    let begins : bytes ≡ line header ++ (lines others ++ second.rest) = second.begins ∙ append_assoc (line header) (lines others) second.rest in
+    let e : lines records ++ (line end_word ++ first.rest) ≡ lines others ++ second.rest = append_cancel_left (line header) (lines records ++ (line end_word ++ first.rest)) (lines others ++ second.rest) (sym first.behind.begins ∙ begins) in
+    line_not_end_by records others d first.rest second.rest (meets records others (line end_word ++ first.rest) second.rest first.behind.each second.is_place.each e) h.few second.cause
+end_not_line bytes records c d (Ended others) h first legal second = not_both bytes records others c first (ending_line bytes others d legal second)
+
+-- what refuses the bytes first: a line, a record, or the end
+data Illegal (bytes : List ℕ) (n : ℕ) (c : Cause) : Type 0 where
+  ByLine : (place : Place) → n ≡ line_number place → IsLegalBefore place → Refuses bytes place c → Illegal bytes n c
+  ByRecord : (earlier : List Record) (x : Record) → n ≡ length earlier + 2 → IsLegal rules (reverse earlier) → Faulty rules bytes earlier x c → Illegal bytes n c
+  ByEnd : (records : List Record) → n ≡ length records + 2 → RefusesEnd bytes records c → Ending bytes records (Some c) → Illegal bytes n c
 
 illegal : (bytes : List ℕ) (n : ℕ) (c : Cause) → FirstIllegal bytes n c → Illegal bytes n c
-illegal bytes n c h = illegal_by bytes n c h.place h.number h.legal h.refused
+illegal bytes n c (OfLine place number legal h) = ByLine place number legal h
+illegal bytes n c (OfRecord earlier number legal h) = ByRecord earlier h.read number legal (faulty bytes earlier c h)
+illegal bytes n c (OfEnd earlier number legal h) = ByEnd earlier number h (ending bytes earlier c legal h)
 
 illegal_once : (bytes : List ℕ) (n m : ℕ) (c d : Cause) → Illegal bytes n c → Illegal bytes m d → (n ≡ m) × (c ≡ d)
 illegal_once bytes n m c d (ByLine p number_p legal_p first) (ByLine q number_q legal_q second) =
     let same : SameRefusal p q c d = one_refusal bytes p q c d first second in
     (number_p ∙ (same.number ∙ sym number_q), same.cause)
-illegal_once bytes n m c d (ByLine p number_p legal_p first) (ByRecord b y number_b legal_b second) = absurd (record_not_line rules bytes b y d c p second legal_p first)
-illegal_once bytes n m c d (ByRecord a x number_a legal_a first) (ByLine q number_q legal_q second) = absurd (record_not_line rules bytes a x c d q first legal_q second)
+illegal_once bytes n m c d (ByLine p number_p legal_p first) (ByRecord b y number_b legal_b second) = absurd (record_not_line rules bytes b y d c p second (legal_before p legal_p) first)
+illegal_once bytes n m c d (ByLine p number_p legal_p first) (ByEnd b number_b h second) = absurd (end_not_line bytes b d c p h second legal_p first)
+illegal_once bytes n m c d (ByRecord a x number_a legal_a first) (ByLine q number_q legal_q second) = absurd (record_not_line rules bytes a x c d q first (legal_before q legal_q) second)
 illegal_once bytes n m c d (ByRecord a x number_a legal_a first) (ByRecord b y number_b legal_b second) =
     let same : (a ≡ b) × (c ≡ d) = same_record rules bytes a b x y c d first second legal_a legal_b in
     (number_a ∙ (ap (λ l. length l + 2) same.0 ∙ sym number_b), same.1)
+illegal_once bytes n m c d (ByRecord a x number_a legal_a first) (ByEnd b number_b h second) = absurd (record_not_end bytes a b x c (Some d) first second)
+illegal_once bytes n m c d (ByEnd a number_a h first) (ByLine q number_q legal_q second) = absurd (end_not_line bytes a c d q h first legal_q second)
+illegal_once bytes n m c d (ByEnd a number_a h first) (ByRecord b y number_b legal_b second) = absurd (record_not_end bytes b a y d (Some c) second first)
+illegal_once bytes n m c d (ByEnd a number_a h first) (ByEnd b number_b k second) =
+    let same : (a ≡ b) × (Some c ≡ Some d) = same_ends bytes a b (Some c) (Some d) first second in
+    let causes : Some c ≡ Some d = same.1 in
+    (number_a ∙ (ap (λ l. length l + 2) same.0 ∙ sym number_b), cc)
 
 not_illegal : (bytes : List ℕ) (records : List Record) (n : ℕ) (c : Cause) → IsLegalTrace bytes records → Illegal bytes n c → ⊥
 not_illegal bytes records n c trace (ByLine place number legal h) = trace_not_refused bytes records place c trace.is_trace trace.spelled h
-not_illegal bytes records n c trace (ByRecord earlier x number legal h) = record_not_trace bytes earlier records x c h trace
+not_illegal bytes records n c trace (ByRecord earlier x number legal h) = record_not_end bytes earlier records x c None h (ending_trace bytes records trace)
+not_illegal bytes records n c trace (ByEnd others number h first) = not_both bytes others records c first (ending_trace bytes records trace)
 
 refused_once_by : (many : Bool) (bytes : List ℕ) (n m : ℕ) (c d : Cause)
     → MatchBool many ((n ≡ 1) × (c ≡ TooManyLines)) (FirstIllegal bytes n c) → MatchBool many ((m ≡ 1) × (d ≡ TooManyLines)) (FirstIllegal bytes m d) → (n ≡ m) × (c ≡ d)

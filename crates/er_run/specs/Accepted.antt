@@ -1,34 +1,76 @@
 -- What the steps of an answer leave.
-use Rattle.std.specs.Prelude.{◌≡◌, ◌≢◌, ℕ, ◌≤◌, List, [], Option, Some, None, reverse, length}
+use Rattle.std.specs.Prelude.{◌≡◌, ◌≢◌, ℕ, ◌+◌, ◌*◌, ◌≤◌, List, [], Option, Some, None, reverse, length}
 use Rattle.er_outside.specs.Ends.{Gets, GetsPart}
 use Rattle.er_text.specs.declared.causes.Cause.{Cause}
 use Rattle.er_trace.specs.declared.record.Record.{Record}
-use Rattle.er_run.specs.declared.outcome.Outcome.{Outcome}
-use Rattle.er_run.specs.declared.outcome.Outcome.TheVariants.{Clean, Races, Refused, WriteFault, NoMemory}
-use Rattle.er_run.specs.declared.session.Session.{Session}
-use Rattle.er_run.specs.declared.counts.Counts.{Counts}
-use Rattle.er_run.specs.declared.lister.Listed.{Listed}
 use Rattle.er_trace.specs.Trace.{Place, line_number, records_before, text, most_lines, IsTrace, Refuses}
 use Rattle.er_trace.specs.declared.fault.FeedFault.{FeedFault}
 use Rattle.er_trace.specs.declared.fault.FeedFault.TheVariants as faults
+use Rattle.er_run.specs.declared.outcome.Outcome.{Outcome}
+use Rattle.er_run.specs.declared.outcome.Outcome.TheVariants.{Clean, Races, Refused, WriteFault}
+use Rattle.er_run.specs.declared.session.Session.{Session}
+use Rattle.er_run.specs.declared.end.Found.{Found}
+use Rattle.er_run.specs.declared.end.Judged.{Judged}
 use Rattle.er_run.specs.declared.answer.LineRefusal.{LineRefusal}
 use Rattle.er_run.specs.Answer.{IsLegalTrace, IsRefused}
+use Rattle.er_run.specs.Legal.{end_cause}
 use Rattle.er_run.specs.Session.{StandsFor}
-use Rattle.er_run.specs.Races.{races}
-use Rattle.er_run.specs.Report.{report, refusal, counts}
+use Rattle.er_history.specs.Rules.{rules}
+use Rattle.er_history.specs.Edges.{path}
+use Rattle.er_races.specs.declared.race.Race.{Race}
+use Rattle.er_races.specs.Races.{races_of, most_pairs, most_races}
+use Rattle.er_cover.specs.Groups.{Grouping, grouping_of, most_classes}
+use Rattle.er_report.specs.Report.{refusal}
+use Rattle.er_run.specs.Races.{kept, candidates, races, classes, groups}
+use Rattle.er_run.specs.Report.{report}
 
--- the bytes are a legal trace, and the session stands for its records
-pub record IsAccepted (bytes : List ℕ) (session : Session) : Type 0 where
+-- these are the numbers of the races of these records, newest first, and neither they nor the pairs are over a limit
+pub record AreListed (found : List Race) (h : List Record) : Type 0 where
+  pub few_pairs : length (candidates h) ≤ most_pairs
+  pub few_races : length (races h) ≤ most_races
+  pub are_races : found ≡ races_of (path rules h) (kept h)
+
+-- these are the groups of the races of these records, newest first, and the classes are not over their limit
+pub record AreGrouped (found : Grouping) (h : List Record) : Type 0 where
+  pub few_classes : length (classes h) ≤ most_classes
+  pub are_groups : found ≡ grouping_of (path rules h) (kept h)
+
+-- the session stands for these records, newest first, no limit is passed at their end, and these are the numbers of their races, and their groups
+pub record IsJudged (session : Session) (found : Found) (h : List Record) : Type 0 where
+  pub stands : StandsFor session h
+  pub within : end_cause h ≡ None
+  pub listed : AreListed found.races.items h
+  pub grouped : AreGrouped found.groups h
+
+-- it came of judging some records
+pub record IsJudgement (judged : Judged) : Type 0 where
+  pub list : List Record
+  pub is_judged : IsJudged judged.session judged.found list
+
+-- the bytes are a legal trace, and this is what came of judging its records
+pub record IsAccepted (bytes : List ℕ) (judged : Judged) : Type 0 where
   pub records : List Record
   pub legal : IsLegalTrace bytes records
-  pub stands : StandsFor session (reverse records)
+  pub is_judged : IsJudged judged.session judged.found (reverse records)
+
+-- the count of comparisons rose by one for each candidate pair of the records for which the session stands
+abbrev pub IsCompared : Session → ℕ → ℕ → Type 0
+IsCompared session old new = (h : List Record) → StandsFor session h → new ≡ old + length (candidates h)
+
+-- the count of tests rose by four at most for each class and each group of these records
+abbrev pub IsTested : Session → ℕ → ℕ → Type 0
+IsTested session old new = (h : List Record) → StandsFor session h → new ≤ old + 4 * (length (classes h) * length (groups h))
+
+-- the line behind these records, newest first, is refused for the first limit that they are over; or memory ran out
+abbrev pub IsEndFault : List Record → FeedFault → Type 0
+IsEndFault h (faults.Refused n c) = (n ≡ length h + 2) × (end_cause h ≡ Some c)
+IsEndFault h faults.NoMemory = Unit {0}
 
 -- what came of the report of these records, newest first
 abbrev pub ReportsOf : List Record → Outcome → Option (List ℕ) → Option (List ℕ) → Type 0
 ReportsOf h Clean old new = (races h ≡ []) × Gets old (report h) new
 ReportsOf h Races old new = (races h ≢ []) × Gets old (report h) new
 ReportsOf h WriteFault old new = GetsPart old (report h) new
-ReportsOf h NoMemory old new = new ≡ old
 ReportsOf h _ old new = ⊥
 
 -- what came of a refusal
@@ -42,7 +84,7 @@ abbrev pub IsReading : List ℕ → List Record → Option LineRefusal → Type 
 IsReading bytes records None = IsTrace records × (bytes ≡ text records)
 IsReading bytes records (Some refused) = (place : Place) × Refuses bytes place refused.cause × (refused.line ≡ line_number place) × (records ≡ records_before place)
 
--- the session stands for the records of some trace
+-- it stands for the records of some trace
 pub record IsReportable (session : Session) : Type 0 where
   pub list : List Record
   pub stands : StandsFor session list
@@ -52,7 +94,3 @@ pub record IsReportable (session : Session) : Type 0 where
 abbrev pub IsRefusal : List ℕ → FeedFault → Type 0
 IsRefusal bytes (faults.Refused n c) = IsRefused bytes n c
 IsRefusal bytes faults.NoMemory = Unit {0}
-
--- the counts of the records, with those of the accesses, comparisons and races as they are kept
-abbrev pub counts_by : List Record → Session → Listed → Counts
-counts_by h session listed = record (counts h) { accesses = length session.kept.items; pairs = listed.compares; races = length listed.races.items }

@@ -1,11 +1,9 @@
 pub mod Accepted
 pub mod Answer
-pub mod Listing
-pub mod Pieces
+pub mod Legal
 pub mod Promise
 pub mod Races
 pub mod Report
 pub mod Session
 pub mod Status
 pub mod Laws
-pub mod Buffered

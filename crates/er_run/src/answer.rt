@@ -1,23 +1,21 @@
 //! The answer of the bytes that were read.
 
-ghost use Rattle.std.specs.Prelude.{◌≡◌, ◌≢◌, ℕ, ◌≤◌, List, length, reverse, [], IfOk, IfErr};
-ghost use Rattle.er_outside.specs.Ends.{Gets, GetsPart, Rose};
+ghost use Rattle.std.specs.Prelude.{◌≡◌, ◌≢◌, ◌<◌, ◌≤◌, ◌^◌, List, length, [], IfOk, IfErr, OnOk, OnErr};
+ghost use Rattle.er_outside.specs.Ends.{Puts, Rose};
 ghost use Rattle.er_trace.specs.declared.record.Record.{Record};
 ghost use Rattle.er_run.specs.Answer.{most_bytes};
-ghost use Rattle.er_run.specs.Promise.{IsAnswer, IsGiven, IsPartGiven};
+ghost use Rattle.er_run.specs.Promise.{IsAnswer, IsGiven, IsPartGiven, Compares, Tests};
 ghost use Rattle.er_run.specs.Report.{report};
-ghost use Rattle.er_run.specs.Races.{races};
-ghost use Rattle.er_run.specs.Session.{StandsFor};
-ghost use Rattle.er_run.specs.Accepted.{IsAccepted, IsReading, IsRefusal, IsReportable, RefusedAs, ReportsOf, counts_by};
+ghost use Rattle.er_run.specs.Accepted.{IsAccepted, IsCompared, IsTested, IsJudged, IsJudgement, IsReading, IsRefusal, RefusedAs, ReportsOf};
 
-use crate::counts::Counts;
+use crate::end::{Judged, found_within};
 use crate::input::MOST_BYTES;
-use crate::lister::{Listed, list};
 use crate::outcome::Outcome;
-use crate::report_writer::{write_refusal, write_report};
-use crate::session::{Session, judge};
+use crate::session::judge;
+use er_clocks::Meter;
 use er_graph::GraphFault;
-use er_outside::{NoMemory, Sink};
+use er_outside::{NoMemory, Sink, WriteFault};
+use er_report::{write_refusal, write_report};
 use er_text::Cause;
 use er_trace::fault::FeedFault;
 use er_trace::record::Record;
@@ -25,9 +23,19 @@ use er_trace::trace::read_whole;
 use std::alloc::Global;
 
 /// Answers the bytes, and writes the text that is due.
-pub(crate) fn answer<K: Sink>(alloc: Global, bytes: &[u8], sink: &mut K) -> Outcome
+pub(crate) fn answer<K: Sink>(
+    alloc: Global,
+    bytes: &[u8],
+    sink: &mut K,
+    compares: &mut Meter,
+    tests: &mut Meter,
+) -> Outcome
+    requires compares { compares.old < 2 ^ 60 }
+    requires tests { tests.old < 2 ^ 60 }
     ensures answered { IsAnswer result
         → IsGiven bytes.now result (K.got sink.old) (K.got sink.new) }
+    ensures compared { Compares bytes.now result compares.old compares.new }
+    ensures tested { Tests bytes.now result tests.old tests.new }
     ensures write_fault { result ≡ Outcome.WriteFault
         → Rose (K.faults sink.old) (K.faults sink.new) }
     ensures cut_short { result ≡ Outcome.WriteFault
@@ -38,16 +46,25 @@ pub(crate) fn answer<K: Sink>(alloc: Global, bytes: &[u8], sink: &mut K) -> Outc
     ensures no_read_fault { result ≢ Outcome.ReadFault }
     ensures writes { K.faults sink.old ≤ K.faults sink.new }
 {
-    match accept(alloc, bytes) {
-        Ok(session) => report_of(alloc, &session, sink),
+    match accept(alloc, bytes, compares, tests) {
+        Ok(judged) => report_of(&judged, sink),
         Err(FeedFault::Refused { line, cause }) => refuse(sink, line, cause),
         Err(FeedFault::NoMemory) => Outcome::NoMemory,
     }
 }
 
 /// What the bytes say, where they are a legal trace.
-fn accept(alloc: Global, bytes: &[u8]) -> Result<Session, FeedFault>
+fn accept(
+    alloc: Global,
+    bytes: &[u8],
+    compares: &mut Meter,
+    tests: &mut Meter,
+) -> Result<Judged, FeedFault>
+    requires compares { compares.old < 2 ^ 60 }
+    requires tests { tests.old < 2 ^ 60 }
     ensures accepted { IfOk result (IsAccepted bytes.now) }
+    ensures compared { IfOk result (λ judged. IsCompared judged.session compares.old compares.new) }
+    ensures tested { IfOk result (λ judged. IsTested judged.session tests.old tests.new) }
     ensures refused { IfErr result (IsRefusal bytes.now) }
 {
     if bytes.len() > MOST_BYTES {
@@ -58,7 +75,7 @@ fn accept(alloc: Global, bytes: &[u8]) -> Result<Session, FeedFault>
     }
     let mut records = Vec::new(alloc);
     match read_records(alloc, bytes, &mut records) {
-        Ok(refused) => judge_reading(alloc, bytes, records.as_slice(), refused),
+        Ok(refused) => judge_reading(alloc, bytes, records.as_slice(), refused, compares, tests),
         Err(NoMemory) => Err(FeedFault::NoMemory),
     }
 }
@@ -86,25 +103,43 @@ fn read_records(
     }
 }
 
-/// Judges the records that were read, and behind them the line that is none.
+/// Judges the records that were read, and behind them the line that is none. A line behind the `end` line
+/// is refused only where that one is within the limits.
 fn judge_reading(
     alloc: Global,
     bytes: &[u8],
     records: &[Record],
     refused: Option<LineRefusal>,
-) -> Result<Session, FeedFault>
+    compares: &mut Meter,
+    tests: &mut Meter,
+) -> Result<Judged, FeedFault>
     requires few { length bytes.now ≤ most_bytes }
     requires reading { IsReading bytes.now records.now refused }
+    requires compares { compares.old < 2 ^ 60 }
+    requires tests { tests.old < 2 ^ 60 }
     ensures accepted { IfOk result (IsAccepted bytes.now) }
+    ensures compared { IfOk result (λ judged. IsCompared judged.session compares.old compares.new) }
+    ensures tested { IfOk result (λ judged. IsTested judged.session tests.old tests.new) }
     ensures refused { IfErr result (IsRefusal bytes.now) }
 {
-    match judge(alloc, records) {
-        Ok(session) => match refused {
-            None => Ok(session),
+    let session = match judge(alloc, records) {
+        Ok(session) => session,
+        Err(GraphFault::Refused { line, cause }) => {
+            return Err(FeedFault::Refused { line, cause });
+        }
+        Err(GraphFault::NoMemory) => return Err(FeedFault::NoMemory),
+    };
+    if let Some(refusal) = refused {
+        if refusal.line <= session.records + 2 {
+            return Err(fault_of(refusal));
+        }
+    }
+    match found_within(alloc, &session, compares, tests) {
+        Ok(found) => match refused {
+            None => Ok(Judged { session, found }),
             Some(refusal) => Err(fault_of(refusal)),
         },
-        Err(GraphFault::Refused { line, cause }) => Err(FeedFault::Refused { line, cause }),
-        Err(GraphFault::NoMemory) => Err(FeedFault::NoMemory),
+        Err(fault) => Err(fault),
     }
 }
 
@@ -118,43 +153,43 @@ fn fault_of(refusal: LineRefusal) -> FeedFault
 }
 
 /// Writes the report of an accepted trace.
-fn report_of<K: Sink>(alloc: Global, session: &Session, sink: &mut K) -> Outcome
-    requires { IsReportable session.now }
-    ensures kept { result ≡ Outcome.NoMemory → sink.new ≡ sink.old }
+fn report_of<K: Sink>(judged: &Judged, sink: &mut K) -> Outcome
+    requires { IsJudgement judged.now }
     ensures stands { IsAnswer result → K.faults sink.new ≡ K.faults sink.old }
-    ensures reported { (h : List Record) → StandsFor session.now h
+    ensures reported { (h : List Record) → IsJudged judged.now.session judged.now.found h
         → ReportsOf h result (K.got sink.old) (K.got sink.new) }
     ensures write_fault { result ≡ Outcome.WriteFault
         → Rose (K.faults sink.old) (K.faults sink.new) }
     ensures writes { K.faults sink.old ≤ K.faults sink.new }
 {
-    let Ok(listed) = list(alloc, &session.kept, &session.graph) else {
-        return Outcome::NoMemory;
-    };
-    let counts = counts_of(session, &listed);
-    let Ok(()) = write_report(sink, &session.kept, &listed.races, &counts) else {
+    let Ok(()) = write_judged(judged, sink) else {
         return Outcome::WriteFault;
     };
-    if listed.races.is_empty() {
+    if judged.found.races.is_empty() {
         Outcome::Clean
     } else {
         Outcome::Races
     }
 }
 
-/// The counts of the report.
-fn counts_of(session: &Session, listed: &Listed) -> Counts
-    ensures { (h : List Record) → StandsFor session.now h → result ≡ counts_by h session.now listed.now }
+/// Writes it to the sink.
+fn write_judged<K: Sink>(judged: &Judged, sink: &mut K) -> Result<(), WriteFault>
+    requires { IsJudgement judged.now }
+    ensures puts { (h : List Record) → IsJudged judged.now.session judged.now.found h
+        → Puts K.got K.faults sink.old (report h) sink.new result }
+    ensures stands { OnOk result (K.faults sink.new ≡ K.faults sink.old) }
+    ensures cause { OnErr result (Rose (K.faults sink.old) (K.faults sink.new)) }
+    ensures count { K.faults sink.old ≤ K.faults sink.new }
 {
-    let clocks = session.graph.clocks();
-    Counts {
-        actions: u64::from(session.graph.page().actions()),
-        accesses: session.kept.len() as u64,
-        pairs: listed.compares.made(),
-        races: listed.races.len() as u64,
-        chains: u64::from(clocks.chain_count()),
-        links: clocks.link_count(),
-    }
+    let session = &judged.session;
+    let found = &judged.found;
+    write_report(
+        sink,
+        &session.kept,
+        session.graph.clocks(),
+        &found.races,
+        &found.groups,
+    )
 }
 
 /// Writes a refusal.

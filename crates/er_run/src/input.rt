@@ -1,6 +1,6 @@
 //! Reads the whole input.
 
-ghost use Rattle.std.specs.Prelude.{◌≡◌, ℕ, ◌<◌, ◌≤◌, List, ◌++◌, length, IfOk, OnOk, OnErr, IsErrOf};
+ghost use Rattle.std.specs.Prelude.{◌≡◌, ℕ, ◌<◌, ◌≤◌, List, ◌++◌, length, IfOk, OnOk, IsErrOf};
 ghost use Rattle.er_outside.specs.Ends.{Gives, IsSpent, Rose};
 ghost use Rattle.er_run.specs.Promise.{IsReadWhole, piece_bytes};
 

@@ -1,7 +1,7 @@
 //! The top call: from the bytes of a trace to the report of its races.
 #![tactic(auto)]
 
-ghost use Rattle.std.specs.Prelude.{◌≡◌, ◌↔◌, ◌⊎◌, ℕ, ◌<◌, ◌≤◌, List, length, Some};
+ghost use Rattle.std.specs.Prelude.{◌≡◌, ◌↔◌, ◌⊎◌, ℕ, ◌<◌, ◌≤◌, ◌^◌, List, length, Some};
 ghost use Rattle.er_outside.specs.Ends.{Rose};
 ghost use Rattle.er_run.specs.Answer.{Answers};
 ghost use Rattle.er_run.specs.Promise.{IsAnswer, IsAnswered, IsCutShort, IsSilent};
@@ -9,33 +9,37 @@ ghost use Rattle.er_run.specs.Promise.{IsAnswer, IsAnswered, IsCutShort, IsSilen
 use crate::answer::answer;
 use crate::input::{InputFault, read_input};
 use crate::outcome::Outcome;
+use er_clocks::Meter;
 use er_outside::{Sink, Source};
 use std::alloc::Global;
 
-pub mod accesses;
 mod answer;
-mod buffer;
-mod buffered;
-pub mod counts;
+mod end;
 mod input;
 pub mod laws;
-mod lister;
 pub mod outcome;
-mod report_writer;
 mod session;
 
 /// Reads a whole trace from the source, and writes the report of its races, or its refusal, to the sink.
 ///
-/// The words are those of the command, without the program's own name. None is accepted.
+/// The words are those of the command, without the program's own name. None is accepted. Each candidate
+/// pair of accesses is compared once, and `compares` counts these comparisons; `tests` counts those that
+/// group the races.
 pub fn run<S: Source, K: Sink>(
     alloc: Global,
     words: &[String],
     source: &mut S,
     sink: &mut K,
+    compares: &mut Meter,
+    tests: &mut Meter,
 ) -> Outcome
-    // What was read answers the outcome, and the text that is due was written.
+    requires compares { compares.old < 2 ^ 60 }
+    requires tests { tests.old < 2 ^ 60 }
+    // What was read answers the outcome, the text that is due was written, and with a report `compares`
+    // rose by exactly the number of candidate pairs, `tests` by at most four for each class and each group.
     ensures answered { IsAnswer result
-        → IsAnswered (S.left source.old) (S.left source.new) (K.got sink.old) (K.got sink.new) result }
+        → IsAnswered (S.left source.old) (S.left source.new) (K.got sink.old) (K.got sink.new)
+        compares.old compares.new tests.old tests.new result }
     // Any word gives `Usage`, and nothing else does.
     ensures usage { (result ≡ Outcome.Usage) ↔ (0 < length words.now) }
     ensures read_fault { result ≡ Outcome.ReadFault
@@ -63,7 +67,7 @@ pub fn run<S: Source, K: Sink>(
         return Outcome::Usage;
     }
     match read_input(alloc, source) {
-        Ok(bytes) => answer(alloc, bytes.as_slice(), sink),
+        Ok(bytes) => answer(alloc, bytes.as_slice(), sink, compares, tests),
         Err(InputFault::Failed) => Outcome::ReadFault,
         Err(InputFault::NoMemory) => Outcome::NoMemory,
     }

@@ -1,39 +1,40 @@
 //! What the accepted records say and access, and which record comes next.
 
-ghost use Rattle.std.specs.Prelude.{◌≡◌, ℕ, ◌+◌, ◌<◌, ◌≤◌, List, [], ◌∷◌, reverse, take_while, length, None, OnOk, IfOk, IfErr};
-ghost use Rattle.std.specs.List.{list_any};
+ghost use Rattle.std.specs.Prelude.{◌≡◌, ℕ, ◌+◌, ◌<◌, ◌≤◌, List, [], ◌∷◌, reverse, length, Err, OnOk, IfOk, IfErr};
 ghost use Rattle.er_trace.specs.declared.record.Record.{Record};
-ghost use Rattle.er_trace.specs.declared.record.Record.TheVariants as records;
 ghost use Rattle.er_trace.specs.Trace.{most_lines};
-ghost use Rattle.er_history.specs.History as history;
-ghost use Rattle.er_history.specs.History.{told};
-ghost use Rattle.er_history.specs.Sound as sound;
 ghost use Rattle.er_page.specs.Page.{IsPage};
-ghost use Rattle.er_history.specs.Rules.{rules};
-ghost use Rattle.er_run.specs.Races.{accesses_of, without_repeats};
-ghost use Rattle.er_run.specs.Races as races;
-ghost use Rattle.er_run.specs.Session.{StandsFor, IsSession, IsFaultAfter, IsFaultOf, IsFalling, AreInOrder, has_action};
+ghost use Rattle.er_run.specs.Session.{StandsFor, IsSession, IsFaultAfter, IsFaultOf, AreEarlier, AreKept, IsPastRoom, kept_with};
 
-use crate::accesses::{Kept, repeats};
+use er_access::{AddFault, Table};
 use er_graph::{Graph, GraphFault};
 use er_outside::NoMemory;
 use er_page::page::Page;
+use er_text::Cause;
 use er_trace::record::{Loc, Mode, Record};
 use std::alloc::Global;
 
 /// What the accepted records say, which of their accesses are kept, and how many records they are.
-#[derive(Drop)]
 pub(crate) struct Session {
     pub(crate) graph: Graph,
-    pub(crate) kept: Vec<Kept>,
+    pub(crate) kept: Table,
     pub(crate) records: u32,
+}
+
+impl Drop for Session {
+    fn drop(self) {
+        let Session {
+            graph: _,
+            kept: _,
+            records: _,
+        } = self;
+    }
 }
 
 /// Takes the records one after the other, and answers what they come to, or the first that is refused.
 pub(crate) fn judge(alloc: Global, records: &[Record]) -> Result<Session, GraphFault>
     requires { length records.now ≤ most_lines }
     ensures stands { IfOk result (λ session. StandsFor session (reverse records.now)) }
-    ensures accepted { OnOk result (sound.IsLegal rules (reverse records.now)) }
     ensures refused { IfErr result (λ fault. IsFaultOf records.now fault) }
 {
     let Ok(mut session) = Session::new(alloc) else {
@@ -54,16 +55,16 @@ impl Session {
     {
         Ok(Session {
             graph: Graph::new(alloc)?,
-            kept: Vec::new(alloc),
+            kept: Table::new(alloc),
             records: 0,
         })
     }
 
-    /// Takes the next record, or answers why it is not accepted.
+    /// Takes the next record, or answers why it is not accepted. The limit on accesses is asked last.
     pub(crate) fn take(&mut self, rec: &Record) -> Result<(), GraphFault>
         requires some { IsSession self.old }
         requires room { self.old.records < most_lines }
-        ensures taken { OnOk result ((h : List Record) → StandsFor self.old h → (sound.cause rules h rec.now ≡ None) × StandsFor self.new (rec.now ∷ h)) }
+        ensures taken { OnOk result ((h : List Record) → StandsFor self.old h → StandsFor self.new (rec.now ∷ h)) }
         ensures refused { IfErr result (λ fault. (h : List Record) → StandsFor self.old h → IsFaultAfter h rec.now fault) }
     {
         let line = self.records + 2;
@@ -74,59 +75,36 @@ impl Session {
         let Record::Access { mode, loc } = rec else {
             return Ok(());
         };
-        let Ok(()) = keep_access(&mut self.kept, self.graph.page(), line, *mode, loc) else {
-            return Err(GraphFault::NoMemory);
-        };
-        Ok(())
+        match keep_access(&mut self.kept, self.graph.page(), line, *mode, loc) {
+            Ok(()) => Ok(()),
+            Err(AddFault::Full) => Err(GraphFault::Refused {
+                line,
+                cause: Cause::TooManyAccesses,
+            }),
+            Err(AddFault::NoMemory) => Err(GraphFault::NoMemory),
+        }
     }
 }
 
-/// Keeps an access of the running action.
+/// Keeps an access of the running action, unless it repeats one.
 fn keep_access(
-    kept: &mut Vec<Kept>,
+    kept: &mut Table,
     page: &Page,
     line: u32,
     mode: Mode,
     loc: &Loc,
-) -> Result<(), NoMemory>
-    requires { AreInOrder page.now kept.old.items }
-    ensures { OnOk result ((h : List Record) (place : ℕ) → IsPage page.now h → line ≡ place + 2
-        → kept.new.items ≡ without_repeats (accesses_of (record { read = records.Access mode loc.now; place = place; action = history.running (told h).actions })) kept.old.items) }
+) -> Result<(), AddFault>
+    requires { AreEarlier page.now line kept.old }
+    ensures kept { OnOk result ((h : List Record) (place : ℕ) → IsPage page.now h → line ≡ place + 2
+        → AreKept kept.old (kept_with h place mode loc.now kept.old) kept.new) }
+    ensures full { result ≡ Err AddFault.Full → (h : List Record) (place : ℕ) → IsPage page.now h
+        → line ≡ place + 2 → IsPastRoom kept.old (kept_with h place mode loc.now kept.old) }
 {
     let Some(action) = page.running() else {
         return Ok(());
     };
-    let loc = loc.copy()?;
-    let access = Kept {
-        line,
-        action,
-        mode,
-        loc,
-    };
-    keep(kept, access)
-}
-
-/// Keeps an access, unless it repeats an earlier one.
-#[tactic(auto, using(crate::proofs::RepeatLemmas::any_recent))]
-fn keep(kept: &mut Vec<Kept>, access: Kept) -> Result<(), NoMemory>
-    requires { IsFalling (access.action + 1) (reverse kept.old.items) }
-    ensures { OnOk result (kept.new.items ≡ without_repeats (access ∷ []) kept.old.items) }
-{
-    if is_kept(kept, &access) {
-        return Ok(());
+    match kept.add(line, action, mode, loc) {
+        Ok(_) => Ok(()),
+        Err(fault) => Err(fault),
     }
-    let Ok(()) = kept.push(access) else {
-        return Err(NoMemory);
-    };
-    Ok(())
-}
-
-/// Whether one of the newest accesses, which are those of its action, has its mode and location too.
-fn is_kept(kept: &[Kept], access: &Kept) -> bool
-    ensures { result ≡ list_any (races.repeats access.now) (take_while (has_action access.now.action) (reverse kept.now)) }
-{
-    kept.iter()
-        .rev()
-        .take_while(|old| old.action == access.action)
-        .any(|old| repeats(access, old))
 }

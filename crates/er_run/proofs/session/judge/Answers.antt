@@ -1,12 +1,6 @@
-use Rattle.std.proofs.Common.{reverse, subst, take}
-use Rattle.std.proofs.lemmas.List.{take_all}
-use Rattle.er_run.specs.Session.{StandsFor}
+use Rattle.std.proofs.Common.{reverse, take}
 use Rattle.er_run.proofs.JudgeLemmas.{stands_more, fault_at}
-use Rattle.er_run.proofs.SessionLemmas.{legal_session}
 use Rattle.er_run.proofs.session.judge.Goals as goal
-
-pub returns-clause-accepted : goal.returns-clause-accepted
-returns-clause-accepted c = legal_session c.loop-at.session (reverse c.args.records.now) (subst (λ l. StandsFor c.loop-at.session (reverse l)) (take_all c.loop-at.at c.args.records.now c.loop-at-test.false) c.loop-at.invariant)
 
 pub returns-in-Err-clause-refused : goal.returns-in-Err-clause-refused
 returns-in-Err-clause-refused c =
@@ -16,4 +10,4 @@ returns-in-Err-clause-refused c =
 pub loop-at-preserved : goal.loop-at-preserved
 loop-at-preserved c =
     let h = reverse (take c.loop-at.at c.args.records.now) in
-    stands_more c.take.new.self c.args.records.now c.loop-at.at c.index-records-at.result c.loop-at-test.true c.index-records-at.is (c.in_default-take.ensures.taken h c.loop-at.invariant).1
+    stands_more c.take.new.self c.args.records.now c.loop-at.at c.index-records-at.result c.loop-at-test.true c.index-records-at.is (c.in_default-take.ensures.taken h c.loop-at.invariant)

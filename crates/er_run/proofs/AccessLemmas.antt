@@ -1,0 +1,132 @@
+-- What one record more does to the kept accesses. Lists of records stand newest first.
+use Rattle.std.proofs.Common.{◌≡◌, ℕ, ◌+◌, ◌<◌, ◌≤◌, Bool, true, false, List, [], ◌∷◌, ◌++◌, All, length, Option, Some, None, get_or, option_map, refl, sym, ap, subst, ◌∙◌, arith}
+use Rattle.std.specs.Prelude.{if◌then◌else◌}
+use Rattle.std.proofs.lemmas.List.Elements.{All-push}
+use Rattle.std.proofs.lemmas.Grind.{common_steps}
+use Rattle.er_trace.specs.declared.record.Record.{Record}
+use Rattle.er_trace.specs.declared.record.Record.TheVariants.{Access}
+use Rattle.er_trace.specs.declared.record.Mode.{Mode}
+use Rattle.er_trace.specs.declared.record.Loc.{Loc}
+use Rattle.er_history.specs.History.{Action, told, running, actions_after}
+use Rattle.er_history.specs.LookUps.{running_action}
+use Rattle.er_history.specs.Laws.{IsNumbered}
+use Rattle.er_history.proofs.HistoryLemmas.{actions_are_numbered, actions_grow, entries_length}
+use Rattle.er_page.specs.declared.page.Page.{Page}
+use Rattle.er_page.specs.Page.{IsPage}
+use Rattle.er_access.specs.Kept.{Kept, access_of, repeats_any, with_access, IsFull}
+use Rattle.er_run.specs.Races.{kept, accesses_of, without_repeats}
+use Rattle.er_run.specs.Session.{is_access, AreEarlier, AreKept, IsPastRoom, kept_with}
+
+-- a record that is no access
+
+pub accesses_nothing : (o : Option Action) (x : Record) (place : ℕ) → is_access x ≡ false → accesses_of (record { read = x; place = place; action = o }) ≡ []
+accesses_nothing None x place e = refl
+accesses_nothing (Some a) (Access m l) place e = cc
+accesses_nothing (Some a) x place e = refl
+
+pub same_kept : (h : List Record) (x : Record) → is_access x ≡ false → kept (x ∷ h) ≡ kept h
+same_kept h x e = ap (λ more. without_repeats more (kept h)) (accesses_nothing (running (actions_after (told h) x)) x (length (told h).entries) e)
+
+pub not_access : (x : Record) → ((m : Mode) (l : Loc) → x ≡ Access m l → ⊥) → is_access x ≡ false
+not_access (Access m l) other = absurd (other m l refl)
+not_access x other = refl
+
+-- what holds of the accesses kept so far, and of the new one, holds of all
+
+all_with : (P : Kept → Type 0) (x : Kept) (old : List Kept) → P x → All P old → All P (with_access x old)
+all_with P x old here all = step (repeats_any x old)
+  where
+    step : (b : Bool) → All P (if b then old else old ++ x ∷ [])
+    step true = all
+    step false = All-push P old x all here
+
+-- their actions have begun, and they stand in the lines of the records
+
+access_begun : (actions : List Action) (m : Mode) (l : Loc) (place : ℕ) (old : List Kept) → IsNumbered actions → All (λ (y : Kept). y.action < length actions) old
+    → All (λ (y : Kept). y.action < length actions) (without_repeats (accesses_of (record { read = Access m l; place = place; action = running actions })) old)
+access_begun [] m l place old n all = all
+access_begun (a ∷ older) m l place old n all = all_with (λ (y : Kept). y.action < length (a ∷ older)) (access_of (place + 2) a.number m l) old (omega (arith, n.0)) all
+
+more_begun : (old new : List Kept) (m n : ℕ) → m ≤ n → old ≡ new → All (λ (y : Kept). y.action < m) old → All (λ (y : Kept). y.action < n) new
+more_begun old new m n le e all k d below = let under = all k d (omega (arith, ap length e)) in omega (arith, ap (λ l. (get_or l k d).action) e)
+
+pub kept_begun : (h : List Record) → All (λ (y : Kept). y.action < length (told h).actions) (kept h)
+kept_begun [] = λ k d below. absurd (omega arith)
+kept_begun (Access m l ∷ h) = access_begun (told h).actions m l (length (told h).entries) (kept h) (actions_are_numbered h) (kept_begun h)
+kept_begun (x ∷ h) = more_begun (kept h) (kept (x ∷ h)) (length (told h).actions) (length (told (x ∷ h)).actions) (actions_grow (told h) x) (sym (same_kept h x refl)) (kept_begun h)
+
+access_after : (o : Option Action) (x : Record) (place n : ℕ) (old : List Kept) → place + 2 < n → All (λ (y : Kept). y.line < n) old → All (λ (y : Kept). y.line < n) (without_repeats (accesses_of (record { read = x; place = place; action = o })) old)
+access_after None x place n old below all = all
+access_after (Some a) (Access m l) place n old below all = all_with (λ (y : Kept). y.line < n) (access_of (place + 2) a.number m l) old below all
+access_after (Some a) x place n old below all = all
+
+later_lines : (old : List Kept) (m n : ℕ) → m ≤ n → All (λ (y : Kept). y.line < m) old → All (λ (y : Kept). y.line < n) old
+later_lines old m n le all k d below = let under = all k d below in omega arith
+
+pub kept_lines : (h : List Record) → All (λ (y : Kept). y.line < length h + 2) (kept h)
+kept_lines [] = λ k d below. absurd (omega arith)
+kept_lines (x ∷ h) =
+    access_after (running (actions_after (told h) x)) x (length (told h).entries) (length (x ∷ h) + 2) (kept h) (omega (arith, entries_length h))
+    (later_lines (kept h) (length h + 2) (length (x ∷ h) + 2) (omega arith) (kept_lines h))
+
+-- an access of the running action
+
+-- the running action is the newest
+newest_is : (actions : List Action) (r : ℕ) → IsNumbered actions → Some r ≡ option_map (λ (a : Action). a.number) (running actions) → r + 1 ≡ length actions
+newest_is [] r n e = absurd (cc)
+newest_is (a ∷ older) r n e = let same : r ≡ a.number = cc in omega (arith, n.0, same)
+
+pub up_to_running : (page : Page) (line : ℕ) (accesses : List Kept) (r : ℕ) → AreEarlier page line accesses → ((h : List Record) → IsPage page h → Some r ≡ running_action h) → All (λ (x : Kept). x.action ≤ r) accesses
+up_to_running page line accesses r o runs k d below =
+    let long : r + 1 ≡ length (told o.list).actions = newest_is (told o.list).actions r (actions_are_numbered o.list) (runs o.list o.stands) in
+    let under = o.actions k d below in
+    omega arith
+
+nothing_by : (o : Option Action) (place : ℕ) (m : Mode) (l : Loc) (old : List Kept) → None ≡ option_map (λ (a : Action). a.number) o → without_repeats (accesses_of (record { read = Access m l; place = place; action = o })) old ≡ old
+nothing_by None place m l old e = refl
+nothing_by (Some a) place m l old e = absurd (cc)
+
+-- where no action runs nothing is kept
+pub nothing_runs : (h : List Record) (place : ℕ) (m : Mode) (l : Loc) (old : List Kept) → None ≡ running_action h → AreKept old (kept_with h place m l old) old
+nothing_runs h place m l old e =
+    let same : kept_with h place m l old ≡ old = nothing_by (running (told h).actions) place m l old e in
+    record { same = sym same; room = λ more. absurd (omega (arith, ap length same)) }
+
+with_running_by : (o : Option Action) (line r place : ℕ) (m : Mode) (l : Loc) (old : List Kept) → Some r ≡ option_map (λ (a : Action). a.number) o → line ≡ place + 2
+    → without_repeats (accesses_of (record { read = Access m l; place = place; action = o })) old ≡ with_access (access_of line r m l) old
+with_running_by None line r place m l old e at = absurd (cc)
+with_running_by (Some a) line r place m l old e at =
+    let same : a.number ≡ r = cc in
+    ap (λ n. with_access (access_of n a.number m l) old) (sym at) ∙ ap (λ n. with_access (access_of line n m l) old) same
+
+with_running : (h : List Record) (line r place : ℕ) (m : Mode) (l : Loc) (old : List Kept) → Some r ≡ running_action h → line ≡ place + 2 → kept_with h place m l old ≡ with_access (access_of line r m l) old
+with_running h line r place m l old e at = with_running_by (running (told h).actions) line r place m l old e at
+
+-- one comes only where it repeats none
+came_new : (x : Kept) (old : List Kept) → length old < length (with_access x old) → repeats_any x old ≡ false
+came_new x old more = by (repeats_any x old) more
+  where
+    by : (b : Bool) → length old < length (if b then old else old ++ x ∷ []) → b ≡ false
+    by true less = absurd (omega arith)
+    by false less = refl
+
+one_came : (x : Kept) (old : List Kept) → repeats_any x old ≡ false → length old < length (with_access x old)
+one_came x old none = by (repeats_any x old) none
+  where
+    by : (b : Bool) → b ≡ false → length old < length (if b then old else old ++ x ∷ [])
+    by true e = absurd (cc)
+    by false e = grind (arith, common_steps)
+
+pub added : (h : List Record) (line r place : ℕ) (m : Mode) (l : Loc) (old new : List Kept) → Some r ≡ running_action h → line ≡ place + 2
+    → new ≡ with_access (access_of line r m l) old → (IsFull (access_of line r m l) old → ⊥) → AreKept old (kept_with h place m l old) new
+added h line r place m l old new e at is room =
+    let due = with_running h line r place m l old e at in
+    record {
+      same = is ∙ sym due;
+      room = λ more most. room (came_new (access_of line r m l) old (subst (λ (xs : List Kept). length old < length xs) due more), most);
+    }
+
+pub not_added : (h : List Record) (line r place : ℕ) (m : Mode) (l : Loc) (old : List Kept) → Some r ≡ running_action h → line ≡ place + 2 → IsFull (access_of line r m l) old → IsPastRoom old (kept_with h place m l old)
+not_added h line r place m l old e at full =
+    let due = with_running h line r place m l old e at in
+    record { more = subst (λ (xs : List Kept). length old < length xs) (sym due) (one_came (access_of line r m l) old full.0); most = full.1 }
