@@ -41,6 +41,7 @@ pub fn group(
     ensures few { OnOk result (AreFewClasses clocks.now table.now) }
     ensures many { result ≡ Err CoverFault.TooManyClasses → AreTooManyClasses clocks.now table.now }
     ensures bound { AreFewTests clocks.now table.now tests.old tests.new }
+    ensures rises { tests.old ≤ tests.new }
 {
     let by_race = classes_by_race(alloc, races, table)?;
     group_by(alloc, by_race.as_slice(), clocks, tests)
@@ -60,6 +61,7 @@ fn group_by(
     ensures few { OnOk result (length (each_once by_race.now) ≤ most_classes) }
     ensures many { result ≡ Err CoverFault.TooManyClasses → HasTooMany by_race.now }
     ensures bound { tests.new ≤ tests.old + all_tests (joins clocks.now) by_race.now }
+    ensures rises { tests.old ≤ tests.new }
 {
     let classes = classes_of(alloc, by_race)?;
     if classes.set.len() > MOST_CLASSES {
@@ -85,6 +87,7 @@ fn group_classes(
     requires room { tests.old < 2 ^ 61 }
     ensures groups { IfOk result (λ v. v ≡ grouping_by (joins clocks.now) by_race.now) }
     ensures bound { tests.new ≤ tests.old + all_tests (joins clocks.now) by_race.now }
+    ensures rises { tests.old ≤ tests.new }
 {
     let groups = maximal_of(alloc, classes.set.as_slice(), clocks, tests)?;
     let class_names = name_all(alloc, &groups, classes.set.as_slice(), clocks, tests)?;

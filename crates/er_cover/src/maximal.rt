@@ -27,6 +27,7 @@ pub(crate) fn maximal_of(
     requires room { tests.old < 2 ^ 61 }
     ensures maximal { IfOk result (λ v. v.keys ≡ spec.maximal_of (joins clocks.now) classes.now) }
     ensures bound { tests.new ≤ tests.old + maximal_tests (joins clocks.now) classes.now }
+    ensures rises { tests.old ≤ tests.new }
 {
     let sorted = by_width(alloc, classes, clocks.len())?;
     let found = pass(alloc, sorted.as_slice(), clocks, tests)?;
@@ -65,6 +66,7 @@ fn pass(
     requires room { tests.old < 2 ^ 61 }
     ensures maximal { IfOk result (λ v. v.items ≡ spec.maximal_of (joins clocks.now) classes.now) }
     ensures bound { tests.new ≤ tests.old + maximal_tests (joins clocks.now) classes.now }
+    ensures rises { tests.old ≤ tests.new }
 {
     let Ok(mut covered) = vec![in alloc; false; classes.len()] else {
         return Err(NoMemory);
@@ -89,6 +91,7 @@ fn find(
     requires room { tests.old < 2 ^ 61 }
     ensures maximal { IfOk result (λ v. v.items ≡ spec.maximal_of (joins clocks.now) classes.now) }
     ensures bound { tests.new ≤ tests.old + maximal_tests (joins clocks.now) classes.now }
+    ensures rises { tests.old ≤ tests.new }
 {
     let mut found = Vec::new(alloc);
     for i in 0..classes.len() {
@@ -113,6 +116,7 @@ fn consider(
     ensures kept { OnOk result (Keeps classes.now i covered.old found.old.items found.new.items) }
     ensures marked { OnOk result (Marks clocks.now classes.now i covered.old covered.new) }
     ensures bound { tests.new ≤ tests.old + 2 * length classes.now }
+    ensures rises { tests.old ≤ tests.new }
     ensures free { IsTrue (slice_index_or covered.old i false) → tests.new ≡ tests.old }
     ensures none { OnErr result (tests.new ≡ tests.old) }
 {
@@ -142,6 +146,7 @@ fn mark(
     requires room { tests.old + 2 * length classes.now < 2 ^ 62 }
     ensures marked { MarksFrom clocks.now group.now classes.now from covered.old covered.new }
     ensures bound { tests.new ≤ tests.old + 2 * length classes.now }
+    ensures rises { tests.old ≤ tests.new }
 {
     for j in from..classes.len() {
         covered[j] = is_covered(covered[j], group, &classes[j], clocks, tests);
@@ -161,6 +166,7 @@ fn is_covered(
     requires room { tests.old + 2 < 2 ^ 62 }
     ensures covered { result ≡ (before || spec.covers (joins clocks.now) group.now class.now) }
     ensures bound { tests.new ≤ tests.old + 2 }
+    ensures rises { tests.old ≤ tests.new }
 {
     if before {
         return true;
@@ -175,6 +181,7 @@ pub(crate) fn covers(group: &Class, class: &Class, clocks: &Clocks, tests: &mut 
     requires room { tests.old + 2 < 2 ^ 62 }
     ensures covers { result ≡ spec.covers (joins clocks.now) group.now class.now }
     ensures bound { tests.new ≤ tests.old + 2 }
+    ensures rises { tests.old ≤ tests.new }
 {
     if !clocks.before(class.first, group.first, tests) {
         return false;

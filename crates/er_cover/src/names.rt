@@ -30,6 +30,7 @@ pub(crate) fn name_all(
     requires room { tests.old < 2 ^ 61 + 2 ^ 31 }
     ensures names { IfOk result (λ v. v.items ≡ names_of clocks.now groups.now.keys classes.now) }
     ensures bound { tests.new ≤ tests.old + pass_tests classes.now groups.now.keys }
+    ensures rises { tests.old ≤ tests.new }
 {
     let mut names = Vec::new(alloc);
     for class in classes {
@@ -50,6 +51,7 @@ fn name_of(groups: &IndexSet<Class>, class: &Class, clocks: &Clocks, tests: &mut
     ensures name { result ≡ spec.name_of (joins clocks.now) groups.now.keys class.now }
     ensures within { result ≤ length groups.now.keys }
     ensures bound { tests.new ≤ tests.old + 2 * length groups.now.keys }
+    ensures rises { tests.old ≤ tests.new }
 {
     match groups.get_index_of(class) {
         Some(g) => g,
@@ -66,6 +68,7 @@ fn first_covering(groups: &[Class], class: &Class, clocks: &Clocks, tests: &mut 
     ensures first { result ≡ spec.name_of (joins clocks.now) groups.now class.now }
     ensures within { result ≤ length groups.now }
     ensures bound { tests.new ≤ tests.old + 2 * length groups.now }
+    ensures rises { tests.old ≤ tests.new }
 {
     for (g, group) in groups.iter().enumerate() {
         if covers(group, class, clocks, tests) {

@@ -27,10 +27,6 @@ abbrev pub IsSound : List (ℕ × Rule) → List Record → Type 0
 IsSound table [] = Unit {0}
 IsSound table (x ∷ h) = (cause table h x ≡ None) × IsSound table h
 
--- The number of accesses has no limit, so every sound list is legal.
-abbrev pub IsLegal : List (ℕ × Rule) → List Record → Type 0
-IsLegal table h = IsSound table h
-
 -- Naming refuses no record of a sound list.
 abbrev pub SoundListsAreNamed : Type 0
 SoundListsAreNamed = (table : List (ℕ × Rule)) (h : List Record) → IsSound table h → IsNamed h

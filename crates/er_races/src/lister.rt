@@ -34,6 +34,7 @@ pub fn list<P: Paths>(
     ensures few { OnOk result (length (races_by (P.joins paths.now) table.now) ≤ most_races) }
     ensures many { result ≡ Err ListFault.TooManyRaces → AreTooMany (P.joins paths.now) table.now }
     ensures at_most { meter.new ≤ meter.old + length (candidates_of table.now) }
+    ensures rises { meter.old ≤ meter.new }
 {
     let mut found = Vec::new(alloc);
     for k in 0..table.locations() {
@@ -63,6 +64,7 @@ fn list_location<P: Paths>(
     ensures few { OnOk result (length found.new.items ≤ most_races) }
     ensures many { IfErr result (λ fault. fault ≡ ListFault.TooManyRaces → most_races < length found.old.items + length (at_location (race (P.joins paths.now) (accesses_of table.now)) (accesses_of table.now) k)) }
     ensures at_most { meter.new ≤ meter.old + length (at_location (candidate (accesses_of table.now)) (accesses_of table.now) k) }
+    ensures rises { meter.old ≤ meter.new }
 {
     let rows = table.rows(k);
     let writes = writes_of(alloc, table, rows)?;
@@ -122,6 +124,7 @@ fn list_from<P: Paths>(
     ensures few { OnOk result (length found.new.items ≤ most_races) }
     ensures many { IfErr result (λ fault. fault ≡ ListFault.TooManyRaces → most_races < length found.old.items + length (filter (race (P.joins paths.now) (accesses_of table.now) first) others.now)) }
     ensures at_most { meter.new ≤ meter.old + length (filter (candidate (accesses_of table.now) first) others.now) }
+    ensures rises { meter.old ≤ meter.new }
 {
     for second in others {
         if let Err(fault) = judge(table, first, *second, paths, meter, found) {

@@ -16,7 +16,7 @@ use Rattle.er_races.proofs.RaceLemmas.{numbers_are_pairs, numbers_within}
 use Rattle.er_cover.specs.Classes.{classes_by_race, class_of}
 use Rattle.er_cover.specs.Groups.{Grouping, grouping_of, groups_of, name_of, names_by, representative, size_of}
 use Rattle.er_report.specs.declared.counts.Counts.{Counts}
-use Rattle.er_report.specs.Report.{counts, report, report_of}
+use Rattle.er_report.specs.Report.{counts, report, report_of, summary, summary_of}
 
 -- the paths over the kept links are those over each list that the clocks stand for
 pub paths_told : (kept lists : List (List ℕ)) → StandsFor kept lists → joins kept ≡ joins lists
@@ -65,3 +65,8 @@ sizes_counted joined accesses groups is =
 pub report_told : (kept lists : List (List ℕ)) (accesses : List Kept) (groups : Grouping) (c : Counts) → StandsFor kept lists → groups ≡ grouping_of (joins kept) accesses → c ≡ counts lists accesses
     → report_of (races_by (joins kept) accesses) groups c ≡ report lists accesses
 report_told kept lists accesses groups c stands is counted = rw (is, counted, paths_told kept lists stands) refl
+
+-- and the summary
+pub summary_told : (n : ℕ) (kept lists : List (List ℕ)) (accesses : List Kept) (groups : Grouping) (c : Counts) → StandsFor kept lists → groups ≡ grouping_of (joins kept) accesses → c ≡ counts lists accesses
+    → summary_of n groups c ≡ summary n lists accesses
+summary_told n kept lists accesses groups c stands is counted = rw (is, counted, paths_told kept lists stands) refl

@@ -141,3 +141,20 @@ fifth_part s0 s1 s2 s3 s4 new before h1 h2 h3 h4 a b c d e empty one two three f
     let third = holds_more s0 s3 s4 before (a ++ b ++ c) d h3 h4 second four in
     let all = part_more s0 s4 new before (a ++ b ++ c ++ d) e h4 third part in
     rw empty at all
+
+-- three texts, likewise
+pub three_held : (s0 s1 s2 s3 : Option (List ℕ)) (before h1 h2 h3 a b c : List ℕ) → HoldsRest s0 (before ++ a) s1 h1 → HoldsRest s1 (h1 ++ b) s2 h2 → HoldsRest s2 (h2 ++ c) s3 h3 → HoldsRest s0 (before ++ (a ++ b ++ c)) s3 h3
+three_held s0 s1 s2 s3 before h1 h2 h3 a b c one two three =
+    let first = holds_more s0 s1 s2 before a b h1 h2 one two in
+    holds_more s0 s2 s3 before (a ++ b) c h2 h3 first three
+
+pub second_of_three : (s0 s1 new : Option (List ℕ)) (before h1 a b c : List ℕ) → before ≡ [] → HoldsRest s0 (before ++ a) s1 h1 → GetsPart s1 (h1 ++ b) new → GetsPart s0 (a ++ b ++ c) new
+second_of_three s0 s1 new before h1 a b c empty one part =
+    let all = part_first s0 new before (a ++ b) c (part_more s0 s1 new before a b h1 one part) in
+    rw empty at all
+
+pub third_of_three : (s0 s1 s2 new : Option (List ℕ)) (before h1 h2 a b c : List ℕ) → before ≡ [] → HoldsRest s0 (before ++ a) s1 h1 → HoldsRest s1 (h1 ++ b) s2 h2 → GetsPart s2 (h2 ++ c) new → GetsPart s0 (a ++ b ++ c) new
+third_of_three s0 s1 s2 new before h1 h2 a b c empty one two part =
+    let first = holds_more s0 s1 s2 before a b h1 h2 one two in
+    let all = part_more s0 s2 new before (a ++ b) c h2 first part in
+    rw empty at all

@@ -1,4 +1,4 @@
--- The text of a report, and of a refusal. Lists of predecessors stand newest first, all others oldest first.
+-- The text of a report, of a summary, and of a refusal. Lists of predecessors stand newest first, all others oldest first.
 -- Its numbers of races and groups begin at 1; the places in lists begin at 0.
 use Rattle.std.specs.Prelude.{ℕ, ◌+◌, List, [], ◌∷◌, ◌++◌, length, codes}
 use Rattle.std.specs.List.{zip}
@@ -77,6 +77,14 @@ counts lists accesses = record {
 -- the report of actions with these predecessors, and of the kept accesses
 abbrev pub report : List (List ℕ) → List Kept → List ℕ
 report lists accesses = report_of (races_by (joins lists) accesses) (grouping_of (joins lists) accesses) (counts lists accesses)
+
+-- `generated N`, then what a report says of these groups and counts
+abbrev pub summary_of : ℕ → Grouping → Counts → List ℕ
+summary_of n groups c = count_line (codes "generated") n ++ group_lines groups ++ closing_lines c
+
+-- the summary of n, of actions with these predecessors, and of the kept accesses
+abbrev pub summary : ℕ → List (List ℕ) → List Kept → List ℕ
+summary n lists accesses = summary_of n (grouping_of (joins lists) accesses) (counts lists accesses)
 
 -- `refused LINE CAUSE`
 abbrev pub refusal : ℕ → Cause → List ℕ

@@ -14,18 +14,18 @@ use er_races::Race;
 
 /// How many actions, kept accesses, candidate pairs, races, groups, chains and links there are.
 #[derive(Clone, Copy, Debug, PartialEq, Eq)]
-pub(crate) struct Counts {
-    pub(crate) actions: u64,
-    pub(crate) accesses: u64,
-    pub(crate) pairs: u64,
-    pub(crate) races: u64,
-    pub(crate) groups: u64,
-    pub(crate) chains: u64,
-    pub(crate) links: u64,
+pub struct Counts {
+    pub actions: u64,
+    pub accesses: u64,
+    pub pairs: u64,
+    pub races: u64,
+    pub groups: u64,
+    pub chains: u64,
+    pub links: u64,
 }
 
 /// Counts what is reported. What has groups has no more races than are listed.
-pub(crate) fn count_all(table: &Table, clocks: &Clocks, races: &[Race], groups: &Groups) -> Counts
+pub fn count_all(table: &Table, clocks: &Clocks, races: &[Race], groups: &Groups) -> Counts
     requires races { races.now ≡ races_of (joins clocks.now) table.now }
     requires groups { groups.now ≡ grouping_of (joins clocks.now) table.now }
     ensures counts { Tells clocks.now (λ lists. result ≡ spec.counts lists table.now) }

@@ -1,4 +1,4 @@
-//! The text of a report, and of a refusal.
+//! The text of a report, of a summary, and of a refusal.
 #![tactic(auto)]
 
 mod buffer;
@@ -6,7 +6,10 @@ mod buffered;
 mod counts;
 pub mod laws;
 mod lines;
+mod summary;
 mod tokens;
 mod writer;
 
+pub use counts::{Counts, count_all};
+pub use summary::write_summary;
 pub use writer::{write_refusal, write_report};

@@ -1,9 +1,9 @@
-//! The lines of a report, and of a refusal.
+//! The lines of a report, of a summary, and of a refusal.
 
 ghost use Rattle.std.specs.Prelude.{ℕ, ◌+◌, List, [], ◌∷◌, ◌++◌, codes};
 ghost use Rattle.er_outside.specs.Ends.{Puts};
 ghost use Rattle.er_report.specs.Pieces.{both_at};
-ghost use Rattle.er_report.specs.Report.{opening_line, race_line, cover_line, group_line, closing_lines, refusal};
+ghost use Rattle.er_report.specs.Report.{count_line, opening_line, race_line, cover_line, group_line, closing_lines, refusal};
 
 use crate::buffered::Text;
 use crate::counts::Counts;
@@ -24,6 +24,20 @@ impl Text for Opening {
 
     fn put<K: Sink>(&self, sink: &mut K) -> Result<(), Failed> {
         put_count(sink, "report", 1)
+    }
+}
+
+/// The first line of a summary.
+#[derive(Drop)]
+pub(crate) struct Generated {
+    pub(crate) number: u32,
+}
+
+impl Text for Generated {
+    ghost text = { λ generated. count_line (codes "generated") generated.number };
+
+    fn put<K: Sink>(&self, sink: &mut K) -> Result<(), Failed> {
+        put_count(sink, "generated", self.number as u64)
     }
 }
 

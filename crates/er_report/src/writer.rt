@@ -135,7 +135,11 @@ fn put_covers<K: Sink>(
 }
 
 /// Puts the lines of the groups into the buffer.
-fn put_groups<K: Sink>(sink: &mut K, buffer: &mut Buffer, groups: &Groups) -> Result<(), Failed>
+pub(crate) fn put_groups<K: Sink>(
+    sink: &mut K,
+    buffer: &mut Buffer,
+    groups: &Groups,
+) -> Result<(), Failed>
     requires { length groups.now.sizes ≡ length groups.now.representatives }
     ensures whole { OnOk result (HoldsRest (K.got sink.old) (buffer.old ++ group_lines groups.now)
         (K.got sink.new) buffer.new) }

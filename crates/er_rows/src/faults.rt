@@ -1,21 +1,10 @@
-//! Words, failing reads and writes, and want of memory. After a failed call all later ones would fail too, so one fault shows that none came.
+//! Failing reads and writes, and want of memory. After a failed call all later ones would fail too, so one fault shows that none came.
 
 use crate::rows::timeouts_that_race;
 use crate::through::{Done, Ends, sound, through};
 use er_run::outcome::Outcome;
 use std::alloc::{AllocError, Global};
 use std::test::Fail;
-
-#[test]
-fn a_word(rt: HostRuntime) -> Result<(), Fail> {
-    let alloc = rt.alloc();
-    let words = vec![in alloc; String::from_str(alloc, "check")?]?;
-    let done = through(alloc, &words, b"webtrace 1\nend\n", sound(alloc))?;
-    assert_eq!(rt; done.outcome, Outcome::Usage);
-    assert_eq!(rt; done.written.len(), 0);
-    assert_eq!(rt; done.outcome.line(), Some("usage: er_cli"));
-    Ok(())
-}
 
 #[test]
 fn a_failing_read(rt: HostRuntime) -> Result<(), Fail> {

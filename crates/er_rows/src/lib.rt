@@ -42,6 +42,8 @@ mod tables;
 mod through;
 #[cfg(test)]
 mod timers;
+#[cfg(test)]
+mod words;
 
 /// The causes of single records, as the definitions give them.
 #[tactic(auto, using(crate::proofs::Computed::causes_of_records, crate::proofs::Computed::orders_of_records))]

@@ -3,7 +3,7 @@ use Rattle.std.proofs.Common.{◌≡◌, ℕ, ◌+◌, ◌<◌, ◌≤◌, List,
 use Rattle.std.specs.List.{AllByRecursion}
 use Rattle.std.proofs.lemmas.List.Concat.{flat_map-append}
 use Rattle.std.proofs.lemmas.Option.{slice_get_within}
-use Rattle.er_run.specs.declared.answer.LineRefusal.{LineRefusal}
+use Rattle.er_run.specs.declared.accept.LineRefusal.{LineRefusal}
 use Rattle.std.proofs.lemmas.Bool.Decides.{nat_tests}
 use Rattle.er_graph.specs.declared.fault.GraphFault.TheVariants as graph_faults
 use Rattle.er_run.specs.Session.{IsFaultOf}

@@ -10,13 +10,13 @@ use Rattle.er_run.specs.Legal.{IsLegal, end_cause}
 use Rattle.er_run.specs.Legal as legality
 use Rattle.er_history.specs.Rules.{rules}
 use Rattle.er_graph.specs.declared.fault.GraphFault.TheVariants as graph_faults
-use Rattle.er_run.specs.declared.answer.LineRefusal.{LineRefusal}
+use Rattle.er_run.specs.declared.accept.LineRefusal.{LineRefusal}
 use Rattle.er_run.specs.declared.outcome.Outcome.{Outcome}
 use Rattle.er_run.specs.declared.outcome.Outcome.TheVariants.{Refused}
 use Rattle.er_run.specs.Accepted.{IsReading}
 use Rattle.er_run.specs.Answer.{most_bytes, FirstIllegal, IsRefused, Answers}
-use Rattle.er_report.specs.Report.{refusal}
-use Rattle.er_run.specs.Report.{report}
+use Rattle.er_words.specs.declared.commands.Command.{Command}
+use Rattle.er_run.specs.Report.{text_for, refusal_for}
 use Rattle.er_run.specs.Session.{IsFaultOf}
 use Rattle.er_run.proofs.AcceptLemmas.{IsRead, refused_judged, refused_line, refused_end}
 use Rattle.er_run.proofs.AnswerLemmas.{legal_answer}
@@ -66,55 +66,55 @@ fault_of records f =
     (length f.older, refl, subst (IsLegal rules) older f.legal, (f.read, there, subst (λ l. legality.cause rules l f.read ≡ Some f.cause) older f.why))
 
 -- an answer, and the text that is due
-abbrev HasAnswer : List ℕ → Type 0
-HasAnswer bytes = (o : Outcome) × (due : List ℕ) × Answers bytes o due
+abbrev HasAnswer : Command → List ℕ → Type 0
+HasAnswer asked bytes = (o : Outcome) × (due : List ℕ) × Answers asked bytes o due
 
-refused : (bytes : List ℕ) (n : ℕ) (c : Cause) → IsRefused bytes n c → HasAnswer bytes
-refused bytes n c is = (Refused n c, refusal n c, (is, refl))
+refused : (asked : Command) (bytes : List ℕ) (n : ℕ) (c : Cause) → IsRefused bytes n c → HasAnswer asked bytes
+refused asked bytes n c is = (Refused n c, refusal_for asked n c, (is, refl))
 
 -- behind legal records and no line that is refused the `end` line is refused, or it is within the limits
-by_end : (bytes : List ℕ) (records : List Record) (line : Option LineRefusal) (o : Option Cause) → o ≡ end_cause (reverse records) → length bytes ≤ most_bytes → IsReading bytes records line → IsRead records line → IsLegal rules (reverse records)
-    → (end_cause (reverse records) ≡ None → HasAnswer bytes) → HasAnswer bytes
-by_end bytes records line None is few reading read legal answer = answer (sym is)
-by_end bytes records line (Some c) is few reading read legal answer = refused bytes (length records + 2) c (refused_end bytes records line (length records + 2) c few reading read legal refl (sym is))
+by_end : (asked : Command) (bytes : List ℕ) (records : List Record) (line : Option LineRefusal) (o : Option Cause) → o ≡ end_cause (reverse records) → length bytes ≤ most_bytes → IsReading bytes records line → IsRead records line → IsLegal rules (reverse records)
+    → (end_cause (reverse records) ≡ None → HasAnswer asked bytes) → HasAnswer asked bytes
+by_end asked bytes records line None is few reading read legal answer = answer (sym is)
+by_end asked bytes records line (Some c) is few reading read legal answer = refused asked bytes (length records + 2) c (refused_end bytes records line (length records + 2) c few reading read legal refl (sym is))
 
-by_line : (bytes : List ℕ) (records : List Record) (line : LineRefusal) (behind : Bool) → behind ≡ nat_lt (length records + 2) line.line → length bytes ≤ most_bytes → IsReading bytes records (Some line) → IsLegal rules (reverse records) → HasAnswer bytes
-by_line bytes records line false is few reading legal =
+by_line : (asked : Command) (bytes : List ℕ) (records : List Record) (line : LineRefusal) (behind : Bool) → behind ≡ nat_lt (length records + 2) line.line → length bytes ≤ most_bytes → IsReading bytes records (Some line) → IsLegal rules (reverse records) → HasAnswer asked bytes
+by_line asked bytes records line false is few reading legal =
     let up_to : line.line ≤ length records + 2 = grind (arith, nat_tests) in
-    refused bytes line.line line.cause (refused_line bytes records (Some line) line few reading refl legal (λ behind. absurd (omega arith)))
-by_line bytes records line true is few reading legal =
+    refused asked bytes line.line line.cause (refused_line bytes records (Some line) line few reading refl legal (λ behind. absurd (omega arith)))
+by_line asked bytes records line true is few reading legal =
     let past : length records + 2 < line.line = grind (arith, nat_tests) in
-    by_end bytes records (Some line) (end_cause (reverse records)) refl few reading past legal
-    (λ within. refused bytes line.line line.cause (refused_line bytes records (Some line) line few reading refl legal (λ behind. within)))
+    by_end asked bytes records (Some line) (end_cause (reverse records)) refl few reading past legal
+    (λ within. refused asked bytes line.line line.cause (refused_line bytes records (Some line) line few reading refl legal (λ behind. within)))
 
-answered : (bytes : List ℕ) (records : List Record) (line : Option LineRefusal) → length bytes ≤ most_bytes → IsReading bytes records line → IsLegal rules (reverse records) → HasAnswer bytes
-answered bytes records None few reading legal =
-    by_end bytes records None (end_cause (reverse records)) refl few reading tt legal (λ within.
-    let found = legal_answer bytes records (record { few = few; is_trace = reading.0; spelled = reading.1; legal = legal; within = within }) in
-    (found.0, report (reverse records), found.1))
-answered bytes records (Some line) few reading legal = by_line bytes records line (nat_lt (length records + 2) line.line) refl few reading legal
+answered : (asked : Command) (bytes : List ℕ) (records : List Record) (line : Option LineRefusal) → length bytes ≤ most_bytes → IsReading bytes records line → IsLegal rules (reverse records) → HasAnswer asked bytes
+answered asked bytes records None few reading legal =
+    by_end asked bytes records None (end_cause (reverse records)) refl few reading tt legal (λ within.
+    let found = legal_answer asked bytes records (record { few = few; is_trace = reading.0; spelled = reading.1; legal = legal; within = within }) in
+    (found.0, text_for asked (reverse records), found.1))
+answered asked bytes records (Some line) few reading legal = by_line asked bytes records line (nat_lt (length records + 2) line.line) refl few reading legal
 
-from_reading : (bytes : List ℕ) (records : List Record) (line : Option LineRefusal) → length bytes ≤ most_bytes → IsReading bytes records line → HasAnswer bytes
-from_reading bytes records line few reading = elim (legal_or_faulty (reverse records)) [
-  | inl legal ↦ answered bytes records line few reading legal
-  | inr f ↦ refused bytes (length f.older + 2) f.cause (refused_judged bytes records line (length f.older + 2) f.cause few reading (fault_of records f))
+from_reading : (asked : Command) (bytes : List ℕ) (records : List Record) (line : Option LineRefusal) → length bytes ≤ most_bytes → IsReading bytes records line → HasAnswer asked bytes
+from_reading asked bytes records line few reading = elim (legal_or_faulty (reverse records)) [
+  | inl legal ↦ answered asked bytes records line few reading legal
+  | inr f ↦ refused asked bytes (length f.older + 2) f.cause (refused_judged bytes records line (length f.older + 2) f.cause few reading (fault_of records f))
 ]
 
-from_text : (bytes : List ℕ) → length bytes ≤ most_bytes → Reads bytes → HasAnswer bytes
-from_text bytes few (Whole records (read, is, e, same)) =
-    from_reading bytes records None few (subst (λ l. IsReading bytes l None) (sym same) (is, e))
-from_text bytes few (Until number c records (place, refuses, numbered, same)) =
-    from_reading bytes records (Some (record { line = number; cause = c })) few (place, refuses, numbered, same)
+from_text : (asked : Command) (bytes : List ℕ) → length bytes ≤ most_bytes → Reads bytes → HasAnswer asked bytes
+from_text asked bytes few (Whole records (read, is, e, same)) =
+    from_reading asked bytes records None few (subst (λ l. IsReading bytes l None) (sym same) (is, e))
+from_text asked bytes few (Until number c records (place, refuses, numbered, same)) =
+    from_reading asked bytes records (Some (record { line = number; cause = c })) few (place, refuses, numbered, same)
 
-by_length : (bytes : List ℕ) (many : Bool) → many ≡ nat_lt most_bytes (length bytes) → (HasAnswer bytes → ⊥) → ⊥
-by_length bytes true is = λ refute.
+by_length : (asked : Command) (bytes : List ℕ) (many : Bool) → many ≡ nat_lt most_bytes (length bytes) → (HasAnswer asked bytes → ⊥) → ⊥
+by_length asked bytes true is = λ refute.
     let one : ℕ = 1 in
     let both : (one ≡ one) × (TooManyLines ≡ TooManyLines) = (refl, refl) in
     let too_many : IsRefused bytes one TooManyLines = subst (λ b. MatchBool b ((one ≡ one) × (TooManyLines ≡ TooManyLines)) (FirstIllegal bytes one TooManyLines)) is both in
-    refute (refused bytes one TooManyLines too_many)
-by_length bytes false is = λ refute.
+    refute (refused asked bytes one TooManyLines too_many)
+by_length asked bytes false is = λ refute.
     let few : length bytes ≤ most_bytes = grind (arith, nat_tests) in
-    every_text bytes (λ read. refute (from_text bytes few read))
+    every_text bytes (λ read. refute (from_text asked bytes few read))
 
-pub every_answer : (bytes : List ℕ) → (HasAnswer bytes → ⊥) → ⊥
-every_answer bytes = by_length bytes (nat_lt most_bytes (length bytes)) refl
+pub every_answer : (asked : Command) (bytes : List ℕ) → (HasAnswer asked bytes → ⊥) → ⊥
+every_answer asked bytes = by_length asked bytes (nat_lt most_bytes (length bytes)) refl

@@ -1,6 +1,7 @@
 -- From a session and what was listed to the judgement of its records, and to the report.
-use Rattle.std.proofs.Common.{◌≡◌, ℕ, ◌+◌, ◌<◌, ◌≤◌, true, false, List, [], ◌∷◌, All, length, get_or, refl, sym, ap, subst, ◌∙◌, arith, slice_get, Option, Some, None}
-use Rattle.std.specs.Prelude.{nat_lt, if◌then◌else◌}
+use Rattle.std.proofs.Common.{◌≡◌, ℕ, ◌+◌, ◌<◌, ◌≤◌, true, false, List, [], ◌∷◌, All, length, get_or, refl, sym, ap, subst, ◌∙◌, arith, slice_get, Option, Some, None, Result, Ok, Err}
+use Rattle.std.specs.Prelude.{nat_lt, if◌then◌else◌, IfOk, Vec}
+use Rattle.std.specs.declared.alloc.Global.{Global}
 use Rattle.std.proofs.Math.Path.{fun_ext}
 use Rattle.std.proofs.lemmas.Bool.Decides.{nat_tests}
 use Rattle.std.proofs.lemmas.List.{length-map}
@@ -29,7 +30,8 @@ use Rattle.er_run.specs.declared.session.Session.{Session}
 use Rattle.er_run.specs.declared.end.Found.{Found}
 use Rattle.er_run.specs.Legal.{end_cause}
 use Rattle.er_run.specs.Races.{kept, candidates, races, classes}
-use Rattle.er_run.specs.Report.{report}
+use Rattle.er_json.specs.Json as lines
+use Rattle.er_run.specs.Report.{report, json_report, summary}
 use Rattle.er_run.specs.Session.{StandsFor}
 use Rattle.er_run.specs.Session.{numbered as numbered_records}
 use Rattle.er_run.specs.Accepted.{AreListed, AreGrouped, IsJudged}
@@ -181,3 +183,12 @@ pub none_found : (found : List Race) (h : List Record) → AreListed found h →
 none_found found h l =
     let count = as_many (kept h) found (races h) (are_pairs found h l) in
     (λ none. empty_of_none (races h) (omega arith), λ none. omega (arith, ap length none))
+
+-- and so is the summary, and the line of JSON
+pub summary_due : (n : ℕ) (s : Session) (links : List (List ℕ)) (h : List Record) (has : List ℕ → Type 0) → AreClocks s.graph links → StandsFor s h → clocks.Tells links (λ lists. has (texts.summary n lists s.kept)) → has (summary n h)
+summary_due n s links h has timed stands tells = by_kept s links h (λ lists accesses. has (texts.summary n lists accesses)) timed stands tells
+
+pub line_due : {E : Type 0} (s : Session) (found : Found) (links : List (List ℕ)) (made : Result (Vec ℕ Global) E) → AreClocks s.graph links → clocks.Tells links (λ lists. IfOk made (λ line. line.items ≡ lines.report lists s.kept))
+    → IfOk made (λ line. (h : List Record) → IsJudged s found h → line.items ≡ json_report h)
+line_due {E} s found links (Ok line) timed tells = λ h j. by_kept s links h (λ lists accesses. line.items ≡ lines.report lists accesses) timed j.stands tells
+line_due {E} s found links (Err fault) timed tells = tt

@@ -8,3 +8,6 @@ pub mod CompleteLemmas
 pub mod OneAnswer
 pub mod EveryText
 pub mod EveryAnswer
+pub mod TellLemmas
+pub mod GeneratedLemmas
+pub mod RunLemmas

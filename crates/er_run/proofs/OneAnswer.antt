@@ -15,8 +15,8 @@ use Rattle.er_history.specs.Rules.{Rule, rules}
 use Rattle.er_run.specs.Legal.{IsLegal, end_cause}
 use Rattle.er_run.specs.Legal as legality
 use Rattle.er_run.specs.Races.{races}
-use Rattle.er_report.specs.Report.{refusal}
-use Rattle.er_run.specs.Report.{report}
+use Rattle.er_run.specs.Report.{text_for, refusal_for}
+use Rattle.er_words.specs.declared.commands.Command.{Command}
 use Rattle.er_run.specs.declared.outcome.Outcome.{Outcome}
 use Rattle.er_run.specs.declared.outcome.Outcome.TheVariants.{Clean, Races, Usage, Refused, ReadFault, WriteFault, NoMemory}
 use Rattle.er_run.specs.Answer.{most_bytes, IsLegalTrace, RefusesRecord, RefusesEnd, IsLegalBefore, FirstIllegal, OfLine, OfRecord, OfEnd, IsRefused, Answers}
@@ -322,28 +322,28 @@ counted_once h o p (SomeRaces some is) (NoRaces none other) = absurd (some none)
 counted_once h o p (SomeRaces some is) (SomeRaces also other) = is ∙ sym other
 
 -- a legal trace, or a refusal
-data Settled (bytes : List ℕ) (o : Outcome) (due : List ℕ) : Type 0 where
-  ByTrace : (records : List Record) → IsLegalTrace bytes records → Counted (reverse records) o → due ≡ report (reverse records) → Settled bytes o due
-  ByRefusal : (n : ℕ) (c : Cause) → IsRefused bytes n c → o ≡ Refused n c → due ≡ refusal n c → Settled bytes o due
+data Settled (asked : Command) (bytes : List ℕ) (o : Outcome) (due : List ℕ) : Type 0 where
+  ByTrace : (records : List Record) → IsLegalTrace bytes records → Counted (reverse records) o → due ≡ text_for asked (reverse records) → Settled asked bytes o due
+  ByRefusal : (n : ℕ) (c : Cause) → IsRefused bytes n c → o ≡ Refused n c → due ≡ refusal_for asked n c → Settled asked bytes o due
 
-settled : (bytes : List ℕ) (o : Outcome) (due : List ℕ) → Answers bytes o due → Settled bytes o due
-settled bytes Clean due h = ByTrace h.0 h.1 (NoRaces h.2 refl) h.3
-settled bytes Races due h = ByTrace h.0 h.1 (SomeRaces h.2 refl) h.3
-settled bytes (Refused n c) due h = ByRefusal n c h.0 refl h.1
-settled bytes Usage due h = absurd h
-settled bytes ReadFault due h = absurd h
-settled bytes WriteFault due h = absurd h
-settled bytes NoMemory due h = absurd h
+settled : (asked : Command) (bytes : List ℕ) (o : Outcome) (due : List ℕ) → Answers asked bytes o due → Settled asked bytes o due
+settled asked bytes Clean due h = ByTrace h.0 h.1 (NoRaces h.2 refl) h.3
+settled asked bytes Races due h = ByTrace h.0 h.1 (SomeRaces h.2 refl) h.3
+settled asked bytes (Refused n c) due h = ByRefusal n c h.0 refl h.1
+settled asked bytes Usage due h = absurd h
+settled asked bytes ReadFault due h = absurd h
+settled asked bytes WriteFault due h = absurd h
+settled asked bytes NoMemory due h = absurd h
 
-settled_once : (bytes : List ℕ) (o p : Outcome) (due other : List ℕ) → Settled bytes o due → Settled bytes p other → (o ≡ p) × (due ≡ other)
-settled_once bytes o p due other (ByTrace a first counted_a due_a) (ByTrace b second counted_b due_b) =
+settled_once : (asked : Command) (bytes : List ℕ) (o p : Outcome) (due other : List ℕ) → Settled asked bytes o due → Settled asked bytes p other → (o ≡ p) × (due ≡ other)
+settled_once asked bytes o p due other (ByTrace a first counted_a due_a) (ByTrace b second counted_b due_b) =
     let same : a ≡ b = one_trace a b first.is_trace second.is_trace (sym first.spelled ∙ second.spelled) in
-    (counted_once (reverse b) o p (subst (λ l. Counted (reverse l) o) same counted_a) counted_b, (due_a ∙ ap (λ l. report (reverse l)) same) ∙ sym due_b)
-settled_once bytes o p due other (ByTrace a first counted_a due_a) (ByRefusal m d second is_p due_b) = absurd (not_refused bytes a m d first second)
-settled_once bytes o p due other (ByRefusal n c first is_o due_a) (ByTrace b second counted_b due_b) = absurd (not_refused bytes b n c second first)
-settled_once bytes o p due other (ByRefusal n c first is_o due_a) (ByRefusal m d second is_p due_b) =
+    (counted_once (reverse b) o p (subst (λ l. Counted (reverse l) o) same counted_a) counted_b, (due_a ∙ ap (λ l. text_for asked (reverse l)) same) ∙ sym due_b)
+settled_once asked bytes o p due other (ByTrace a first counted_a due_a) (ByRefusal m d second is_p due_b) = absurd (not_refused bytes a m d first second)
+settled_once asked bytes o p due other (ByRefusal n c first is_o due_a) (ByTrace b second counted_b due_b) = absurd (not_refused bytes b n c second first)
+settled_once asked bytes o p due other (ByRefusal n c first is_o due_a) (ByRefusal m d second is_p due_b) =
     let same : (n ≡ m) × (c ≡ d) = refused_once bytes n m c d first second in
-    (is_o ∙ ((ap (λ k. Refused k c) same.0 ∙ ap (λ why. Refused m why) same.1) ∙ sym is_p), due_a ∙ ((ap (λ k. refusal k c) same.0 ∙ ap (λ why. refusal m why) same.1) ∙ sym due_b))
+    (is_o ∙ ((ap (λ k. Refused k c) same.0 ∙ ap (λ why. Refused m why) same.1) ∙ sym is_p), due_a ∙ ((ap (λ k. refusal_for asked k c) same.0 ∙ ap (λ why. refusal_for asked m why) same.1) ∙ sym due_b))
 
-pub answer_once : (bytes : List ℕ) (o p : Outcome) (due other : List ℕ) → Answers bytes o due → Answers bytes p other → (o ≡ p) × (due ≡ other)
-answer_once bytes o p due other first second = settled_once bytes o p due other (settled bytes o due first) (settled bytes p other second)
+pub answer_once : (asked : Command) (bytes : List ℕ) (o p : Outcome) (due other : List ℕ) → Answers asked bytes o due → Answers asked bytes p other → (o ≡ p) × (due ≡ other)
+answer_once asked bytes o p due other first second = settled_once asked bytes o p due other (settled asked bytes o due first) (settled asked bytes p other second)

@@ -1,5 +1,5 @@
 -- What the steps of an answer leave.
-use Rattle.std.specs.Prelude.{◌≡◌, ◌≢◌, ℕ, ◌+◌, ◌*◌, ◌≤◌, List, [], Option, Some, None, reverse, length}
+use Rattle.std.specs.Prelude.{◌≡◌, ◌≢◌, ℕ, ◌+◌, ◌*◌, ◌≤◌, List, [], Option, Some, None, Result, Ok, Err, MatchResult, reverse, length}
 use Rattle.er_outside.specs.Ends.{Gets, GetsPart}
 use Rattle.er_text.specs.declared.causes.Cause.{Cause}
 use Rattle.er_trace.specs.declared.record.Record.{Record}
@@ -7,12 +7,14 @@ use Rattle.er_trace.specs.Trace.{Place, line_number, records_before, text, most_
 use Rattle.er_trace.specs.declared.fault.FeedFault.{FeedFault}
 use Rattle.er_trace.specs.declared.fault.FeedFault.TheVariants as faults
 use Rattle.er_run.specs.declared.outcome.Outcome.{Outcome}
-use Rattle.er_run.specs.declared.outcome.Outcome.TheVariants.{Clean, Races, Refused, WriteFault}
+use Rattle.er_run.specs.declared.outcome.Outcome.TheVariants.{Clean, Races, Refused, WriteFault, NoMemory}
 use Rattle.er_run.specs.declared.session.Session.{Session}
 use Rattle.er_run.specs.declared.end.Found.{Found}
 use Rattle.er_run.specs.declared.end.Judged.{Judged}
-use Rattle.er_run.specs.declared.answer.LineRefusal.{LineRefusal}
-use Rattle.er_run.specs.Answer.{IsLegalTrace, IsRefused}
+use Rattle.er_run.specs.declared.accept.LineRefusal.{LineRefusal}
+use Rattle.er_words.specs.declared.commands.Command.{Command}
+use Rattle.er_run.specs.Report.{refusal_for}
+use Rattle.er_run.specs.Answer.{most_bytes, IsLegalTrace, IsRefused}
 use Rattle.er_run.specs.Legal.{end_cause}
 use Rattle.er_run.specs.Session.{StandsFor}
 use Rattle.er_history.specs.Rules.{rules}
@@ -20,9 +22,7 @@ use Rattle.er_history.specs.Edges.{path}
 use Rattle.er_races.specs.declared.race.Race.{Race}
 use Rattle.er_races.specs.Races.{races_of, most_pairs, most_races}
 use Rattle.er_cover.specs.Groups.{Grouping, grouping_of, most_classes}
-use Rattle.er_report.specs.Report.{refusal}
 use Rattle.er_run.specs.Races.{kept, candidates, races, classes, groups}
-use Rattle.er_run.specs.Report.{report}
 
 -- these are the numbers of the races of these records, newest first, and neither they nor the pairs are over a limit
 pub record AreListed (found : List Race) (h : List Record) : Type 0 where
@@ -59,30 +59,52 @@ IsCompared session old new = (h : List Record) → StandsFor session h → new �
 
 -- the count of tests rose by four at most for each class and each group of these records
 abbrev pub IsTested : Session → ℕ → ℕ → Type 0
-IsTested session old new = (h : List Record) → StandsFor session h → new ≤ old + 4 * (length (classes h) * length (groups h))
+IsTested session old new = (h : List Record) → StandsFor session h → (old ≤ new) × (new ≤ old + 4 * (length (classes h) * length (groups h)))
 
 -- the line behind these records, newest first, is refused for the first limit that they are over; or memory ran out
 abbrev pub IsEndFault : List Record → FeedFault → Type 0
 IsEndFault h (faults.Refused n c) = (n ≡ length h + 2) × (end_cause h ≡ Some c)
 IsEndFault h faults.NoMemory = Unit {0}
 
--- what came of the report of these records, newest first
-abbrev pub ReportsOf : List Record → Outcome → Option (List ℕ) → Option (List ℕ) → Type 0
-ReportsOf h Clean old new = (races h ≡ []) × Gets old (report h) new
-ReportsOf h Races old new = (races h ≢ []) × Gets old (report h) new
-ReportsOf h WriteFault old new = GetsPart old (report h) new
-ReportsOf h _ old new = ⊥
+-- what came of writing the text that is due for these records, newest first, or of want of memory before it
+abbrev pub ReportsOf : List Record → List ℕ → Outcome → Option (List ℕ) → Option (List ℕ) → Type 0
+ReportsOf h due Clean old new = (races h ≡ []) × Gets old due new
+ReportsOf h due Races old new = (races h ≢ []) × Gets old due new
+ReportsOf h due WriteFault old new = GetsPart old due new
+ReportsOf h due NoMemory old new = Unit {0}
+ReportsOf h due _ old new = ⊥
 
--- what came of a refusal
-abbrev pub RefusedAs : ℕ → Cause → Outcome → Option (List ℕ) → Option (List ℕ) → Type 0
-RefusedAs n c (Refused m d) old new = (m ≡ n) × (d ≡ c) × Gets old (refusal n c) new
-RefusedAs n c WriteFault old new = GetsPart old (refusal n c) new
-RefusedAs n c _ old new = ⊥
+-- and of writing that of a refusal
+abbrev pub RefusedAs : ℕ → Cause → List ℕ → Outcome → Option (List ℕ) → Option (List ℕ) → Type 0
+RefusedAs n c due (Refused m d) old new = (m ≡ n) × (d ≡ c) × Gets old due new
+RefusedAs n c due WriteFault old new = GetsPart old due new
+RefusedAs n c due NoMemory old new = Unit {0}
+RefusedAs n c due _ old new = ⊥
+
+-- and of writing it where the fault is one
+abbrev pub FailedAs : Command → FeedFault → Outcome → Option (List ℕ) → Option (List ℕ) → Type 0
+FailedAs asked (faults.Refused n c) outcome old new = RefusedAs n c (refusal_for asked n c) outcome old new
+FailedAs asked faults.NoMemory outcome old new = outcome ≡ NoMemory
+
+-- how a run ends that wrote a report with so many races, or failed to
+abbrev pub EndsAs : {E : Type 0} → ℕ → Result Unit E → Outcome → Type 0
+EndsAs count (Ok done) outcome = (count ≡ 0 → outcome ≡ Clean) × ((count ≡ 0 → ⊥) → outcome ≡ Races)
+EndsAs count (Err fault) outcome = outcome ≡ WriteFault
+
+-- and one that wrote a refusal
+abbrev pub EndsRefused : {E : Type 0} → ℕ → Cause → Result Unit E → Outcome → Type 0
+EndsRefused n c (Ok done) outcome = outcome ≡ Refused n c
+EndsRefused n c (Err fault) outcome = outcome ≡ WriteFault
 
 -- the records before the first line that has a cause, with that line; or those of the whole trace
 abbrev pub IsReading : List ℕ → List Record → Option LineRefusal → Type 0
 IsReading bytes records None = IsTrace records × (bytes ≡ text records)
 IsReading bytes records (Some refused) = (place : Place) × Refuses bytes place refused.cause × (refused.line ≡ line_number place) × (records ≡ records_before place)
+
+-- the bytes are not too many, and this was read of them
+pub record IsReadOf (bytes : List ℕ) (records : List Record) (refused : Option LineRefusal) : Type 0 where
+  pub few : length bytes ≤ most_bytes
+  pub reading : IsReading bytes records refused
 
 -- it stands for the records of some trace
 pub record IsReportable (session : Session) : Type 0 where
@@ -94,3 +116,7 @@ pub record IsReportable (session : Session) : Type 0 where
 abbrev pub IsRefusal : List ℕ → FeedFault → Type 0
 IsRefusal bytes (faults.Refused n c) = IsRefused bytes n c
 IsRefusal bytes faults.NoMemory = Unit {0}
+
+-- the bytes are accepted, or refused
+abbrev pub IsVerdict : List ℕ → Result Judged FeedFault → Type 0
+IsVerdict bytes verdict = MatchResult verdict (IsAccepted bytes) (IsRefusal bytes)

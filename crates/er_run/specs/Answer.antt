@@ -1,4 +1,4 @@
--- What a byte string answers, and the text that is due for it.
+-- What a byte string answers to a command, and the text that is due for it.
 use Rattle.std.specs.Prelude.{◌≡◌, ◌≢◌, ℕ, ◌≤◌, nat_lt, List, [], ◌++◌, length, reverse, Some, None, MatchBool}
 use Rattle.er_text.specs.declared.causes.Cause.{Cause}
 use Rattle.er_text.specs.declared.causes.Cause.TheVariants.{TooManyLines}
@@ -9,8 +9,8 @@ use Rattle.er_history.specs.Rules.{rules}
 use Rattle.er_run.specs.Legal.{IsLegal, end_cause}
 use Rattle.er_run.specs.Legal as legality
 use Rattle.er_run.specs.Races.{races}
-use Rattle.er_report.specs.Report.{refusal}
-use Rattle.er_run.specs.Report.{report}
+use Rattle.er_words.specs.declared.commands.Command.{Command}
+use Rattle.er_run.specs.Report.{text_for, refusal_for}
 use Rattle.er_run.specs.declared.outcome.Outcome.{Outcome}
 use Rattle.er_run.specs.declared.outcome.Outcome.TheVariants.{Clean, Races, Refused}
 
@@ -60,9 +60,9 @@ pub data FirstIllegal (bytes : List ℕ) (n : ℕ) (c : Cause) : Type 0 where
 abbrev pub IsRefused : List ℕ → ℕ → Cause → Type 0
 IsRefused bytes n c = MatchBool (nat_lt most_bytes (length bytes)) ((n ≡ 1) × (c ≡ TooManyLines)) (FirstIllegal bytes n c)
 
--- The answer of the bytes is this outcome, and the text is due for it.
-abbrev pub Answers : List ℕ → Outcome → List ℕ → Type 0
-Answers bytes Clean due = (records : List Record) × IsLegalTrace bytes records × (races (reverse records) ≡ []) × (due ≡ report (reverse records))
-Answers bytes Races due = (records : List Record) × IsLegalTrace bytes records × (races (reverse records) ≢ []) × (due ≡ report (reverse records))
-Answers bytes (Refused n c) due = IsRefused bytes n c × (due ≡ refusal n c)
-Answers bytes _ due = ⊥
+-- The answer of the bytes to the command is this outcome, and the text is due for it.
+abbrev pub Answers : Command → List ℕ → Outcome → List ℕ → Type 0
+Answers asked bytes Clean due = (records : List Record) × IsLegalTrace bytes records × (races (reverse records) ≡ []) × (due ≡ text_for asked (reverse records))
+Answers asked bytes Races due = (records : List Record) × IsLegalTrace bytes records × (races (reverse records) ≢ []) × (due ≡ text_for asked (reverse records))
+Answers asked bytes (Refused n c) due = IsRefused bytes n c × (due ≡ refusal_for asked n c)
+Answers asked bytes _ due = ⊥

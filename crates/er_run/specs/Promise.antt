@@ -1,9 +1,13 @@
 -- What a call of `run` promises.
-use Rattle.std.specs.Prelude.{◌≡◌, ◌⊎◌, ℕ, ◌+◌, ◌*◌, ◌<◌, ◌≤◌, List, length, reverse, Option}
-use Rattle.er_outside.specs.Ends.{Gives, Gets, GetsPart, IsSpent}
+use Rattle.std.specs.Prelude.{◌≡◌, ◌⊎◌, ℕ, ◌+◌, ◌*◌, ◌<◌, ◌≤◌, List, length, reverse, Option, Some}
+use Rattle.er_outside.specs.Ends.{Gives, Gets, GetsPart, IsSpent, Rose}
 use Rattle.er_run.specs.declared.outcome.Outcome.{Outcome}
 use Rattle.er_run.specs.declared.outcome.Outcome.TheVariants.{Clean, Races, Refused, Usage, ReadFault, NoMemory}
 use Rattle.er_trace.specs.declared.record.Record.{Record}
+use Rattle.er_trace.specs.Trace.{text}
+use Rattle.er_gen.specs.Generated.{generated}
+use Rattle.er_words.specs.declared.commands.Command.{Command}
+use Rattle.er_words.specs.declared.commands.Command.TheVariants.{Check, Gen}
 use Rattle.er_run.specs.Answer.{most_bytes, IsLegalTrace, Answers}
 use Rattle.er_run.specs.Races.{candidates, classes, groups}
 
@@ -30,16 +34,16 @@ IsSilent NoMemory = Unit {0}
 IsSilent _ = ⊥
 
 -- the text that is due for the answer of the bytes came to what was got
-pub record IsGiven (bytes : List ℕ) (outcome : Outcome) (got_old got_new : Option (List ℕ)) : Type 0 where
+pub record IsGiven (asked : Command) (bytes : List ℕ) (outcome : Outcome) (got_old got_new : Option (List ℕ)) : Type 0 where
   pub due : List ℕ
-  pub answers : Answers bytes outcome due
+  pub answers : Answers asked bytes outcome due
   pub gave : Gets got_old due got_new
 
 -- a proper front of that text came
-pub record IsPartGiven (bytes : List ℕ) (got_old got_new : Option (List ℕ)) : Type 0 where
+pub record IsPartGiven (asked : Command) (bytes : List ℕ) (got_old got_new : Option (List ℕ)) : Type 0 where
   pub outcome : Outcome
   pub due : List ℕ
-  pub answers : Answers bytes outcome due
+  pub answers : Answers asked bytes outcome due
   pub gave : GetsPart got_old due got_new
 
 -- with a report the count of comparisons rose by one for each candidate pair of the trace
@@ -50,22 +54,35 @@ Compares bytes _ old new = Unit {0}
 
 -- with a report the count of tests rose by four at most for each class and each group of the trace
 abbrev pub Tests : List ℕ → Outcome → ℕ → ℕ → Type 0
-Tests bytes Clean old new = (records : List Record) → IsLegalTrace bytes records → new ≤ old + 4 * (length (classes (reverse records)) * length (groups (reverse records)))
-Tests bytes Races old new = (records : List Record) → IsLegalTrace bytes records → new ≤ old + 4 * (length (classes (reverse records)) * length (groups (reverse records)))
+Tests bytes Clean old new = (records : List Record) → IsLegalTrace bytes records → (old ≤ new) × (new ≤ old + 4 * (length (classes (reverse records)) * length (groups (reverse records))))
+Tests bytes Races old new = (records : List Record) → IsLegalTrace bytes records → (old ≤ new) × (new ≤ old + 4 * (length (classes (reverse records)) * length (groups (reverse records))))
 Tests bytes _ old new = Unit {0}
 
--- The call took bytes of the source that answer this outcome, gave exactly the text that is due to the sink, and made the comparisons and the tests of a report.
-pub record IsAnswered (left_old left_new got_old got_new : Option (List ℕ)) (compared_old compared_new tested_old tested_new : ℕ) (outcome : Outcome) : Type 0 where
-  pub taken : List ℕ
-  pub took : Gives left_old taken left_new
-  pub whole : IsReadWhole taken left_new
-  pub given : IsGiven taken outcome got_old got_new
-  pub compared : Compares taken outcome compared_old compared_new
-  pub tested : Tests taken outcome tested_old tested_new
+-- What a command judges: the bytes that the call took of the source, or a generated trace, for which it took none.
+abbrev pub IsInput : Command → List ℕ → Option (List ℕ) → Option (List ℕ) → Type 0
+IsInput (Check json) bytes left_old left_new = Gives left_old bytes left_new × IsReadWhole bytes left_new
+IsInput (Gen n) bytes left_old left_new = (bytes ≡ text (generated n)) × (left_new ≡ left_old)
 
--- The call took bytes of the source that answer some outcome, and gave a proper front of the text that is due.
-pub record IsCutShort (left_old left_new got_old got_new : Option (List ℕ)) : Type 0 where
-  pub taken : List ℕ
-  pub took : Gives left_old taken left_new
-  pub whole : IsReadWhole taken left_new
-  pub given : IsPartGiven taken got_old got_new
+-- The input of the command answers this outcome, exactly the text that is due came to the sink, and the comparisons and the tests of a report were made.
+pub record IsAnswered (asked : Command) (left_old left_new got_old got_new : Option (List ℕ)) (compared_old compared_new tested_old tested_new : ℕ) (outcome : Outcome) : Type 0 where
+  pub input : List ℕ
+  pub taken : IsInput asked input left_old left_new
+  pub given : IsGiven asked input outcome got_old got_new
+  pub compared : Compares input outcome compared_old compared_new
+  pub tested : Tests input outcome tested_old tested_new
+
+-- The input of the command answers some outcome, and a proper front of the text that is due came to the sink.
+pub record IsCutShort (asked : Command) (left_old left_new got_old got_new : Option (List ℕ)) : Type 0 where
+  pub input : List ℕ
+  pub taken : IsInput asked input left_old left_new
+  pub given : IsPartGiven asked input got_old got_new
+
+-- what a command has to judge: all bytes that the source holds, or a generated trace
+abbrev pub Holds : Command → Option (List ℕ) → List ℕ → Type 0
+Holds (Check json) left bytes = left ≡ Some bytes
+Holds (Gen n) left bytes = bytes ≡ text (generated n)
+
+-- the count of a source's faults did not rise, where the command reads it
+abbrev pub ReadsWithout : Command → ℕ → ℕ → Type 0
+ReadsWithout (Check json) old new = Rose old new → ⊥
+ReadsWithout (Gen n) old new = Unit {0}

@@ -18,4 +18,5 @@ loop-i-preserved c = record {
   long = omega (arith, c.loop-i.invariant.long);
   marked = step_marked c.args.clocks.now c.args.classes.now c.loop-i.found.items c.consider.new.found.items c.loop-i.covered c.consider.new.covered c.loop-i.i c.loop-i-test.true c.loop-i.invariant.marked c.in_ok-consider.ensures.kept c.in_ok-consider.ensures.marked;
   bound = step_cost c.args.classes.now c.loop-i.found.items c.consider.new.found.items c.loop-i.covered c.loop-i.i c.args.tests.now c.loop-i.tests c.consider.new.tests c.loop-i-test.true c.loop-i.invariant.bound c.consider.ensures.bound c.consider.ensures.free c.in_ok-consider.ensures.kept;
+  rises = omega (arith, c.loop-i.invariant.rises, c.consider.ensures.rises);
 }

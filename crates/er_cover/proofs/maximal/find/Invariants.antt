@@ -13,4 +13,5 @@ invariant-loop-i l = record {
   long : length l.covered ≡ length l.classes;
   marked : (j : ℕ) (y : Class) → l.i ≤ j → j < length l.classes → y ≡ slice_index_or l.classes j y → is_marked l.covered j ≡ list_any (λ g. covers (joins l.clocks) g y) l.found.items;
   bound : l.tests ≤ l.fn.tests + 2 * (length l.found.items * length l.classes);
+  rises : l.fn.tests ≤ l.tests;
 }

@@ -11,4 +11,5 @@ invariant-loop-j l = record {
   done : (k : ℕ) (y : Class) → l.from ≤ k → k < l.j → y ≡ slice_index_or l.classes k y → is_marked l.covered k ≡ (is_marked l.fn.covered k || covers (joins l.clocks) l.group y);
   rest : (k : ℕ) → l.j ≤ k → is_marked l.covered k ≡ is_marked l.fn.covered k;
   bound : l.tests ≤ l.fn.tests + 2 * l.j;
+  rises : l.fn.tests ≤ l.tests;
 }

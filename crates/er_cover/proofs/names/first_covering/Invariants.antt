@@ -7,4 +7,5 @@ abbrev pub invariant-loop-g : goal.invariant-loop-g
 invariant-loop-g l = record {
   first : l.g + name_of (joins l.clocks) (drop l.g l.groups) l.class ≡ name_of (joins l.clocks) l.groups l.class;
   bound : l.tests ≤ l.fn.tests + 2 * l.g;
+  rises : l.fn.tests ≤ l.tests;
 }

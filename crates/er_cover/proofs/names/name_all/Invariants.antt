@@ -8,4 +8,5 @@ abbrev pub invariant-loop-class : goal.invariant-loop-class
 invariant-loop-class l = record {
   named : l.names.items ≡ map (spec.name_of (joins l.clocks) l.groups.keys) (take l.class-index l.classes);
   bound : l.tests ≤ l.fn.tests + 2 * (l.class-index * length l.groups.keys);
+  rises : l.fn.tests ≤ l.tests;
 }

@@ -15,6 +15,7 @@ loop-k-init g c =
       listed = start_listed (accesses_of c.args.table.now) t c.new-found.result.items c.new-found.ensures.items;
       counted = start_counted (accesses_of c.args.table.now) (candidate (accesses_of c.args.table.now)) c.args.meter.now;
       few = omega (arith, none);
+      rises = omega arith;
     }
 
 pub list_location-requires-clause-room : goal.list_location-requires-clause-room
@@ -44,6 +45,7 @@ loop-k-preserved g c =
       listed = more_listed accesses (race joined accesses) c.loop-k.k c.loop-k.found.items _ c.loop-k.invariant.listed c.in_default.ensures.found;
       counted = more_counted accesses (candidate accesses) c.loop-k.k c.args.meter.now c.loop-k.meter _ c.loop-k.invariant.counted c.in_default.ensures.once;
       few = c.in_default.ensures.few;
+      rises = omega (arith, c.loop-k.invariant.rises, c.in_default.ensures.rises);
     }
 
 pub list_location-requires-clause-known : goal.list_location-requires-clause-known

@@ -18,4 +18,5 @@ invariant-loop-k g l =
       listed : IsPermutation l.found.items (filter (λ (r : Race). nat_lt (access_at accesses r.first).location l.k) (all_pairs (race joined accesses) (length accesses)));
       counted : l.meter ≡ l.fn.meter + length (filter (λ (r : Race). nat_lt (access_at accesses r.first).location l.k) (all_pairs (candidate accesses) (length accesses)));
       few : length l.found.items ≤ most_races;
+      rises : l.fn.meter ≤ l.meter;
     }

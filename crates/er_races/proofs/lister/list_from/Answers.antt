@@ -1,3 +1,4 @@
+use Rattle.std.proofs.Common.{arith}
 use Rattle.er_races.specs.Races.{most_races}
 use Rattle.er_access.specs.Numbers.{accesses_of}
 use Rattle.er_races.specs.Listing.{candidate, race}
@@ -15,4 +16,5 @@ loop-second-preserved g c = record {
   listed = from_step (race (g.P.Paths.joins c.args.paths.now) (accesses_of c.args.table.now) c.args.first) c.args.first c.args.others.now c.loop-second.second-index c.loop-second.found.items _ _ c.loop-second-test.true c.in_default.ensures.found c.loop-second.invariant.listed;
   counted = count_step (candidate (accesses_of c.args.table.now) c.args.first) c.args.others.now c.loop-second.second-index c.loop-second.meter _ _ c.loop-second-test.true c.in_default.ensures.once c.loop-second.invariant.counted;
   few = c.in_default.ensures.few;
+  rises = omega (arith, c.loop-second.invariant.rises, c.in_default.ensures.once);
 }

@@ -15,4 +15,5 @@ invariant-loop-second g l =
       listed : l.found.items ++ with_each l.first (filter (race joined accesses l.first) (drop l.second-index l.others)) ≡ l.fn.found.items ++ with_each l.first (filter (race joined accesses l.first) l.others);
       counted : l.meter + length (filter (candidate accesses l.first) (drop l.second-index l.others)) ≡ l.fn.meter + length (filter (candidate accesses l.first) l.others);
       few : length l.found.items ≤ most_races;
+      rises : l.fn.meter ≤ l.meter;
     }

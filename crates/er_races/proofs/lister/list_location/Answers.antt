@@ -70,6 +70,7 @@ loop-first-preserved g c =
       listed = rows_step q rows i c.loop-first.found.items _ _ apart c.loop-first-test.true alike c.in_default.ensures.found c.loop-first.invariant.listed;
       counted = rows_counted f rows i c.loop-first.meter _ _ seconds c.loop-first-test.true same c.in_default.ensures.once c.loop-first.invariant.counted;
       few = c.in_default.ensures.few;
+      rises = omega (arith, c.loop-first.invariant.rises, c.in_default.ensures.rises);
     }
 
 pub returns-clause-found : goal.returns-clause-found

@@ -16,4 +16,5 @@ invariant-loop-first g l =
       listed : l.found.items ++ each (λ i. filter (race joined accesses i) all) (drop l.first-index l.rows) ≡ l.fn.found.items ++ each (λ i. filter (race joined accesses i) all) l.rows;
       counted : l.meter + length (each (λ i. filter (candidate accesses i) all) (drop l.first-index l.rows)) ≡ l.fn.meter + length (each (λ i. filter (candidate accesses i) all) l.rows);
       few : length l.found.items ≤ most_races;
+      rises : l.fn.meter ≤ l.meter;
     }

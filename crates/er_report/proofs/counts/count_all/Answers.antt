@@ -1,6 +1,6 @@
-use Rattle.std.proofs.Common.{◌≡◌, ◌∙◌, ◌≤◌, length, sym}
+use Rattle.std.proofs.Common.{◌≡◌, ◌∙◌, sym}
 use Rattle.er_paths.specs.Paths.{joins}
-use Rattle.er_races.specs.Races.{races_of, most_races}
+use Rattle.er_races.specs.Races.{races_of}
 use Rattle.er_cover.specs.Groups.{grouping_of}
 use Rattle.er_report.proofs.CountLemmas.{actions_told, counts_are, groups_counted, names_counted, paths_told, races_counted}
 use Rattle.er_report.proofs.counts.count_all.Goals as goal

@@ -1,55 +1,39 @@
 use Rattle.std.proofs.Common.{reverse}
-use Rattle.er_run.proofs.AnswerLemmas.{cut_report, given_report, cut_refusal, given_refusal, judgement, compares_report, compares_refusal, tests_report, tests_refusal, reports_no_usage, reports_no_read_fault, reports_memory}
+use Rattle.er_run.proofs.AnswerLemmas.{cut_report, given_report, cut_fault, given_fault, compares_report, compares_fault, tests_report, tests_fault, failed_no_usage, failed_no_read_fault}
 use Rattle.er_run.proofs.answer.answer.Goals as goal
 
-pub report_of-requires : goal.report_of-requires
-report_of-requires g c = judgement _ c.in-Ok.judged c.in-Ok.ensures.accepted
-
-pub returns-in-Ok-clause-no_usage : goal.returns-in-Ok-clause-no_usage
-returns-in-Ok-clause-no_usage g c =
-    let accepted = c.in-Ok.ensures.accepted in
-    reports_no_usage (reverse accepted.records) _ _ _ (c.report_of.ensures.reported (reverse accepted.records) accepted.is_judged)
-
-pub returns-in-Ok-clause-no_read_fault : goal.returns-in-Ok-clause-no_read_fault
-returns-in-Ok-clause-no_read_fault g c =
-    let accepted = c.in-Ok.ensures.accepted in
-    reports_no_read_fault (reverse accepted.records) _ _ _ (c.report_of.ensures.reported (reverse accepted.records) accepted.is_judged)
-
-pub returns-in-Ok-clause-kept : goal.returns-in-Ok-clause-kept
-returns-in-Ok-clause-kept g c = λ is.
-    let accepted = c.in-Ok.ensures.accepted in
-    absurd (reports_memory (reverse accepted.records) _ _ _ (c.report_of.ensures.reported (reverse accepted.records) accepted.is_judged) is)
-
-pub returns-in-Ok-clause-compared : goal.returns-in-Ok-clause-compared
-returns-in-Ok-clause-compared g c = compares_report _ c.in-Ok.judged _ _ _ c.in-Ok.ensures.accepted c.in-Ok.ensures.compared
-
-pub returns-in-Ok-clause-tested : goal.returns-in-Ok-clause-tested
-returns-in-Ok-clause-tested g c = tests_report _ c.in-Ok.judged _ _ _ c.in-Ok.ensures.accepted c.in-Ok.ensures.tested
+pub returns-in-Ok-clause-answered : goal.returns-in-Ok-clause-answered
+returns-in-Ok-clause-answered g c = λ bytes verdict answer.
+    let accepted = rw c.in-Ok.is at verdict in
+    given_report _ bytes accepted.records _ _ _ accepted.legal (c.tell.ensures.reported (reverse accepted.records) accepted.is_judged) answer
 
 pub returns-in-Ok-clause-cut_short : goal.returns-in-Ok-clause-cut_short
-returns-in-Ok-clause-cut_short g c =
-    let accepted = c.in-Ok.ensures.accepted in
-    cut_report _ accepted.records _ _ _ accepted.legal (c.report_of.ensures.reported (reverse accepted.records) accepted.is_judged)
+returns-in-Ok-clause-cut_short g c = λ bytes verdict.
+    let accepted = rw c.in-Ok.is at verdict in
+    cut_report _ bytes accepted.records _ _ _ accepted.legal (c.tell.ensures.reported (reverse accepted.records) accepted.is_judged)
 
-pub returns-in-Ok-clause-answered : goal.returns-in-Ok-clause-answered
-returns-in-Ok-clause-answered g c = λ answer.
-    let accepted = c.in-Ok.ensures.accepted in
-    given_report _ accepted.records _ _ _ accepted.legal (c.report_of.ensures.reported (reverse accepted.records) accepted.is_judged) answer
+pub returns-in-Ok-clause-compared : goal.returns-in-Ok-clause-compared
+returns-in-Ok-clause-compared g c = λ bytes old new verdict by.
+    compares_report bytes c.in-Ok.judged _ old new (rw c.in-Ok.is at verdict) (rw c.in-Ok.is at by)
 
-pub returns-in-Err-Refused-clause-compared : goal.returns-in-Err-Refused-clause-compared
-returns-in-Err-Refused-clause-compared g c = compares_refusal _ _ _ _ _ _ _ _ c.refuse.ensures.refused
+pub returns-in-Ok-clause-tested : goal.returns-in-Ok-clause-tested
+returns-in-Ok-clause-tested g c = λ bytes old new verdict by.
+    tests_report bytes c.in-Ok.judged _ old new (rw c.in-Ok.is at verdict) (rw c.in-Ok.is at by)
 
-pub returns-in-Err-Refused-clause-tested : goal.returns-in-Err-Refused-clause-tested
-returns-in-Err-Refused-clause-tested g c = tests_refusal _ _ _ _ _ _ _ _ c.refuse.ensures.refused
+pub returns-in-Err-clause-answered : goal.returns-in-Err-clause-answered
+returns-in-Err-clause-answered g c = λ bytes verdict. given_fault _ bytes c.in-Err.fault _ _ _ (rw c.in-Err.is at verdict) c.fail.ensures.failed
 
-pub returns-in-Err-Refused-clause-answered : goal.returns-in-Err-Refused-clause-answered
-returns-in-Err-Refused-clause-answered g c =
-    let came = rw (c.in-Err-Refused.line-is, c.in-Err-Refused.cause-is) at c.refuse.ensures.refused in
-    let refused = rw c.in-Err-Refused.field-0-is at c.in-Err-Refused.ensures.refused in
-    given_refusal _ c.in-Err-Refused.line c.in-Err-Refused.cause _ _ _ refused came
+pub returns-in-Err-clause-cut_short : goal.returns-in-Err-clause-cut_short
+returns-in-Err-clause-cut_short g c = λ bytes verdict. cut_fault _ bytes c.in-Err.fault _ _ _ (rw c.in-Err.is at verdict) c.fail.ensures.failed
 
-pub returns-in-Err-Refused-clause-cut_short : goal.returns-in-Err-Refused-clause-cut_short
-returns-in-Err-Refused-clause-cut_short g c =
-    let came = rw (c.in-Err-Refused.line-is, c.in-Err-Refused.cause-is) at c.refuse.ensures.refused in
-    let refused = rw c.in-Err-Refused.field-0-is at c.in-Err-Refused.ensures.refused in
-    cut_refusal _ c.in-Err-Refused.line c.in-Err-Refused.cause _ _ _ refused came
+pub returns-in-Err-clause-compared : goal.returns-in-Err-clause-compared
+returns-in-Err-clause-compared g c = λ bytes old new verdict by. compares_fault _ bytes c.in-Err.fault _ _ _ old new c.fail.ensures.failed
+
+pub returns-in-Err-clause-tested : goal.returns-in-Err-clause-tested
+returns-in-Err-clause-tested g c = λ bytes old new verdict by. tests_fault _ bytes c.in-Err.fault _ _ _ old new c.fail.ensures.failed
+
+pub returns-in-Err-clause-no_usage : goal.returns-in-Err-clause-no_usage
+returns-in-Err-clause-no_usage g c = failed_no_usage _ c.in-Err.fault _ _ _ c.fail.ensures.failed
+
+pub returns-in-Err-clause-no_read_fault : goal.returns-in-Err-clause-no_read_fault
+returns-in-Err-clause-no_read_fault g c = failed_no_read_fault _ c.in-Err.fault _ _ _ c.fail.ensures.failed

@@ -19,7 +19,7 @@ returns-in-Ok-clause-grouped c = λ h stands.
 
 pub returns-in-Ok-clause-tested : goal.returns-in-Ok-clause-tested
 returns-in-Ok-clause-tested c = λ h stands.
-    tested c.args.session.now c.clocks.result.now h c.args.tests.now c.group.new.tests c.clocks.ensures stands c.group.ensures.bound
+    (c.group.ensures.rises, tested c.args.session.now c.clocks.result.now h c.args.tests.now c.group.new.tests c.clocks.ensures stands c.group.ensures.bound)
 
 pub returns-in-Err-TooManyClasses-clause-refused : goal.returns-in-Err-TooManyClasses-clause-refused
 returns-in-Err-TooManyClasses-clause-refused c = λ h stands.

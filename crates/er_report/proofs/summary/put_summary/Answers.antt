@@ -1,0 +1,36 @@
+use Rattle.std.proofs.Common.{◌++◌, codes, rules}
+use Rattle.std.proofs.lemmas.Result.{on_ok_weaker, on_err_weaker}
+use Rattle.er_outside.specs.Ends.{GetsPart}
+use Rattle.er_report.specs.Buffered.{HoldsRest}
+use Rattle.er_report.specs.Report.{count_line, group_lines, closing_lines, summary_of}
+use Rattle.er_report.proofs.BufferedLemmas.{all_came, part_came}
+use Rattle.er_report.proofs.ReportLemmas.{three_held, second_of_three, third_of_three}
+use Rattle.er_report.proofs.summary.put_summary.Goals as goal
+
+pub returns-in_err-put_groups-clause-part : goal.returns-in_err-put_groups-clause-part
+returns-in_err-put_groups-clause-part g c =
+    let sink = g.K.Sink.got in
+    let part : GetsPart (sink c.args.sink.now) (summary_of c.args.number c.args.groups.now c.args.counts.now) (sink c.put_groups.new.sink) =
+    second_of_three _ _ _ _ _ (count_line (codes "generated") c.args.number) (group_lines c.args.groups.now) (closing_lines c.args.counts.now) c.new-buffer.ensures c.in_ok-put_text.ensures.whole c.in_err-put_groups.ensures.part in
+    search rules
+
+pub returns-in_err-put_text-2-clause-part : goal.returns-in_err-put_text-2-clause-part
+returns-in_err-put_text-2-clause-part g c =
+    let sink = g.K.Sink.got in
+    let part : GetsPart (sink c.args.sink.now) (summary_of c.args.number c.args.groups.now c.args.counts.now) (sink c.put_text-2.new.sink) =
+    third_of_three _ _ _ _ _ _ _ (count_line (codes "generated") c.args.number) (group_lines c.args.groups.now) (closing_lines c.args.counts.now) c.new-buffer.ensures c.in_ok-put_text.ensures.whole c.in_ok-put_groups.ensures.whole c.in_err-put_text-2.ensures.part in
+    search rules
+
+pub returns-clause-whole : goal.returns-clause-whole
+returns-clause-whole g c =
+    let sink = g.K.Sink.got in
+    let held : HoldsRest (sink c.args.sink.now) (c.new-buffer.result ++ summary_of c.args.number c.args.groups.now c.args.counts.now) (sink c.put_text-2.new.sink) c.put_text-2.new.buffer =
+    three_held _ _ _ _ _ _ _ _ (count_line (codes "generated") c.args.number) (group_lines c.args.groups.now) (closing_lines c.args.counts.now) c.in_ok-put_text.ensures.whole c.in_ok-put_groups.ensures.whole c.in_ok-put_text-2.ensures.whole in
+    on_ok_weaker c.flush.result (λ more. all_came _ _ _ _ _ _ c.new-buffer.ensures held more) c.flush.ensures.puts.whole
+
+pub returns-clause-part : goal.returns-clause-part
+returns-clause-part g c =
+    let sink = g.K.Sink.got in
+    let held : HoldsRest (sink c.args.sink.now) (c.new-buffer.result ++ summary_of c.args.number c.args.groups.now c.args.counts.now) (sink c.put_text-2.new.sink) c.put_text-2.new.buffer =
+    three_held _ _ _ _ _ _ _ _ (count_line (codes "generated") c.args.number) (group_lines c.args.groups.now) (closing_lines c.args.counts.now) c.in_ok-put_text.ensures.whole c.in_ok-put_groups.ensures.whole c.in_ok-put_text-2.ensures.whole in
+    on_err_weaker c.flush.result (λ more. part_came _ _ _ _ _ _ c.new-buffer.ensures held more) c.flush.ensures.puts.part

@@ -1,0 +1,61 @@
+//! Words that are not accepted.
+
+use crate::reading::read;
+use er_words::{WordsFault, read_words};
+use std::test::Fail;
+
+static REFUSED: [&str; 36] = [
+    "check check",
+    "check gen",
+    "nonsense",
+    "Check",
+    "chec",
+    "checks",
+    "gEn",
+    "check --number 5",
+    "--number 5",
+    "--number 5 --json",
+    "gen",
+    "gen --json",
+    "gen --number",
+    "gen --number 0",
+    "gen --number 1501",
+    "gen --number 4294967297",
+    "gen --number 08",
+    "gen --number +8",
+    "gen --number -8",
+    "gen --number 8.0",
+    "gen --number=",
+    "gen --number five",
+    "gen --number 5 6",
+    "gen --number 5 --json",
+    "gen --number 5 --number 5",
+    "gen --number 5 --number 6",
+    "--json --json",
+    "--json=true",
+    "-j",
+    "--jso",
+    "--shards 8",
+    "--shards 0",
+    "--shards 65",
+    "--shards 08",
+    "--help",
+    "--version",
+];
+
+#[test]
+fn usage(rt: HostRuntime) -> Result<(), Fail> {
+    for line in &REFUSED {
+        let command = read(rt.alloc(), line)?;
+        assert_eq!(rt; command, Err(WordsFault::Usage));
+    }
+    Ok(())
+}
+
+#[test]
+fn an_empty_word(rt: HostRuntime) -> Result<(), Fail> {
+    let alloc = rt.alloc();
+    let words = vec![in alloc; String::new(alloc)]?;
+    assert_eq!(rt; read_words(alloc, &words), Err(WordsFault::Usage));
+    Ok(())
+}
