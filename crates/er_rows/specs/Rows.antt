@@ -10,7 +10,7 @@ use Rattle.er_trace.specs.declared.record.Loc.TheVariants.{Var, Elem}
 use Rattle.er_trace.specs.Trace.{text}
 use Rattle.er_history.specs.Rules.{same_bytes, rules}
 use Rattle.er_report.specs.Report.{refusal}
-use Rattle.er_run.specs.Answer.{IsRefused}
+use Rattle.er_run.specs.Answer.{FirstIllegal}
 use Rattle.er_run.specs.Legal.{cause, end_cause}
 use Rattle.er_run.specs.Report.{report}
 
@@ -143,11 +143,11 @@ pub record Orders : Type 0 where
 
 -- line 3 is the first illegal one of these bytes
 abbrev pub UnknownTimeout : Type 0
-UnknownTimeout = IsRefused (codes "webtrace 1\nparse 0 1 plain\ntimer 9\nend\n") 3 Unknown
+UnknownTimeout = FirstIllegal (codes "webtrace 1\nparse 0 1 plain\ntimer 9\nend\n") 3 Unknown
 
 abbrev pub NotAScript : Type 0
-NotAScript = IsRefused (codes "webtrace 1\nparse 0 1 plain\nexec 1\nend\n") 3 NotScript
+NotAScript = FirstIllegal (codes "webtrace 1\nparse 0 1 plain\nexec 1\nend\n") 3 NotScript
 
 -- and line 4 of these
 abbrev pub RunTooLate : Type 0
-RunTooLate = IsRefused (codes "webtrace 1\nparse 0 1 sync\nparse 0 2 plain\nexec 1\nend\n") 4 OutOfOrder
+RunTooLate = FirstIllegal (codes "webtrace 1\nparse 0 1 sync\nparse 0 2 plain\nexec 1\nend\n") 4 OutOfOrder

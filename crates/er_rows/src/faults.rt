@@ -1,7 +1,7 @@
 //! Failing reads and writes, and want of memory. After a failed call all later ones would fail too, so one fault shows that none came.
 
 use crate::rows::timeouts_that_race;
-use crate::through::{Done, Ends, sound, through};
+use crate::through::{Done, Ends, in_pieces, sound, through};
 use er_run::outcome::Outcome;
 use std::alloc::{AllocError, Global};
 use std::test::Fail;
@@ -28,12 +28,12 @@ fn a_failing_read(rt: HostRuntime) -> Result<(), Fail> {
     Ok(())
 }
 
-/// A failed read where the input would have been refused, or would have ended.
+/// A failed read where the input would have ended.
 #[test]
 fn a_failing_last_read(rt: HostRuntime) -> Result<(), Fail> {
     let alloc = rt.alloc();
     let row = timeouts_that_race();
-    for (input, first) in [(row.trace, 2), ("nonsense\n", 2), ("", 1)] {
+    for (input, first) in [(row.trace, 2), ("", 1)] {
         let ends = Ends {
             piece: 1000,
             failing_reads: vec![in alloc; first, first + 1, first + 2]?,
@@ -62,6 +62,25 @@ fn no_read_after_the_end(rt: HostRuntime) -> Result<(), Fail> {
             failing_writes: Vec::new(alloc),
             room: 1000,
         };
+        let done = through(alloc, &[], input.as_bytes(), ends)?;
+        assert_eq!(rt; done.written.as_slice(), output.as_bytes(), "{input}");
+        assert_eq!(rt; done.read_faults, 0, "{input}");
+    }
+    Ok(())
+}
+
+/// The read of the byte that decides is the last: those after it would fail.
+#[test]
+fn no_read_after_a_refusal(rt: HostRuntime) -> Result<(), Fail> {
+    let alloc = rt.alloc();
+    for (input, decides, output) in [
+        ("nonsense\n", 9, "refused 1 bad-header\n"),
+        ("webtrace 1\nnonsense\n", 20, "refused 2 bad-record\n"),
+        ("webtrace 1\ntimer 9\n", 19, "refused 2 unknown\n"),
+        ("webtrace 1\nend\n\n", 16, "refused 3 after-end\n"),
+    ] {
+        let mut ends = in_pieces(alloc, 1);
+        ends.failing_reads = vec![in alloc; decides + 1, decides + 2, decides + 3]?;
         let done = through(alloc, &[], input.as_bytes(), ends)?;
         assert_eq!(rt; done.written.as_slice(), output.as_bytes(), "{input}");
         assert_eq!(rt; done.read_faults, 0, "{input}");
@@ -112,9 +131,7 @@ fn pieces(rt: HostRuntime) -> Result<(), Fail> {
     let alloc = rt.alloc();
     let row = timeouts_that_race();
     for piece in [1, 2, 3, 7, 16, 85] {
-        let mut ends = sound(alloc);
-        ends.piece = piece;
-        let done = through(alloc, &[], row.trace.as_bytes(), ends)?;
+        let done = through(alloc, &[], row.trace.as_bytes(), in_pieces(alloc, piece))?;
         assert_eq!(rt; done.written.as_slice(), row.report.as_bytes());
     }
     Ok(())

@@ -1,6 +1,6 @@
 //! Rows at a limit: of lines, of a line's length, of actions, of inline dispatches, and of accesses.
 
-use crate::through::{sound, through};
+use crate::through::{in_pieces, sound, through};
 use std::alloc::{AllocError, Global};
 use std::test::Fail;
 
@@ -30,12 +30,14 @@ fn as_many_lines_as_may_be(rt: HostRuntime) -> Result<(), Fail> {
     let alloc = rt.alloc();
     let mut input = reads(alloc, MOST_LINES - 3)?;
     input.extend_from_slice(b"end\n")?;
-    let done = through(alloc, &[], &input, sound(alloc))?;
-    assert_eq!(rt; done.outcome.status(), 0);
-    assert_eq!(rt;
-        done.written.as_slice(),
-        b"report 1\nactions 1\naccesses 1\npairs 0\nraces 0\ngroups 0\nchains 1\nlinks 0\nend\n".as_slice()
-    );
+    for piece in [1, 4096] {
+        let done = through(alloc, &[], &input, in_pieces(alloc, piece))?;
+        assert_eq!(rt; done.outcome.status(), 0);
+        assert_eq!(rt;
+            done.written.as_slice(),
+            b"report 1\nactions 1\naccesses 1\npairs 0\nraces 0\ngroups 0\nchains 1\nlinks 0\nend\n".as_slice()
+        );
+    }
     Ok(())
 }
 
@@ -43,12 +45,14 @@ fn as_many_lines_as_may_be(rt: HostRuntime) -> Result<(), Fail> {
 fn a_line_too_many(rt: HostRuntime) -> Result<(), Fail> {
     let alloc = rt.alloc();
     let input = reads(alloc, MOST_LINES - 1)?;
-    let done = through(alloc, &[], &input, sound(alloc))?;
-    assert_eq!(rt; done.outcome.status(), 3);
-    assert_eq!(rt;
-        done.written.as_slice(),
-        b"refused 2097153 too-many-lines\n".as_slice()
-    );
+    for piece in [1, 4096] {
+        let done = through(alloc, &[], &input, in_pieces(alloc, piece))?;
+        assert_eq!(rt; done.outcome.status(), 3);
+        assert_eq!(rt;
+            done.written.as_slice(),
+            b"refused 2097153 too-many-lines\n".as_slice()
+        );
+    }
     Ok(())
 }
 
@@ -64,8 +68,10 @@ fn a_long_line(rt: HostRuntime) -> Result<(), Fail> {
             input.push(b'a')?;
         }
         input.extend_from_slice(b"\nend\n")?;
-        let done = through(alloc, &[], &input, sound(alloc))?;
-        assert_eq!(rt; done.written.as_slice(), output.as_bytes());
+        for piece in [1, 4096] {
+            let done = through(alloc, &[], &input, in_pieces(alloc, piece))?;
+            assert_eq!(rt; done.written.as_slice(), output.as_bytes());
+        }
     }
     Ok(())
 }

@@ -8,6 +8,8 @@ mod coverage;
 #[cfg(test)]
 mod dispatches;
 #[cfg(test)]
+mod endless;
+#[cfg(test)]
 mod faults;
 #[cfg(test)]
 mod first_path;

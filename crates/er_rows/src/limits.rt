@@ -193,3 +193,22 @@ fn too_many_of_all(rt: HostRuntime) -> Result<(), Fail> {
     );
     Ok(())
 }
+
+/// A limit is asked with the read that brings the `end` line: those after it would fail.
+#[test]
+fn no_read_after_a_limit(rt: HostRuntime) -> Result<(), Fail> {
+    let alloc = rt.alloc();
+    for (count, reads, output) in [
+        (182, 2, "refused 550 too-many-classes\n"),
+        (725, 6, "refused 2179 too-many-races\n"),
+        (5794, 49, "refused 17386 too-many-pairs\n"),
+    ] {
+        let input = timeouts(alloc, count)?;
+        let mut ends = sound(alloc);
+        ends.failing_reads = vec![in alloc; reads + 1, reads + 2, reads + 3]?;
+        let done = through(alloc, &[], &input, ends)?;
+        assert_eq!(rt; done.written.as_slice(), output.as_bytes());
+        assert_eq!(rt; done.read_faults, 0, "{output}");
+    }
+    Ok(())
+}

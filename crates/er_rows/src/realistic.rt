@@ -1,7 +1,7 @@
 //! A realistic load: two frames, a click, an interval and a request.
 
 use crate::row::{Counts, Row};
-use crate::through::{Ends, through};
+use crate::through::{Ends, in_pieces, through};
 use er_run::outcome::Outcome;
 use std::test::Fail;
 
@@ -22,18 +22,11 @@ pub(crate) static LOAD: Row = Row {
 
 /// The same report comes whether the source gives all bytes at once or one at a time.
 #[test]
-fn in_pieces(rt: HostRuntime) -> Result<(), Fail> {
+fn however_it_is_cut(rt: HostRuntime) -> Result<(), Fail> {
     let alloc = rt.alloc();
     let due = LOAD.report(alloc)?;
     for piece in [1, 7, 4096] {
-        let ends = Ends {
-            piece,
-            failing_reads: Vec::new(alloc),
-            taken: 4096,
-            failing_writes: Vec::new(alloc),
-            room: 65536,
-        };
-        let done = through(alloc, &[], LOAD.trace.as_bytes(), ends)?;
+        let done = through(alloc, &[], LOAD.trace.as_bytes(), in_pieces(alloc, piece))?;
         assert_eq!(rt; done.outcome, Outcome::Races);
         assert_eq!(rt; done.written.as_slice(), due.as_bytes());
     }

@@ -1,7 +1,7 @@
 //! The worked rows through `run`, table by table.
 
 use crate::row::{Refusal, Row};
-use crate::through::{sound, through};
+use crate::through::{in_pieces, sound, through};
 use crate::{
     coverage, dispatches, first_path, loads, naming, orders, pieces, requests, rows, scripts,
     timers,
@@ -10,24 +10,28 @@ use std::alloc::{AllocError, Global};
 use std::process::Abort;
 use std::test::Fail;
 
-/// Each trace gives its report.
+/// Each trace gives its report, whether it comes at once or byte by byte.
 fn reports(rt: &impl Abort, alloc: Global, rows: &[Row]) -> Result<(), AllocError> {
     for row in rows {
-        let done = through(alloc, &[], row.trace.as_bytes(), sound(alloc))?;
         let due = row.report(alloc)?;
-        assert!(rt; done.outcome.status() == row.status(), "{}", row.trace);
-        assert!(rt; done.written.as_slice() == due.as_bytes(), "{}", row.trace);
+        for piece in [1, 4096] {
+            let done = through(alloc, &[], row.trace.as_bytes(), in_pieces(alloc, piece))?;
+            assert!(rt; done.outcome.status() == row.status(), "{}", row.trace);
+            assert!(rt; done.written.as_slice() == due.as_bytes(), "{}", row.trace);
+        }
     }
     Ok(())
 }
 
-/// Each trace is refused with its line and cause.
+/// Each trace is refused with its line and cause, whether it comes at once or byte by byte.
 fn refusals(rt: &impl Abort, alloc: Global, rows: &[Refusal]) -> Result<(), AllocError> {
     for row in rows {
-        let done = through(alloc, &[], row.trace.as_bytes(), sound(alloc))?;
         let due = row.text(alloc)?;
-        assert!(rt; done.outcome.status() == 3, "{}", row.trace);
-        assert!(rt; done.written.as_slice() == due.as_bytes(), "{}", row.trace);
+        for piece in [1, 4096] {
+            let done = through(alloc, &[], row.trace.as_bytes(), in_pieces(alloc, piece))?;
+            assert!(rt; done.outcome.status() == 3, "{}", row.trace);
+            assert!(rt; done.written.as_slice() == due.as_bytes(), "{}", row.trace);
+        }
     }
     Ok(())
 }

@@ -38,8 +38,17 @@ pub(crate) fn sound(alloc: Global) -> Ends
     ensures piece { 1 ≤ result.piece }
     ensures taken { 1 ≤ result.taken }
 {
+    in_pieces(alloc, 4096)
+}
+
+/// Ends that never fail, where a read gives at most so many bytes.
+pub(crate) fn in_pieces(alloc: Global, piece: u32) -> Ends
+    requires { 1 ≤ piece }
+    ensures piece { 1 ≤ result.piece }
+    ensures taken { 1 ≤ result.taken }
+{
     Ends {
-        piece: 4096,
+        piece,
         failing_reads: Vec::new(alloc),
         taken: 4096,
         failing_writes: Vec::new(alloc),

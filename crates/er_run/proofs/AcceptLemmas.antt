@@ -1,24 +1,24 @@
 -- From what was read and judged to the answer of the bytes.
-use Rattle.std.proofs.Common.{◌≡◌, ℕ, ◌+◌, ◌<◌, ◌≤◌, List, [], ◌∷◌, ◌++◌, length, take, refl, sym, ap, ◌∙◌, subst, arith, reverse, Option, Some, None, zero, suc, append_assoc, append-nil, slice_get, nat_lt, MatchBool, true, false, Bool}
+use Rattle.std.proofs.Common.{◌≡◌, ℕ, ◌+◌, ◌<◌, ◌≤◌, List, [], ◌∷◌, ◌++◌, length, take, refl, sym, ap, ◌∙◌, subst, arith, reverse, Option, Some, None, zero, suc, append_assoc, append-nil, slice_get}
 use Rattle.std.specs.List.{AllByRecursion}
 use Rattle.std.proofs.lemmas.List.Concat.{flat_map-append}
 use Rattle.std.proofs.lemmas.Option.{slice_get_within}
-use Rattle.er_run.specs.declared.accept.LineRefusal.{LineRefusal}
-use Rattle.std.proofs.lemmas.Bool.Decides.{nat_tests}
+use Rattle.er_run.specs.declared.input.LineRefusal.{LineRefusal}
 use Rattle.er_graph.specs.declared.fault.GraphFault.TheVariants as graph_faults
 use Rattle.er_run.specs.Session.{IsFaultOf}
 use Rattle.er_trace.specs.declared.fault.FeedFault.{FeedFault}
 use Rattle.er_trace.specs.declared.fault.FeedFault.TheVariants as faults
 use Rattle.std.proofs.lemmas.List.{length-reverse}
-use Rattle.er_run.specs.Accepted.{IsReading, IsRefusal, IsEndFault}
+use Rattle.er_run.specs.Accepted.{IsRefusal, IsEndFault}
+use Rattle.er_run.specs.Reading.{IsReading}
 use Rattle.er_text.specs.declared.causes.Cause.{Cause}
 use Rattle.er_trace.specs.declared.record.Record.{Record}
 use Rattle.er_trace.specs.Spelling.{spelling, IsRecord}
-use Rattle.er_trace.specs.Trace.{Place, Start, After, Ended, records_before, line_number, line, lines, header, end_word, most_lines, IsPlace, Refuses}
+use Rattle.er_trace.specs.Trace.{Place, Start, After, Ended, records_before, bytes_before, line_number, line, lines, header, end_word, most_lines, IsPlace, Refuses}
 use Rattle.er_run.specs.Legal.{IsLegal, end_cause}
 use Rattle.er_run.specs.Legal as legality
 use Rattle.er_history.specs.Rules.{rules}
-use Rattle.er_run.specs.Answer.{most_bytes, IsLegalTrace, IsLegalBefore, FirstIllegal, OfLine, OfRecord, OfEnd, IsRefused}
+use Rattle.er_run.specs.Answer.{IsLegalTrace, IsLegalBefore, FirstIllegal, OfLine, OfRecord, OfEnd}
 
 -- a list around one of its members
 pub record Around {X : Type 0} (xs : List X) (at : ℕ) (x : X) : Type 0 where
@@ -64,15 +64,16 @@ illegal_record bytes more records at x c spelled each few found legal cause =
       cause = subst (λ h. legality.cause rules (reverse h) x ≡ Some c) r.taken cause;
     })
 
-illegal_before : (bytes : List ℕ) (place : Place) (records : List Record) (why : Cause) → Refuses bytes place why → records ≡ records_before place → (at : ℕ) (x : Record) (c : Cause)
+-- that stand before a place
+pub illegal_before : (bytes : List ℕ) (place : Place) (rest : List ℕ) (records : List Record) → IsPlace place → bytes ≡ bytes_before place ++ rest → records ≡ records_before place → (at : ℕ) (x : Record) (c : Cause)
     → slice_get records at ≡ Some x → IsLegal rules (reverse (take at records)) → legality.cause rules (reverse (take at records)) x ≡ Some c → FirstIllegal bytes (at + 2) c
-illegal_before bytes Start records why r same at x c found legal cause = let none : slice_get {X = Record} [] at ≡ Some x = subst (λ rs. slice_get rs at ≡ Some x) same found in absurd (cc)
-illegal_before bytes (After earlier) records why r same at x c found legal cause =
-    illegal_record bytes r.rest records at x c (subst (λ rs. bytes ≡ (line header ++ lines rs) ++ r.rest) (sym same) r.begins) (subst (AllByRecursion IsRecord) (sym same) r.is_place.each) (omega (arith, ap length same, r.is_place.few)) found legal cause
-illegal_before bytes (Ended earlier) records why r same at x c found legal cause =
-    illegal_record bytes (line end_word ++ r.rest) records at x c (subst (λ rs. bytes ≡ (line header ++ lines rs) ++ (line end_word ++ r.rest)) (sym same) (r.begins ∙ append_assoc (line header ++ lines earlier) (line end_word) r.rest)) (subst (AllByRecursion IsRecord) (sym same) r.is_place.each) (omega (arith, ap length same, r.is_place.few)) found legal cause
+illegal_before bytes Start rest records is begins same at x c found legal cause = let none : slice_get {X = Record} [] at ≡ Some x = subst (λ rs. slice_get rs at ≡ Some x) same found in absurd (cc)
+illegal_before bytes (After earlier) rest records is begins same at x c found legal cause =
+    illegal_record bytes rest records at x c (subst (λ rs. bytes ≡ (line header ++ lines rs) ++ rest) (sym same) begins) (subst (AllByRecursion IsRecord) (sym same) is.each) (omega (arith, ap length same, is.few)) found legal cause
+illegal_before bytes (Ended earlier) rest records is begins same at x c found legal cause =
+    illegal_record bytes (line end_word ++ rest) records at x c (subst (λ rs. bytes ≡ (line header ++ lines rs) ++ (line end_word ++ rest)) (sym same) (begins ∙ append_assoc (line header ++ lines earlier) (line end_word) rest)) (subst (AllByRecursion IsRecord) (sym same) is.each) (omega (arith, ap length same, is.few)) found legal cause
 
-few_before : (place : Place) (records : List Record) → IsPlace place → records ≡ records_before place → length records ≤ most_lines
+pub few_before : (place : Place) (records : List Record) → IsPlace place → records ≡ records_before place → length records ≤ most_lines
 few_before Start records h same = omega (arith, ap length same)
 few_before (After earlier) records h same = omega (arith, ap length same, h.few)
 few_before (Ended earlier) records h same = omega (arith, ap length same, h.few)
@@ -81,23 +82,16 @@ few_before (Ended earlier) records h same = omega (arith, ap length same, h.few)
 pub illegal_read : (bytes : List ℕ) (records : List Record) (refused : Option LineRefusal) (at : ℕ) (x : Record) (c : Cause) → IsReading bytes records refused
     → slice_get records at ≡ Some x → IsLegal rules (reverse (take at records)) → legality.cause rules (reverse (take at records)) x ≡ Some c → FirstIllegal bytes (at + 2) c
 illegal_read bytes records None at x c reading found legal cause = illegal_record bytes (line end_word) records at x c reading.1 reading.0.each (omega (arith, reading.0.few)) found legal cause
-illegal_read bytes records (Some refused) at x c reading found legal cause = illegal_before bytes reading.0 records refused.cause reading.1 reading.3 at x c found legal cause
+illegal_read bytes records (Some refused) at x c reading found legal cause = illegal_before bytes reading.0 reading.1.rest records reading.1.is_place reading.1.begins reading.3 at x c found legal cause
 
 pub few_read : (bytes : List ℕ) (records : List Record) (refused : Option LineRefusal) → IsReading bytes records refused → length records ≤ most_lines
 few_read bytes records None reading = omega (arith, reading.0.few)
 few_read bytes records (Some refused) reading = few_before reading.0 records reading.1.is_place reading.3
 
-in_second : (b : Bool) (P Q : Type 0) → b ≡ false → Q → MatchBool b P Q
-in_second true P Q e q = absurd (cc)
-in_second false P Q e q = q
-
-pub refused_within : (bytes : List ℕ) (n : ℕ) (c : Cause) → length bytes ≤ most_bytes → FirstIllegal bytes n c → IsRefused bytes n c
-refused_within bytes n c few illegal = let within : nat_lt most_bytes (length bytes) ≡ false = grind (arith, nat_tests) in in_second _ _ _ within illegal
-
-pub refused_judged : (bytes : List ℕ) (records : List Record) (refused : Option LineRefusal) (line : ℕ) (c : Cause) → length bytes ≤ most_bytes → IsReading bytes records refused → IsFaultOf records (graph_faults.Refused line c) → IsRefused bytes line c
-refused_judged bytes records refused line c few reading judged =
+pub refused_judged : (bytes : List ℕ) (records : List Record) (refused : Option LineRefusal) (line : ℕ) (c : Cause) → IsReading bytes records refused → IsFaultOf records (graph_faults.Refused line c) → FirstIllegal bytes line c
+refused_judged bytes records refused line c reading judged =
     let first : FirstIllegal bytes (judged.0 + 2) c = illegal_read bytes records refused judged.0 judged.3.0 c reading judged.3.1 judged.2 judged.3.2 in
-    refused_within bytes line c few (subst (λ n. FirstIllegal bytes n c) (sym judged.1) first)
+    (subst (λ n. FirstIllegal bytes n c) (sym judged.1) first)
 
 -- the lines before a place are legal, where its records are, and they are within the limits if the `end` line stands before it
 legal_at : (place : Place) (records : List Record) → records ≡ records_before place → IsLegal rules (reverse records) → (length records + 2 < line_number place → end_cause (reverse records) ≡ None) → IsLegalBefore place
@@ -107,11 +101,11 @@ legal_at (Ended earlier) records same legal within =
     (subst (λ rs. IsLegal rules (reverse rs)) same legal, ap (λ rs. end_cause (reverse rs)) (sym same) ∙ within (omega (arith, ap length same)))
 
 -- the line behind the records is the first illegal one
-pub refused_line : (bytes : List ℕ) (records : List Record) (refused : Option LineRefusal) (line : LineRefusal) → length bytes ≤ most_bytes → IsReading bytes records refused → refused ≡ Some line → IsLegal rules (reverse records)
-    → (length records + 2 < line.line → end_cause (reverse records) ≡ None) → IsRefused bytes line.line line.cause
-refused_line bytes records refused line few reading is legal within =
+pub refused_line : (bytes : List ℕ) (records : List Record) (refused : Option LineRefusal) (line : LineRefusal) → IsReading bytes records refused → refused ≡ Some line → IsLegal rules (reverse records)
+    → (length records + 2 < line.line → end_cause (reverse records) ≡ None) → FirstIllegal bytes line.line line.cause
+refused_line bytes records refused line reading is legal within =
     let read : IsReading bytes records (Some line) = subst (IsReading bytes records) is reading in
-    refused_within bytes line.line line.cause few (OfLine read.0 read.2 (legal_at read.0 records read.3 legal (λ behind. within (omega (arith, behind, read.2)))) read.1)
+    (OfLine read.0 read.2 (legal_at read.0 records read.3 legal (λ behind. within (omega (arith, behind, read.2)))) read.1)
 
 -- no line up to the one behind the records is refused
 abbrev pub IsRead : List Record → Option LineRefusal → Type 0
@@ -144,10 +138,10 @@ ended bytes records None c reading read legal cause =
 ended bytes records (Some refused) c reading read legal cause = ended_at bytes reading.0 records refused.cause c reading.1 reading.3 (omega (arith, read, reading.2)) legal cause
 
 -- the `end` line behind the records is the first illegal one
-pub refused_end : (bytes : List ℕ) (records : List Record) (refused : Option LineRefusal) (n : ℕ) (c : Cause) → length bytes ≤ most_bytes → IsReading bytes records refused → IsRead records refused → IsLegal rules (reverse records)
-    → n ≡ length records + 2 → end_cause (reverse records) ≡ Some c → IsRefused bytes n c
-refused_end bytes records refused n c few reading read legal at cause =
-    refused_within bytes n c few (subst (λ k. FirstIllegal bytes k c) (sym at) (ended bytes records refused c reading read legal cause))
+pub refused_end : (bytes : List ℕ) (records : List Record) (refused : Option LineRefusal) (n : ℕ) (c : Cause) → IsReading bytes records refused → IsRead records refused → IsLegal rules (reverse records)
+    → n ≡ length records + 2 → end_cause (reverse records) ≡ Some c → FirstIllegal bytes n c
+refused_end bytes records refused n c reading read legal at cause =
+    (subst (λ k. FirstIllegal bytes k c) (sym at) (ended bytes records refused c reading read legal cause))
 
 -- what is known where no line up to the end was refused
 
@@ -163,11 +157,11 @@ pub read_none : (records : List Record) (refused : Option LineRefusal) → ((lin
 read_none records None none = tt
 read_none records (Some line) none = absurd (none line refl)
 
-pub legal_read : (bytes : List ℕ) (records : List Record) (refused : Option LineRefusal) → refused ≡ None → length bytes ≤ most_bytes → IsReading bytes records refused → IsLegal rules (reverse records) → end_cause (reverse records) ≡ None → IsLegalTrace bytes records
-legal_read bytes records None is few reading legal within = record { few = few; is_trace = reading.0; spelled = reading.1; legal = legal; within = within }
-legal_read bytes records (Some line) is few reading legal within = absurd (cc)
+pub legal_read : (bytes : List ℕ) (records : List Record) (refused : Option LineRefusal) → refused ≡ None → IsReading bytes records refused → IsLegal rules (reverse records) → end_cause (reverse records) ≡ None → IsLegalTrace bytes records
+legal_read bytes records None is reading legal within = record { is_trace = reading.0; spelled = reading.1; legal = legal; within = within }
+legal_read bytes records (Some line) is reading legal within = absurd (cc)
 
-pub refused_fault : (bytes : List ℕ) (records : List Record) (refused : Option LineRefusal) (fault : FeedFault) → length bytes ≤ most_bytes → IsReading bytes records refused → IsRead records refused → IsLegal rules (reverse records)
+pub refused_fault : (bytes : List ℕ) (records : List Record) (refused : Option LineRefusal) (fault : FeedFault) → IsReading bytes records refused → IsRead records refused → IsLegal rules (reverse records)
     → IsEndFault (reverse records) fault → IsRefusal bytes fault
-refused_fault bytes records refused (faults.Refused n c) few reading read legal fault = refused_end bytes records refused n c few reading read legal (omega (arith, fault.0, length-reverse records)) fault.1
-refused_fault bytes records refused faults.NoMemory few reading read legal fault = tt
+refused_fault bytes records refused (faults.Refused n c) reading read legal fault = refused_end bytes records refused n c reading read legal (omega (arith, fault.0, length-reverse records)) fault.1
+refused_fault bytes records refused faults.NoMemory reading read legal fault = tt

@@ -1,6 +1,5 @@
 -- From what was written to the promise of an answer.
-use Rattle.std.proofs.Common.{◌≡◌, ◌≢◌, ℕ, List, [], ◌∷◌, Option, Result, Ok, Err, refl, sym, ap, ◌∙◌, subst, inl, inr, ◌⊎◌, reverse, length, ◌+◌, ◌*◌, ◌≤◌}
-use Rattle.std.specs.Prelude.{IfOk, IfErr}
+use Rattle.std.proofs.Common.{◌≡◌, ◌≢◌, ℕ, List, [], ◌∷◌, Option, refl, sym, ap, ◌∙◌, subst, inl, inr, ◌⊎◌, reverse, length, ◌+◌, ◌*◌, ◌≤◌}
 use Rattle.er_outside.specs.Ends.{GetsPart}
 use Rattle.er_text.specs.declared.causes.Cause.{Cause}
 use Rattle.er_trace.specs.declared.record.Record.{Record}
@@ -10,23 +9,16 @@ use Rattle.er_words.specs.declared.commands.Command.{Command}
 use Rattle.er_run.specs.declared.outcome.Outcome.{Outcome}
 use Rattle.er_run.specs.declared.outcome.Outcome.TheVariants.{Clean, Races, Usage, Refused, ReadFault, WriteFault, NoMemory}
 use Rattle.er_run.specs.declared.end.Judged.{Judged}
-use Rattle.er_run.specs.declared.accept.LineRefusal.{LineRefusal}
 use Rattle.er_trace.proofs.OneTrace.{one_trace}
 use Rattle.er_run.specs.Races.{races, candidates, classes, groups}
 use Rattle.er_run.specs.Report.{text_for, refusal_for}
-use Rattle.er_run.specs.Answer.{IsLegalTrace, IsRefused, Answers}
+use Rattle.er_run.specs.Answer.{IsLegalTrace, FirstIllegal, Answers}
 use Rattle.er_run.specs.Promise.{IsAnswer, IsGiven, IsPartGiven, Compares, Tests}
-use Rattle.er_run.specs.Accepted.{IsAccepted, IsCompared, IsTested, IsReadOf, IsRefusal, IsVerdict, ReportsOf, FailedAs, RefusedAs}
+use Rattle.er_run.specs.Accepted.{IsAccepted, IsCompared, IsTested, IsRefusal, ReportsOf, FailedAs, RefusedAs}
 
 empty_or_not : {X : Type 0} (xs : List X) → (xs ≡ []) ⊎ (xs ≢ [])
 empty_or_not {X} [] = inl refl
 empty_or_not {X} (x ∷ xs) = inr (λ e. cc)
-
--- what was judged of what was read is what the bytes come to
-pub verdict_by : (bytes : List ℕ) (records : List Record) (refused : Option LineRefusal) (verdict : Result Judged FeedFault) → IsReadOf bytes records refused
-    → IfOk verdict (λ judged. (bytes : List ℕ) → IsReadOf bytes records refused → IsAccepted bytes judged) → IfErr verdict (λ fault. (bytes : List ℕ) → IsReadOf bytes records refused → IsRefusal bytes fault) → IsVerdict bytes verdict
-verdict_by bytes records refused (Ok judged) read accepted refusal = accepted bytes read
-verdict_by bytes records refused (Err fault) read accepted refusal = refusal bytes read
 
 -- a legal trace answers its text, whichever outcome that is
 pub legal_answer : (asked : Command) (bytes : List ℕ) (records : List Record) → IsLegalTrace bytes records → (outcome : Outcome) × Answers asked bytes outcome (text_for asked (reverse records))
@@ -40,17 +32,17 @@ cut_report asked bytes records result old new legal came is =
     let any = legal_answer asked bytes records legal in
     record { outcome = any.0; due = text_for asked (reverse records); answers = any.1; gave = part }
 
-cut_refusal : (asked : Command) (bytes : List ℕ) (n : ℕ) (c : Cause) (result : Outcome) (old new : Option (List ℕ)) → IsRefused bytes n c → RefusedAs n c (refusal_for asked n c) result old new → result ≡ WriteFault
+cut_refusal : (asked : Command) (bytes : List ℕ) (n : ℕ) (c : Cause) (result : Outcome) (old new : Option (List ℕ)) → FirstIllegal bytes n c → RefusedAs n c (refusal_for asked n c) result old new → result ≡ WriteFault
     → IsPartGiven asked bytes old new
 cut_refusal asked bytes n c result old new refused came is =
     let part : GetsPart old (refusal_for asked n c) new = subst (λ r. RefusedAs n c (refusal_for asked n c) r old new) is came in
     record { outcome = Refused n c; due = refusal_for asked n c; answers = (refused, refl); gave = part }
 
-given_refusal : (asked : Command) (bytes : List ℕ) (n : ℕ) (c : Cause) (result : Outcome) (old new : Option (List ℕ)) → IsRefused bytes n c → RefusedAs n c (refusal_for asked n c) result old new → IsAnswer result
+given_refusal : (asked : Command) (bytes : List ℕ) (n : ℕ) (c : Cause) (result : Outcome) (old new : Option (List ℕ)) → FirstIllegal bytes n c → RefusedAs n c (refusal_for asked n c) result old new → IsAnswer result
     → IsGiven asked bytes result old new
 given_refusal asked bytes n c (Refused m d) old new refused came answer = record {
   due = refusal_for asked n c;
-  answers = (subst (λ k. IsRefused bytes k d) (sym came.0) (subst (λ why. IsRefused bytes n why) (sym came.1) refused), ap (λ k. refusal_for asked k c) (sym came.0) ∙ ap (λ why. refusal_for asked m why) (sym came.1));
+  answers = (subst (λ k. FirstIllegal bytes k d) (sym came.0) (subst (λ why. FirstIllegal bytes n why) (sym came.1) refused), ap (λ k. refusal_for asked k c) (sym came.0) ∙ ap (λ why. refusal_for asked m why) (sym came.1));
   gave = came.2;
 }
 given_refusal asked bytes n c Clean old new refused came answer = absurd came

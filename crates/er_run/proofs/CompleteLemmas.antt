@@ -1,43 +1,63 @@
 -- What was taken answers as all that the source held.
-use Rattle.std.proofs.Common.{◌≡◌, ◌≢◌, ℕ, ◌<◌, Bool, true, false, List, [], ◌++◌, length, Option, Some, None, refl, sym, subst, inl, inr, ◌⊎◌, ⊎_elim, arith, nat_lt, MatchBool, length-append}
+use Rattle.std.proofs.Common.{◌≡◌, ◌≢◌, ℕ, List, [], ◌++◌, Option, Some, None, refl, sym, ap, ◌∙◌, subst, inl, inr, ◌⊎◌, ⊎_elim, arith, append_assoc}
 use Rattle.std.specs.Prelude.{option_map}
-use Rattle.std.proofs.lemmas.Bool.Decides.{nat_tests}
 use Rattle.std.proofs.lemmas.Grind.{common_steps}
+use Rattle.er_text.specs.declared.causes.Cause.{Cause}
+use Rattle.er_text.specs.declared.causes.Cause.TheVariants.{NoEnd}
+use Rattle.er_trace.specs.Spelling.{spelling}
+use Rattle.er_trace.specs.Trace.{After, bytes_before, line, end_word}
+use Rattle.er_trace.proofs.StopLaws.{longer as longer_refusal}
+use Rattle.er_words.specs.declared.commands.Command.{Command}
 use Rattle.er_run.specs.declared.outcome.Outcome.{Outcome}
 use Rattle.er_run.specs.declared.outcome.Outcome.TheVariants.{Clean, Races, Usage, Refused, ReadFault, WriteFault, NoMemory}
-use Rattle.er_words.specs.declared.commands.Command.{Command}
-use Rattle.er_run.specs.Answer.{most_bytes, Answers, FirstIllegal}
-use Rattle.er_run.specs.Promise.{IsAnswer, IsGiven, IsReadWhole}
+use Rattle.er_run.specs.Answer.{Answers, FirstIllegal, OfLine, OfRecord, OfEnd}
+use Rattle.er_run.specs.Promise.{IsAnswer, IsSilent, IsGiven, IsFinal, IsDecided}
+use Rattle.er_run.proofs.OneAnswer.{not_refused, refused_once}
 
-in_first : (b : Bool) (P Q : Type 0) → b ≡ true → MatchBool b P Q → P
-in_first true P Q e p = p
-in_first false P Q e q = absurd (cc)
+begins_more : (bytes more before there rest : List ℕ) → bytes ≡ before ++ there ++ rest → bytes ++ more ≡ before ++ there ++ (rest ++ more)
+begins_more bytes more before there rest is = ap (λ b. b ++ more) is ∙ append_assoc (before ++ there) rest more
 
-to_first : (b : Bool) (P Q : Type 0) → b ≡ true → P → MatchBool b P Q
-to_first true P Q e p = p
-to_first false P Q e p = absurd (cc)
+-- a refusal other than for a missing end is that of every longer input
 
-too_long : (bytes : List ℕ) → most_bytes < length bytes → nat_lt most_bytes (length bytes) ≡ true
-too_long bytes h = grind (arith, nat_tests)
+pub longer : (bytes more : List ℕ) (n : ℕ) (c : Cause) → FirstIllegal bytes n c → c ≢ NoEnd → FirstIllegal (bytes ++ more) n c
+longer bytes more n c (OfLine place number legal h) other = OfLine place number legal (longer_refusal bytes more place c h other)
+longer bytes more n c (OfRecord earlier number legal h) other = OfRecord earlier number legal (record {
+  is_place = h.is_place;
+  few = h.few;
+  read = h.read;
+  is_record = h.is_record;
+  rest = h.rest ++ more;
+  begins = begins_more bytes more (bytes_before (After earlier)) (line (spelling h.read)) h.rest h.begins;
+  cause = h.cause;
+})
+longer bytes more n c (OfEnd earlier number legal h) other = OfEnd earlier number legal (record {
+  is_place = h.is_place;
+  few = h.few;
+  rest = h.rest ++ more;
+  begins = begins_more bytes more (bytes_before (After earlier)) (line end_word) h.rest h.begins;
+  cause = h.cause;
+})
 
--- with too many bytes the answer does not change with those behind them
-answers_long : (asked : Command) (taken rest : List ℕ) (outcome : Outcome) (due : List ℕ) → most_bytes < length taken → Answers asked taken outcome due → Answers asked (taken ++ rest) outcome due
-answers_long asked taken rest Clean due long a = absurd (omega (arith, a.1.few))
-answers_long asked taken rest Races due long a = absurd (omega (arith, a.1.few))
-answers_long asked taken rest (Refused n c) due long a =
-    let all : most_bytes < length (taken ++ rest) = omega (arith, length-append taken rest) in
-    (to_first _ _ (FirstIllegal (taken ++ rest) n c) (too_long (taken ++ rest) all) (in_first _ _ (FirstIllegal taken n c) (too_long taken long) a.0), a.1)
-answers_long asked taken rest Usage due long a = a
-answers_long asked taken rest ReadFault due long a = a
-answers_long asked taken rest WriteFault due long a = a
-answers_long asked taken rest NoMemory due long a = a
+-- so what was taken answers as all that was there
 
-answers_all : (asked : Command) (bytes taken : List ℕ) (left : Option (List ℕ)) (outcome : Outcome) (due : List ℕ) → Some bytes ≡ option_map (λ rest. taken ++ rest) left → IsReadWhole taken left → Answers asked taken outcome due → Answers asked bytes outcome due
-answers_all asked bytes taken None outcome due held whole a = absurd (cc)
-answers_all asked bytes taken (Some rest) outcome due held whole a =
+answers_final : (asked : Command) (taken rest : List ℕ) (outcome : Outcome) (due : List ℕ) → IsFinal taken → Answers asked taken outcome due → Answers asked (taken ++ rest) outcome due
+answers_final asked taken rest Clean due final a = absurd (not_refused taken a.0 final.0 final.1 a.1 final.2)
+answers_final asked taken rest Races due final a = absurd (not_refused taken a.0 final.0 final.1 a.1 final.2)
+answers_final asked taken rest (Refused n c) due final a =
+    let same : c ≡ final.1 = (refused_once taken n final.0 c final.1 a.0 final.2).1 in
+    (longer taken rest n c a.0 (λ is. final.3 (sym same ∙ is)), a.1)
+answers_final asked taken rest Usage due final a = a
+answers_final asked taken rest ReadFault due final a = a
+answers_final asked taken rest WriteFault due final a = a
+answers_final asked taken rest NoMemory due final a = a
+
+answers_all : (asked : Command) (bytes taken : List ℕ) (left : Option (List ℕ)) (outcome : Outcome) (due : List ℕ) → Some bytes ≡ option_map (λ rest. taken ++ rest) left → IsDecided taken left → Answers asked taken outcome due
+    → Answers asked bytes outcome due
+answers_all asked bytes taken None outcome due held decided a = absurd (cc)
+answers_all asked bytes taken (Some rest) outcome due held decided a =
     let same : bytes ≡ taken ++ rest = cc in
     let is_all : rest ≡ [] → bytes ≡ taken = λ none. grind (arith, common_steps) in
-    ⊎_elim (λ spent. subst (λ bs. Answers asked bs outcome due) (sym (is_all spent)) a) (λ long. subst (λ bs. Answers asked bs outcome due) (sym same) (answers_long asked taken rest outcome due long a)) whole.0
+    ⊎_elim (λ spent. subst (λ bs. Answers asked bs outcome due) (sym (is_all spent)) a) (λ just. subst (λ bs. Answers asked bs outcome due) (sym same) (answers_final asked taken rest outcome due just.refused a)) decided
 
 -- an outcome that no fault explains is an answer, or want of memory
 pub answered_or_none : (asked : Command) (bytes : List ℕ) (got_old got_new : Option (List ℕ)) (outcome : Outcome) → (IsAnswer outcome → IsGiven asked bytes outcome got_old got_new) → (outcome ≡ WriteFault → ⊥) → outcome ≢ Usage
@@ -50,10 +70,20 @@ answered_or_none asked bytes got_old got_new ReadFault given no_write no_usage n
 answered_or_none asked bytes got_old got_new WriteFault given no_write no_usage no_read = absurd (no_write refl)
 answered_or_none asked bytes got_old got_new NoMemory given no_write no_usage no_read = inl refl
 
+-- and one that leaves the sink as it was is want of memory
+pub only_memory : (outcome : Outcome) → IsSilent outcome → outcome ≢ Usage → outcome ≢ ReadFault → outcome ≡ NoMemory
+only_memory Clean silent no_usage no_read = absurd silent
+only_memory Races silent no_usage no_read = absurd silent
+only_memory (Refused n c) silent no_usage no_read = absurd silent
+only_memory Usage silent no_usage no_read = absurd (no_usage refl)
+only_memory ReadFault silent no_usage no_read = absurd (no_read refl)
+only_memory WriteFault silent no_usage no_read = absurd silent
+only_memory NoMemory silent no_usage no_read = refl
+
 -- and the answer is that of all bytes, where those that were taken are all, or too many
-pub complete : (asked : Command) (bytes taken : List ℕ) (left got_old got_new : Option (List ℕ)) (outcome : Outcome) → Some bytes ≡ option_map (λ rest. taken ++ rest) left → IsReadWhole taken left
+pub complete : (asked : Command) (bytes taken : List ℕ) (left got_old got_new : Option (List ℕ)) (outcome : Outcome) → Some bytes ≡ option_map (λ rest. taken ++ rest) left → IsDecided taken left
     → (IsAnswer outcome → IsGiven asked taken outcome got_old got_new) → (outcome ≡ WriteFault → ⊥) → outcome ≢ Usage → outcome ≢ ReadFault → (outcome ≡ NoMemory) ⊎ ((due : List ℕ) × Answers asked bytes outcome due)
-complete asked bytes taken left got_old got_new outcome held whole given no_write no_usage no_read = elim (answered_or_none asked taken got_old got_new outcome given no_write no_usage no_read) [
+complete asked bytes taken left got_old got_new outcome held decided given no_write no_usage no_read = elim (answered_or_none asked taken got_old got_new outcome given no_write no_usage no_read) [
   | inl none ↦ inl none
-  | inr answer ↦ inr (answer.0, answers_all asked bytes taken left outcome answer.0 held whole answer.1)
+  | inr answer ↦ inr (answer.0, answers_all asked bytes taken left outcome answer.0 held decided answer.1)
 ]

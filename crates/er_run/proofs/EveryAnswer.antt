@@ -1,20 +1,19 @@
 -- Every byte string has an answer.
-use Rattle.std.proofs.Common.{◌≡◌, ◌⊎◌, ℕ, ◌+◌, ◌<◌, ◌≤◌, List, [], ◌∷◌, ◌++◌, length, take, reverse, Bool, true, false, nat_lt, Option, None, Some, refl, ap, sym, ◌∙◌, subst, inl, inr, arith, slice_get, append_assoc, MatchBool}
+use Rattle.std.proofs.Common.{◌≡◌, ◌⊎◌, ℕ, ◌+◌, ◌<◌, ◌≤◌, List, [], ◌∷◌, ◌++◌, length, take, reverse, Bool, true, false, nat_lt, Option, None, Some, refl, ap, sym, ◌∙◌, subst, inl, inr, arith, slice_get, append_assoc}
 use Rattle.std.proofs.lemmas.Grind.{common_steps}
 use Rattle.std.proofs.lemmas.List.{reverse-append, length-reverse}
 use Rattle.std.proofs.lemmas.Bool.Decides.{nat_tests}
 use Rattle.er_text.specs.declared.causes.Cause.{Cause}
-use Rattle.er_text.specs.declared.causes.Cause.TheVariants.{TooManyLines}
 use Rattle.er_trace.specs.declared.record.Record.{Record}
 use Rattle.er_run.specs.Legal.{IsLegal, end_cause}
 use Rattle.er_run.specs.Legal as legality
 use Rattle.er_history.specs.Rules.{rules}
 use Rattle.er_graph.specs.declared.fault.GraphFault.TheVariants as graph_faults
-use Rattle.er_run.specs.declared.accept.LineRefusal.{LineRefusal}
+use Rattle.er_run.specs.declared.input.LineRefusal.{LineRefusal}
 use Rattle.er_run.specs.declared.outcome.Outcome.{Outcome}
 use Rattle.er_run.specs.declared.outcome.Outcome.TheVariants.{Refused}
-use Rattle.er_run.specs.Accepted.{IsReading}
-use Rattle.er_run.specs.Answer.{most_bytes, FirstIllegal, IsRefused, Answers}
+use Rattle.er_run.specs.Reading.{IsReading}
+use Rattle.er_run.specs.Answer.{FirstIllegal, Answers}
 use Rattle.er_words.specs.declared.commands.Command.{Command}
 use Rattle.er_run.specs.Report.{text_for, refusal_for}
 use Rattle.er_run.specs.Session.{IsFaultOf}
@@ -69,52 +68,42 @@ fault_of records f =
 abbrev HasAnswer : Command → List ℕ → Type 0
 HasAnswer asked bytes = (o : Outcome) × (due : List ℕ) × Answers asked bytes o due
 
-refused : (asked : Command) (bytes : List ℕ) (n : ℕ) (c : Cause) → IsRefused bytes n c → HasAnswer asked bytes
+refused : (asked : Command) (bytes : List ℕ) (n : ℕ) (c : Cause) → FirstIllegal bytes n c → HasAnswer asked bytes
 refused asked bytes n c is = (Refused n c, refusal_for asked n c, (is, refl))
 
 -- behind legal records and no line that is refused the `end` line is refused, or it is within the limits
-by_end : (asked : Command) (bytes : List ℕ) (records : List Record) (line : Option LineRefusal) (o : Option Cause) → o ≡ end_cause (reverse records) → length bytes ≤ most_bytes → IsReading bytes records line → IsRead records line → IsLegal rules (reverse records)
+by_end : (asked : Command) (bytes : List ℕ) (records : List Record) (line : Option LineRefusal) (o : Option Cause) → o ≡ end_cause (reverse records) → IsReading bytes records line → IsRead records line → IsLegal rules (reverse records)
     → (end_cause (reverse records) ≡ None → HasAnswer asked bytes) → HasAnswer asked bytes
-by_end asked bytes records line None is few reading read legal answer = answer (sym is)
-by_end asked bytes records line (Some c) is few reading read legal answer = refused asked bytes (length records + 2) c (refused_end bytes records line (length records + 2) c few reading read legal refl (sym is))
+by_end asked bytes records line None is reading read legal answer = answer (sym is)
+by_end asked bytes records line (Some c) is reading read legal answer = refused asked bytes (length records + 2) c (refused_end bytes records line (length records + 2) c reading read legal refl (sym is))
 
-by_line : (asked : Command) (bytes : List ℕ) (records : List Record) (line : LineRefusal) (behind : Bool) → behind ≡ nat_lt (length records + 2) line.line → length bytes ≤ most_bytes → IsReading bytes records (Some line) → IsLegal rules (reverse records) → HasAnswer asked bytes
-by_line asked bytes records line false is few reading legal =
+by_line : (asked : Command) (bytes : List ℕ) (records : List Record) (line : LineRefusal) (behind : Bool) → behind ≡ nat_lt (length records + 2) line.line → IsReading bytes records (Some line) → IsLegal rules (reverse records) → HasAnswer asked bytes
+by_line asked bytes records line false is reading legal =
     let up_to : line.line ≤ length records + 2 = grind (arith, nat_tests) in
-    refused asked bytes line.line line.cause (refused_line bytes records (Some line) line few reading refl legal (λ behind. absurd (omega arith)))
-by_line asked bytes records line true is few reading legal =
+    refused asked bytes line.line line.cause (refused_line bytes records (Some line) line reading refl legal (λ behind. absurd (omega arith)))
+by_line asked bytes records line true is reading legal =
     let past : length records + 2 < line.line = grind (arith, nat_tests) in
-    by_end asked bytes records (Some line) (end_cause (reverse records)) refl few reading past legal
-    (λ within. refused asked bytes line.line line.cause (refused_line bytes records (Some line) line few reading refl legal (λ behind. within)))
+    by_end asked bytes records (Some line) (end_cause (reverse records)) refl reading past legal
+    (λ within. refused asked bytes line.line line.cause (refused_line bytes records (Some line) line reading refl legal (λ behind. within)))
 
-answered : (asked : Command) (bytes : List ℕ) (records : List Record) (line : Option LineRefusal) → length bytes ≤ most_bytes → IsReading bytes records line → IsLegal rules (reverse records) → HasAnswer asked bytes
-answered asked bytes records None few reading legal =
-    by_end asked bytes records None (end_cause (reverse records)) refl few reading tt legal (λ within.
-    let found = legal_answer asked bytes records (record { few = few; is_trace = reading.0; spelled = reading.1; legal = legal; within = within }) in
+answered : (asked : Command) (bytes : List ℕ) (records : List Record) (line : Option LineRefusal) → IsReading bytes records line → IsLegal rules (reverse records) → HasAnswer asked bytes
+answered asked bytes records None reading legal =
+    by_end asked bytes records None (end_cause (reverse records)) refl reading tt legal (λ within.
+    let found = legal_answer asked bytes records (record { is_trace = reading.0; spelled = reading.1; legal = legal; within = within }) in
     (found.0, text_for asked (reverse records), found.1))
-answered asked bytes records (Some line) few reading legal = by_line asked bytes records line (nat_lt (length records + 2) line.line) refl few reading legal
+answered asked bytes records (Some line) reading legal = by_line asked bytes records line (nat_lt (length records + 2) line.line) refl reading legal
 
-from_reading : (asked : Command) (bytes : List ℕ) (records : List Record) (line : Option LineRefusal) → length bytes ≤ most_bytes → IsReading bytes records line → HasAnswer asked bytes
-from_reading asked bytes records line few reading = elim (legal_or_faulty (reverse records)) [
-  | inl legal ↦ answered asked bytes records line few reading legal
-  | inr f ↦ refused asked bytes (length f.older + 2) f.cause (refused_judged bytes records line (length f.older + 2) f.cause few reading (fault_of records f))
+from_reading : (asked : Command) (bytes : List ℕ) (records : List Record) (line : Option LineRefusal) → IsReading bytes records line → HasAnswer asked bytes
+from_reading asked bytes records line reading = elim (legal_or_faulty (reverse records)) [
+  | inl legal ↦ answered asked bytes records line reading legal
+  | inr f ↦ refused asked bytes (length f.older + 2) f.cause (refused_judged bytes records line (length f.older + 2) f.cause reading (fault_of records f))
 ]
 
-from_text : (asked : Command) (bytes : List ℕ) → length bytes ≤ most_bytes → Reads bytes → HasAnswer asked bytes
-from_text asked bytes few (Whole records (read, is, e, same)) =
-    from_reading asked bytes records None few (subst (λ l. IsReading bytes l None) (sym same) (is, e))
-from_text asked bytes few (Until number c records (place, refuses, numbered, same)) =
-    from_reading asked bytes records (Some (record { line = number; cause = c })) few (place, refuses, numbered, same)
-
-by_length : (asked : Command) (bytes : List ℕ) (many : Bool) → many ≡ nat_lt most_bytes (length bytes) → (HasAnswer asked bytes → ⊥) → ⊥
-by_length asked bytes true is = λ refute.
-    let one : ℕ = 1 in
-    let both : (one ≡ one) × (TooManyLines ≡ TooManyLines) = (refl, refl) in
-    let too_many : IsRefused bytes one TooManyLines = subst (λ b. MatchBool b ((one ≡ one) × (TooManyLines ≡ TooManyLines)) (FirstIllegal bytes one TooManyLines)) is both in
-    refute (refused asked bytes one TooManyLines too_many)
-by_length asked bytes false is = λ refute.
-    let few : length bytes ≤ most_bytes = grind (arith, nat_tests) in
-    every_text bytes (λ read. refute (from_text asked bytes few read))
+from_text : (asked : Command) (bytes : List ℕ) → Reads bytes → HasAnswer asked bytes
+from_text asked bytes (Whole records (read, is, e, same)) =
+    from_reading asked bytes records None (subst (λ l. IsReading bytes l None) (sym same) (is, e))
+from_text asked bytes (Until number c records (place, refuses, numbered, same)) =
+    from_reading asked bytes records (Some (record { line = number; cause = c })) (place, refuses, numbered, same)
 
 pub every_answer : (asked : Command) (bytes : List ℕ) → (HasAnswer asked bytes → ⊥) → ⊥
-every_answer asked bytes = by_length asked bytes (nat_lt most_bytes (length bytes)) refl
+every_answer asked bytes = λ refute. every_text bytes (λ read. refute (from_text asked bytes read))

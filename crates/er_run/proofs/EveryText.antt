@@ -5,9 +5,9 @@ use Rattle.er_text.specs.declared.causes.Cause.{Cause}
 use Rattle.er_text.specs.declared.causes.Cause.TheVariants.{BadHeader, BadRecord, TooManyLines, AfterEnd}
 use Rattle.er_trace.specs.declared.record.Record.{Record}
 use Rattle.er_trace.specs.Spelling.{spelling}
-use Rattle.er_trace.specs.Trace.{most_lines, header, end_word, line, whole_line, SpellsNone, Start, RecordCause, LineCause, ReadsWhole, ReadsUntil}
+use Rattle.er_trace.specs.Trace.{most_lines, header, end_word, line, whole_line, SpellsNone, Start, RecordCause, LineCause, ReadsUntil}
 use Rattle.er_trace.proofs.LineLaws.{whole_line_parts, whole_line_is, number_within}
-use Rattle.er_trace.proofs.ReadLaws.{IsAt, at_start, at_more, at_end, at_refusal, after_end, refused_at_start}
+use Rattle.er_trace.proofs.ReadLaws.{IsAt, ReadsWhole, at_start, at_more, at_end, at_refusal, after_end, refused_at_start}
 
 abbrev Line : Type 0
 Line = Result (List ℕ × List ℕ) Cause

@@ -11,3 +11,4 @@ pub mod EveryAnswer
 pub mod TellLemmas
 pub mod GeneratedLemmas
 pub mod RunLemmas
+pub mod ReadingLemmas

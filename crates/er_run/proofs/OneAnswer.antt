@@ -19,7 +19,7 @@ use Rattle.er_run.specs.Report.{text_for, refusal_for}
 use Rattle.er_words.specs.declared.commands.Command.{Command}
 use Rattle.er_run.specs.declared.outcome.Outcome.{Outcome}
 use Rattle.er_run.specs.declared.outcome.Outcome.TheVariants.{Clean, Races, Usage, Refused, ReadFault, WriteFault, NoMemory}
-use Rattle.er_run.specs.Answer.{most_bytes, IsLegalTrace, RefusesRecord, RefusesEnd, IsLegalBefore, FirstIllegal, OfLine, OfRecord, OfEnd, IsRefused, Answers}
+use Rattle.er_run.specs.Answer.{IsLegalTrace, RefusesRecord, RefusesEnd, IsLegalBefore, FirstIllegal, OfLine, OfRecord, OfEnd, Answers}
 
 abbrev Line : Type 0
 Line = Result (List ℕ × List ℕ) Cause
@@ -291,24 +291,11 @@ not_illegal bytes records n c trace (ByLine place number legal h) = trace_not_re
 not_illegal bytes records n c trace (ByRecord earlier x number legal h) = record_not_end bytes earlier records x c None h (ending_trace bytes records trace)
 not_illegal bytes records n c trace (ByEnd others number h first) = not_both bytes others records c first (ending_trace bytes records trace)
 
-refused_once_by : (many : Bool) (bytes : List ℕ) (n m : ℕ) (c d : Cause)
-    → MatchBool many ((n ≡ 1) × (c ≡ TooManyLines)) (FirstIllegal bytes n c) → MatchBool many ((m ≡ 1) × (d ≡ TooManyLines)) (FirstIllegal bytes m d) → (n ≡ m) × (c ≡ d)
-refused_once_by true bytes n m c d first second = (first.0 ∙ sym second.0, first.1 ∙ sym second.1)
-refused_once_by false bytes n m c d first second = illegal_once bytes n m c d (illegal bytes n c first) (illegal bytes m d second)
+pub refused_once : (bytes : List ℕ) (n m : ℕ) (c d : Cause) → FirstIllegal bytes n c → FirstIllegal bytes m d → (n ≡ m) × (c ≡ d)
+refused_once bytes n m c d first second = illegal_once bytes n m c d (illegal bytes n c first) (illegal bytes m d second)
 
-refused_once : (bytes : List ℕ) (n m : ℕ) (c d : Cause) → IsRefused bytes n c → IsRefused bytes m d → (n ≡ m) × (c ≡ d)
-refused_once bytes n m c d first second = refused_once_by (nat_lt most_bytes (length bytes)) bytes n m c d first second
-
-not_refused_by : (many : Bool) (bytes : List ℕ) (records : List Record) (n : ℕ) (c : Cause)
-    → IsLegalTrace bytes records → many ≡ false → MatchBool many ((n ≡ 1) × (c ≡ TooManyLines)) (FirstIllegal bytes n c) → ⊥
-not_refused_by true bytes records n c trace few h = absurd (cc)
-not_refused_by false bytes records n c trace few h = not_illegal bytes records n c trace (illegal bytes n c h)
-
-not_too_long : (bytes : List ℕ) → length bytes ≤ most_bytes → nat_lt most_bytes (length bytes) ≡ false
-not_too_long bytes few = grind (arith, nat_tests)
-
-not_refused : (bytes : List ℕ) (records : List Record) (n : ℕ) (c : Cause) → IsLegalTrace bytes records → IsRefused bytes n c → ⊥
-not_refused bytes records n c trace h = not_refused_by (nat_lt most_bytes (length bytes)) bytes records n c trace (not_too_long bytes trace.few) h
+pub not_refused : (bytes : List ℕ) (records : List Record) (n : ℕ) (c : Cause) → IsLegalTrace bytes records → FirstIllegal bytes n c → ⊥
+not_refused bytes records n c trace h = not_illegal bytes records n c trace (illegal bytes n c h)
 
 -- an outcome that races give, or none
 data Counted (h : List Record) (o : Outcome) : Type 0 where
@@ -324,7 +311,7 @@ counted_once h o p (SomeRaces some is) (SomeRaces also other) = is ∙ sym other
 -- a legal trace, or a refusal
 data Settled (asked : Command) (bytes : List ℕ) (o : Outcome) (due : List ℕ) : Type 0 where
   ByTrace : (records : List Record) → IsLegalTrace bytes records → Counted (reverse records) o → due ≡ text_for asked (reverse records) → Settled asked bytes o due
-  ByRefusal : (n : ℕ) (c : Cause) → IsRefused bytes n c → o ≡ Refused n c → due ≡ refusal_for asked n c → Settled asked bytes o due
+  ByRefusal : (n : ℕ) (c : Cause) → FirstIllegal bytes n c → o ≡ Refused n c → due ≡ refusal_for asked n c → Settled asked bytes o due
 
 settled : (asked : Command) (bytes : List ℕ) (o : Outcome) (due : List ℕ) → Answers asked bytes o due → Settled asked bytes o due
 settled asked bytes Clean due h = ByTrace h.0 h.1 (NoRaces h.2 refl) h.3

@@ -3,7 +3,7 @@ use Rattle.std.specs.Prelude.{◌≡◌, ◌≢◌, ℕ, ◌+◌, ◌*◌, ◌�
 use Rattle.er_outside.specs.Ends.{Gets, GetsPart}
 use Rattle.er_text.specs.declared.causes.Cause.{Cause}
 use Rattle.er_trace.specs.declared.record.Record.{Record}
-use Rattle.er_trace.specs.Trace.{Place, line_number, records_before, text, most_lines, IsTrace, Refuses}
+use Rattle.er_trace.specs.Trace.{most_lines}
 use Rattle.er_trace.specs.declared.fault.FeedFault.{FeedFault}
 use Rattle.er_trace.specs.declared.fault.FeedFault.TheVariants as faults
 use Rattle.er_run.specs.declared.outcome.Outcome.{Outcome}
@@ -11,10 +11,9 @@ use Rattle.er_run.specs.declared.outcome.Outcome.TheVariants.{Clean, Races, Refu
 use Rattle.er_run.specs.declared.session.Session.{Session}
 use Rattle.er_run.specs.declared.end.Found.{Found}
 use Rattle.er_run.specs.declared.end.Judged.{Judged}
-use Rattle.er_run.specs.declared.accept.LineRefusal.{LineRefusal}
 use Rattle.er_words.specs.declared.commands.Command.{Command}
 use Rattle.er_run.specs.Report.{refusal_for}
-use Rattle.er_run.specs.Answer.{most_bytes, IsLegalTrace, IsRefused}
+use Rattle.er_run.specs.Answer.{IsLegalTrace, FirstIllegal}
 use Rattle.er_run.specs.Legal.{end_cause}
 use Rattle.er_run.specs.Session.{StandsFor}
 use Rattle.er_history.specs.Rules.{rules}
@@ -96,16 +95,6 @@ abbrev pub EndsRefused : {E : Type 0} → ℕ → Cause → Result Unit E → Ou
 EndsRefused n c (Ok done) outcome = outcome ≡ Refused n c
 EndsRefused n c (Err fault) outcome = outcome ≡ WriteFault
 
--- the records before the first line that has a cause, with that line; or those of the whole trace
-abbrev pub IsReading : List ℕ → List Record → Option LineRefusal → Type 0
-IsReading bytes records None = IsTrace records × (bytes ≡ text records)
-IsReading bytes records (Some refused) = (place : Place) × Refuses bytes place refused.cause × (refused.line ≡ line_number place) × (records ≡ records_before place)
-
--- the bytes are not too many, and this was read of them
-pub record IsReadOf (bytes : List ℕ) (records : List Record) (refused : Option LineRefusal) : Type 0 where
-  pub few : length bytes ≤ most_bytes
-  pub reading : IsReading bytes records refused
-
 -- it stands for the records of some trace
 pub record IsReportable (session : Session) : Type 0 where
   pub list : List Record
@@ -114,7 +103,7 @@ pub record IsReportable (session : Session) : Type 0 where
 
 -- the fault is the refusal of the bytes, or want of memory
 abbrev pub IsRefusal : List ℕ → FeedFault → Type 0
-IsRefusal bytes (faults.Refused n c) = IsRefused bytes n c
+IsRefusal bytes (faults.Refused n c) = FirstIllegal bytes n c
 IsRefusal bytes faults.NoMemory = Unit {0}
 
 -- the bytes are accepted, or refused

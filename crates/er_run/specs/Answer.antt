@@ -1,7 +1,6 @@
 -- What a byte string answers to a command, and the text that is due for it.
-use Rattle.std.specs.Prelude.{◌≡◌, ◌≢◌, ℕ, ◌≤◌, nat_lt, List, [], ◌++◌, length, reverse, Some, None, MatchBool}
+use Rattle.std.specs.Prelude.{◌≡◌, ◌≢◌, ℕ, ◌≤◌, List, [], ◌++◌, reverse, Some, None}
 use Rattle.er_text.specs.declared.causes.Cause.{Cause}
-use Rattle.er_text.specs.declared.causes.Cause.TheVariants.{TooManyLines}
 use Rattle.er_trace.specs.declared.record.Record.{Record}
 use Rattle.er_trace.specs.Spelling.{spelling, IsRecord}
 use Rattle.er_trace.specs.Trace.{Place, Start, After, Ended, bytes_before, line_number, line, end_word, text, most_lines, IsPlace, IsTrace, Refuses}
@@ -14,13 +13,8 @@ use Rattle.er_run.specs.Report.{text_for, refusal_for}
 use Rattle.er_run.specs.declared.outcome.Outcome.{Outcome}
 use Rattle.er_run.specs.declared.outcome.Outcome.TheVariants.{Clean, Races, Refused}
 
--- the most bytes of an input
-abbrev pub most_bytes : ℕ
-most_bytes = 67108864
-
 -- the bytes are those of this legal trace, oldest record first
 pub record IsLegalTrace (bytes : List ℕ) (records : List Record) : Type 0 where
-  pub few : length bytes ≤ most_bytes
   pub is_trace : IsTrace records
   pub spelled : bytes ≡ text records
   pub legal : IsLegal rules (reverse records)
@@ -56,13 +50,9 @@ pub data FirstIllegal (bytes : List ℕ) (n : ℕ) (c : Cause) : Type 0 where
   OfRecord : (earlier : List Record) → n ≡ line_number (After earlier) → IsLegalBefore (After earlier) → RefusesRecord bytes earlier c → FirstIllegal bytes n c
   OfEnd : (earlier : List Record) → n ≡ line_number (After earlier) → IsLegalBefore (After earlier) → RefusesEnd bytes earlier c → FirstIllegal bytes n c
 
--- line n is refused for this cause
-abbrev pub IsRefused : List ℕ → ℕ → Cause → Type 0
-IsRefused bytes n c = MatchBool (nat_lt most_bytes (length bytes)) ((n ≡ 1) × (c ≡ TooManyLines)) (FirstIllegal bytes n c)
-
 -- The answer of the bytes to the command is this outcome, and the text is due for it.
 abbrev pub Answers : Command → List ℕ → Outcome → List ℕ → Type 0
 Answers asked bytes Clean due = (records : List Record) × IsLegalTrace bytes records × (races (reverse records) ≡ []) × (due ≡ text_for asked (reverse records))
 Answers asked bytes Races due = (records : List Record) × IsLegalTrace bytes records × (races (reverse records) ≢ []) × (due ≡ text_for asked (reverse records))
-Answers asked bytes (Refused n c) due = IsRefused bytes n c × (due ≡ refusal_for asked n c)
+Answers asked bytes (Refused n c) due = FirstIllegal bytes n c × (due ≡ refusal_for asked n c)
 Answers asked bytes _ due = ⊥

@@ -3,6 +3,7 @@ pub mod Answer
 pub mod Legal
 pub mod Promise
 pub mod Races
+pub mod Reading
 pub mod Report
 pub mod Session
 pub mod Status

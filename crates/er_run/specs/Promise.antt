@@ -1,5 +1,5 @@
 -- What a call of `run` promises.
-use Rattle.std.specs.Prelude.{◌≡◌, ◌⊎◌, ℕ, ◌+◌, ◌*◌, ◌<◌, ◌≤◌, List, length, reverse, Option, Some}
+use Rattle.std.specs.Prelude.{◌≡◌, ◌≢◌, ◌⊎◌, ℕ, ◌+◌, ◌*◌, ◌≤◌, List, ◌++◌, length, reverse, Option, Some}
 use Rattle.er_outside.specs.Ends.{Gives, Gets, GetsPart, IsSpent, Rose}
 use Rattle.er_run.specs.declared.outcome.Outcome.{Outcome}
 use Rattle.er_run.specs.declared.outcome.Outcome.TheVariants.{Clean, Races, Refused, Usage, ReadFault, NoMemory}
@@ -8,7 +8,9 @@ use Rattle.er_trace.specs.Trace.{text}
 use Rattle.er_gen.specs.Generated.{generated}
 use Rattle.er_words.specs.declared.commands.Command.{Command}
 use Rattle.er_words.specs.declared.commands.Command.TheVariants.{Check, Gen}
-use Rattle.er_run.specs.Answer.{most_bytes, IsLegalTrace, Answers}
+use Rattle.er_text.specs.declared.causes.Cause.{Cause}
+use Rattle.er_text.specs.declared.causes.Cause.TheVariants.{NoEnd}
+use Rattle.er_run.specs.Answer.{IsLegalTrace, FirstIllegal, Answers}
 use Rattle.er_run.specs.Races.{candidates, classes, groups}
 
 -- an outcome that bytes can answer
@@ -18,13 +20,26 @@ IsAnswer Races = Unit {0}
 IsAnswer (Refused n c) = Unit {0}
 IsAnswer _ = ⊥
 
--- the most bytes that one read asks for
+-- the bytes are refused for another cause than `no-end`
+abbrev pub IsFinal : List ℕ → Type 0
+IsFinal bytes = (n : ℕ) × (c : Cause) × FirstIllegal bytes n c × (c ≢ NoEnd)
+
+-- the most bytes of a piece of the input
 abbrev pub piece_bytes : ℕ
 piece_bytes = 4096
 
--- nothing is left, or enough came to know that it is too much; and no more was read than that takes
-abbrev pub IsReadWhole : List ℕ → Option (List ℕ) → Type 0
-IsReadWhole taken left = (IsSpent left ⊎ (most_bytes < length taken)) × (length taken ≤ most_bytes + piece_bytes)
+-- without their last piece the bytes are not refused, but for `no-end`, and with it they are
+pub record IsJustRefused (bytes : List ℕ) : Type 0 where
+  pub before : List ℕ
+  pub last : List ℕ
+  pub is : bytes ≡ before ++ last
+  pub few : length last ≤ piece_bytes
+  pub fresh : IsFinal before → ⊥
+  pub refused : IsFinal bytes
+
+-- nothing is left, or the piece that was taken last brought the refusal
+abbrev pub IsDecided : List ℕ → Option (List ℕ) → Type 0
+IsDecided taken left = IsSpent left ⊎ IsJustRefused taken
 
 -- an outcome that leaves the sink as it was
 abbrev pub IsSilent : Outcome → Type 0
@@ -60,7 +75,7 @@ Tests bytes _ old new = Unit {0}
 
 -- What a command judges: the bytes that the call took of the source, or a generated trace, for which it took none.
 abbrev pub IsInput : Command → List ℕ → Option (List ℕ) → Option (List ℕ) → Type 0
-IsInput (Check json) bytes left_old left_new = Gives left_old bytes left_new × IsReadWhole bytes left_new
+IsInput (Check json) bytes left_old left_new = Gives left_old bytes left_new × IsDecided bytes left_new
 IsInput (Gen n) bytes left_old left_new = (bytes ≡ text (generated n)) × (left_new ≡ left_old)
 
 -- The input of the command answers this outcome, exactly the text that is due came to the sink, and the comparisons and the tests of a report were made.

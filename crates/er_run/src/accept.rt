@@ -1,48 +1,138 @@
-//! What an input comes to: the bytes that were read, or a generated trace.
+//! What an input comes to, at its end: the trace that was read, or a generated one.
 
-ghost use Rattle.std.specs.Prelude.{◌≡◌, ℕ, ◌<◌, ◌≤◌, ◌^◌, List, length, [], IfOk, IfErr};
+ghost use Rattle.std.specs.Prelude.{◌≡◌, ◌≢◌, ℕ, ◌<◌, ◌≤◌, ◌^◌, List, Option, Some, None, Err, reverse, IfOk, IfErr, IsErrOf};
+ghost use Rattle.er_outside.specs.Ends.{Rose};
+ghost use Rattle.er_text.specs.declared.causes.Cause.{Cause};
 ghost use Rattle.er_trace.specs.declared.record.Record.{Record};
-ghost use Rattle.er_trace.specs.Trace.{text, most_lines};
+ghost use Rattle.er_trace.specs.Trace.{text};
 ghost use Rattle.er_gen.specs.Generated.{generated, most_rounds};
-ghost use Rattle.er_run.specs.Accepted.{IsAccepted, IsCompared, IsTested, IsJudgement, IsReading, IsReadOf, IsRefusal, IsVerdict};
+ghost use Rattle.er_run.specs.Session.{StandsFor};
+ghost use Rattle.er_run.specs.Answer.{FirstIllegal};
+ghost use Rattle.er_run.specs.Reading.{IsRead, IsReading, IsAcceptedInput, IsRefusedInput};
+ghost use Rattle.er_run.specs.Accepted.{IsCompared, IsTested, IsJudged, IsJudgement, IsEndFault, IsReportable, IsVerdict};
 
 use crate::end::{Judged, found_within};
-use crate::input::MOST_BYTES;
-use crate::session::judge;
+use crate::input::{InputFault, LineRefusal, read};
+use crate::session::{Session, judge};
 use er_clocks::Meter;
 use er_gen::Generator;
 use er_graph::GraphFault;
-use er_outside::NoMemory;
+use er_outside::{Failed, NoMemory, Source};
 use er_text::Cause;
 use er_trace::fault::FeedFault;
 use er_trace::record::Record;
-use er_trace::trace::read_whole;
 use std::alloc::Global;
 
-/// What the bytes come to, where they are a legal trace.
-pub(crate) fn accept(
+/// What the trace comes to that the source gives. No more is read of it than decides.
+pub(crate) fn accept_input<S: Source>(
     alloc: Global,
-    bytes: &[u8],
+    source: &mut S,
     compares: &mut Meter,
     tests: &mut Meter,
-) -> Result<Judged, FeedFault>
+) -> Result<Judged, InputFault>
     requires compares { compares.old < 2 ^ 60 }
     requires tests { tests.old < 2 ^ 60 }
-    ensures verdict { IsVerdict bytes.now result }
+    ensures accepted { IfOk result (λ judged. IsAcceptedInput (S.left source.old) (S.left source.new) judged) }
+    ensures refused { (n : ℕ) (c : Cause) → result ≡ Err (InputFault.Refused n c)
+        → IsRefusedInput (S.left source.old) (S.left source.new) n c }
     ensures judged { IfOk result IsJudgement }
     ensures compared { IfOk result (λ judged. IsCompared judged.session compares.old compares.new) }
     ensures tested { IfOk result (λ judged. IsTested judged.session tests.old tests.new) }
+    ensures failed { IsErrOf result InputFault.Failed
+        → Rose (S.faults source.old) (S.faults source.new) }
+    ensures stands { result ≢ Err InputFault.Failed → S.faults source.new ≡ S.faults source.old }
+    ensures count { S.faults source.old ≤ S.faults source.new }
 {
-    if bytes.len() > MOST_BYTES {
-        return Err(FeedFault::Refused {
-            line: 1,
-            cause: Cause::TooManyLines,
-        });
+    match read(alloc, source) {
+        Ok((session, refused)) => match refused {
+            None => accept_end(alloc, source, session, compares, tests),
+            Some(refusal) => Err(first_refusal(alloc, &session, refusal, compares, tests)),
+        },
+        Err(fault) => Err(fault),
     }
-    let mut records = Vec::new(alloc);
-    match read_records(alloc, bytes, &mut records) {
-        Ok(refused) => judge_reading(alloc, records.as_slice(), refused, compares, tests),
-        Err(NoMemory) => Err(FeedFault::NoMemory),
+}
+
+/// Judges the `end` line, and sees whether a byte stands behind it.
+fn accept_end<S: Source>(
+    alloc: Global,
+    source: &mut S,
+    session: Session,
+    compares: &mut Meter,
+    tests: &mut Meter,
+) -> Result<Judged, InputFault>
+    requires some { IsReportable session }
+    requires compares { compares.old < 2 ^ 60 }
+    requires tests { tests.old < 2 ^ 60 }
+    ensures accepted { IfOk result (λ judged. (first : Option (List ℕ)) → IsRead first (S.left source.old) session None
+        → IsAcceptedInput first (S.left source.new) judged) }
+    ensures refused { (n : ℕ) (c : Cause) → result ≡ Err (InputFault.Refused n c)
+        → (first : Option (List ℕ)) → IsRead first (S.left source.old) session None
+        → IsRefusedInput first (S.left source.new) n c }
+    ensures judged { IfOk result IsJudgement }
+    ensures compared { IfOk result (λ judged. IsCompared judged.session compares.old compares.new) }
+    ensures tested { IfOk result (λ judged. IsTested judged.session tests.old tests.new) }
+    ensures failed { IsErrOf result InputFault.Failed
+        → Rose (S.faults source.old) (S.faults source.new) }
+    ensures stands { result ≢ Err InputFault.Failed → S.faults source.new ≡ S.faults source.old }
+    ensures count { S.faults source.old ≤ S.faults source.new }
+{
+    let line = session.records + 3;
+    let judged = match judge_end(alloc, session, compares, tests) {
+        Ok(judged) => judged,
+        Err(fault) => return Err(of_end(fault)),
+    };
+    let mut byte = [0u8; 1];
+    match source.read(&mut byte) {
+        Ok(0) => Ok(judged),
+        Ok(_) => Err(InputFault::Refused {
+            line,
+            cause: Cause::AfterEnd,
+        }),
+        Err(Failed) => Err(InputFault::Failed),
+    }
+}
+
+/// The refusal of the line that is none; or that of the `end` line before it, where that one is over a limit.
+fn first_refusal(
+    alloc: Global,
+    session: &Session,
+    refusal: LineRefusal,
+    compares: &mut Meter,
+    tests: &mut Meter,
+) -> InputFault
+    requires some { IsReportable session.now }
+    requires compares { compares.old < 2 ^ 60 }
+    requires tests { tests.old < 2 ^ 60 }
+    ensures refused { (n : ℕ) (c : Cause) → result ≡ InputFault.Refused n c → (bytes : List ℕ) (records : List Record)
+        → StandsFor session.now (reverse records) → IsReading bytes records (Some refusal)
+        → FirstIllegal bytes n c }
+    ensures no_failure { result ≢ InputFault.Failed }
+{
+    if refusal.line <= session.records + 2 {
+        return of_line(refusal);
+    }
+    if let Err(fault) = found_within(alloc, session, compares, tests) {
+        return of_end(fault);
+    }
+    of_line(refusal)
+}
+
+fn of_line(refusal: LineRefusal) -> InputFault
+    ensures { result ≡ InputFault.Refused refusal.line refusal.cause }
+{
+    InputFault::Refused {
+        line: refusal.line,
+        cause: refusal.cause,
+    }
+}
+
+fn of_end(fault: FeedFault) -> InputFault
+    ensures refused { (n : ℕ) (c : Cause) → result ≡ InputFault.Refused n c → fault ≡ FeedFault.Refused n c }
+    ensures no_failure { result ≢ InputFault.Failed }
+{
+    match fault {
+        FeedFault::Refused { line, cause } => InputFault::Refused { line, cause },
+        FeedFault::NoMemory => InputFault::NoMemory,
     }
 }
 
@@ -62,14 +152,18 @@ pub(crate) fn accept_generated(
     ensures compared { IfOk result (λ judged. IsCompared judged.session compares.old compares.new) }
     ensures tested { IfOk result (λ judged. IsTested judged.session tests.old tests.new) }
 {
-    match generate(alloc, number) {
-        Ok(records) => judge_reading(alloc, records.as_slice(), None, compares, tests),
-        Err(NoMemory) => Err(FeedFault::NoMemory),
+    let Ok(records) = generated_records(alloc, number) else {
+        return Err(FeedFault::NoMemory);
+    };
+    match judge(alloc, records.as_slice()) {
+        Ok(session) => judge_end(alloc, session, compares, tests),
+        Err(GraphFault::Refused { line, cause }) => Err(FeedFault::Refused { line, cause }),
+        Err(GraphFault::NoMemory) => Err(FeedFault::NoMemory),
     }
 }
 
 /// The records of a generated trace.
-fn generate(alloc: Global, number: u32) -> Result<Vec<Record>, NoMemory>
+fn generated_records(alloc: Global, number: u32) -> Result<Vec<Record>, NoMemory>
     requires least { 1 ≤ number }
     requires most { number ≤ most_rounds }
     ensures { IfOk result (λ records. records.items ≡ generated number) }
@@ -82,75 +176,25 @@ fn generate(alloc: Global, number: u32) -> Result<Vec<Record>, NoMemory>
     Ok(records)
 }
 
-/// A line that is no line of a trace, and why.
-#[derive(Clone, Copy)]
-pub(crate) struct LineRefusal {
-    pub(crate) line: u32,
-    pub(crate) cause: Cause,
-}
-
-/// Reads the records before the first line that is no line of a trace, and answers that line.
-fn read_records(
+/// Judges the `end` line behind the records for which the session stands.
+fn judge_end(
     alloc: Global,
-    bytes: &[u8],
-    records: &mut Vec<Record>,
-) -> Result<Option<LineRefusal>, NoMemory>
-    requires { records.old.items ≡ [] }
-    ensures { IfOk result (IsReading bytes.now records.new.items) }
-{
-    match read_whole(alloc, bytes, records) {
-        Ok(()) => Ok(None),
-        Err(FeedFault::Refused { line, cause }) => Ok(Some(LineRefusal { line, cause })),
-        Err(FeedFault::NoMemory) => Err(NoMemory),
-    }
-}
-
-/// Judges the records that were read, and behind them the line that is none. A line behind the `end` line
-/// is refused only where that one is within the limits.
-fn judge_reading(
-    alloc: Global,
-    records: &[Record],
-    refused: Option<LineRefusal>,
+    session: Session,
     compares: &mut Meter,
     tests: &mut Meter,
 ) -> Result<Judged, FeedFault>
-    requires few { length records.now ≤ most_lines }
+    requires some { IsReportable session }
     requires compares { compares.old < 2 ^ 60 }
     requires tests { tests.old < 2 ^ 60 }
-    ensures accepted { IfOk result (λ judged. (bytes : List ℕ) → IsReadOf bytes records.now refused
-        → IsAccepted bytes judged) }
-    ensures refused { IfErr result (λ fault. (bytes : List ℕ) → IsReadOf bytes records.now refused
-        → IsRefusal bytes fault) }
+    ensures accepted { IfOk result (λ judged. (h : List Record) → StandsFor session h
+        → IsJudged judged.session judged.found h) }
+    ensures refused { IfErr result (λ fault. (h : List Record) → StandsFor session h → IsEndFault h fault) }
     ensures judged { IfOk result IsJudgement }
     ensures compared { IfOk result (λ judged. IsCompared judged.session compares.old compares.new) }
     ensures tested { IfOk result (λ judged. IsTested judged.session tests.old tests.new) }
 {
-    let session = match judge(alloc, records) {
-        Ok(session) => session,
-        Err(GraphFault::Refused { line, cause }) => {
-            return Err(FeedFault::Refused { line, cause });
-        }
-        Err(GraphFault::NoMemory) => return Err(FeedFault::NoMemory),
-    };
-    if let Some(refusal) = refused {
-        if refusal.line <= session.records + 2 {
-            return Err(fault_of(refusal));
-        }
-    }
     match found_within(alloc, &session, compares, tests) {
-        Ok(found) => match refused {
-            None => Ok(Judged { session, found }),
-            Some(refusal) => Err(fault_of(refusal)),
-        },
+        Ok(found) => Ok(Judged { session, found }),
         Err(fault) => Err(fault),
-    }
-}
-
-fn fault_of(refusal: LineRefusal) -> FeedFault
-    ensures { result ≡ FeedFault.Refused refusal.line refusal.cause }
-{
-    FeedFault::Refused {
-        line: refusal.line,
-        cause: refusal.cause,
     }
 }

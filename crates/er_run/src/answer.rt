@@ -7,7 +7,7 @@ ghost use Rattle.er_run.specs.Accepted.{IsCompared, IsTested, IsJudgement, IsVer
 
 use crate::end::Judged;
 use crate::outcome::Outcome;
-use crate::tell::{fail, tell};
+use crate::tell::{tell, tell_fault};
 use er_outside::Sink;
 use er_trace::fault::FeedFault;
 use er_words::Command;
@@ -41,6 +41,6 @@ pub(crate) fn answer<K: Sink>(
 {
     match verdict {
         Ok(judged) => tell(alloc, asked, &judged, sink),
-        Err(fault) => fail(alloc, asked, fault, sink),
+        Err(fault) => tell_fault(alloc, asked, fault, sink),
     }
 }

@@ -1,61 +1,195 @@
-//! Reads the whole input.
+//! Reads a trace piece by piece, and judges each record as its line ends.
 
-ghost use Rattle.std.specs.Prelude.{◌≡◌, ℕ, ◌<◌, ◌≤◌, List, ◌++◌, length, IfOk, OnOk, IsErrOf};
-ghost use Rattle.er_outside.specs.Ends.{Gives, IsSpent, Rose};
-ghost use Rattle.er_run.specs.Promise.{IsReadWhole, piece_bytes};
+ghost use Rattle.std.specs.Prelude.{◌≡◌, ◌≢◌, ℕ, ◌+◌, ◌<◌, ◌≤◌, List, [], ◌++◌, length, reverse, Option, Ok, Err, Some, None, IfOk, OnOk, IfErr, IsErrOf};
+ghost use Rattle.er_outside.specs.Ends.{Rose};
+ghost use Rattle.er_trace.specs.Trace.{most_lines};
+ghost use Rattle.er_trace.specs.Feed.{IsGoing};
+ghost use Rattle.er_trace.specs.Feed as feeds;
+ghost use Rattle.er_run.specs.Session.{StandsFor, IsSession};
+ghost use Rattle.er_run.specs.Reading.{IsAt, IsSomewhere, IsOpen, IsRead, IsReadTo, IsReading, GoesOn, Advances, Ends, IsRefusedBehind, IsFinalFault, IsRecordFault, fault_of};
 
+use crate::session::Session;
+use er_graph::GraphFault;
 use er_outside::Source;
+use er_text::Cause;
+use er_trace::fault::FeedFault;
+use er_trace::feed::Feed;
+use er_trace::record::Record;
 use std::alloc::Global;
-
-/// The most bytes of an input.
-pub const MOST_BYTES: usize = 67_108_864;
 
 /// How many bytes are read at a time.
 const PIECE: usize = 4096;
 
-/// Why the input could not be read.
+/// Why the input was not read to its end.
 #[derive(Clone, Copy, Debug, PartialEq, Eq)]
 pub(crate) enum InputFault {
+    /// A read failed.
     Failed,
+    /// A record is refused.
+    Refused { line: u32, cause: Cause },
     NoMemory,
 }
 
-/// The bytes of the source to its end, or more than an input may have. It reads no more than it needs to know which.
-pub(crate) fn read_input<S: Source>(alloc: Global, source: &mut S) -> Result<Vec<u8>, InputFault>
-    ensures read { IfOk result (λ bytes. Gives (S.left source.old) bytes.items
-        (S.left source.new)) }
-    ensures whole { IfOk result (λ bytes. IsReadWhole bytes.items (S.left source.new)) }
-    ensures failed { IsErrOf result InputFault.Failed
-        → Rose (S.faults source.old) (S.faults source.new) }
-    ensures count { S.faults source.old ≤ S.faults source.new }
-    ensures stands { OnOk result (S.faults source.new ≡ S.faults source.old) }
-{
-    let mut bytes = Vec::new(alloc);
-    while bytes.len() <= MOST_BYTES {
-        if read_piece(source, &mut bytes)? == 0 {
-            return Ok(bytes);
-        }
-    }
-    Ok(bytes)
+/// A line that is no line of a trace, and why.
+#[derive(Clone, Copy, Debug, PartialEq, Eq)]
+pub(crate) struct LineRefusal {
+    pub(crate) line: u32,
+    pub(crate) cause: Cause,
 }
 
-/// Reads the next piece to the end of the bytes, and answers its length.
-fn read_piece<S: Source>(source: &mut S, bytes: &mut Vec<u8>) -> Result<usize, InputFault>
-    ensures read { IfOk result (λ n. (piece : List ℕ) × (length piece ≡ n)
-        × (bytes.new.items ≡ bytes.old.items ++ piece) × Gives (S.left source.old) piece (S.left source.new)) }
-    ensures few { IfOk result (λ n. n ≤ piece_bytes) }
-    ensures end { IfOk result (λ n. n ≡ 0 → IsSpent (S.left source.new)) }
+/// How the reading stands after a piece.
+#[derive(Clone, Copy)]
+enum Step {
+    GoesOn,
+    /// The `end` line was read and nothing behind it, or a line is refused.
+    Ended(Option<LineRefusal>),
+}
+
+/// Reads the trace that the source gives, to its `end` line or to the first line that is illegal. Answers
+/// what the records come to, and the line behind them that is no line of a trace, where one is.
+pub(crate) fn read<S: Source>(
+    alloc: Global,
+    source: &mut S,
+) -> Result<(Session, Option<LineRefusal>), InputFault>
+    ensures read { IfOk result (λ read. IsRead (S.left source.old) (S.left source.new) read.0 read.1) }
+    ensures refused { (n : ℕ) (c : Cause) → result ≡ Err (InputFault.Refused n c)
+        → IsReadTo (S.left source.old) (S.left source.new) n c }
     ensures failed { IsErrOf result InputFault.Failed
         → Rose (S.faults source.old) (S.faults source.new) }
+    ensures stands { result ≢ Err InputFault.Failed → S.faults source.new ≡ S.faults source.old }
     ensures count { S.faults source.old ≤ S.faults source.new }
-    ensures stands { OnOk result (S.faults source.new ≡ S.faults source.old) }
+{
+    let Ok(mut session) = Session::new(alloc) else {
+        return Err(InputFault::NoMemory);
+    };
+    let mut feed = Feed::new(alloc);
+    // Each turn reads a byte at least, and as long as no line is refused fewer bytes come than turns may.
+    for turn in 0..u64::MAX {
+        match read_piece(alloc, source, &mut feed, &mut session) {
+            Ok(Step::GoesOn) => {}
+            Ok(Step::Ended(refused)) => return Ok((session, refused)),
+            Err(fault) => return Err(fault),
+        }
+    }
+    unreachable!()
+}
+
+/// Reads the next piece and judges the records of the lines that end in it.
+fn read_piece<S: Source>(
+    alloc: Global,
+    source: &mut S,
+    feed: &mut Feed,
+    session: &mut Session,
+) -> Result<Step, InputFault>
+    requires some { IsSomewhere feed.old session.old }
+    requires going { IsGoing feed.old }
+    ensures on { result ≡ Ok Step.GoesOn → (bytes : List ℕ) (records : List Record)
+        → IsAt feed.old session.old bytes records
+        → Advances (S.left source.old) (S.left source.new) feed.new session.new bytes records }
+    ensures going { result ≡ Ok Step.GoesOn → IsGoing feed.new }
+    ensures ahead { result ≡ Ok Step.GoesOn → (bytes : List ℕ) (records : List Record)
+        → IsAt feed.new session.new bytes records → IsOpen bytes records }
+    ensures ended { (refused : Option LineRefusal) → result ≡ Ok (Step.Ended refused)
+        → (bytes : List ℕ) (records : List Record) → IsAt feed.old session.old bytes records
+        → Ends (S.left source.old) (S.left source.new) session.new refused bytes }
+    ensures refused { (n : ℕ) (c : Cause) → result ≡ Err (InputFault.Refused n c)
+        → (bytes : List ℕ) (records : List Record) → IsAt feed.old session.old bytes records
+        → IsRefusedBehind (S.left source.old) (S.left source.new) n c bytes }
+    ensures failed { IsErrOf result InputFault.Failed
+        → Rose (S.faults source.old) (S.faults source.new) }
+    ensures stands { result ≢ Err InputFault.Failed → S.faults source.new ≡ S.faults source.old }
+    ensures count { S.faults source.old ≤ S.faults source.new }
 {
     let mut buffer = [0u8; PIECE];
     let Ok(n) = source.read(&mut buffer) else {
         return Err(InputFault::Failed);
     };
-    let Ok(()) = bytes.extend_from_slice(&buffer[..n]) else {
-        return Err(InputFault::NoMemory);
-    };
-    Ok(n)
+    if n == 0 {
+        return Ok(Step::Ended(line_at_end(feed)));
+    }
+    match take_piece(alloc, feed, session, &buffer[..n]) {
+        Ok(None) => Ok(step_of(feed)),
+        Ok(Some(refusal)) => Ok(Step::Ended(Some(refusal))),
+        Err(FeedFault::Refused { line, cause }) => Err(InputFault::Refused { line, cause }),
+        Err(FeedFault::NoMemory) => Err(InputFault::NoMemory),
+    }
+}
+
+/// Whether the `end` line was read.
+fn step_of(feed: &Feed) -> Step
+    requires { IsGoing feed.now }
+    ensures on { result ≡ Step.GoesOn → (bytes : List ℕ) (records : List Record)
+        → feeds.StandsFor feed.now bytes records → IsOpen bytes records }
+    ensures ended { (refused : Option LineRefusal) → result ≡ Step.Ended refused
+        → (bytes : List ℕ) (records : List Record) → feeds.StandsFor feed.now bytes records
+        → (refused ≡ None) × IsReading bytes records None }
+{
+    if feed.ended() {
+        Step::Ended(None)
+    } else {
+        Step::GoesOn
+    }
+}
+
+/// The line that lacks its end, at the end of the input.
+fn line_at_end(feed: &Feed) -> Option<LineRefusal>
+    requires { IsGoing feed.now }
+    ensures { (bytes : List ℕ) (records : List Record) → feeds.StandsFor feed.now bytes records
+        → IsReading bytes records result }
+{
+    match feed.finish() {
+        Ok(()) => None,
+        Err(FeedFault::Refused { line, cause }) => Some(LineRefusal { line, cause }),
+        // Only a feed that lacked memory before answers this.
+        Err(FeedFault::NoMemory) => unreachable!(),
+    }
+}
+
+/// Feeds a piece and judges the records of the lines that end in it. Answers the line that is refused, where one is.
+fn take_piece(
+    alloc: Global,
+    feed: &mut Feed,
+    session: &mut Session,
+    piece: &[u8],
+) -> Result<Option<LineRefusal>, FeedFault>
+    requires { IsSomewhere feed.old session.old }
+    ensures on { OnOk result ((bytes : List ℕ) (records : List Record)
+        → IsAt feed.old session.old bytes records
+        → GoesOn feed.new session.new (bytes ++ piece.now) records) }
+    ensures fault { IfOk result (λ refused. feed.new.fault ≡ fault_of refused) }
+    ensures refused { IfErr result (λ fault. (bytes : List ℕ) (records : List Record)
+        → IsAt feed.old session.old bytes records → IsFinalFault (bytes ++ piece.now) fault) }
+{
+    let mut records = Vec::new(alloc);
+    match feed.feed(piece, &mut records) {
+        Ok(()) => {
+            if let Err(fault) = judge_all(session, records.as_slice()) {
+                return Err(fault);
+            }
+            Ok(None)
+        }
+        Err(FeedFault::Refused { line, cause }) => {
+            if let Err(fault) = judge_all(session, records.as_slice()) {
+                return Err(fault);
+            }
+            Ok(Some(LineRefusal { line, cause }))
+        }
+        Err(FeedFault::NoMemory) => Err(FeedFault::NoMemory),
+    }
+}
+
+/// Takes the records one after the other, to the first that is refused.
+fn judge_all(session: &mut Session, records: &[Record]) -> Result<(), FeedFault>
+    requires some { IsSession session.old }
+    requires room { session.old.records + length records.now ≤ most_lines }
+    ensures taken { OnOk result ((earlier : List Record) → StandsFor session.old (reverse earlier)
+        → StandsFor session.new (reverse (earlier ++ records.now))) }
+    ensures refused { IfErr result (λ fault. (earlier : List Record)
+        → StandsFor session.old (reverse earlier) → IsRecordFault (earlier ++ records.now) fault) }
+{
+    match session.take_all(records) {
+        Ok(()) => Ok(()),
+        Err(GraphFault::Refused { line, cause }) => Err(FeedFault::Refused { line, cause }),
+        Err(GraphFault::NoMemory) => Err(FeedFault::NoMemory),
+    }
 }

@@ -1,14 +1,19 @@
 //! Laws of the definitions that the contracts cite. Each is a function that does nothing, whose
 //! contract is the law.
 
-ghost use Rattle.er_run.specs.Laws.{EveryAnswer, OneAnswer};
+ghost use Rattle.er_run.specs.Laws.{EveryAnswer, LongerInput, OneAnswer};
 
-/// A byte string has one outcome, and one text is due for it.
+/// No byte string has two outcomes, and no two texts are due for it.
 pub fn one_answer()
     ensures { OneAnswer }
 {}
 
-/// Each byte string has an outcome.
+/// No byte string is without an outcome.
 pub fn every_answer()
     ensures { EveryAnswer }
+{}
+
+/// A refusal other than `no-end` is that of every longer input.
+pub fn longer_input()
+    ensures { LongerInput }
 {}

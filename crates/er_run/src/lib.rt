@@ -24,8 +24,9 @@ pub mod outcome;
 mod session;
 mod tell;
 
-/// Does what the words ask for: reads a whole trace from the source and writes the report of its races, or
-/// its refusal, to the sink; or writes the summary of a generated trace.
+/// Does what the words ask for: reads the trace that the source gives, at most 4,096 bytes at a time, to its
+/// end or to the piece that decides a refusal, and writes the report of its races, or the refusal, to the
+/// sink; or writes the summary of a generated trace.
 ///
 /// The words are those of the command, without the program's own name. Each candidate pair of accesses is
 /// compared once, and `compares` counts these comparisons; `tests` counts those that group the races.
@@ -54,6 +55,7 @@ pub fn run<S: Source, K: Sink>(
         → Rose (S.faults source.old) (S.faults source.new) }
     ensures write_fault { result ≡ Outcome.WriteFault
         → Rose (K.faults sink.old) (K.faults sink.new) }
+    // At a failed write a proper front of the text that is due was written.
     ensures cut_short { (asked : Command) → Asks (map string_bytes words.now) asked
         → result ≡ Outcome.WriteFault
         → IsCutShort asked (S.left source.old) (S.left source.new) (K.got sink.old) (K.got sink.new) }

@@ -7,12 +7,13 @@ ghost use Rattle.er_gen.specs.Generated.{generated, most_rounds};
 ghost use Rattle.er_run.specs.Answer.{Answers};
 ghost use Rattle.er_run.specs.Promise.{IsAnswer, IsAnswered, IsCutShort, IsGiven, IsPartGiven, IsSilent, Compares, Tests};
 
-use crate::accept::{accept, accept_generated};
+use crate::accept::{accept_generated, accept_input};
 use crate::answer::answer;
-use crate::input::{InputFault, read_input};
+use crate::input::InputFault;
 use crate::outcome::Outcome;
 use er_clocks::Meter;
 use er_outside::{Sink, Source};
+use er_trace::fault::FeedFault;
 use er_words::Command;
 use std::alloc::Global;
 
@@ -49,10 +50,11 @@ pub(crate) fn check<S: Source, K: Sink>(
     ensures reads { S.faults source.old ≤ S.faults source.new }
     ensures writes { K.faults sink.old ≤ K.faults sink.new }
 {
-    match read_input(alloc, source) {
-        Ok(bytes) => {
-            let verdict = accept(alloc, bytes.as_slice(), compares, tests);
-            answer(alloc, Command::Check { json }, verdict, sink)
+    let asked = Command::Check { json };
+    match accept_input(alloc, source, compares, tests) {
+        Ok(judged) => answer(alloc, asked, Ok(judged), sink),
+        Err(InputFault::Refused { line, cause }) => {
+            answer(alloc, asked, Err(FeedFault::Refused { line, cause }), sink)
         }
         Err(InputFault::Failed) => Outcome::ReadFault,
         Err(InputFault::NoMemory) => Outcome::NoMemory,

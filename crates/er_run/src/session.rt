@@ -1,6 +1,6 @@
 //! What the accepted records say and access, and which record comes next.
 
-ghost use Rattle.std.specs.Prelude.{◌≡◌, ℕ, ◌+◌, ◌<◌, ◌≤◌, List, [], ◌∷◌, reverse, length, Err, OnOk, IfOk, IfErr};
+ghost use Rattle.std.specs.Prelude.{◌≡◌, ℕ, ◌+◌, ◌<◌, ◌≤◌, List, [], ◌∷◌, ◌++◌, reverse, length, Err, OnOk, IfOk, IfErr};
 ghost use Rattle.er_trace.specs.declared.record.Record.{Record};
 ghost use Rattle.er_trace.specs.Trace.{most_lines};
 ghost use Rattle.er_page.specs.Page.{IsPage};
@@ -31,7 +31,7 @@ impl Drop for Session {
     }
 }
 
-/// Takes the records one after the other, and answers what they come to, or the first that is refused.
+/// What the records come to, or the first that is refused.
 pub(crate) fn judge(alloc: Global, records: &[Record]) -> Result<Session, GraphFault>
     requires { length records.now ≤ most_lines }
     ensures stands { IfOk result (λ session. StandsFor session (reverse records.now)) }
@@ -40,12 +40,10 @@ pub(crate) fn judge(alloc: Global, records: &[Record]) -> Result<Session, GraphF
     let Ok(mut session) = Session::new(alloc) else {
         return Err(GraphFault::NoMemory);
     };
-    for at in 0..records.len() {
-        if let Err(fault) = session.take(&records[at]) {
-            return Err(fault);
-        }
+    match session.take_all(records) {
+        Ok(()) => Ok(session),
+        Err(fault) => Err(fault),
     }
-    Ok(session)
 }
 
 impl Session {
@@ -58,6 +56,23 @@ impl Session {
             kept: Table::new(alloc),
             records: 0,
         })
+    }
+
+    /// Takes the records one after the other, to the first that is refused.
+    pub(crate) fn take_all(&mut self, records: &[Record]) -> Result<(), GraphFault>
+        requires some { IsSession self.old }
+        requires room { self.old.records + length records.now ≤ most_lines }
+        ensures taken { OnOk result ((earlier : List Record) → StandsFor self.old (reverse earlier)
+            → StandsFor self.new (reverse (earlier ++ records.now))) }
+        ensures refused { IfErr result (λ fault. (earlier : List Record)
+            → StandsFor self.old (reverse earlier) → IsFaultOf (earlier ++ records.now) fault) }
+    {
+        for at in 0..records.len() {
+            if let Err(fault) = self.take(&records[at]) {
+                return Err(fault);
+            }
+        }
+        Ok(())
     }
 
     /// Takes the next record, or answers why it is not accepted. The limit on accesses is asked last.

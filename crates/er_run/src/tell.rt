@@ -34,7 +34,7 @@ pub(crate) fn tell<K: Sink>(alloc: Global, asked: Command, judged: &Judged, sink
     match asked {
         Command::Check { json } => {
             if json {
-                tell_line(alloc, judged, sink)
+                tell_json(alloc, judged, sink)
             } else {
                 ends_as(judged, put_report(judged, sink))
             }
@@ -44,7 +44,7 @@ pub(crate) fn tell<K: Sink>(alloc: Global, asked: Command, judged: &Judged, sink
 }
 
 /// Writes the report as a line of JSON.
-fn tell_line<K: Sink>(alloc: Global, judged: &Judged, sink: &mut K) -> Outcome
+fn tell_json<K: Sink>(alloc: Global, judged: &Judged, sink: &mut K) -> Outcome
     requires { IsJudgement judged.now }
     ensures reported { (h : List Record) → IsJudged judged.now.session judged.now.found h
         → ReportsOf h (json_report h) result (K.got sink.old) (K.got sink.new) }
@@ -54,7 +54,7 @@ fn tell_line<K: Sink>(alloc: Global, judged: &Judged, sink: &mut K) -> Outcome
     ensures stands { IsAnswer result → K.faults sink.new ≡ K.faults sink.old }
     ensures writes { K.faults sink.old ≤ K.faults sink.new }
 {
-    match line_of(alloc, judged) {
+    match json_of(alloc, judged) {
         Ok(line) => ends_as(judged, put_line(line.as_slice(), sink)),
         Err(NoMemory) => Outcome::NoMemory,
     }
@@ -110,7 +110,7 @@ fn put_summary<K: Sink>(number: u32, judged: &Judged, sink: &mut K) -> Result<()
 }
 
 /// The report as a line of JSON.
-fn line_of(alloc: Global, judged: &Judged) -> Result<Vec<u8>, NoMemory>
+fn json_of(alloc: Global, judged: &Judged) -> Result<Vec<u8>, NoMemory>
     requires { IsJudgement judged.now }
     ensures { IfOk result (λ line. (h : List Record) → IsJudged judged.now.session judged.now.found h
         → line.items ≡ json_report h) }
@@ -135,7 +135,7 @@ fn put_line<K: Sink>(line: &[u8], sink: &mut K) -> Result<(), WriteFault>
 }
 
 /// Writes the refusal where the fault is one.
-pub(crate) fn fail<K: Sink>(
+pub(crate) fn tell_fault<K: Sink>(
     alloc: Global,
     asked: Command,
     fault: FeedFault,
@@ -167,7 +167,7 @@ fn refuse<K: Sink>(alloc: Global, asked: Command, line: u32, cause: Cause, sink:
     match asked {
         Command::Check { json } => {
             if json {
-                refuse_by_line(alloc, line, cause, sink)
+                refuse_as_json(alloc, line, cause, sink)
             } else {
                 ends_refused(line, cause, write_refusal(sink, line, cause))
             }
@@ -177,7 +177,7 @@ fn refuse<K: Sink>(alloc: Global, asked: Command, line: u32, cause: Cause, sink:
 }
 
 /// Writes a refusal as a line of JSON.
-fn refuse_by_line<K: Sink>(alloc: Global, line: u32, cause: Cause, sink: &mut K) -> Outcome
+fn refuse_as_json<K: Sink>(alloc: Global, line: u32, cause: Cause, sink: &mut K) -> Outcome
     ensures refused { RefusedAs line cause (lines.refusal line cause) result
         (K.got sink.old) (K.got sink.new) }
     ensures write_fault { result ≡ Outcome.WriteFault

@@ -6,5 +6,9 @@ pub mod ReadLaws
 pub mod PrintLaws
 pub mod OneRecord
 pub mod OneTrace
-pub mod WholeLaws
 pub mod LinesBefore
+pub mod CutLaws
+pub mod CauseLaws
+pub mod FeedLaws
+pub mod StopLaws
+pub mod PlainLaws

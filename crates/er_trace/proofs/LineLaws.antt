@@ -1,15 +1,14 @@
 -- Whole lines.
-use Rattle.std.proofs.Common.{◌≡◌, ℕ, ◌+◌, ◌-◌, ◌<◌, ◌≤◌, zero, suc, List, [], ◌∷◌, ◌++◌, length, take, drop, Bool, true, false, ◌&&◌, Option, Some, None, Ok, Err, refl, ap, sym, ◌∙◌, arith, append_assoc, length-append}
-use Rattle.std.specs.Prelude.{min, nat_lt, if◌then◌else◌}
+use Rattle.std.proofs.Common.{◌≡◌, ℕ, ◌+◌, ◌<◌, ◌≤◌, zero, suc, List, [], ◌∷◌, ◌++◌, length, take, drop, Bool, true, false, ◌&&◌, Option, Some, None, Ok, Err, refl, ap, sym, ◌∙◌, arith, append_assoc, length-append}
+use Rattle.std.specs.Prelude.{nat_lt, if◌then◌else◌}
 use Rattle.std.specs.Option.{ok_or}
-use Rattle.std.proofs.lemmas.List.{take-append-drop, take_rest, length-take}
-use Rattle.std.proofs.Math.Seq.{take-length}
+use Rattle.std.proofs.lemmas.List.{take-append-drop}
 use Rattle.std.proofs.lemmas.Bool.Decides.{nat_tests}
 use Rattle.std.proofs.lemmas.Grind.{common_steps}
 use Rattle.er_text.specs.Bytes.{has_no_lf}
 use Rattle.er_text.specs.Lines.{first_line}
 use Rattle.er_text.specs.declared.causes.Cause.TheVariants.{LongLine, NoEnd}
-use Rattle.er_text.proofs.LineLaws.{first_line-at, first_line_parts, first_line_some}
+use Rattle.er_text.proofs.LineLaws.{first_line-at, first_line_parts}
 use Rattle.er_trace.specs.Trace.{whole_line, is_long, most_line_bytes, most_lines, line as with_end}
 
 drop_line : (line rest : List ℕ) → drop (length line + 1) (line ++ 10 ∷ rest) ≡ rest
@@ -26,7 +25,7 @@ pub front_within : (n : ℕ) (bytes line rest : List ℕ) → Some (line, rest) 
 front_within n bytes line rest h =
     omega (arith, ap length (front_parts n bytes line rest (sym h)), length-append line (10 ∷ (rest ++ drop n bytes)))
 
-front_line : (n : ℕ) (bytes line rest : List ℕ) → first_line (take n bytes) ≡ Some (line, rest) → first_line bytes ≡ Some (line, drop (length line + 1) bytes)
+pub front_line : (n : ℕ) (bytes line rest : List ℕ) → first_line (take n bytes) ≡ Some (line, rest) → first_line bytes ≡ Some (line, drop (length line + 1) bytes)
 front_line n bytes line rest h =
     let parts : bytes ≡ line ++ 10 ∷ (rest ++ drop n bytes) = front_parts n bytes line rest h in
     let clear : has_no_lf line ≡ true = (first_line_parts (take n bytes) line rest h).0 in
@@ -42,7 +41,7 @@ lf_within (suc n) (b ∷ line) rest h = grind (arith, common_steps, lf_within n 
 not_long : (bytes : List ℕ) → has_no_lf (take (most_line_bytes + 1) bytes) ≡ false → is_long bytes ≡ false
 not_long bytes h = grind (arith, nat_tests, common_steps)
 
-whole_line_short : (bytes : List ℕ) → is_long bytes ≡ false → whole_line bytes ≡ ok_or (first_line bytes) NoEnd
+pub whole_line_short : (bytes : List ℕ) → is_long bytes ≡ false → whole_line bytes ≡ ok_or (first_line bytes) NoEnd
 whole_line_short bytes h = rw h refl
 
 -- a line that is not long
@@ -50,34 +49,6 @@ pub whole_line-at : (line rest : List ℕ) → has_no_lf line ≡ true → lengt
 whole_line-at line rest clear short =
     whole_line_short (line ++ 10 ∷ rest) (not_long (line ++ 10 ∷ rest) (lf_within (most_line_bytes + 1) line rest (omega arith)))
     ∙ ap (λ first. ok_or first NoEnd) (first_line-at line rest clear)
-
--- what the reader looks at: the first bytes, one more than a line may have
-pub whole_line_found : (n : ℕ) (bytes line rest : List ℕ) → n ≡ min (length bytes) (most_line_bytes + 1) → Some (line, rest) ≡ first_line (take n bytes)
-    → whole_line bytes ≡ Ok (line, take (length bytes - (length line + 1)) (drop (length line + 1) bytes))
-whole_line_found n bytes line rest front h =
-    let found : first_line (take n bytes) ≡ Some (line, rest) = sym h in
-    let parts : bytes ≡ line ++ 10 ∷ (rest ++ drop n bytes) = front_parts n bytes line rest found in
-    let begins : take n bytes ≡ line ++ 10 ∷ rest = (first_line_parts (take n bytes) line rest found).1 in
-    let short : length line < most_line_bytes + 1 = omega (arith, ap length begins, length-append line (10 ∷ rest), length-take n bytes) in
-    let near : has_no_lf (take (most_line_bytes + 1) bytes) ≡ false = ap (λ b. has_no_lf (take (most_line_bytes + 1) b)) parts ∙ lf_within (most_line_bytes + 1) line (rest ++ drop n bytes) short in
-    (whole_line_short bytes (not_long bytes near) ∙ ap (λ first. ok_or first NoEnd) (front_line n bytes line rest found))
-    ∙ ap (λ r. Ok (line, r)) (sym (take_rest bytes (length line + 1)))
-
-clear_front : (n : ℕ) (bytes : List ℕ) → None ≡ first_line (take n bytes) → has_no_lf (take n bytes) ≡ true
-clear_front n bytes h = first_line_some (take n bytes) (sym h)
-
-pub whole_line_long : (n : ℕ) (bytes : List ℕ) → n ≡ min (length bytes) (most_line_bytes + 1) → None ≡ first_line (take n bytes) → most_line_bytes < length bytes → whole_line bytes ≡ Err LongLine
-whole_line_long n bytes front h long =
-    let same : n ≡ most_line_bytes + 1 = omega arith in
-    let clear : has_no_lf (take (most_line_bytes + 1) bytes) ≡ true = rw same at (clear_front n bytes h) in
-    grind (arith, nat_tests, common_steps)
-
-pub whole_line_none : (n : ℕ) (bytes : List ℕ) → n ≡ min (length bytes) (most_line_bytes + 1) → None ≡ first_line (take n bytes) → length bytes ≤ most_line_bytes → whole_line bytes ≡ Err NoEnd
-whole_line_none n bytes front h short =
-    let same : n ≡ length bytes = omega arith in
-    let all : take n bytes ≡ bytes = ap (λ k. take k bytes) same ∙ take-length bytes in
-    let none : first_line bytes ≡ None = ap first_line (sym all) ∙ sym h in
-    grind (arith, nat_tests, common_steps)
 
 whole_line_parts_by : (bytes line rest : List ℕ) (long : Bool) (first : Option (List ℕ × List ℕ))
     → (if long then Err LongLine else ok_or first NoEnd) ≡ Ok (line, rest) → first ≡ Some (line, rest)

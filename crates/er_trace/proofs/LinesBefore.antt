@@ -1,12 +1,15 @@
 -- The number of a line, by the LFs before it.
-use Rattle.std.proofs.Common.{◌≡◌, ℕ, ◌+◌, List, [], ◌∷◌, ◌++◌, length, true, refl, arith}
+use Rattle.std.proofs.Common.{◌≡◌, ℕ, ◌+◌, List, [], ◌∷◌, ◌++◌, length, true, refl, ap, ◌∙◌, arith}
 use Rattle.std.specs.List.{AllByRecursion}
 use Rattle.std.proofs.lemmas.Grind.{common_steps}
 use Rattle.er_text.specs.Bytes.{count_of_lf, has_no_lf}
+use Rattle.er_text.specs.declared.causes.Cause.TheVariants.{NoEnd, AfterEnd}
 use Rattle.er_trace.specs.declared.record.Record.{Record}
 use Rattle.er_trace.specs.Spelling.{spelling, IsRecord}
-use Rattle.er_trace.specs.Trace.{Place, Start, After, Ended, IsPlace, line, lines, header, end_word, line_number, bytes_before}
+use Rattle.er_trace.specs.Trace.{Place, Start, After, Ended, IsPlace, line, lines, header, end_word, line_number, bytes_before, Refuses, LineCause}
 use Rattle.er_trace.proofs.RecordLaws.{spelling_has_no_lf}
+use Rattle.er_trace.proofs.CauseLaws.{IsShort}
+use Rattle.er_trace.proofs.FeedLaws.{unfinished_short}
 
 count_of_both : (a b : List ℕ) → count_of_lf (a ++ b) ≡ count_of_lf a + count_of_lf b
 count_of_both [] b = grind (arith, common_steps)
@@ -46,3 +49,14 @@ line_of_a_place (Ended records) is =
     let e : count_of_lf ((line header ++ lines records) ++ line end_word) ≡ count_of_lf (line header ++ lines records) + 1 = count_of_both (line header ++ lines records) (line end_word) in
     let before : count_of_lf (line header ++ lines records) ≡ length records + 1 = count_of_header records is.each in
     omega (arith, e, before)
+
+short_of : (place : Place) (rest : List ℕ) → LineCause place rest NoEnd → IsShort rest
+short_of Start rest h = unfinished_short Start rest h
+short_of (After records) rest h = unfinished_short (After records) rest h
+short_of (Ended records) rest h = let no : NoEnd ≡ AfterEnd = h.1 in absurd (cc)
+
+pub line_of_no_end : (bytes : List ℕ) (place : Place) → Refuses bytes place NoEnd → line_number place ≡ count_of_lf bytes + 1
+line_of_no_end bytes place h =
+    let all : count_of_lf bytes ≡ count_of_lf (bytes_before place) + count_of_lf h.rest = ap count_of_lf h.begins ∙ count_of_both (bytes_before place) h.rest in
+    let none : count_of_lf h.rest ≡ 0 = count_of_none h.rest (short_of place h.rest h.cause).clear in
+    omega (arith, all, none, line_of_a_place place h.is_place)

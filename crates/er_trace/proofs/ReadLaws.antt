@@ -7,7 +7,11 @@ use Rattle.er_text.specs.declared.causes.Cause.{Cause}
 use Rattle.er_text.specs.declared.causes.Cause.TheVariants.{AfterEnd}
 use Rattle.er_trace.specs.declared.record.Record.{Record}
 use Rattle.er_trace.specs.Spelling.{spelling, IsRecord}
-use Rattle.er_trace.specs.Trace.{most_lines, header, end_word, line, lines, Start, After, Ended, IsPlace, LineCause, RecordCause, ReadsWhole, ReadsUntil, ReadsPart}
+use Rattle.er_trace.specs.Trace.{most_lines, header, end_word, line, lines, Start, After, Ended, text, IsPlace, IsTrace, LineCause, RecordCause, ReadsUntil}
+
+-- a whole trace was read, and its records came to the list
+abbrev pub ReadsWhole : List ℕ → List Record → List Record → Type 0
+ReadsWhole bytes old new = (records : List Record) × IsTrace records × (bytes ≡ text records) × (new ≡ old ++ records)
 
 -- the line of that number is next, the records before it came to the list, and these bytes are left
 pub record IsAt (bytes : List ℕ) (old new : List Record) (number : ℕ) (rest : List ℕ) : Type 0 where
@@ -21,11 +25,11 @@ pub record IsAt (bytes : List ℕ) (old new : List Record) (number : ℕ) (rest 
 pub at_start : (bytes : List ℕ) (old : List Record) (rest : List ℕ) → bytes ≡ line header ++ rest → IsAt bytes old old 2 rest
 at_start bytes old rest e = record { records = []; each = tt; numbered = refl; few = omega arith; begins = e; listed = sym (append-nil old) }
 
-lines-append : (a b : List Record) → lines (a ++ b) ≡ lines a ++ lines b
+pub lines-append : (a b : List Record) → lines (a ++ b) ≡ lines a ++ lines b
 lines-append [] b = refl
 lines-append (x ∷ a) b = ap (λ l. line (spelling x) ++ l) (lines-append a b) ∙ sym (append_assoc (line (spelling x)) (lines a) (lines b))
 
-each-append : (a b : List Record) → AllByRecursion IsRecord a → AllByRecursion IsRecord b → AllByRecursion IsRecord (a ++ b)
+pub each-append : (a b : List Record) → AllByRecursion IsRecord a → AllByRecursion IsRecord b → AllByRecursion IsRecord (a ++ b)
 each-append [] b first second = second
 each-append (x ∷ a) b first second = (first.0, each-append a b first.1 second)
 
@@ -77,15 +81,6 @@ after_end bytes old new number rest later h few e some = (
   h.listed,
 )
 
-pub at_part : (bytes : List ℕ) (old new : List Record) (number : ℕ) (rest : List ℕ) → IsAt bytes old new number rest → ReadsPart bytes old new
-at_part bytes old new number rest h = (After h.records, rest, is_place bytes old new number rest h, h.begins, h.listed)
-
 pub refused_at_start : (bytes : List ℕ) (old : List Record) (c : Cause) → LineCause Start bytes c → ReadsUntil bytes 1 c old old
 refused_at_start bytes old c cause =
     (Start, record { is_place = record { each = tt; few = omega arith }; rest = bytes; begins = refl; cause = cause }, refl, sym (append-nil old))
-
--- where nothing was added
-pub at_part_same : (bytes : List ℕ) (old new after : List Record) (number : ℕ) (rest : List ℕ) → IsAt bytes old new number rest → after ≡ new → ReadsPart bytes old after
-at_part_same bytes old new after number rest h same = let p : ReadsPart bytes old new = at_part bytes old new number rest h in rw same p
-
-pub ruleset steps = (at_start, at_more, at_end, at_refusal, after_end, at_part, refused_at_start)

@@ -4,4 +4,6 @@ pub mod Kinds
 pub mod Heads
 pub mod Tokens
 pub mod Trace
+pub mod Marks
+pub mod Feed
 pub mod Steps

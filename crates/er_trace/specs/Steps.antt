@@ -1,11 +1,51 @@
--- One line behind the header.
-use Rattle.std.specs.Prelude.{◌≡◌, ℕ, ◌≤◌, List, ◌++◌}
-use Rattle.er_trace.specs.declared.trace.Step.{Step}
-use Rattle.er_trace.specs.declared.trace.Step.TheVariants.{Found, Ended}
+-- One line.
+use Rattle.std.specs.Prelude.{◌≡◌, ◌≢◌, ℕ, ◌+◌, ◌-◌, ◌<◌, ◌≤◌, true, List, [], ◌∷◌, ◌++◌, length, take, Option, None}
+use Rattle.er_text.specs.Bytes.{line_end, has_no_lf}
+use Rattle.er_text.specs.declared.causes.Cause.{Cause}
+use Rattle.er_text.specs.declared.causes.Cause.TheVariants.{BadHeader, BadRecord}
+use Rattle.er_trace.specs.declared.record.Record.{Record}
+use Rattle.er_trace.specs.declared.mark.Mark.{Mark}
+use Rattle.er_trace.specs.declared.mark.Mark.TheVariants as marks
+use Rattle.er_trace.specs.declared.lines.Next.{Next}
+use Rattle.er_trace.specs.declared.lines.Next.TheVariants as nexts
+use Rattle.er_trace.specs.declared.fault.FeedFault.{FeedFault}
 use Rattle.er_trace.specs.Spelling.{spelling, IsRecord}
-use Rattle.er_trace.specs.Trace.{most_lines, line, end_word}
+use Rattle.er_trace.specs.Trace.{most_line_bytes, header, end_word, SpellsNone, ReadsPart}
+use Rattle.er_trace.specs.Feed.{Stands}
 
--- the bytes begin with that line, the line of that number
-abbrev pub IsStep : ℕ → List ℕ → Step → Type 0
-IsStep number bytes (Found x later) = (number ≤ most_lines) × IsRecord x × (bytes ≡ line (spelling x) ++ later.now)
-IsStep number bytes (Ended later) = (number ≤ most_lines) × (bytes ≡ line end_word ++ later.now)
+-- how a line goes on, of which so many bytes are kept
+abbrev pub GoesOnAs : ℕ → List ℕ → Next → Type 0
+GoesOnAs kept piece (nexts.Ends front later) = (piece ≡ front.now ++ line_end ∷ later.now) × (has_no_lf front.now ≡ true) × (kept + length front.now ≤ most_line_bytes)
+GoesOnAs kept piece nexts.GoesOn = (has_no_lf piece ≡ true) × (kept + length piece ≤ most_line_bytes)
+GoesOnAs kept piece nexts.TooLong = (has_no_lf (take (most_line_bytes + 1 - kept) piece) ≡ true) × (most_line_bytes < kept + length piece)
+
+-- the whole line at the mark leads to the next mark, and these are its records
+abbrev pub IsLine : Mark → List ℕ → Mark → List Record → Type 0
+IsLine marks.Start bytes (marks.After m) came = (bytes ≡ header) × (m ≡ 0) × (came ≡ [])
+IsLine (marks.After n) bytes (marks.After m) came = (x : Record) × IsRecord x × (bytes ≡ spelling x) × (m ≡ n + 1) × (came ≡ x ∷ [])
+IsLine (marks.After n) bytes (marks.Ended m) came = (bytes ≡ end_word) × (m ≡ n) × (came ≡ [])
+IsLine _ bytes _ came = ⊥
+
+-- the whole line at the mark has that cause
+abbrev pub IsBadLine : Mark → List ℕ → Cause → Type 0
+IsBadLine marks.Start bytes c = (bytes ≢ header) × (c ≡ BadHeader)
+IsBadLine (marks.After n) bytes c = (bytes ≢ end_word) × SpellsNone bytes × (c ≡ BadRecord)
+IsBadLine (marks.Ended n) bytes c = ⊥
+
+-- What is kept leads, with more bytes, to what is kept then, and more records came to the list.
+pub record Leads (mark : Mark) (line : List ℕ) (bytes : List ℕ) (next : Mark) (later : List ℕ) (fault : Option FeedFault) (old new : List Record) : Type 0 where
+  pub more : List Record
+  pub grown : new ≡ old ++ more
+  pub stands : (before : List ℕ) (earlier : List Record) → Stands mark line None before earlier → Stands next later fault (before ++ bytes) (earlier ++ more)
+
+-- Memory ran out, and some more records came to the list.
+pub record LeadsPart (mark : Mark) (line : List ℕ) (bytes : List ℕ) (old new : List Record) : Type 0 where
+  pub more : List Record
+  pub grown : new ≡ old ++ more
+  pub part : (before : List ℕ) (earlier : List Record) → Stands mark line None before earlier → ReadsPart (before ++ bytes) [] (earlier ++ more)
+
+-- a front of the piece was taken, and these bytes are left
+pub record Took (mark : Mark) (line : List ℕ) (piece : List ℕ) (next : Mark) (later : List ℕ) (left : List ℕ) (old new : List Record) : Type 0 where
+  pub front : List ℕ
+  pub taken : piece ≡ front ++ left
+  pub leads : Leads mark line front next later None old new

@@ -110,10 +110,6 @@ pub record Refuses (bytes : List ℕ) (place : Place) (c : Cause) : Type 0 where
   pub begins : bytes ≡ bytes_before place ++ rest
   pub cause : LineCause place rest c
 
--- a whole trace was read, and its records came to the list
-abbrev pub ReadsWhole : List ℕ → List Record → List Record → Type 0
-ReadsWhole bytes old new = (records : List Record) × IsTrace records × (bytes ≡ text records) × (new ≡ old ++ records)
-
 -- the line of that number has the cause, and the records before it came to the list
 abbrev pub ReadsUntil : List ℕ → ℕ → Cause → List Record → List Record → Type 0
 ReadsUntil bytes number c old new = (place : Place) × Refuses bytes place c × (number ≡ line_number place) × (new ≡ old ++ records_before place)

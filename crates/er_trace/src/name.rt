@@ -10,14 +10,18 @@ ghost use Rattle.er_text.specs.Name.{most_name, IsName};
 
 use er_outside::NoMemory;
 use er_text::NameWord;
+use smallvec::SmallVec;
 use std::alloc::Global;
 use std::hash::{Hash, Hasher};
 use std::marker::Model;
 
+/// Names of so many bytes need no memory.
+pub const MOST_INLINE: usize = 22;
+
 /// A name: 1 to `MOST_NAME` bytes of any value. A contract sees it as the list of its bytes.
 #[derive(Drop)]
 pub struct Name {
-    bytes: Vec<u8>,
+    bytes: SmallVec<u8, MOST_INLINE>,
 }
 
 impl Model for Name {
@@ -38,7 +42,7 @@ impl Name {
         requires few { length bytes.now ≤ most_name }
         ensures { IfOk result (λ name. name ≡ bytes.now) }
     {
-        let bytes = Vec::from_slice(alloc, bytes)?;
+        let bytes = SmallVec::from_slice(alloc, bytes)?;
         Ok(Name { bytes })
     }
 
@@ -46,7 +50,7 @@ impl Name {
     pub fn of_word(alloc: Global, word: &NameWord<'_>) -> Result<Name, NoMemory>
         ensures { IfOk result (λ name. name ≡ word.now) }
     {
-        let mut bytes = Vec::new(alloc);
+        let mut bytes = SmallVec::new(alloc);
         for byte in word.bytes() {
             bytes.push(byte)?;
         }

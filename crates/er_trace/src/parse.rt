@@ -13,6 +13,7 @@ use crate::forms::{
 };
 use crate::head::{Head, head_of};
 use crate::named_forms::{access_form, fire_form, inline_form, wfire_form};
+use crate::plain::plain_access;
 use crate::record::{Mode, Record};
 use er_text::Words;
 use std::alloc::Global;
@@ -54,10 +55,8 @@ fn read_form(alloc: Global, head: Head, words: &mut Words) -> Result<Record, Lin
     }
 }
 
-/// The record that is spelled so. `BadRecord` comes where none is. Each printed record parses
-/// back: it has a spelling (`fits` of [`crate::print::print_record`]), and its spelling gives it
-/// again (`exact`), memory allowing.
-pub fn parse_record(alloc: Global, line: &[u8]) -> Result<Record, LineFault>
+/// The record that is spelled so, word by word.
+fn parse_words(alloc: Global, line: &[u8]) -> Result<Record, LineFault>
     ensures read { IfOk result (λ x. IsRecord x × (line.now ≡ spelling x)) }
     ensures exact { (x : Record) → IsRecord x → line.now ≡ spelling x → (result ≡ Ok x) ⊎ (result ≡ Err LineFault.NoMemory) }
 {
@@ -69,4 +68,17 @@ pub fn parse_record(alloc: Global, line: &[u8]) -> Result<Record, LineFault>
         return Err(LineFault::BadRecord);
     };
     read_form(alloc, head, &mut words)
+}
+
+/// The record that is spelled so. `BadRecord` comes where none is. Each printed record parses
+/// back: it has a spelling (`fits` of [`crate::print::print_record`]), and its spelling gives it
+/// again (`exact`), memory allowing.
+pub fn parse_record(alloc: Global, line: &[u8]) -> Result<Record, LineFault>
+    ensures read { IfOk result (λ x. IsRecord x × (line.now ≡ spelling x)) }
+    ensures exact { (x : Record) → IsRecord x → line.now ≡ spelling x → (result ≡ Ok x) ⊎ (result ≡ Err LineFault.NoMemory) }
+{
+    if let Some(access) = plain_access(alloc, line) {
+        return Ok(access);
+    }
+    parse_words(alloc, line)
 }

@@ -1,13 +1,11 @@
 //! Each public call once, against lines from the format's description.
 
-use crate::fault::{FeedFault, LineFault};
+use crate::fault::LineFault;
 use crate::name::Name;
 use crate::parse::parse_record;
 use crate::print::{print_loc, print_record};
 use crate::record::{Kind, Loc, Mode, Record};
-use crate::trace::read_whole;
 use er_outside::MemorySink;
-use er_text::Cause;
 use std::alloc::Global;
 use std::test::Fail;
 
@@ -146,38 +144,5 @@ fn locations(rt: HostRuntime) -> Result<(), Fail> {
     let mut sink = MemorySink::new(rt.alloc(), 100, 3, Vec::new(rt.alloc())).map_err(|_| "memory")?;
     print_loc(&copied, &mut sink).map_err(|_| "printed")?;
     assert_eq!(rt; sink.bytes(), b"elem 0 a%20b".as_slice());
-    Ok(())
-}
-
-#[test]
-fn traces(rt: HostRuntime) -> Result<(), Fail> {
-    let mut out = Vec::new(rt.alloc());
-    let whole = read_whole(
-        rt.alloc(),
-        b"webtrace 1\nparse 0 1 inline\nexec 1\nend\n",
-        &mut out,
-    );
-    assert_eq!(rt; whole, Ok(()));
-    assert_eq!(rt; out.len(), 2);
-    let refusals = [
-        ("", 1, Cause::NoEnd, 0),
-        ("webtrace 2\n", 1, Cause::BadHeader, 0),
-        ("webtrace 1\r\nend\n", 1, Cause::BadHeader, 0),
-        (
-            "webtrace 1\nexec 1\nexec\nexec 2\nend\n",
-            3,
-            Cause::BadRecord,
-            1,
-        ),
-        ("webtrace 1\nexec 1\n", 3, Cause::NoEnd, 1),
-        ("webtrace 1\nend", 2, Cause::NoEnd, 0),
-        ("webtrace 1\nend\n\n", 3, Cause::AfterEnd, 0),
-    ];
-    for (text, line, cause, count) in refusals {
-        let mut before = Vec::new(rt.alloc());
-        let answer = read_whole(rt.alloc(), text.as_bytes(), &mut before);
-        assert_eq!(rt; answer, Err(FeedFault::Refused { line, cause }), "{text}");
-        assert_eq!(rt; before.len(), count, "{text}");
-    }
     Ok(())
 }

@@ -21,19 +21,19 @@ returns-in-Ok-clause-tested g c = λ bytes old new verdict by.
     tests_report bytes c.in-Ok.judged _ old new (rw c.in-Ok.is at verdict) (rw c.in-Ok.is at by)
 
 pub returns-in-Err-clause-answered : goal.returns-in-Err-clause-answered
-returns-in-Err-clause-answered g c = λ bytes verdict. given_fault _ bytes c.in-Err.fault _ _ _ (rw c.in-Err.is at verdict) c.fail.ensures.failed
+returns-in-Err-clause-answered g c = λ bytes verdict. given_fault _ bytes c.in-Err.fault _ _ _ (rw c.in-Err.is at verdict) c.tell_fault.ensures.failed
 
 pub returns-in-Err-clause-cut_short : goal.returns-in-Err-clause-cut_short
-returns-in-Err-clause-cut_short g c = λ bytes verdict. cut_fault _ bytes c.in-Err.fault _ _ _ (rw c.in-Err.is at verdict) c.fail.ensures.failed
+returns-in-Err-clause-cut_short g c = λ bytes verdict. cut_fault _ bytes c.in-Err.fault _ _ _ (rw c.in-Err.is at verdict) c.tell_fault.ensures.failed
 
 pub returns-in-Err-clause-compared : goal.returns-in-Err-clause-compared
-returns-in-Err-clause-compared g c = λ bytes old new verdict by. compares_fault _ bytes c.in-Err.fault _ _ _ old new c.fail.ensures.failed
+returns-in-Err-clause-compared g c = λ bytes old new verdict by. compares_fault _ bytes c.in-Err.fault _ _ _ old new c.tell_fault.ensures.failed
 
 pub returns-in-Err-clause-tested : goal.returns-in-Err-clause-tested
-returns-in-Err-clause-tested g c = λ bytes old new verdict by. tests_fault _ bytes c.in-Err.fault _ _ _ old new c.fail.ensures.failed
+returns-in-Err-clause-tested g c = λ bytes old new verdict by. tests_fault _ bytes c.in-Err.fault _ _ _ old new c.tell_fault.ensures.failed
 
 pub returns-in-Err-clause-no_usage : goal.returns-in-Err-clause-no_usage
-returns-in-Err-clause-no_usage g c = failed_no_usage _ c.in-Err.fault _ _ _ c.fail.ensures.failed
+returns-in-Err-clause-no_usage g c = failed_no_usage _ c.in-Err.fault _ _ _ c.tell_fault.ensures.failed
 
 pub returns-in-Err-clause-no_read_fault : goal.returns-in-Err-clause-no_read_fault
-returns-in-Err-clause-no_read_fault g c = failed_no_read_fault _ c.in-Err.fault _ _ _ c.fail.ensures.failed
+returns-in-Err-clause-no_read_fault g c = failed_no_read_fault _ c.in-Err.fault _ _ _ c.tell_fault.ensures.failed

@@ -1,0 +1,28 @@
+use Rattle.std.proofs.Common.{◌≡◌, ◌++◌, ◌∙◌}
+use Rattle.std.proofs.lemmas.Result.{IfOk-weaker}
+use Rattle.er_run.specs.declared.input.InputFault.TheVariants.{Refused}
+use Rattle.er_run.proofs.ReadingLemmas.{refused_input, refused_record}
+use Rattle.er_run.proofs.accept.accept_input.Goals as goal
+
+pub returns-in-None-clause-accepted : goal.returns-in-None-clause-accepted
+returns-in-None-clause-accepted g c =
+    let r = rw c.in-None.is at c.in-Ok.ensures.read in
+    IfOk-weaker c.accept_end.result _ _ (λ judged accepted. accepted (g.S.Source.left c.args.source.now) r) c.accept_end.ensures.accepted
+
+pub returns-in-None-clause-refused : goal.returns-in-None-clause-refused
+returns-in-None-clause-refused g c = λ n cause is.
+    let r = rw c.in-None.is at c.in-Ok.ensures.read in
+    c.accept_end.ensures.refused n cause is (g.S.Source.left c.args.source.now) r
+
+pub returns-in-None-clause-stands : goal.returns-in-None-clause-stands
+returns-in-None-clause-stands g c = λ other. c.accept_end.ensures.stands other ∙ c.in-Ok.ensures.stands (λ e. cc)
+
+pub returns-in-Some-clause-refused : goal.returns-in-Some-clause-refused
+returns-in-Some-clause-refused g c = λ n cause is.
+    let r = rw c.in-Some.is at c.in-Ok.ensures.read in
+    let same : c.first_refusal.result ≡ Refused n cause = cc in
+    refused_input (g.S.Source.left c.args.source.now) (g.S.Source.left c.read.new.source) c.in-Ok.session c.in-Some.refusal n cause r
+    (c.first_refusal.ensures.refused n cause same (r.bytes ++ r.ends.piece) r.ends.records r.ends.stands r.ends.reading)
+
+pub returns-in-Err-clause-refused : goal.returns-in-Err-clause-refused
+returns-in-Err-clause-refused g c = λ n cause is. refused_record (g.S.Source.left c.args.source.now) (g.S.Source.left c.read.new.source) n cause (c.in-Err.ensures.refused n cause (cc))

@@ -1,0 +1,55 @@
+use Rattle.std.proofs.Common.{[], ◌++◌, refl, ◌∙◌, arith, length-append}
+use Rattle.er_outside.proofs.Puts.{gives_again, gives_nothing}
+use Rattle.er_run.proofs.ReadingLemmas.{going_short, undecided}
+use Rattle.er_run.proofs.input.read.Goals as goal
+
+pub loop-turn-init : goal.loop-turn-init
+loop-turn-init g c = record {
+  here = record { bytes = []; records = []; at = record { fed = c.new-feed.ensures.stands; stands = c.in-Ok.ensures } };
+  ahead = λ trace e. absurd (cc);
+  gave = gives_nothing (g.S.Source.left c.args.source.now);
+  going = c.new-feed.ensures.going;
+  long = omega arith;
+  stands = refl;
+}
+
+pub loop-turn-preserved : goal.loop-turn-preserved
+loop-turn-preserved g c =
+    let h = c.loop-turn.invariant.here in
+    let a = c.in-Ok-GoesOn.ensures.on (cc) h.bytes h.records h.at in
+    let before = c.loop-turn.invariant.long in
+    record {
+      here = record { bytes = h.bytes ++ a.piece; records = h.records ++ a.on.0; at = a.on.1 };
+      ahead = c.in-Ok-GoesOn.ensures.ahead (cc) (h.bytes ++ a.piece) (h.records ++ a.on.0) a.on.1;
+      gave = gives_again _ _ _ h.bytes a.piece c.loop-turn.invariant.gave a.gave;
+      going = c.in-Ok-GoesOn.ensures.going (cc);
+      long = omega (arith, before, a.some, length-append h.bytes a.piece);
+      stands = c.in-Ok-GoesOn.ensures.stands (λ e. cc) ∙ c.loop-turn.invariant.stands;
+    }
+
+pub returns-in-Ok-Ended-clause-read : goal.returns-in-Ok-Ended-clause-read
+returns-in-Ok-Ended-clause-read g c =
+    let i = c.loop-turn.invariant in
+    record {
+      bytes = i.here.bytes;
+      left = g.S.Source.left c.loop-turn.source;
+      before = record { gave = i.gave; fresh = undecided c.loop-turn.feed c.loop-turn.session i.here.bytes i.here.records i.here.at i.going i.ahead };
+      ends = c.in-Ok-Ended.ensures.ended c.in-Ok-Ended.refused (cc) i.here.bytes i.here.records i.here.at;
+    }
+
+pub returns-in-Err-clause-refused : goal.returns-in-Err-clause-refused
+returns-in-Err-clause-refused g c = λ n cause is.
+    let i = c.loop-turn.invariant in
+    record {
+      bytes = i.here.bytes;
+      left = g.S.Source.left c.loop-turn.source;
+      before = record { gave = i.gave; fresh = undecided c.loop-turn.feed c.loop-turn.session i.here.bytes i.here.records i.here.at i.going i.ahead };
+      refused = c.in-Err.ensures.refused n cause (cc) i.here.bytes i.here.records i.here.at;
+    }
+
+pub unreachable-requires : goal.unreachable-requires
+unreachable-requires g c =
+    let h = c.loop-turn.invariant.here in
+    let short = going_short c.loop-turn.feed h.bytes h.records c.loop-turn.invariant.going h.at.fed in
+    let long = c.loop-turn.invariant.long in
+    omega (arith, short, long, c.loop-turn-test.false)

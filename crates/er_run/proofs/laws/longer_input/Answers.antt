@@ -1,0 +1,5 @@
+use Rattle.er_run.proofs.CompleteLemmas.{longer}
+use Rattle.er_run.proofs.laws.longer_input.Goals as goal
+
+pub returns : goal.returns
+returns c = longer

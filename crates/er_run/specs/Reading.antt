@@ -1,0 +1,120 @@
+-- What is read of a source, piece by piece. Lists of records stand oldest first, but for those that a session stands for.
+use Rattle.std.specs.Prelude.{◌≡◌, ◌≢◌, ◌⊎◌, ℕ, ◌<◌, ◌≤◌, List, ◌++◌, reverse, length, Option, Some, None}
+use Rattle.er_outside.specs.Ends.{Gives, IsSpent}
+use Rattle.er_text.specs.declared.causes.Cause.{Cause}
+use Rattle.er_text.specs.declared.causes.Cause.TheVariants.{NoEnd}
+use Rattle.er_trace.specs.declared.record.Record.{Record}
+use Rattle.er_trace.specs.declared.fault.FeedFault.{FeedFault}
+use Rattle.er_trace.specs.declared.fault.FeedFault.TheVariants as faults
+use Rattle.er_trace.specs.declared.feed.Feed.{Feed}
+use Rattle.er_trace.specs.Feed as feeds
+use Rattle.er_trace.specs.Trace.{Place, line_number, records_before, text, IsTrace, Refuses}
+use Rattle.er_run.specs.declared.input.LineRefusal.{LineRefusal}
+use Rattle.er_run.specs.declared.session.Session.{Session}
+use Rattle.er_run.specs.Answer.{FirstIllegal}
+use Rattle.er_graph.specs.declared.fault.GraphFault.TheVariants as graph_faults
+use Rattle.er_run.specs.declared.end.Judged.{Judged}
+use Rattle.er_run.specs.Accepted.{IsAccepted}
+use Rattle.er_run.specs.Promise.{piece_bytes, IsFinal, IsDecided}
+use Rattle.er_run.specs.Session.{StandsFor, IsFaultOf}
+
+-- the records before the first line that has a cause, with that line; or those of the whole trace
+abbrev pub IsReading : List ℕ → List Record → Option LineRefusal → Type 0
+IsReading bytes records None = IsTrace records × (bytes ≡ text records)
+IsReading bytes records (Some refused) = (place : Place) × Refuses bytes place refused.cause × (refused.line ≡ line_number place) × (records ≡ records_before place)
+
+-- the feed and the session stand for these bytes and for the records of their whole lines
+pub record IsAt (feed : Feed) (session : Session) (bytes : List ℕ) (records : List Record) : Type 0 where
+  pub fed : feeds.StandsFor feed bytes records
+  pub stands : StandsFor session (reverse records)
+
+-- they stand for some bytes, and for the records of their whole lines
+pub record IsSomewhere (feed : Feed) (session : Session) : Type 0 where
+  pub bytes : List ℕ
+  pub records : List Record
+  pub at : IsAt feed session bytes records
+
+-- they stand for these bytes, and for more records
+abbrev pub GoesOn : Feed → Session → List ℕ → List Record → Type 0
+GoesOn feed session bytes records = (more : List Record) × IsAt feed session bytes (records ++ more)
+
+-- as a feed keeps it
+abbrev pub fault_of : Option LineRefusal → Option FeedFault
+fault_of None = None
+fault_of (Some refused) = Some (faults.Refused refused.line refused.cause)
+
+-- The fault is the first illegal record, with its line; or memory ran out. (`IsFaultOf`, of a feed's fault.)
+abbrev pub IsRecordFault : List Record → FeedFault → Type 0
+IsRecordFault records (faults.Refused n c) = IsFaultOf records (graph_faults.Refused n c)
+IsRecordFault records faults.NoMemory = Unit {0}
+
+-- a line of the bytes is refused, which no further byte changes; or memory ran out
+abbrev pub IsFinalFault : List ℕ → FeedFault → Type 0
+IsFinalFault bytes (faults.Refused n c) = FirstIllegal bytes n c × (c ≢ NoEnd)
+IsFinalFault bytes faults.NoMemory = Unit {0}
+
+-- The `end` line was read and nothing behind it; or a line is refused, where the source is at its end or which no further byte changes.
+abbrev pub IsEnd : Option (List ℕ) → Option LineRefusal → Type 0
+IsEnd left None = Unit {0}
+IsEnd left (Some refused) = IsSpent left ⊎ (refused.cause ≢ NoEnd)
+
+-- A piece was read, and behind the bytes before it the feed and the session stand for it too.
+pub record Advances (left_old left_new : Option (List ℕ)) (feed : Feed) (session : Session) (bytes : List ℕ) (records : List Record) : Type 0 where
+  pub piece : List ℕ
+  pub some : 0 < length piece
+  pub gave : Gives left_old piece left_new
+  pub on : GoesOn feed session (bytes ++ piece) records
+
+-- the bytes are not the trace of these records: its `end` line is still to come
+abbrev pub IsOpen : List ℕ → List Record → Type 0
+IsOpen bytes records = IsTrace records → bytes ≡ text records → ⊥
+
+-- With the piece that was read behind these bytes the reading is at its end, and the session stands for its records.
+pub record Ends (left_old left_new : Option (List ℕ)) (session : Session) (refused : Option LineRefusal) (bytes : List ℕ) : Type 0 where
+  pub piece : List ℕ
+  pub records : List Record
+  pub gave : Gives left_old piece left_new
+  pub few : length piece ≤ piece_bytes
+  pub stands : StandsFor session (reverse records)
+  pub reading : IsReading (bytes ++ piece) records refused
+  pub end : IsEnd left_new refused
+
+-- With the piece that was read behind these bytes a record is refused.
+pub record IsRefusedBehind (left_old left_new : Option (List ℕ)) (n : ℕ) (c : Cause) (bytes : List ℕ) : Type 0 where
+  pub piece : List ℕ
+  pub gave : Gives left_old piece left_new
+  pub few : length piece ≤ piece_bytes
+  pub refused : IsFinalFault (bytes ++ piece) (faults.Refused n c)
+
+-- the pieces before the last one do not decide
+pub record IsUndecided (left_old left_new : Option (List ℕ)) (bytes : List ℕ) : Type 0 where
+  pub gave : Gives left_old bytes left_new
+  pub fresh : IsFinal bytes → ⊥
+
+-- A trace was read to its end, or to the piece that decides.
+pub record IsRead (left_old left_new : Option (List ℕ)) (session : Session) (refused : Option LineRefusal) : Type 0 where
+  pub bytes : List ℕ
+  pub left : Option (List ℕ)
+  pub before : IsUndecided left_old left bytes
+  pub ends : Ends left left_new session refused bytes
+
+-- A trace was read to a piece with a record that is refused.
+pub record IsReadTo (left_old left_new : Option (List ℕ)) (n : ℕ) (c : Cause) : Type 0 where
+  pub bytes : List ℕ
+  pub left : Option (List ℕ)
+  pub before : IsUndecided left_old left bytes
+  pub refused : IsRefusedBehind left left_new n c bytes
+
+-- The bytes that were taken are a legal trace, which was judged, and nothing stands behind it.
+pub record IsAcceptedInput (left_old left_new : Option (List ℕ)) (judged : Judged) : Type 0 where
+  pub taken : List ℕ
+  pub gave : Gives left_old taken left_new
+  pub spent : IsSpent left_new
+  pub accepted : IsAccepted taken judged
+
+-- The bytes that were taken are refused.
+pub record IsRefusedInput (left_old left_new : Option (List ℕ)) (n : ℕ) (c : Cause) : Type 0 where
+  pub taken : List ℕ
+  pub gave : Gives left_old taken left_new
+  pub decided : IsDecided taken left_new
+  pub refused : FirstIllegal taken n c
