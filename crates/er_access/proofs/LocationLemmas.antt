@@ -1,10 +1,11 @@
 -- Locations and their numbers.
-use Rattle.std.proofs.Common.{◌≡◌, ℕ, zero, suc, ◌+◌, ◌<◌, Bool, true, false, not, ◌&&◌, cond, List, [], ◌∷◌, ◌++◌, length, Some, refl, sym, ap, ◌∙◌, arith}
+use Rattle.std.proofs.Common.{◌≡◌, ℕ, zero, suc, ◌+◌, ◌<◌, Bool, true, false, not, ◌&&◌, cond, List, [], ◌∷◌, ◌++◌, length, get_or, Some, refl, sym, ap, ◌∙◌, arith}
 use Rattle.std.specs.Prelude.{◌==◌, ◌||◌, if◌then◌else◌, slice_get, nat_eq}
 use Rattle.std.specs.Bool.{Decides}
 use Rattle.std.specs.Cmp.Lexicographic.{pointwise}
 use Rattle.std.specs.List.{AllByRecursion, list_any, position_or_len}
 use Rattle.std.specs.Str.{bytes_eq}
+use Rattle.std.proofs.lemmas.Option.{slice_get_read}
 use Rattle.std.proofs.lemmas.Slice.Eq.{bytes_eq-Decides}
 use Rattle.std.proofs.lemmas.Bool.Decides.{nat_tests, Decides-at, Decides-and, Decides-like, Decides-eqb}
 use Rattle.er_trace.specs.declared.record.Loc.{Loc}
@@ -157,6 +158,19 @@ get_with ls loc b k at = by (list_any (same_loc loc) ls)
     by : (c : Bool) → slice_get (if c then ls else ls ++ loc ∷ []) k ≡ Some b
     by true = at
     by false = get_more ls loc b k at
+
+-- the location that stands at a number has that number
+pub get_same : (ls : List Loc) (k : ℕ) (b loc : Loc) → k < length ls → b ≡ get_or ls k b → same_loc b loc ≡ true → slice_get ls k ≡ Some loc
+get_same ls k b loc h at same = slice_get_read ls (length ls) k b refl h at ∙ ap Some (same_is b loc same)
+
+pub number_at : (loc : Loc) (ls : List Loc) (k : ℕ) → AreDistinct ls → slice_get ls k ≡ Some loc → k ≡ number_of loc ls
+number_at loc ls k d at = number_is k (number_of loc ls) (place_tells loc ls k loc d at ∙ same_self loc)
+  where
+    number_is : (a b : ℕ) → (a == b) ≡ true → a ≡ b
+    number_is a b e = grind (arith, nat_tests)
+
+pub any_at : (loc : Loc) (ls : List Loc) (k : ℕ) → slice_get ls k ≡ Some loc → list_any (same_loc loc) ls ≡ true
+any_at loc ls k at = by_bool (list_any (same_loc loc) ls ≡ true) (list_any (same_loc loc) ls) (λ h. h) (λ h. (let no : true ≡ false = sym (same_self loc) ∙ get_in loc loc ls k loc h at in cc))
 
 -- one number is one location
 pub numbers_tell : (ls : List Loc) (i j : ℕ) (a b : Loc) → AreDistinct ls → slice_get ls i ≡ Some a → slice_get ls j ≡ Some b → (i == j) ≡ same_loc a b

@@ -1,9 +1,10 @@
 //! The kept accesses, by location.
 
-ghost use Rattle.std.specs.Prelude.{All, ◌≡◌, ◌<◌, ◌≤◌, Err, [], length, Some, slice_get, OnOk, OnErr, IfOk};
-ghost use Rattle.er_access.specs.Kept.{IsFull, access_of, candidates_of, most_accesses, is_new, with_access};
-ghost use Rattle.er_access.specs.Numbers.{IsKeptAt, access_at, accesses_of, locations_of, rows_of};
-ghost use Rattle.er_access.specs.Table.{IsRising};
+ghost use Rattle.std.specs.Prelude.{All, ◌≡◌, ◌<◌, ◌≤◌, Err, [], length, Some, slice_get, OnOk, OnErr, IfOk, IfSome, is_some};
+ghost use Rattle.std.specs.List.{list_any};
+ghost use Rattle.er_access.specs.Kept.{IsFull, access_of, candidates_of, most_accesses, is_new, same_loc, with_access};
+ghost use Rattle.er_access.specs.Numbers.{IsKeptAt, access_at, accesses_of, locations_of, number_of, rows_of};
+ghost use Rattle.er_access.specs.Table.{AreDistinct, IsRising};
 
 use crate::add::{add_known, add_new};
 use crate::place::Place;
@@ -20,6 +21,8 @@ pub struct Table {
     places: Vec<Place>,
     accesses: Vec<Access>,
     pairs: u64,
+    /// The number of the location that was asked for last, which is often asked for next.
+    last: usize,
 }
 
 impl Drop for Table {
@@ -29,8 +32,25 @@ impl Drop for Table {
             places: _,
             accesses: _,
             pairs: _,
+            last: _,
         } = self;
     }
+}
+
+/// The number of a location, if it has one. The location of the number `last` is tried first, without a
+/// hash: a script reads a variable again and again.
+fn find(keys: &IndexSet<Loc>, last: usize, loc: &Loc) -> Option<usize>
+    requires distinct { AreDistinct keys.now.keys }
+    ensures found { IfSome result (λ k. k ≡ number_of loc.now keys.now.keys) }
+    ensures known { is_some result ≡ list_any (same_loc loc.now) keys.now.keys }
+    ensures within { IfSome result (λ k. k < length keys.now.keys) }
+{
+    if let Some(key) = keys.as_slice().get(last) {
+        if key == loc {
+            return Some(last);
+        }
+    }
+    keys.get_index_of(loc)
 }
 
 impl Model for Table {
@@ -55,6 +75,7 @@ impl Table {
             places: Vec::new(alloc),
             accesses: Vec::new(alloc),
             pairs: 0,
+            last: 0,
         }
     }
 
@@ -70,12 +91,14 @@ impl Table {
         ensures full { result ≡ Err AddFault.Full → IsFull (access_of line action mode loc.now) self.old }
         ensures exact { IsFull (access_of line action mode loc.now) self.old → result ≡ Err AddFault.Full }
     {
-        let Some(k) = self.keys.get_index_of(loc) else {
+        let Some(k) = find(&self.keys, self.last, loc) else {
+            let next = self.places.len();
+            self.last = next;
             let access = Access {
                 line,
                 action,
                 mode,
-                location: self.places.len() as u32,
+                location: next as u32,
             };
             return add_new(
                 &mut self.keys,
@@ -85,6 +108,7 @@ impl Table {
                 loc,
             );
         };
+        self.last = k;
         let access = Access {
             line,
             action,

@@ -76,6 +76,14 @@ impl Graph {
     fn check(&self, rec: &Record) -> Result<(), Cause>
         ensures { (accepted : List Accepted) → IsListed self.now accepted → result ≡ result_of (cause_now accepted rec.now) }
     {
+        // An access names nothing, no rule orders it, and it needs no room.
+        if let Record::Access { .. } = rec {
+            return if self.page.running().is_some() {
+                Ok(())
+            } else {
+                Err(Cause::Misplaced)
+            };
+        }
         if let Err(cause) = self.page.check(rec) {
             return Err(cause);
         }

@@ -63,9 +63,10 @@ pub(crate) fn read<S: Source>(
         return Err(InputFault::NoMemory);
     };
     let mut feed = Feed::new(alloc);
+    let mut came = Vec::new(alloc);
     // Each turn reads a byte at least, and as long as no line is refused fewer bytes come than turns may.
     for turn in 0..u64::MAX {
-        match read_piece(alloc, source, &mut feed, &mut session) {
+        match read_piece(source, &mut feed, &mut session, &mut came) {
             Ok(Step::GoesOn) => {}
             Ok(Step::Ended(refused)) => return Ok((session, refused)),
             Err(fault) => return Err(fault),
@@ -74,12 +75,12 @@ pub(crate) fn read<S: Source>(
     unreachable!()
 }
 
-/// Reads the next piece and judges the records of the lines that end in it.
+/// Reads the next piece and judges the records of the lines that end in it. What the list holds goes.
 fn read_piece<S: Source>(
-    alloc: Global,
     source: &mut S,
     feed: &mut Feed,
     session: &mut Session,
+    came: &mut Vec<Record>,
 ) -> Result<Step, InputFault>
     requires some { IsSomewhere feed.old session.old }
     requires going { IsGoing feed.old }
@@ -107,7 +108,7 @@ fn read_piece<S: Source>(
     if n == 0 {
         return Ok(Step::Ended(line_at_end(feed)));
     }
-    match take_piece(alloc, feed, session, &buffer[..n]) {
+    match take_piece(feed, session, came, &buffer[..n]) {
         Ok(None) => Ok(step_of(feed)),
         Ok(Some(refusal)) => Ok(Step::Ended(Some(refusal))),
         Err(FeedFault::Refused { line, cause }) => Err(InputFault::Refused { line, cause }),
@@ -145,11 +146,12 @@ fn line_at_end(feed: &Feed) -> Option<LineRefusal>
     }
 }
 
-/// Feeds a piece and judges the records of the lines that end in it. Answers the line that is refused, where one is.
+/// Feeds a piece and judges the records of the lines that end in it, which take the place of what the list
+/// holds. Answers the line that is refused, where one is.
 fn take_piece(
-    alloc: Global,
     feed: &mut Feed,
     session: &mut Session,
+    came: &mut Vec<Record>,
     piece: &[u8],
 ) -> Result<Option<LineRefusal>, FeedFault>
     requires { IsSomewhere feed.old session.old }
@@ -160,16 +162,16 @@ fn take_piece(
     ensures refused { IfErr result (λ fault. (bytes : List ℕ) (records : List Record)
         → IsAt feed.old session.old bytes records → IsFinalFault (bytes ++ piece.now) fault) }
 {
-    let mut records = Vec::new(alloc);
-    match feed.feed(piece, &mut records) {
+    came.clear();
+    match feed.feed(piece, came) {
         Ok(()) => {
-            if let Err(fault) = judge_all(session, records.as_slice()) {
+            if let Err(fault) = judge_all(session, came.as_slice()) {
                 return Err(fault);
             }
             Ok(None)
         }
         Err(FeedFault::Refused { line, cause }) => {
-            if let Err(fault) = judge_all(session, records.as_slice()) {
+            if let Err(fault) = judge_all(session, came.as_slice()) {
                 return Err(fault);
             }
             Ok(Some(LineRefusal { line, cause }))

@@ -13,7 +13,7 @@ use Rattle.er_trace.specs.Spelling.{spelling}
 use Rattle.er_trace.specs.Trace.{most_lines, most_line_bytes, header, end_word, line as with_end, lines, whole_line, Place, Start, After, Ended, line_number, records_before, bytes_before, IsPlace, LineCause}
 use Rattle.er_trace.specs.Marks.{mark_of, number_at, IsOpen, IsClosed}
 use Rattle.er_trace.specs.Feed.{IsUnfinished, Stands}
-use Rattle.er_trace.specs.Steps.{IsLine, IsBadLine, Leads, LeadsPart, Took}
+use Rattle.er_trace.specs.Steps.{IsLine, IsBadLine, IsPlainFront, Leads, LeadsPart, Took}
 use Rattle.er_trace.proofs.ReadLaws.{lines-append, each-append}
 use Rattle.er_trace.proofs.CauseLaws.{IsShort, whole_short, short_whole, start_err, start_bad, start_no_end, cause_many, cause_err, cause_bad, cause_no_end, no_bytes_many, few_many, some_many, short_both, whole_both, long_both}
 
@@ -107,6 +107,11 @@ took_line mark next kept piece front later came old new free is e grown = record
 
 more_behind : (before kept rest piece bytes : List ℕ) → bytes ≡ before ++ rest → kept ≡ rest → bytes ++ piece ≡ before ++ (kept ++ piece)
 more_behind before kept rest piece bytes begins same = (ap (λ b. b ++ piece) begins ∙ append_assoc before rest piece) ∙ ap (λ r. before ++ (r ++ piece)) (sym same)
+
+-- the same, where nothing is kept and the line is a record's
+pub took_plain : (mark next : Mark) (kept piece left : List ℕ) (x : Record) (old new : List Record) → IsPlainFront mark kept piece next x left → new ≡ old ++ x ∷ [] → Took mark kept piece next kept left old new
+took_plain mark next kept piece left x old new is grown =
+    subst (λ (l : List ℕ). Took mark l piece next l left old new) (sym is.none) (took_line mark next [] piece (spelling x) left (x ∷ []) old new is.free is.line is.cut grown)
 
 -- all bytes are of the line
 pub took_all : (mark : Mark) (kept piece : List ℕ) (old : List Record) → IsOpen mark → has_no_lf piece ≡ true → length kept + length piece ≤ most_line_bytes → Took mark kept piece mark (kept ++ piece) [] old old

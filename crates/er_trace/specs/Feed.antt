@@ -16,7 +16,7 @@ IsUnfinished Start line = LineCause Start line NoEnd
 IsUnfinished (After records) line = LineCause (After records) line NoEnd
 IsUnfinished (Ended records) line = line ≡ []
 
--- the line that begins there is refused, and not for its missing end
+-- the line that begins there is refused, and for another cause than `no-end`
 abbrev pub IsRefusedAt : Place → List ℕ → FeedFault → Type 0
 IsRefusedAt place rest (Refused n c) = (n ≡ line_number place) × LineCause place rest c × (c ≢ NoEnd)
 IsRefusedAt place rest NoMemory = ⊥

@@ -7,3 +7,5 @@ pub mod Trace
 pub mod Marks
 pub mod Feed
 pub mod Steps
+pub mod Forms
+pub mod Held

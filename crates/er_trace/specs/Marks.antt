@@ -1,4 +1,4 @@
--- Where a line begins, by the number of records before it.
+-- The place where a line begins, as a feed keeps it: by the number of the records before it.
 use Rattle.std.specs.Prelude.{◌≡◌, ℕ, ◌+◌, ◌<◌, ◌≤◌, length}
 use Rattle.er_text.specs.declared.causes.Cause.{Cause}
 use Rattle.er_text.specs.declared.causes.Cause.TheVariants.{AfterEnd, TooManyLines}

@@ -1,4 +1,4 @@
--- One line.
+-- How a feed gets on, by one line or by a part of one.
 use Rattle.std.specs.Prelude.{◌≡◌, ◌≢◌, ℕ, ◌+◌, ◌-◌, ◌<◌, ◌≤◌, true, List, [], ◌∷◌, ◌++◌, length, take, Option, None}
 use Rattle.er_text.specs.Bytes.{line_end, has_no_lf}
 use Rattle.er_text.specs.declared.causes.Cause.{Cause}
@@ -11,6 +11,7 @@ use Rattle.er_trace.specs.declared.lines.Next.TheVariants as nexts
 use Rattle.er_trace.specs.declared.fault.FeedFault.{FeedFault}
 use Rattle.er_trace.specs.Spelling.{spelling, IsRecord}
 use Rattle.er_trace.specs.Trace.{most_line_bytes, header, end_word, SpellsNone, ReadsPart}
+use Rattle.er_trace.specs.Marks.{IsOpen}
 use Rattle.er_trace.specs.Feed.{Stands}
 
 -- how a line goes on, of which so many bytes are kept
@@ -25,6 +26,13 @@ IsLine marks.Start bytes (marks.After m) came = (bytes ≡ header) × (m ≡ 0) 
 IsLine (marks.After n) bytes (marks.After m) came = (x : Record) × IsRecord x × (bytes ≡ spelling x) × (m ≡ n + 1) × (came ≡ x ∷ [])
 IsLine (marks.After n) bytes (marks.Ended m) came = (bytes ≡ end_word) × (m ≡ n) × (came ≡ [])
 IsLine _ bytes _ came = ⊥
+
+-- the line of a record stands at the front, where a line may stand and nothing of it came before
+pub record IsPlainFront (mark : Mark) (kept piece : List ℕ) (next : Mark) (x : Record) (left : List ℕ) : Type 0 where
+  pub free : IsOpen mark
+  pub none : kept ≡ []
+  pub line : IsLine mark (spelling x) next (x ∷ [])
+  pub cut : piece ≡ spelling x ++ line_end ∷ left
 
 -- the whole line at the mark has that cause
 abbrev pub IsBadLine : Mark → List ℕ → Cause → Type 0

@@ -7,7 +7,9 @@ ghost use Rattle.er_trace.specs.Marks.{number_at};
 use crate::fault::FeedFault;
 use crate::lines::{Next, next_of, read_line};
 use crate::mark::Mark;
+use crate::plain::plain_line;
 use crate::record::Record;
+use crate::trace::MOST_LINES;
 use er_text::Cause;
 use std::alloc::Global;
 
@@ -23,7 +25,7 @@ pub struct Feed {
 }
 
 impl Feed {
-    ghost use Rattle.std.specs.Prelude.{◌<◌, ◌≡◌, ◌≢◌, ◌⊎◌, ◌↔◌, ℕ, List, [], ◌++◌, Ok, Err, Some, None, OnOk, IfOk, IsTrue};
+    ghost use Rattle.std.specs.Prelude.{◌<◌, ◌≡◌, ◌≢◌, ◌⊎◌, ◌↔◌, ℕ, List, [], ◌++◌, Ok, Err, Some, None, OnOk, IfOk, IfSome, IsTrue};
     ghost use Rattle.std.specs.Result.{result_err};
     ghost use Rattle.er_text.specs.declared.causes.Cause.{Cause};
     ghost use Rattle.er_text.specs.declared.causes.Cause.TheVariants.{NoEnd};
@@ -31,7 +33,7 @@ impl Feed {
     ghost use Rattle.er_trace.specs.Trace.{Place, Refuses, IsTrace, line_number, text, ReadsUntil};
     ghost use Rattle.er_trace.specs.Feed.{StandsFor, IsGoing, HasAnswered, IsFed, IsFedUntil, IsFedPart};
     ghost use Rattle.er_trace.specs.Marks.{IsOpen};
-    ghost use Rattle.er_trace.specs.Steps.{Leads, LeadsPart, Took, IsLine, IsBadLine};
+    ghost use Rattle.er_trace.specs.Steps.{Leads, LeadsPart, Took, IsLine, IsBadLine, IsPlainFront};
 
     /// Nothing was fed yet.
     pub fn new(alloc: Global) -> Feed
@@ -87,7 +89,7 @@ impl Feed {
     {
         let mut rest = piece;
         while !rest.is_empty() {
-            match self.take_front(rest, out) {
+            match self.take_next(rest, out) {
                 Ok(left) => rest = left,
                 Err(fault) => return Err(fault),
             }
@@ -95,7 +97,52 @@ impl Feed {
         Ok(())
     }
 
-    /// Takes the next bytes of one line, and answers those after it.
+    /// Takes the next bytes of one line, and answers those after it. Most lines are plain accesses that stand
+    /// whole in their piece: their ends need not be looked for first.
+    fn take_next<'a>(
+        &mut self,
+        piece: &'a [u8],
+        out: &mut Vec<Record>,
+    ) -> Result<&'a [u8], FeedFault>
+        requires { 0 < length piece.now }
+        ensures read { IfOk result (λ left. Took self.old.mark self.old.line.items piece.now
+            self.new.mark self.new.line.items left.now out.old.items out.new.items) }
+        ensures less { IfOk result (λ left. length left.now < length piece.now) }
+        ensures refused { (n : ℕ) (c : Cause) → result ≡ Err (FeedFault.Refused n c)
+            → Leads self.old.mark self.old.line.items piece.now self.new.mark self.new.line.items
+            (Some (FeedFault.Refused n c)) out.old.items out.new.items }
+        ensures no_memory { result ≡ Err FeedFault.NoMemory → out.new.items ≡ out.old.items }
+        ensures fault { self.new.fault ≡ self.old.fault }
+    {
+        let Some((next, access, left)) = self.plain_front(piece) else {
+            return self.take_front(piece, out);
+        };
+        let Ok(()) = out.push(access) else {
+            return Err(FeedFault::NoMemory);
+        };
+        self.mark = next;
+        Ok(left)
+    }
+
+    /// The line at the front where it is a plain access and nothing of it came before: the mark behind it, the
+    /// access, and the bytes that are left. `None` says nothing.
+    fn plain_front<'a>(&self, piece: &'a [u8]) -> Option<(Mark, Record, &'a [u8])>
+        ensures { IfSome result (λ all. IsPlainFront self.now.mark self.now.line.items piece.now all.0 all.1 all.2.now) }
+    {
+        if !self.line.is_empty() {
+            return None;
+        }
+        let Mark::After(records) = self.mark else {
+            return None;
+        };
+        if records > MOST_LINES - 2 {
+            return None;
+        }
+        let (access, left) = plain_line(*self.line.allocator(), piece)?;
+        Some((Mark::After(records + 1), access, left))
+    }
+
+    /// Takes the next bytes of one line, of any kind.
     fn take_front<'a>(
         &mut self,
         piece: &'a [u8],
@@ -174,7 +221,7 @@ impl Feed {
         }
     }
 
-    /// Says that the input is at its end.
+    /// The answer for an input that ends here: `no-end`, unless the `end` line was read.
     pub fn finish(&self) -> Result<(), FeedFault>
         ensures whole { OnOk result ((bytes : List ℕ) (records : List Record)
             → StandsFor self.now bytes records → IsTrace records × (bytes ≡ text records)) }

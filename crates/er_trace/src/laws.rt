@@ -36,12 +36,12 @@ pub fn line_of_a_place()
     ensures { (p : Place) → IsPlace p → line_number p ≡ count_of_lf (bytes_before p) + 1 }
 {}
 
-/// A refusal other than for a missing end is that of every longer input.
+/// A refusal for another cause than `no-end` is that of every longer input.
 pub fn longer_input()
     ensures { (bytes more : List ℕ) (place : Place) (c : Cause) → Refuses bytes place c → c ≢ NoEnd → Refuses (bytes ++ more) place c }
 {}
 
-/// The line of a missing end is one more than the LFs of the bytes.
+/// The line of `no-end` is one more than the LFs of the bytes.
 pub fn line_of_no_end()
     ensures { (bytes : List ℕ) (place : Place) → Refuses bytes place NoEnd → line_number place ≡ count_of_lf bytes + 1 }
 {}

@@ -1,6 +1,6 @@
 //! Names: of variables, of event types, of handler slots.
 
-ghost use Rattle.std.specs.Prelude.{◌≡◌, ℕ, List, length, IfOk, ◌≤◌};
+ghost use Rattle.std.specs.Prelude.{◌≡◌, ℕ, List, length, take, IfOk, ◌≤◌};
 ghost use Rattle.std.specs.Prelude.{nat_eq};
 ghost use Rattle.std.proofs.Common.{rules};
 ghost use Rattle.std.specs.Cmp.Lexicographic.{pointwise};
@@ -16,23 +16,33 @@ use std::hash::{Hash, Hasher};
 use std::marker::Model;
 
 /// Names of so many bytes need no memory.
-pub const MOST_INLINE: usize = 22;
+pub const MOST_IN_PLACE: usize = 30;
+
+/// Where the bytes of a name are.
+#[derive(Drop)]
+pub(crate) enum Held {
+    /// In place: the first so many of these.
+    Short(u8, [u8; MOST_IN_PLACE]),
+    Long(Vec<u8>),
+}
 
 /// A name: 1 to `MOST_NAME` bytes of any value. A contract sees it as the list of its bytes.
 #[derive(Drop)]
 pub struct Name {
-    bytes: SmallVec<u8, MOST_INLINE>,
+    alloc: Global,
+    held: Held,
 }
 
 impl Model for Name {
     ghost use Rattle.std.specs.Prelude.{ℕ, List};
     ghost use Rattle.er_text.specs.Name.{IsName};
+    ghost use Rattle.er_trace.specs.Held.{bytes_of, IsHeld};
 
     ghost Value = { List ℕ };
 
-    ghost view = { λ name. name.bytes.items };
+    ghost view = { λ name. bytes_of name.held };
 
-    ghost invariant = { λ name. IsName name.bytes.items };
+    ghost invariant = { λ name. IsHeld name.held × IsName (bytes_of name.held) };
 }
 
 impl Name {
@@ -42,19 +52,51 @@ impl Name {
         requires few { length bytes.now ≤ most_name }
         ensures { IfOk result (λ name. name ≡ bytes.now) }
     {
-        let bytes = SmallVec::from_slice(alloc, bytes)?;
-        Ok(Name { bytes })
+        let len = bytes.len();
+        if len <= MOST_IN_PLACE {
+            let mut place = [0u8; MOST_IN_PLACE];
+            place[..len].copy_from_slice(bytes);
+            return Ok(Name::in_place(alloc, &place, len));
+        }
+        let Ok(long) = Vec::from_slice(alloc, bytes) else {
+            return Err(NoMemory);
+        };
+        Ok(Name {
+            alloc,
+            held: Held::Long(long),
+        })
+    }
+
+    /// The name of the first so many bytes.
+    pub(crate) fn in_place(alloc: Global, place: &[u8; MOST_IN_PLACE], len: usize) -> Name
+        requires few { len ≤ MOST_IN_PLACE }
+        requires name { IsName (take len place.now) }
+        ensures { result ≡ take len place.now }
+    {
+        Name {
+            alloc,
+            held: Held::Short(len as u8, *place),
+        }
     }
 
     /// The name that is spelled so.
     pub fn of_word(alloc: Global, word: &NameWord<'_>) -> Result<Name, NoMemory>
         ensures { IfOk result (λ name. name ≡ word.now) }
     {
-        let mut bytes = SmallVec::new(alloc);
+        let mut bytes: SmallVec<u8, MOST_IN_PLACE> = SmallVec::new(alloc);
         for byte in word.bytes() {
             bytes.push(byte)?;
         }
-        Ok(Name { bytes })
+        if bytes.len() <= MOST_IN_PLACE {
+            return Name::new(alloc, bytes.as_slice());
+        }
+        let Ok(long) = bytes.into_vec() else {
+            return Err(NoMemory);
+        };
+        Ok(Name {
+            alloc,
+            held: Held::Long(long),
+        })
     }
 
     /// Its bytes.
@@ -64,15 +106,17 @@ impl Name {
         ensures some { 1 ≤ length result.now }
         ensures few { length result.now ≤ most_name }
     {
-        self.bytes.as_slice()
+        match &self.held {
+            Held::Short(len, place) => &place[..*len as usize],
+            Held::Long(bytes) => bytes.as_slice(),
+        }
     }
 
     /// An equal name.
     pub fn copy(&self) -> Result<Name, NoMemory>
         ensures { IfOk result (λ name. name ≡ self.now) }
     {
-        let alloc = *self.bytes.allocator();
-        Name::new(alloc, self.bytes())
+        Name::new(self.alloc, self.bytes())
     }
 }
 

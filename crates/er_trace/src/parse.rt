@@ -13,13 +13,12 @@ use crate::forms::{
 };
 use crate::head::{Head, head_of};
 use crate::named_forms::{access_form, fire_form, inline_form, wfire_form};
-use crate::plain::plain_access;
 use crate::record::{Mode, Record};
 use er_text::Words;
 use std::alloc::Global;
 
 /// What a form without names gives.
-fn plain(form: Option<Record>) -> Result<Record, LineFault>
+fn without_names(form: Option<Record>) -> Result<Record, LineFault>
     ensures { result ≡ ok_or form LineFault.BadRecord }
 {
     form.ok_or(LineFault::BadRecord)
@@ -31,32 +30,34 @@ fn read_form(alloc: Global, head: Head, words: &mut Words) -> Result<Record, Lin
     ensures exact { (x : Record) → GoesOn head x words.old → (result ≡ Ok x) ⊎ (result ≡ Err LineFault.NoMemory) }
 {
     match head {
-        Head::Parse => plain(parse_form(words)),
-        Head::Exec => plain(exec_form(words)),
-        Head::Timer => plain(timer_form(words)),
-        Head::Tick => plain(tick_form(words)),
-        Head::Dcl => plain(dcl_form(words)),
-        Head::Load => plain(load_form(words)),
-        Head::Eload => plain(eload_form(words)),
+        Head::Parse => without_names(parse_form(words)),
+        Head::Exec => without_names(exec_form(words)),
+        Head::Timer => without_names(timer_form(words)),
+        Head::Tick => without_names(tick_form(words)),
+        Head::Dcl => without_names(dcl_form(words)),
+        Head::Load => without_names(load_form(words)),
+        Head::Eload => without_names(eload_form(words)),
         Head::Fire => fire_form(alloc, words),
         Head::Wfire => wfire_form(alloc, words),
-        Head::Reply => plain(reply_form(words)),
+        Head::Reply => without_names(reply_form(words)),
         Head::Inline => inline_form(alloc, words),
-        Head::Run => plain(run_form(words)),
-        Head::Close => plain(close_form(words)),
-        Head::Back => plain(back_form(words)),
-        Head::New => plain(new_form(words)),
-        Head::On => plain(on_form(words)),
-        Head::Set => plain(set_form(words)),
-        Head::Every => plain(every_form(words)),
-        Head::Send => plain(send_form(words)),
+        Head::Run => without_names(run_form(words)),
+        Head::Close => without_names(close_form(words)),
+        Head::Back => without_names(back_form(words)),
+        Head::New => without_names(new_form(words)),
+        Head::On => without_names(on_form(words)),
+        Head::Set => without_names(set_form(words)),
+        Head::Every => without_names(every_form(words)),
+        Head::Send => without_names(send_form(words)),
         Head::R => access_form(alloc, Mode::R, words),
         Head::W => access_form(alloc, Mode::W, words),
     }
 }
 
-/// The record that is spelled so, word by word.
-fn parse_words(alloc: Global, line: &[u8]) -> Result<Record, LineFault>
+/// The record that is spelled so. `BadRecord` comes where none is. Each printed record parses
+/// back: it has a spelling (`fits` of [`crate::print::print_record`]), and its spelling gives it
+/// again (`exact`), memory allowing.
+pub fn parse_record(alloc: Global, line: &[u8]) -> Result<Record, LineFault>
     ensures read { IfOk result (λ x. IsRecord x × (line.now ≡ spelling x)) }
     ensures exact { (x : Record) → IsRecord x → line.now ≡ spelling x → (result ≡ Ok x) ⊎ (result ≡ Err LineFault.NoMemory) }
 {
@@ -68,17 +69,4 @@ fn parse_words(alloc: Global, line: &[u8]) -> Result<Record, LineFault>
         return Err(LineFault::BadRecord);
     };
     read_form(alloc, head, &mut words)
-}
-
-/// The record that is spelled so. `BadRecord` comes where none is. Each printed record parses
-/// back: it has a spelling (`fits` of [`crate::print::print_record`]), and its spelling gives it
-/// again (`exact`), memory allowing.
-pub fn parse_record(alloc: Global, line: &[u8]) -> Result<Record, LineFault>
-    ensures read { IfOk result (λ x. IsRecord x × (line.now ≡ spelling x)) }
-    ensures exact { (x : Record) → IsRecord x → line.now ≡ spelling x → (result ≡ Ok x) ⊎ (result ≡ Err LineFault.NoMemory) }
-{
-    if let Some(access) = plain_access(alloc, line) {
-        return Ok(access);
-    }
-    parse_words(alloc, line)
 }

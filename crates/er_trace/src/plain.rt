@@ -1,16 +1,15 @@
-//! Accesses whose names have no byte that is spelled by digits: most lines of a trace.
+//! Accesses whose names are short and have no byte that is spelled by digits: most lines of a trace.
 
-ghost use Rattle.std.specs.Prelude.{◌≡◌, ℕ, ◌<◌, ◌^◌, ◌∷◌, ◌++◌, IfSome, IsTrue, decimal, true};
-ghost use Rattle.std.specs.List.{list_all};
-ghost use Rattle.er_text.specs.Bytes.{space};
+ghost use Rattle.std.specs.Prelude.{◌≡◌, ◌<◌, ◌≤◌, ◌+◌, ◌^◌, ◌∷◌, ◌++◌, ◌==◌, not, length, take, drop, position, IfSome, decimal};
+ghost use Rattle.er_text.specs.Bytes.{space, line_end};
 ghost use Rattle.er_text.specs.Name.{IsName, name_spelling, stands_for_itself};
-ghost use Rattle.er_trace.specs.Spelling.{spelling, IsRecord, loc_spelling, IsLoc};
+ghost use Rattle.er_trace.specs.Spelling.{spelling, IsRecord, mode_word};
+ghost use Rattle.er_trace.specs.Forms.{form_word, loc_of};
 
 use crate::head::is_word;
-use crate::items::{is_ended, number};
-use crate::name::{MOST_INLINE, Name};
+use crate::name::{MOST_IN_PLACE, Name};
 use crate::record::{Loc, Mode, Record};
-use er_text::Words;
+use er_text::read_number;
 use std::alloc::Global;
 
 /// What stands behind that text.
@@ -33,72 +32,118 @@ fn is_itself(byte: u8) -> bool
     (33..=126).contains(&byte) && byte != b'%'
 }
 
-/// Whether each byte is spelled as itself.
-#[tactic(auto, using(std::proofs::lemmas::List::Folds::list_all_more))]
-fn are_themselves(bytes: &[u8]) -> bool
-    ensures { IsTrue result → list_all stands_for_itself bytes.now ≡ true }
+fn first_space(bytes: &[u8]) -> Option<usize>
+    ensures { result ≡ position (λ b. b == space) bytes.now }
 {
-    for byte in bytes {
-        if !is_itself(*byte) {
-            return false;
+    bytes.iter().position(|byte| *byte == b' ')
+}
+
+/// Where the first byte stands that is not spelled as itself.
+fn first_other(bytes: &[u8]) -> Option<usize>
+    ensures { result ≡ position (λ b. not (stands_for_itself b)) bytes.now }
+{
+    bytes.iter().position(|byte| !is_itself(*byte))
+}
+
+/// The number at the front, and what stands behind the space after it.
+#[tactic(auto, using(crate::proofs::PlainLaws::cut_at_space))]
+fn front_number(bytes: &[u8]) -> Option<(u32, &[u8])>
+    ensures { IfSome result (λ pair. (pair.0 < 2 ^ 32) × (bytes.now ≡ decimal pair.0 ++ space ∷ pair.1.now)) }
+{
+    let end = first_space(bytes)?;
+    let number = read_number(&bytes[..end]).ok()?;
+    Some((number, &bytes[end + 1..]))
+}
+
+/// Where the name at the front ends, before an LF, if it needs no memory and is spelled as itself.
+fn plain_end(bytes: &[u8]) -> Option<usize>
+    ensures few { IfSome result (λ k. (k ≤ MOST_IN_PLACE) × (k < length bytes.now)) }
+    ensures name { IfSome result (λ k. IsName (take k bytes.now)
+        × (bytes.now ≡ name_spelling (take k bytes.now) ++ line_end ∷ drop (k + 1) bytes.now)) }
+{
+    let end = first_other(bytes)?;
+    if end == 0 {
+        return None;
+    }
+    if end > MOST_IN_PLACE {
+        return None;
+    }
+    if bytes[end] != b'\n' {
+        return None;
+    }
+    Some(end)
+}
+
+/// That name, and what stands behind the LF. Enough bytes must follow for a copy of a fixed length.
+fn front_name(alloc: Global, bytes: &[u8]) -> Option<(Name, &[u8])>
+    ensures { IfSome result (λ pair. IsName pair.0 × (bytes.now ≡ name_spelling pair.0 ++ line_end ∷ pair.1.now)) }
+{
+    let end = plain_end(bytes)?;
+    let later = &bytes[end + 1..];
+    let place = bytes.first_chunk::<MOST_IN_PLACE>()?;
+    Some((Name::in_place(alloc, place, end), later))
+}
+
+/// What a location is of.
+#[derive(Clone, Copy)]
+pub(crate) enum Form {
+    Var,
+    Elem,
+    Slot,
+}
+
+impl Form {
+    /// The location of this form.
+    fn of(self, number: u32, name: Name) -> Loc
+        ensures { result ≡ loc_of self number name }
+    {
+        match self {
+            Form::Var => Loc::Var(number, name),
+            Form::Elem => Loc::Elem(number, name),
+            Form::Slot => Loc::Slot(number, name),
         }
     }
-    true
 }
 
-/// A number, and behind a space a name that is spelled as itself.
-fn plain_words(bytes: &[u8]) -> Option<(u32, &[u8])>
-    ensures { IfSome result (λ pair. (pair.0 < 2 ^ 32) × IsName pair.1.now
-        × (bytes.now ≡ decimal pair.0 ++ space ∷ name_spelling pair.1.now)) }
+/// The form between two spaces, and what stands behind them.
+fn front_form(bytes: &[u8]) -> Option<(Form, &[u8])>
+    ensures { IfSome result (λ pair. bytes.now ≡ space ∷ form_word pair.0 ++ space ∷ pair.1.now) }
 {
-    let mut words = Words::new(bytes);
-    let first = number(&mut words)?;
-    let name = words.next()?;
-    if !is_ended(&mut words) {
-        return None;
+    let word = behind(bytes, " ")?;
+    if let Some(later) = behind(word, "var") {
+        return Some((Form::Var, behind(later, " ")?));
     }
-    if name.is_empty() {
-        return None;
+    if let Some(later) = behind(word, "elem") {
+        return Some((Form::Elem, behind(later, " ")?));
     }
-    if name.len() > MOST_INLINE {
-        return None;
-    }
-    if !are_themselves(name) {
-        return None;
-    }
-    Some((first, name))
-}
-
-/// The location behind a space.
-fn plain_loc(alloc: Global, bytes: &[u8]) -> Option<Loc>
-    ensures { IfSome result (λ loc. IsLoc loc × (bytes.now ≡ space ∷ loc_spelling loc)) }
-{
-    if let Some(later) = behind(bytes, " var ") {
-        let (object, name) = plain_words(later)?;
-        return Some(Loc::Var(object, Name::new(alloc, name).ok()?));
-    }
-    if let Some(later) = behind(bytes, " elem ") {
-        let (doc, name) = plain_words(later)?;
-        return Some(Loc::Elem(doc, Name::new(alloc, name).ok()?));
-    }
-    if let Some(later) = behind(bytes, " slot ") {
-        let (element, name) = plain_words(later)?;
-        return Some(Loc::Slot(element, Name::new(alloc, name).ok()?));
+    if let Some(later) = behind(word, "slot") {
+        return Some((Form::Slot, behind(later, " ")?));
     }
     None
 }
 
-/// The access that is spelled so, where its name is short and spelled as itself. `None` says nothing.
-#[tactic(auto, using(crate::proofs::PlainLaws::spelling_of_access))]
-pub fn plain_access(alloc: Global, line: &[u8]) -> Option<Record>
-    ensures { IfSome result (λ x. IsRecord x × (line.now ≡ spelling x)) }
+/// The mode at the front, and what stands behind it.
+fn front_mode(line: &[u8]) -> Option<(Mode, &[u8])>
+    ensures { IfSome result (λ pair. line.now ≡ mode_word pair.0 ++ pair.1.now) }
 {
     let (first, later) = line.split_first()?;
-    let mode = match *first {
-        b'r' => Mode::R,
-        b'w' => Mode::W,
-        _ => return None,
-    };
-    let loc = plain_loc(alloc, later)?;
-    Some(Record::Access { mode, loc })
+    match *first {
+        b'r' => Some((Mode::R, later)),
+        b'w' => Some((Mode::W, later)),
+        _ => None,
+    }
+}
+
+/// The access whose line stands at the front, and what stands behind the LF, where its name is short and
+/// spelled as itself. `None` says nothing.
+#[tactic(auto, using(crate::proofs::PlainLaws::spelling_of_access))]
+pub fn plain_line(alloc: Global, bytes: &[u8]) -> Option<(Record, &[u8])>
+    ensures { IfSome result (λ pair. IsRecord pair.0 × (bytes.now ≡ spelling pair.0 ++ line_end ∷ pair.1.now)) }
+{
+    let (mode, later) = front_mode(bytes)?;
+    let (form, later) = front_form(later)?;
+    let (number, later) = front_number(later)?;
+    let (name, later) = front_name(alloc, later)?;
+    let loc = form.of(number, name);
+    Some((Record::Access { mode, loc }, later))
 }

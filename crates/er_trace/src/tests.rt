@@ -86,6 +86,11 @@ fn prints_back(alloc: Global, line: &str) -> Result<bool, Fail> {
     Ok(sink.bytes() == line.as_bytes())
 }
 
+fn is_refused(alloc: Global, line: &str) -> bool {
+    let answer = parse_record(alloc, line.as_bytes());
+    matches!(answer, Err(LineFault::BadRecord))
+}
+
 #[test]
 fn records(rt: HostRuntime) -> Result<(), Fail> {
     for line in RECORDS {
@@ -97,32 +102,47 @@ fn records(rt: HostRuntime) -> Result<(), Fail> {
 #[test]
 fn other_lines(rt: HostRuntime) {
     for line in OTHERS {
-        let answer = parse_record(rt.alloc(), line.as_bytes());
-        assert!(rt; matches!(answer, Err(LineFault::BadRecord)), "{line}");
+        assert!(rt; is_refused(rt.alloc(), line), "{line}");
     }
 }
 
-#[test]
-fn fields(rt: HostRuntime) -> Result<(), Fail> {
-    let made = parse_record(rt.alloc(), b"parse 3 4 defer").map_err(|_| "made")?;
-    let is_made = matches!(
-        made,
+/// The name, where the record writes variable 5.
+fn written_name(rec: &Record) -> Option<&Name> {
+    match rec {
+        Record::Access {
+            mode: Mode::W,
+            loc: Loc::Var(5, name),
+        } => Some(name),
+        _ => None,
+    }
+}
+
+fn is_made(rec: &Record) -> bool {
+    matches!(
+        rec,
         Record::Parse {
             doc: 3,
             element: 4,
             kind: Kind::Defer
         }
-    );
-    assert!(rt; is_made);
-    let access = parse_record(rt.alloc(), b"w var 5 a%0A").map_err(|_| "access")?;
-    let Record::Access {
-        mode: Mode::W,
-        loc: Loc::Var(5, name),
-    } = access
-    else {
-        return Err("a variable".into());
-    };
-    assert_eq!(rt; name.bytes(), b"a\n".as_slice());
+    )
+}
+
+fn reads_fields(alloc: Global) -> Result<bool, Fail> {
+    let made = parse_record(alloc, b"parse 3 4 defer").map_err(|_| "made")?;
+    let access = parse_record(alloc, b"w var 5 a%0A").map_err(|_| "access")?;
+    let named = written_name(&access).is_some_and(|name| name.bytes() == b"a\n".as_slice());
+    Ok(named && is_made(&made))
+}
+
+#[test]
+fn fields(rt: HostRuntime) -> Result<(), Fail> {
+    assert!(rt; reads_fields(rt.alloc())?);
+    Ok(())
+}
+
+#[test]
+fn names(rt: HostRuntime) -> Result<(), Fail> {
     let named = Name::new(rt.alloc(), b"n").map_err(|_| "memory")?;
     assert_eq!(rt; named.bytes(), b"n".as_slice());
     let again = named.copy().map_err(|_| "memory")?;
@@ -130,19 +150,25 @@ fn fields(rt: HostRuntime) -> Result<(), Fail> {
     Ok(())
 }
 
-#[test]
-fn locations(rt: HostRuntime) -> Result<(), Fail> {
-    let access = parse_record(rt.alloc(), b"w elem 0 a%20b").map_err(|_| "access")?;
-    let Record::Access { mode: Mode::W, loc } = access else {
-        return Err("a write".into());
+/// How the location of an access is printed, after it was copied.
+fn location_of(alloc: Global, line: &str, wanted: &str) -> Result<bool, Fail> {
+    let access = parse_record(alloc, line.as_bytes()).map_err(|_| "access")?;
+    let Record::Access { loc, .. } = &access else {
+        return Err("an access".into());
     };
     let copied = loc.copy().map_err(|_| "memory")?;
-    let Loc::Elem(0, name) = &copied else {
-        return Err("an element".into());
-    };
-    assert_eq!(rt; name.bytes(), b"a b".as_slice());
-    let mut sink = MemorySink::new(rt.alloc(), 100, 3, Vec::new(rt.alloc())).map_err(|_| "memory")?;
+    let mut sink = MemorySink::new(alloc, 100, 3, Vec::new(alloc)).map_err(|_| "memory")?;
     print_loc(&copied, &mut sink).map_err(|_| "printed")?;
-    assert_eq!(rt; sink.bytes(), b"elem 0 a%20b".as_slice());
+    Ok(sink.bytes() == wanted.as_bytes())
+}
+
+#[test]
+fn locations(rt: HostRuntime) -> Result<(), Fail> {
+    for (line, wanted) in [
+        ("w elem 0 a%20b", "elem 0 a%20b"),
+        ("r slot 7 onclick", "slot 7 onclick"),
+    ] {
+        assert!(rt; location_of(rt.alloc(), line, wanted)?, "{line}");
+    }
     Ok(())
 }

@@ -47,6 +47,12 @@ returns-in-Err-clause-refused g c = λ n cause is.
       refused = c.in-Err.ensures.refused n cause (cc) i.here.bytes i.here.records i.here.at;
     }
 
+pub returns-in-Err-clause-failed : goal.returns-in-Err-clause-failed
+returns-in-Err-clause-failed g c = λ is. rw c.loop-turn.invariant.stands at (c.in-Err.ensures.failed (cc))
+
+pub returns-in-Err-clause-stands : goal.returns-in-Err-clause-stands
+returns-in-Err-clause-stands g c = λ other. c.in-Err.ensures.stands (λ e. other (cc)) ∙ c.loop-turn.invariant.stands
+
 pub unreachable-requires : goal.unreachable-requires
 unreachable-requires g c =
     let h = c.loop-turn.invariant.here in

@@ -5,20 +5,20 @@ use Rattle.er_run.proofs.input.take_piece.Goals as goal
 pub judge_all-requires : goal.judge_all-requires
 judge_all-requires c =
     let here = c.requires.at in
-    let fed = rw c.new-records.ensures.items at (c.feed.ensures.fed (λ e. cc) c.requires.bytes c.requires.records here.fed) in
+    let fed = rw c.clear.ensures.items at (c.feed.ensures.fed (λ e. cc) c.requires.bytes c.requires.records here.fed) in
     record {
       some = record { list = reverse c.requires.records; stands = here.stands };
       room = rw c.as_slice.ensures.value (room_by c.feed.new.self (c.requires.bytes ++ c.args.piece.now) c.requires.records c.feed.new.out.items c.args.session.now.records fed here.stands.count);
     }
 
-pub returns-in-Ok-clause-on : goal.returns-in-Ok-clause-on
-returns-in-Ok-clause-on c = λ bytes records at.
-    let fed = rw c.new-records.ensures.items at (c.feed.ensures.fed (λ e. cc) bytes records at.fed) in
+pub returns-in_default-clause-on : goal.returns-in_default-clause-on
+returns-in_default-clause-on c = λ bytes records at.
+    let fed = rw c.clear.ensures.items at (c.feed.ensures.fed (λ e. cc) bytes records at.fed) in
     on_by c.feed.new.self c.judge_all.new.session (bytes ++ c.args.piece.now) records c.feed.new.out.items fed (rw c.as_slice.ensures.value at (c.in_default.ensures.taken records at.stands))
 
 pub returns-in-Err-clause-refused : goal.returns-in-Err-clause-refused
 returns-in-Err-clause-refused c = λ bytes records at.
-    let fed = rw c.new-records.ensures.items at (c.feed.ensures.fed (λ e. cc) bytes records at.fed) in
+    let fed = rw c.clear.ensures.items at (c.feed.ensures.fed (λ e. cc) bytes records at.fed) in
     final_by c.feed.new.self (bytes ++ c.args.piece.now) records c.feed.new.out.items c.in-Err.fault fed (rw c.as_slice.ensures.value at (c.in-Err.ensures.refused records at.stands))
 
 -- a line of the piece is refused
@@ -26,20 +26,20 @@ returns-in-Err-clause-refused c = λ bytes records at.
 pub judge_all-requires-in-Err-Refused : goal.judge_all-requires-in-Err-Refused
 judge_all-requires-in-Err-Refused c =
     let here = c.requires.at in
-    let fed = rw c.new-records.ensures.items at (c.feed.ensures.fed (λ e. cc) c.requires.bytes c.requires.records here.fed) in
+    let fed = rw c.clear.ensures.items at (c.feed.ensures.fed (λ e. cc) c.requires.bytes c.requires.records here.fed) in
     record {
       some = record { list = reverse c.requires.records; stands = here.stands };
       room = rw c.as_slice-in-Err-Refused.ensures.value (room_by c.feed.new.self (c.requires.bytes ++ c.args.piece.now) c.requires.records c.feed.new.out.items c.args.session.now.records fed here.stands.count);
     }
 
-pub returns-in-Err-Refused-clause-on : goal.returns-in-Err-Refused-clause-on
-returns-in-Err-Refused-clause-on c = λ bytes records at.
-    let fed = rw c.new-records.ensures.items at (c.feed.ensures.fed (λ e. cc) bytes records at.fed) in
+pub returns-in_default-judge_all-clause-on : goal.returns-in_default-judge_all-clause-on
+returns-in_default-judge_all-clause-on c = λ bytes records at.
+    let fed = rw c.clear.ensures.items at (c.feed.ensures.fed (λ e. cc) bytes records at.fed) in
     on_by c.feed.new.self c.judge_all-in-Err-Refused.new.session (bytes ++ c.args.piece.now) records c.feed.new.out.items fed
     (rw c.as_slice-in-Err-Refused.ensures.value at (c.in_default-judge_all.ensures.taken records at.stands))
 
 pub returns-in-Err-judge_all-clause-refused : goal.returns-in-Err-judge_all-clause-refused
 returns-in-Err-judge_all-clause-refused c = λ bytes records at.
-    let fed = rw c.new-records.ensures.items at (c.feed.ensures.fed (λ e. cc) bytes records at.fed) in
+    let fed = rw c.clear.ensures.items at (c.feed.ensures.fed (λ e. cc) bytes records at.fed) in
     final_by c.feed.new.self (bytes ++ c.args.piece.now) records c.feed.new.out.items c.in-Err-judge_all.fault fed
     (rw c.as_slice-in-Err-Refused.ensures.value at (c.in-Err-judge_all.ensures.refused records at.stands))

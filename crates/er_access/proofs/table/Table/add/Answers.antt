@@ -22,7 +22,7 @@ returns-in_default-clause-kept c =
 pub returns-in_default-clause-accesses : goal.returns-in_default-clause-accesses
 returns-in_default-clause-accesses c =
     let absent : list_any (same_loc c.args.loc.now) c.self.inside.keys.keys ≡ false = search rules in
-    let at : c.len.result ≡ length c.self.inside.places.items = search rules in
+    let at : c.len-next.result ≡ length c.self.inside.places.items = search rules in
     both c.add_new.result
     (new_seen c.self.inside.keys.keys c.add_new.new.keys.keys c.self.inside.places.items c.self.inside.accesses.items c.add_new.new.accesses.items c.self.inside.pairs c.args.self.now c.args.line c.args.action c.args.mode c.args.loc.now _ c.self.view_is c.self.invariant absent at)
     c.add_new.ensures.locations c.add_new.ensures.accesses

@@ -9,5 +9,5 @@ returns-in-Err c = λ accepted listed. named_first accepted c.args.rec.now c.in-
 pub returns : goal.returns
 returns c = λ accepted listed.
     let h = records accepted in
-    let named = c.in_default.ensures h listed.page in
+    let named = c.in_default-check.ensures h listed.page in
     room_last accepted c.args.rec.now c.room.result named (c.if-is_late.ensures h listed.page listed.sound (ok_none (naming h c.args.rec.now) named)) (c.room.ensures h listed.page)
