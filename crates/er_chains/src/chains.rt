@@ -2,7 +2,7 @@
 
 ghost use Rattle.std.specs.Prelude.{◌≡◌, ◌≤◌, ◌<◌, ◌-◌, ◌^◌, [], length, slice_index, OnOk, OnErr};
 ghost use Rattle.std.specs.List.{sum};
-ghost use Rattle.er_chains.specs.Lengths.{first_full, one_more};
+ghost use Rattle.er_chains.specs.Lengths.{one_more};
 
 use er_outside::NoMemory;
 use std::alloc::Global;
@@ -49,20 +49,6 @@ impl Chains {
         ensures { result ≡ slice_index self.now chain }
     {
         self.lengths[chain as usize]
-    }
-
-    /// The lowest chain whose length is the row's number.
-    #[tactic(auto, using(crate::proofs::Lengths::few_chains, crate::proofs::Lengths::full_here, crate::proofs::Lengths::full_nowhere))]
-    pub fn first_full(&self, row: &[u32]) -> Option<u32>
-        requires { length row.now ≡ length self.now }
-        ensures { result ≡ first_full self.now row.now }
-    {
-        for (chain, number) in row.iter().enumerate() {
-            if *number == self.lengths[chain] {
-                return Some(chain as u32);
-            }
-        }
-        None
     }
 
     /// One more member at the chain's end. At `count` it is the first of a new chain.

@@ -9,6 +9,7 @@ use er_clocks::Meter;
 use er_outside::{FromRead, ToWrite};
 use er_run::outcome::Outcome;
 use er_run::run;
+use er_shard::FreeGate;
 use std::env::{self, Env};
 use std::io;
 use std::process::ExitCode;
@@ -24,12 +25,14 @@ fn main(rt: HostRuntime) -> ExitCode {
             let mut compares = Meter::new();
             let mut tests = Meter::new();
             let outcome = run(
+                &rt,
                 rt.alloc(),
                 &words,
                 &mut source,
                 &mut sink,
                 &mut compares,
                 &mut tests,
+                &FreeGate,
             );
             finish(&rt, outcome)
         }

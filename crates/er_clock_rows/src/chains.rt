@@ -4,13 +4,11 @@ use er_chains::Chains;
 use std::test::Fail;
 
 #[test]
-fn lowest_full(rt: HostRuntime) -> Result<(), Fail> {
+fn appended(rt: HostRuntime) -> Result<(), Fail> {
     let mut chains = Chains::new(rt.alloc());
-    assert_eq!(rt; chains.first_full(&[]), None);
+    assert_eq!(rt; chains.count(), 0);
     chains.append(0)?;
     assert_eq!(rt; chains.count(), 1);
     assert_eq!(rt; chains.length(0), 1);
-    assert_eq!(rt; chains.first_full(&[1]), Some(0));
-    assert_eq!(rt; chains.first_full(&[0]), None);
     Ok(())
 }

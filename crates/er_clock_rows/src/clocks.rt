@@ -6,7 +6,7 @@ use std::test::Fail;
 /// Whether one action more was added, and its number answered. The numbers are to be those of earlier actions.
 fn add(clocks: &mut Clocks, preds: &[u32]) -> bool {
     let count = clocks.len();
-    count < 16384 && preds.iter().all(|k| *k < count) && clocks.push(preds) == Ok(count)
+    count < 32768 && preds.iter().all(|k| *k < count) && clocks.push(preds) == Ok(count)
 }
 
 fn is_handed_twice_right(clocks: &mut Clocks) -> bool {

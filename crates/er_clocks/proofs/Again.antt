@@ -1,8 +1,7 @@
 -- Where the new action is to have the links of the newest one: its links, and its row made of that one's.
-use Rattle.std.proofs.Common.{◌≡◌, ◌≢◌, ℕ, zero, suc, ◌+◌, ◌<◌, ◌≤◌, Bool, true, false, List, [], ◌∷◌, ◌++◌, length, max, refl, sym, ap, ◌∙◌, arith, subst, inl, inr}
-use Rattle.std.specs.Prelude.{◌==◌, ◌||◌, ◌&&◌, not, nat_lt, slice_index, if◌then◌else◌, replicate}
+use Rattle.std.proofs.Common.{◌≡◌, ◌≢◌, ℕ, zero, suc, ◌+◌, ◌-◌, ◌<◌, ◌≤◌, Bool, true, false, List, [], ◌∷◌, ◌++◌, length, refl, sym, ap, ◌∙◌, arith, subst, inl, inr}
+use Rattle.std.specs.Prelude.{◌==◌, ◌||◌, ◌&&◌, not, nat_lt, slice_index, if◌then◌else◌}
 use Rattle.std.specs.List.{list_any, filter, AllByRecursion}
-use Rattle.std.proofs.lemmas.Grind.{common_steps}
 use Rattle.std.proofs.lemmas.Bool.Decides.{nat_tests}
 use Rattle.std.proofs.Math.Path.{fun_ext}
 use Rattle.er_paths.specs.Paths.{joins, is_among}
@@ -10,14 +9,15 @@ use Rattle.er_paths.proofs.Paths.{any_some, any_from, or_cases, or_left, or_righ
 use Rattle.er_links.specs.Chains.{chains, members, count_in, chain_of, place_of, entry, first_fit, last_passes}
 use Rattle.er_links.specs.Links.{numbers_below, links, links_of}
 use Rattle.er_links.proofs.Tests.{decide, same_test, never, both}
-use Rattle.er_links.proofs.Chains.{count_same, fit_entries}
+use Rattle.er_links.proofs.Chains.{count_same}
 use Rattle.er_links.proofs.Fits.{IsLacking, fit_number, fit_chain, chains_lack, in_one_chain, entry_of_itself}
-use Rattle.er_links.proofs.Links.{keeps, kept_of, any_kept, links_newest, links_grow, links_of_paths, all_below}
-use Rattle.er_links.proofs.Ascending.{member_filter, member_below}
-use Rattle.er_clocks.specs.Sources.{reaches, IsReach, ComeBefore, RepeatsNewest}
-use Rattle.er_clocks.specs.Rows.{links_before, row_before, IsRaised, IsSet}
-use Rattle.std.proofs.lemmas.List.{length-replicate}
-use Rattle.er_clocks.proofs.Entries.{zero_at, row_made}
+use Rattle.er_links.proofs.Links.{keeps, kept_of, any_kept, links_newest, links_grow, links_of_paths, link_parts}
+use Rattle.er_links.proofs.Ascending.{member_filter, member_below, member_links}
+use Rattle.er_clocks.specs.Sources.{reaches, IsOnlyLink, RepeatsNewest}
+use Rattle.er_clocks.specs.Reached.{like_at}
+use Rattle.er_clocks.specs.Rows.{links_before}
+use Rattle.er_clocks.proofs.Entries.{all_of}
+use Rattle.er_clocks.proofs.Uncovered.{uncovered_kept}
 
 -- what is reached decides the links
 
@@ -112,16 +112,15 @@ not_reached p older xs is = never (reaches (p ∷ older) xs (length older)) (λ 
     let f = paths_go_forward (p ∷ older) (length older) r.0 r.2 in
     let low : length older ≤ r.0 = f.0 in absurd (omega arith))
 
-reach_again : (p : List ℕ) (older : List (List ℕ)) (xs row : List ℕ) → RepeatsNewest (p ∷ older) xs
-    → ((c : ℕ) → slice_index row c ≡ (if c == chain_of (p ∷ older) (length older) then place_of (p ∷ older) (length older) else entry (p ∷ older) (length older) c))
-    → IsReach (p ∷ older) row xs
-reach_again p older xs row is at c =
+reach_again : (p : List ℕ) (older : List (List ℕ)) (xs : List ℕ) → RepeatsNewest (p ∷ older) xs
+    → (c : ℕ) → like_at (p ∷ older) (length older) (place_of (p ∷ older) (length older)) c ≡ count_in (reaches (p ∷ older) xs) (members (chains (p ∷ older)) c)
+reach_again p older xs is c =
     let n : ℕ = length older in
     let all : List (List ℕ) = p ∷ older in
     let q : ℕ → Bool = λ i. joins all i n in
     let r : ℕ → Bool = reaches all xs in
     let same : (i : ℕ) → (i == n) ≡ false → q i ≡ r i = λ i e. newest_reached p older i e ∙ sym (again_reach p older xs is i) in
-    at c ∙ elim (decide (c == chain_of all n)) [
+    elim (decide (c == chain_of all n)) [
       | inl own ↦
           let s : c ≡ chain_of all n = grind (arith, nat_tests) in
           let number : chain_of all n ≡ fit_number q (chains older) = fit_chain q n (chains older) (chains_lack older n (omega arith)) in
@@ -143,22 +142,46 @@ pub links_repeated : (lists : List (List ℕ)) (n : ℕ) (links xs : List ℕ) �
 links_repeated [] n links xs e at is = absurd is
 links_repeated (p ∷ older) n links xs e at is = let s : n ≡ length older = omega arith in at ∙ ap (links_of (p ∷ older)) s ∙ links_again p older xs is
 
-no_max : (n m : ℕ) → n ≡ 0 → max n m ≡ m
-no_max n m e = grind (arith)
+pub reach_repeated : (lists : List (List ℕ)) (n place : ℕ) (xs : List ℕ) → n + 1 ≡ length lists → place ≡ place_of lists n → RepeatsNewest lists xs
+    → (c : ℕ) → like_at lists n place c ≡ count_in (reaches lists xs) (members (chains lists) c)
+reach_repeated [] n place xs e there is c = absurd is
+reach_repeated (p ∷ older) n place xs e there is c =
+    let s : n ≡ length older = omega (arith, e) in
+    ap (λ (m : ℕ). like_at (p ∷ older) n m c) (there ∙ ap (place_of (p ∷ older)) s) ∙ ap (λ (m : ℕ). like_at (p ∷ older) m (place_of (p ∷ older) (length older)) c) s ∙ reach_again p older xs is c
 
-pub row_repeated : (lists : List (List ℕ)) (n chain place : ℕ) (none other raised row xs : List ℕ) → n + 1 ≡ length lists → none ≡ replicate (length (chains lists)) 0 → ((c : ℕ) → slice_index other c ≡ entry lists n c)
-    → length raised ≡ length none → IsRaised none other raised → chain ≡ chain_of lists n → place ≡ place_of lists n → length row ≡ length raised → IsSet raised chain place row → RepeatsNewest lists xs → row ≡ row_before xs lists
-row_repeated [] n chain place none other raised row xs e bare there wide more chain_is place_is long made is = absurd is
-row_repeated (p ∷ older) n chain place none other raised row xs e bare there wide more chain_is place_is long made is =
-    let all : List (List ℕ) = p ∷ older in
-    let G : ℕ → Type 0 = λ m. (c : ℕ) → slice_index row c ≡ (if c == chain_of all m then place_of all m else entry all m c) in
-    let at : G n = λ c.
-    let start : slice_index none c ≡ 0 = ap (λ (zs : List ℕ). slice_index zs c) bare ∙ zero_at (length (chains all)) c in
-    let raise : slice_index raised c ≡ entry all n c = more c ∙ no_max (slice_index none c) (slice_index other c) start ∙ there c in
-    made c ∙ ap (λ (m : ℕ). if c == chain then place else m) raise ∙ ap (λ (k : ℕ). if c == k then place else entry all n c) chain_is ∙ ap (λ (k : ℕ). if c == chain_of all n then k else entry all n c) place_is in
-    let s : n ≡ length older = omega arith in
-    let width : length row ≡ length (chains all) = long ∙ wide ∙ ap length bare ∙ length-replicate (length (chains all)) 0 in
-    row_made all xs xs row (λ i. refl) width (reach_again p older xs row is (subst G s at))
+-- one link alone
+
+only_reach : (lists : List (List ℕ)) (xs : List ℕ) (i m : ℕ) → IsOnlyLink lists xs i → reaches lists xs m ≡ reaches lists (i ∷ []) m
+only_reach lists xs i m is = same_test _ _
+    (λ h. let r = any_some (λ k. joins lists m k) xs h in or_left (joins lists m i) false (paths_compose lists m r.0 i r.2 (is.1 r.0 r.1)))
+    (λ h. any_from (λ k. joins lists m k) i xs is.0 (elim (or_cases (joins lists m i) false h) [
+      | inl e ↦ e
+      | inr e ↦ absurd (cc)
+    ]))
+
+one_below : (n i : ℕ) → i < n → AllByRecursion (λ k. k < n) (i ∷ [])
+one_below n i h = (h, tt)
+
+pub only_links : (lists : List (List ℕ)) (xs : List ℕ) (i : ℕ) → i < length lists → IsOnlyLink lists xs i → i ∷ [] ≡ links_before xs lists
+only_links lists xs i h is =
+    uncovered_kept lists (i ∷ []) (i ∷ []) (omega arith, tt) (λ k. refl) (one_below (length lists) i h)
+    ∙ kept_by_reach lists (i ∷ []) xs (λ m. sym (only_reach lists xs i m is)) ∙ sym (links_newest xs lists)
+
+pub only_reached : (lists : List (List ℕ)) (xs : List ℕ) (i number c : ℕ) → i < length lists → number ≡ suc (place_of lists i) → IsOnlyLink lists xs i
+    → like_at lists i number c ≡ count_in (reaches lists xs) (members (chains lists) c)
+only_reached lists xs i number c h next is =
+    let all : List ℕ = members (chains lists) c in
+    let same : entry lists i c ≡ count_in (reaches lists xs) all = count_same (λ m. joins lists m i) (reaches lists xs) all (all_of (λ m. joins lists m i ≡ reaches lists xs m) all (λ m. sym (only_reach lists xs i m is ∙ or_none (joins lists m i)))) in
+    elim (decide (c == chain_of lists i)) [
+      | inl own ↦
+          let s : c ≡ chain_of lists i = grind (arith, nat_tests) in
+          rw own (next ∙ sym (entry_of_itself lists i h) ∙ ap (entry lists i) (sym s) ∙ same)
+      | inr other ↦ rw other same
+    ]
+  where
+    or_none : (b : Bool) → (b || false) ≡ b
+    or_none true = refl
+    or_none false = refl
 
 -- the tests of the code
 
@@ -177,15 +200,16 @@ number_stands (x ∷ xs) (suc m) h = or_right (x == slice_index xs m) (is_among 
 pub all_found : (P : ℕ → Type 0) (xs : List ℕ) → ((m : ℕ) → m < length xs → P (slice_index xs m)) → (k : ℕ) → is_among k xs ≡ true → P k
 all_found P xs f k e = let r = number_found xs k e in subst P r.2 (f r.0 r.1)
 
-pub repeats_made : (lists : List (List ℕ)) (n : ℕ) (links xs : List ℕ) → n + 1 ≡ length lists → ComeBefore lists xs n → links ≡ links_of lists n → ((k : ℕ) → is_among k links ≡ true → is_among k xs ≡ true) → RepeatsNewest lists xs
-repeats_made [] n links xs e before are all = absurd (omega arith)
-repeats_made (p ∷ older) n links xs e before are all =
-    let s : n ≡ length older = omega arith in (
-      subst (λ (m : ℕ). ComeBefore (p ∷ older) xs m) s before,
-      λ k h. all k (ap (is_among k) (are ∙ ap (links_of (p ∷ older)) s) ∙ h),
-    )
+-- a link into j comes before it
+pub link_before : (lists : List (List ℕ)) (j k : ℕ) → is_among k (links_of lists j) ≡ true → (k < j) × (joins lists k j ≡ true)
+link_before lists j k h =
+    let parts = link_parts (joins lists) (length lists) k j (sym (member_links lists j k) ∙ h) in
+    let f = paths_go_forward lists k j parts.1 in
+    let low : k ≤ j = f.0 in
+    let apart : k ≢ j = parts.0 in (grind (arith, nat_tests, apart), parts.1)
 
--- numbers with the same members
-pub repeats_same : (lists : List (List ℕ)) (xs ys : List ℕ) → ((k : ℕ) → is_among k xs ≡ is_among k ys) → RepeatsNewest lists xs → RepeatsNewest lists ys
-repeats_same [] xs ys same is = absurd is
-repeats_same (p ∷ older) xs ys same is = (λ k h. is.0 k (same k ∙ h), λ k h. sym (same k) ∙ is.1 k h)
+-- the last of the numbers come first
+pub found_before : (P : ℕ → Type 0) (xs : List ℕ) (n : ℕ) → length xs ≤ n → ((m : ℕ) → m < n → P (slice_index xs (length xs - 1 - m))) → (k : ℕ) → is_among k xs ≡ true → P k
+found_before P xs n long f = all_found P xs (λ m h.
+    let back : length xs - 1 - (length xs - 1 - m) ≡ m = omega (arith, h) in
+    subst (λ (i : ℕ). P (slice_index xs i)) back (f (length xs - 1 - m) (omega (arith, h, long))))

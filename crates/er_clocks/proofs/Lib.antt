@@ -3,5 +3,8 @@ pub mod Uncovered
 pub mod Entries
 pub mod Twins
 pub mod Pushes
+pub mod SharedLemmas
+pub mod Places
 pub mod LookUps
 pub mod Again
+pub mod Growth

@@ -1,24 +1,28 @@
 -- A push keeps the tables right, and the clocks stand for one list more.
-use Rattle.std.proofs.Common.{◌≡◌, ℕ, zero, suc, ◌+◌, ◌<◌, ◌≤◌, Bool, true, List, [], ◌∷◌, ◌++◌, length, get_or, refl, sym, ap, ◌∙◌, arith, subst, inl, inr, length-append, sum}
-use Rattle.std.specs.Prelude.{◌==◌, ◌||◌, slice_index, map, reverse, if◌then◌else◌}
+use Rattle.std.proofs.Common.{◌≡◌, ℕ, zero, suc, ◌+◌, ◌<◌, ◌≤◌, Bool, false, List, [], ◌∷◌, ◌++◌, length, get_or, refl, sym, ap, ◌∙◌, arith, subst, inl, inr, length-append, sum}
+use Rattle.std.specs.Prelude.{◌≢◌, ◌==◌, ◌||◌, slice_index, map, reverse, if◌then◌else◌}
 use Rattle.std.specs.List.{AllByRecursion, filter}
 use Rattle.std.proofs.lemmas.Grind.{common_steps}
-use Rattle.std.proofs.lemmas.List.{length-map, length-reverse, reverse-append}
-use Rattle.std.proofs.lemmas.List.Elements.{All-push, All-weaker}
+use Rattle.std.proofs.lemmas.List.{length-reverse, reverse-append}
 use Rattle.std.proofs.Math.Path.{fun_ext}
 use Rattle.er_paths.specs.Paths.{joins}
 use Rattle.er_links.specs.Chains.{chains, members, count_in, number_in, place_in, chain_of, place_of, entry}
 use Rattle.er_links.specs.Links.{numbers_below, links, links_of, links_to, link_count, total}
-use Rattle.er_paths.proofs.Paths.{place_cases, paths_stand, enough_long, any_handed, handed_paths}
+use Rattle.er_paths.proofs.Paths.{place_cases, joins_past, paths_go_forward, enough_long, any_handed, handed_paths}
 use Rattle.er_links.proofs.Chains.{GoesBack, back_to, front_linked, IsFront, IsLinked, chains_linked, all_linked_still, chain_stays, chains_of_paths}
-use Rattle.er_links.proofs.Links.{keeps, kept_of, any_kept, kept_short, links_newest, links_grow, length-links, links_have_the_paths, links_of_paths}
+use Rattle.er_links.proofs.Links.{keeps, kept_of, any_kept, kept_short, links_newest, links_grow, length-links, links_have_the_paths, links_long, links_of_paths}
 use Rattle.er_chains.specs.Lengths.{one_more}
 use Rattle.er_paths.specs.Limits.{most_actions}
-use Rattle.er_clocks.specs.Clock.{full_number, row_of, IsClock, StandsFor}
+use Rattle.er_clocks.specs.Shared.{row_of}
+use Rattle.er_clocks.specs.Clock.{number_at, IsClock, StandsFor}
+use Rattle.er_clocks.specs.Reached.{IsFit}
+use Rattle.er_clocks.specs.Sources.{reaches}
 use Rattle.er_clocks.specs.Laws.{ClocksOfHanded, ClocksOfNewest, ClocksOfPaths, ClocksTellPaths}
-use Rattle.er_clocks.proofs.Entries.{get_map}
-use Rattle.er_links.proofs.Fits.{fit_number, fit_chain, fit_place, chains_begun, chains_lack}
-use Rattle.er_clocks.proofs.Fulls.{full_is_fit, fit_counts, fit_lengths}
+use Rattle.er_clocks.proofs.Entries.{members_agree}
+use Rattle.er_links.proofs.Fits.{fit_number, fit_chain, fit_place, chains_begun, chains_lack, chains_are_first_fit, entry_of_itself}
+use Rattle.er_clocks.proofs.Fulls.{fit_is, fit_lengths}
+use Rattle.std.proofs.lemmas.Bool.Decides.{nat_tests}
+use Rattle.er_links.proofs.Tests.{decide, never}
 
 -- an element of a list with one more at its end
 
@@ -46,6 +50,17 @@ right_more table old new n x long is stays newest j h =
           get_end table x j 0 (omega arith) ∙ newest ∙ ap new (sym last)
     ]
 
+-- the number of an action at a chain, where it was and where the new one is
+number_front : (rows : List (List ℕ)) (numbers places row : List ℕ) (x place j c : ℕ) → j < length rows → j < length numbers → j < length places
+    → number_at (rows ++ row ∷ []) (numbers ++ x ∷ []) (places ++ place ∷ []) j c ≡ number_at rows numbers places j c
+number_front rows numbers places row x place j c a b d =
+    rw (get_front rows row j [] a, get_front numbers x j 0 b, get_front places place j 0 d) refl
+
+number_end : (rows : List (List ℕ)) (numbers places row : List ℕ) (x place j c : ℕ) → j ≡ length rows → j ≡ length numbers → j ≡ length places
+    → number_at (rows ++ row ∷ []) (numbers ++ x ∷ []) (places ++ place ∷ []) j c ≡ (if c == x then suc place else slice_index row c)
+number_end rows numbers places row x place j c a b d =
+    rw (get_end rows row j [] a, get_end numbers x j 0 b, get_end places place j 0 d) refl
+
 -- the paths over the kept links are those over what was handed
 paths_kept : (lists : List (List ℕ)) (p : List ℕ) (i j : ℕ) → joins (kept_of lists p ∷ lists) i j ≡ joins (p ∷ lists) i j
 paths_kept lists p i j = ap (λ (b : Bool). if j == length lists then (i == j) || b else joins lists i j) (any_kept lists p i)
@@ -63,65 +78,69 @@ fronts : (lists : List (List ℕ)) (q : ℕ → Bool) (cs : List (List ℕ)) →
 fronts lists q [] back a = tt
 fronts lists q (c ∷ cs) back a = (front_linked lists q c back a.0, fronts lists q cs back a.1)
 
-taken_is_fit : (p : List ℕ) (lists : List (List ℕ)) → full_number (map length (chains lists)) (map (count_in (leads p lists)) (chains lists)) ≡ fit_number (leads p lists) (chains lists)
-taken_is_fit p lists =
-    full_is_fit (leads p lists) (chains lists) (chains_begun lists)
-    (fronts (p ∷ lists) (leads p lists) (chains lists) (back_to (p ∷ lists) (length lists)) (all_linked_still p lists (chains lists) (chains_linked lists)))
-
-longer : (x : ℕ) (ns : List ℕ) → length ns ≤ length (one_more x ns)
-longer x [] = omega arith
-longer zero (n ∷ ns) = omega arith
-longer (suc x) (n ∷ ns) = let h : length ns ≤ length (one_more x ns) = longer x ns in omega arith
-
-as_long : (x : ℕ) (ns ms : List ℕ) → length ns ≡ length ms → length (one_more x ns) ≡ length (one_more x ms)
-as_long x [] [] e = refl
-as_long x [] (m ∷ ms) e = absurd (omega arith)
-as_long x (n ∷ ns) [] e = absurd (omega arith)
-as_long zero (n ∷ ns) (m ∷ ms) e = e
-as_long (suc x) (n ∷ ns) (m ∷ ms) e = ap suc (as_long x ns ms (omega arith))
+-- the chain that was found is the one that first fit takes
+pub found_is_fit : (p : List ℕ) (lists : List (List ℕ)) (at : ℕ → ℕ) (x : ℕ) → ((c : ℕ) → at c ≡ count_in (reaches lists p) (members (chains lists) c)) → IsFit lists at x → x ≡ fit_number (leads p lists) (chains lists)
+found_is_fit p lists at x is found =
+    let q : ℕ → Bool = leads p lists in
+    let same : (c : ℕ) → at c ≡ count_in q (members (chains lists) c) = λ c. is c ∙ members_agree lists p c in
+    fit_is q (chains lists) x (chains_begun lists)
+    (fronts (p ∷ lists) q (chains lists) (back_to (p ∷ lists) (length lists)) (all_linked_still p lists (chains lists) (chains_linked lists)))
+    found.0 (λ c h e. found.1 c h (same c ∙ e)) (λ h. sym (same x) ∙ found.2 h)
 
 sum_more : (x : ℕ) (ns : List ℕ) → sum (one_more x ns) ≡ suc (sum ns)
 sum_more x [] = refl
 sum_more zero (n ∷ ns) = grind (arith, common_steps)
 sum_more (suc x) (n ∷ ns) = let h : sum (one_more x ns) ≡ suc (sum ns) = sum_more x ns in grind (arith, common_steps)
 
+-- the entries of the new action, whose row has them but at its own chain
+more_entries : (k : List ℕ) (kept : List (List ℕ)) (row : List ℕ) (x place c : ℕ) → x ≡ chain_of (k ∷ kept) (length kept) → place ≡ place_of (k ∷ kept) (length kept)
+    → ((c : ℕ) → c ≢ x → slice_index row c ≡ count_in (leads k kept) (members (chains kept) c))
+    → (if c == x then suc place else slice_index row c) ≡ entry (k ∷ kept) (length kept) c
+more_entries k kept row x place c fit there off =
+    let n : ℕ = length kept in
+    elim (decide (c == x)) [
+      | inl own ↦
+          let s : c ≡ x = grind (arith, nat_tests) in
+          rw own (ap suc there ∙ sym (entry_of_itself (k ∷ kept) n (omega arith)) ∙ ap (entry (k ∷ kept) n) (sym (s ∙ fit)))
+      | inr other ↦
+          let e : (c == chain_of (k ∷ kept) n) ≡ false = ap (λ (m : ℕ). c == m) (sym fit) ∙ other in
+          let still : members (chains (k ∷ kept)) c ≡ members (chains kept) c = (chains_are_first_fit k kept).3 c ∙ rw e refl in
+          rw other (off c (λ s. absurd (grind (arith, nat_tests))) ∙ ap (count_in (leads k kept)) (sym still))
+    ]
+
 -- one action more
 pub clock_more : (kept rows : List (List ℕ)) (numbers places lengths : List ℕ) (count : ℕ) (p row : List ℕ) (x : ℕ) → IsClock kept rows numbers places lengths count → length kept < most_actions
-    → row ≡ map (count_in (leads p kept)) (chains kept) → x ≡ full_number lengths row
-    → IsClock (kept_of kept p ∷ kept) (rows ++ one_more x row ∷ []) (numbers ++ x ∷ []) (places ++ get_or lengths x 0 ∷ []) (one_more x lengths) (count + length (kept_of kept p))
-clock_more kept rows numbers places lengths count p row x ok room counts full =
+    → ((c : ℕ) → c ≢ x → slice_index row c ≡ count_in (leads p kept) (members (chains kept) c)) → x ≡ fit_number (leads p kept) (chains kept)
+    → IsClock (kept_of kept p ∷ kept) (rows ++ row ∷ []) (numbers ++ x ∷ []) (places ++ get_or lengths x 0 ∷ []) (one_more x lengths) (count + length (kept_of kept p))
+clock_more kept rows numbers places lengths count p row x ok room counts found =
     let k : List ℕ = kept_of kept p in
     let q : ℕ → Bool = leads k kept in
     let n : ℕ = length kept in
-    let made : row ≡ map (count_in q) (chains kept) = counts ∙ ap (λ (t : ℕ → Bool). map (count_in t) (chains kept)) (fun_ext (λ i. sym (paths_kept kept p i n))) in
-    let itself : q n ≡ true = paths_stand (k ∷ kept) n (omega arith) in
+    let pl : ℕ = get_or lengths x 0 in
+    let same : leads p kept ≡ q = fun_ext (λ i. sym (paths_kept kept p i n)) in
+    let off : (c : ℕ) → c ≢ x → slice_index row c ≡ count_in q (members (chains kept) c) = λ c h. counts c h ∙ ap (λ (t : ℕ → Bool). count_in t (members (chains kept) c)) same in
     let lack = chains_lack kept n (omega arith) in
-    let fit : x ≡ fit_number q (chains kept) = full ∙ ap (λ (ls : List ℕ). full_number ls row) ok.sizes ∙ ap (λ (w : List ℕ). full_number (map length (chains kept)) w) made ∙ taken_is_fit k kept in
-    let wide : length row ≡ length lengths = ap length made ∙ length-map (chains kept) (count_in q) ∙ sym (ap length ok.sizes ∙ length-map (chains kept) length) in
+    let fit : x ≡ fit_number q (chains kept) = found ∙ ap (λ (t : ℕ → Bool). fit_number t (chains kept)) same in
+    let chain_is : x ≡ chain_of (k ∷ kept) n = fit ∙ sym (fit_chain q n (chains kept) lack) in
+    let place_is : pl ≡ place_of (k ∷ kept) n = ap (λ (ls : List ℕ). get_or ls x 0) ok.sizes ∙ ap (λ (m : ℕ). get_or (map length (chains kept)) m 0) fit
+    ∙ sym (ap (λ (c : ℕ). place_in (members (chains (k ∷ kept)) c) n) (fit_chain q n (chains kept) lack) ∙ fit_place q n (chains kept) lack) in
     record {
       few = omega (arith, room);
       least = least_more kept p ok.least;
-      rows_long = omega (arith, length-append rows (one_more x row ∷ []), ok.rows_long);
+      rows_long = omega (arith, length-append rows (row ∷ []), ok.rows_long);
       numbers_long = omega (arith, length-append numbers (x ∷ []), ok.numbers_long);
-      places_long = omega (arith, length-append places (get_or lengths x 0 ∷ []), ok.places_long);
-      widths = All-push (λ w. length w ≤ length (one_more x lengths)) rows (one_more x row)
-          (All-weaker (λ w. length w ≤ length lengths) (λ w. length w ≤ length (one_more x lengths)) (λ w h. let g = longer x lengths in omega (arith, g)) rows ok.widths)
-          (let g = as_long x row lengths wide in omega (arith, g));
+      places_long = omega (arith, length-append places (pl ∷ []), ok.places_long);
       sizes = ap (λ (ls : List ℕ). one_more x ls) ok.sizes ∙ ap (λ (m : ℕ). one_more m (map length (chains kept))) fit ∙ sym (fit_lengths q n (chains kept));
       all = sum_more x lengths ∙ ap suc ok.all;
       entries = λ j c h. elim (place_cases j n) [
-        | inl less ↦ ap (λ (w : List ℕ). slice_index w c) (get_front rows (one_more x row) j [] (omega (arith, ok.rows_long))) ∙ ok.entries j c less ∙ sym (chain_stays k kept j c less).2
+        | inl less ↦ number_front rows numbers places row x pl j c (omega (arith, ok.rows_long)) (omega (arith, ok.numbers_long)) (omega (arith, ok.places_long)) ∙ ok.entries j c less ∙ sym (chain_stays k kept j c less).2
         | inr rest ↦
             let last : j ≡ n = omega (arith, rest) in
-            let newest : slice_index (one_more x row) c ≡ entry (k ∷ kept) n c =
-            ap (λ (r : List ℕ). slice_index (one_more x r) c) made ∙ ap (λ (m : ℕ). slice_index (one_more m (map (count_in q) (chains kept))) c) fit
-            ∙ ap (λ (r : List ℕ). slice_index r c) (sym (fit_counts q n (chains kept) itself)) ∙ get_map (count_in q) (chains (k ∷ kept)) c refl in
-            ap (λ (w : List ℕ). slice_index w c) (get_end rows (one_more x row) j [] (omega (arith, ok.rows_long))) ∙ newest ∙ ap (λ (m : ℕ). entry (k ∷ kept) m c) (sym last)
+            number_end rows numbers places row x pl j c (omega (arith, ok.rows_long)) (omega (arith, ok.numbers_long)) (omega (arith, ok.places_long))
+            ∙ more_entries k kept row x pl c chain_is place_is off ∙ ap (λ (m : ℕ). entry (k ∷ kept) m c) (sym last)
       ];
-      chain = right_more numbers (chain_of kept) (chain_of (k ∷ kept)) n x ok.numbers_long ok.chain (λ j h. (chain_stays k kept j 0 h).0) (fit ∙ sym (fit_chain q n (chains kept) lack));
-      place = right_more places (place_of kept) (place_of (k ∷ kept)) n (get_or lengths x 0) ok.places_long ok.place (λ j h. (chain_stays k kept j 0 h).1)
-          (ap (λ (ls : List ℕ). get_or ls x 0) ok.sizes ∙ ap (λ (m : ℕ). get_or (map length (chains kept)) m 0) fit
-          ∙ sym (ap (λ (c : ℕ). place_in (members (chains (k ∷ kept)) c) n) (fit_chain q n (chains kept) lack) ∙ fit_place q n (chains kept) lack));
+      chain = right_more numbers (chain_of kept) (chain_of (k ∷ kept)) n x ok.numbers_long ok.chain (λ j h. (chain_stays k kept j 0 h).0) chain_is;
+      place = right_more places (place_of kept) (place_of (k ∷ kept)) n pl ok.places_long ok.place (λ j h. (chain_stays k kept j 0 h).1) place_is;
       counted = ap (λ (m : ℕ). m + length k) ok.counted ∙ add_swap (total kept) (length k);
       short = let few = kept_short kept p in omega (arith, few, ok.short, room);
     }
@@ -170,15 +189,11 @@ stands_count kept lists s = ap total s.are_links
 reverse_more : (x : List ℕ) (xs : List (List ℕ)) → reverse (x ∷ xs) ≡ reverse xs ++ x ∷ []
 reverse_more x xs = grind (arith, common_steps)
 
-links_to_long : (lists : List (List ℕ)) (n : ℕ) → length (links_to lists n) ≡ n
-links_to_long lists zero = refl
-links_to_long lists (suc n) = ap suc (links_to_long lists n)
-
 links_at : (lists : List (List ℕ)) (n j : ℕ) → j < n → get_or (reverse (links_to lists n)) j [] ≡ links_of lists j
 links_at lists zero j h = absurd (omega arith)
 links_at lists (suc n) j h =
     let before : List (List ℕ) = reverse (links_to lists n) in
-    let long : length before ≡ n = length-reverse (links_to lists n) ∙ links_to_long lists n in
+    let long : length before ≡ n = length-reverse (links_to lists n) ∙ links_long lists n in
     ap (λ (xs : List (List ℕ)). get_or xs j []) (reverse_more (links_of lists n) (links_to lists n)) ∙ elim (place_cases j n) [
       | inl less ↦ get_front before (links_of lists n) j [] (omega arith) ∙ links_at lists n j less
       | inr rest ↦ let last : j ≡ n = omega (arith, rest) in get_end before (links_of lists n) j [] (omega arith) ∙ ap (links_of lists) (sym last)
@@ -193,18 +208,26 @@ stands_links stored lists j s h =
     ∙ links_at lists (length lists) j (let e = stands_long (reverse stored) lists s in omega (arith, length-reverse stored, e))
 
 -- as a push has it, where the clocks are seen as their links, newest first
-pub clock_pushed : (stored rows seen : List (List ℕ)) (numbers places lengths : List ℕ) (count : ℕ) (p row links own : List ℕ) (x place more : ℕ) → reverse stored ≡ seen → IsClock (reverse stored) rows numbers places lengths count → length seen < most_actions
-    → row ≡ map (count_in (leads p seen)) (chains seen) → x ≡ full_number lengths row → links ≡ links_of (p ∷ seen) (length seen) → own ≡ one_more x row → place ≡ slice_index lengths x → more ≡ length links
-    → IsClock (reverse (stored ++ links ∷ [])) (rows ++ own ∷ []) (numbers ++ x ∷ []) (places ++ place ∷ []) (one_more x lengths) (count + more)
-clock_pushed stored rows seen numbers places lengths count p row links own x place more is ok room counts full are own_is place_is more_is =
+pub clock_pushed : (stored rows seen : List (List ℕ)) (numbers places lengths : List ℕ) (count : ℕ) (p row links : List ℕ) (x place more : ℕ) → reverse stored ≡ seen → IsClock (reverse stored) rows numbers places lengths count → length seen < most_actions
+    → ((c : ℕ) → c ≢ x → slice_index row c ≡ count_in (reaches seen p) (members (chains seen) c)) → x ≡ fit_number (leads p seen) (chains seen) → links ≡ links_of (p ∷ seen) (length seen) → place ≡ slice_index lengths x → more ≡ length links
+    → IsClock (reverse (stored ++ links ∷ [])) (rows ++ row ∷ []) (numbers ++ x ∷ []) (places ++ place ∷ []) (one_more x lengths) (count + more)
+clock_pushed stored rows seen numbers places lengths count p row links x place more is ok room counts found are place_is more_is =
     let now : IsClock seen rows numbers places lengths count = subst (λ (ks : List (List ℕ)). IsClock ks rows numbers places lengths count) is ok in
-    rw (reverse-append stored (links ∷ []), is, more_is, own_is, place_is, are ∙ links_newest p seen) (clock_more seen rows numbers places lengths count p row x now room counts full)
+    rw (reverse-append stored (links ∷ []), is, more_is, place_is, are ∙ links_newest p seen)
+    (clock_more seen rows numbers places lengths count p row x now room (λ c h. counts c h ∙ members_agree seen p c) found)
 
 pub stands_pushed : (stored seen lists : List (List ℕ)) (p links : List ℕ) → reverse stored ≡ seen → links ≡ links_of (p ∷ seen) (length seen) → StandsFor seen lists → StandsFor (reverse (stored ++ links ∷ [])) (p ∷ lists)
 stands_pushed stored seen lists p links is are s = rw (reverse-append stored (links ∷ []), is, are ∙ links_newest p seen) (stands_more seen lists p s)
 
 pub clocks_tell_paths : ClocksTellPaths
 clocks_tell_paths kept lists stands = (stands_long kept lists stands, λ i j. stands_paths kept lists i j stands)
+
+-- where there is no path
+pub none_back : (lists : List (List ℕ)) (i j : ℕ) → j < i → false ≡ joins lists i j
+none_back lists i j less = sym (never (joins lists i j) (λ e. let forward : i ≤ j = (paths_go_forward lists i j e).0 in absurd (omega arith)))
+
+pub none_past : (kept lists : List (List ℕ)) (i j : ℕ) → StandsFor kept lists → length kept ≤ j → false ≡ joins lists i j
+none_past kept lists i j stands past = sym (joins_past lists i j (omega (arith, stands_long kept lists stands, past)))
 
 pub clocks_of_paths : ClocksOfPaths
 clocks_of_paths kept lists others long same stands = record { are_links = stands.are_links ∙ links_of_paths lists others long same }

@@ -1,5 +1,5 @@
 -- Actions with the same links: all but themselves that has a path to the one has a path to the other.
-use Rattle.std.proofs.Common.{◌≡◌, ◌≢◌, ◌⊎◌, ℕ, zero, suc, ◌+◌, ◌<◌, ◌≤◌, Bool, true, false, List, [], ◌∷◌, ◌++◌, length, get_or, max, refl, sym, ap, ◌∙◌, arith, subst, inl, inr, length-append}
+use Rattle.std.proofs.Common.{◌≡◌, ◌≢◌, ◌⊎◌, ℕ, zero, suc, ◌<◌, ◌≤◌, Bool, true, false, List, [], ◌∷◌, ◌++◌, length, get_or, max, refl, sym, ap, ◌∙◌, arith, subst, inl, inr}
 use Rattle.std.specs.Prelude.{◌==◌, ◌||◌, slice_index, reverse, if◌then◌else◌}
 use Rattle.std.specs.List.{list_any}
 use Rattle.std.proofs.lemmas.Grind.{common_steps}
@@ -13,7 +13,6 @@ use Rattle.er_links.proofs.Chains.{count_either, front_linked, back_to, back_any
 use Rattle.er_links.proofs.Fits.{in_one_chain, entry_of_itself}
 use Rattle.er_links.proofs.Links.{any_append, link_parts, links_have_the_paths}
 use Rattle.er_links.proofs.Ascending.{member_links}
-use Rattle.er_clocks.specs.Clock.{row_of, AreTwins, IsTwin}
 use Rattle.er_clocks.specs.Sources.{uncovered, reaches, IsReach}
 
 -- a path has a last step
@@ -136,67 +135,3 @@ link_reached lists links xs n is h below =
     let k : ℕ = get_or links n 0 in
     let among : is_among k (uncovered (joins lists) xs) ≡ true = sym (any_reverse (λ m. m == k) (uncovered (joins lists) xs)) ∙ ap (is_among k) (sym is) ∙ member_at links n h in
     any_from (λ m. joins lists k m) k xs (member_uncovered (joins lists) xs k among) (paths_stand lists k below)
-
--- a push keeps the twins
-
-get_front : {X : Type 0} (xs : List X) (x : X) (i : ℕ) (d : X) → i < length xs → get_or (xs ++ x ∷ []) i d ≡ get_or xs i d
-get_front [] x i d h = absurd (omega arith)
-get_front (y ∷ ys) x zero d h = refl
-get_front (y ∷ ys) x (suc i) d h = get_front ys x i d (omega arith)
-
-get_end : {X : Type 0} (xs : List X) (x : X) (i : ℕ) (d : X) → i ≡ length xs → get_or (xs ++ x ∷ []) i d ≡ x
-get_end [] x zero d h = refl
-get_end [] x (suc i) d h = absurd (omega arith)
-get_end (y ∷ ys) x zero d h = absurd (omega arith)
-get_end (y ∷ ys) x (suc i) d h = get_end ys x i d (omega arith)
-
-twin_within : (stored : List (List ℕ)) (twins links : List ℕ) (twin : ℕ) → AreTwins stored twins → IsTwin stored twins links twin → twin ≤ length stored
-twin_within stored twins links twin ok is = elim is [
-  | inl own ↦ omega (arith, own)
-  | inr of_ ↦ let e = ok.earlier of_.0 of_.1 in omega (arith, of_.1, of_.2, e)
-]
-
--- an earlier action with the twin of the newest has its links
-twin_found : (stored : List (List ℕ)) (twins links : List ℕ) (twin i : ℕ) → AreTwins stored twins → IsTwin stored twins links twin → i < length stored → slice_index twins i ≡ twin → row_of stored i ≡ links
-twin_found stored twins links twin i ok is h e = elim is [
-  | inl own ↦ let l = ok.earlier i h in absurd (omega (arith, own, l, e))
-  | inr of_ ↦ ok.same i of_.0 h of_.1 (e ∙ of_.2) ∙ sym of_.3
-]
-
-pub twins_pushed : (stored : List (List ℕ)) (twins links : List ℕ) (twin : ℕ) → AreTwins stored twins → IsTwin stored twins links twin → AreTwins (stored ++ links ∷ []) (twins ++ twin ∷ [])
-twins_pushed stored twins links twin ok is =
-    let n : ℕ = length stored in
-    let more : length (stored ++ links ∷ []) ≡ n + 1 = length-append stored (links ∷ []) in
-    let twin_at : (i : ℕ) → i < n → slice_index (twins ++ twin ∷ []) i ≡ slice_index twins i = λ i h. get_front twins twin i 0 (omega (arith, ok.long)) in
-    let twin_end : slice_index (twins ++ twin ∷ []) n ≡ twin = get_end twins twin n 0 (sym ok.long) in
-    let row_at : (i : ℕ) → i < n → row_of (stored ++ links ∷ []) i ≡ row_of stored i = λ i h. get_front stored links i [] h in
-    let row_end : row_of (stored ++ links ∷ []) n ≡ links = get_end stored links n [] refl in
-    record {
-      long = omega (arith, length-append twins (twin ∷ []), more, ok.long);
-      earlier = λ i h. elim (place_cases i n) [
-        | inl less ↦ let e = ok.earlier i less in let t = twin_at i less in omega (arith, e, t)
-        | inr rest ↦
-            let last : i ≡ n = omega (arith, rest, more) in
-            let w = twin_within stored twins links twin ok is in
-            let t : slice_index (twins ++ twin ∷ []) i ≡ twin = ap (λ (m : ℕ). slice_index (twins ++ twin ∷ []) m) last ∙ twin_end in omega (arith, w, t, last)
-      ];
-      same = λ i k h g e. elim (place_cases i n) [
-        | inl less ↦ elim (place_cases k n) [
-          | inl lower ↦ row_at i less ∙ ok.same i k less lower (sym (twin_at i less) ∙ e ∙ twin_at k lower) ∙ sym (row_at k lower)
-          | inr rest ↦
-              let last : k ≡ n = omega (arith, rest, more) in
-              row_at i less ∙ twin_found stored twins links twin i ok is less (sym (twin_at i less) ∙ e ∙ ap (λ (m : ℕ). slice_index (twins ++ twin ∷ []) m) last ∙ twin_end) ∙ sym (ap (row_of (stored ++ links ∷ [])) last ∙ row_end)
-        ]
-        | inr rest ↦
-            let first : i ≡ n = omega (arith, rest, more) in
-            let own : row_of (stored ++ links ∷ []) i ≡ links = ap (row_of (stored ++ links ∷ [])) first ∙ row_end in
-            elim (place_cases k n) [
-              | inl lower ↦
-                  own ∙ sym (twin_found stored twins links twin k ok is lower (sym (twin_at k lower) ∙ sym e ∙ ap (λ (m : ℕ). slice_index (twins ++ twin ∷ []) m) first ∙ twin_end)) ∙ sym (row_at k lower)
-              | inr rest ↦ let last : k ≡ n = omega (arith, rest, more) in ap (row_of (stored ++ links ∷ [])) (first ∙ sym last)
-            ]
-      ];
-    }
-
-pub no_twins : AreTwins [] []
-no_twins = record { long = refl; earlier = λ i h. absurd (omega arith); same = λ i k h g e. absurd (omega arith) }

@@ -1,4 +1,6 @@
+pub mod Shared
 pub mod Clock
 pub mod Rows
 pub mod Sources
+pub mod Reached
 pub mod Laws

@@ -1,8 +1,7 @@
 -- Steps on a row of numbers, one a chain. Past its end a row has 0.
-use Rattle.std.specs.Prelude.{◌≡◌, ℕ, ◌==◌, if◌then◌else◌, max, nat_lt, Bool, List, ◌∷◌, length, map, slice_index}
-use Rattle.er_paths.specs.Paths.{joins}
+use Rattle.std.specs.Prelude.{◌≡◌, ℕ, ◌==◌, if◌then◌else◌, max, nat_lt, Bool, List, ◌∷◌, length, slice_index}
 use Rattle.er_links.specs.Links.{links_of}
-use Rattle.er_links.specs.Chains.{chains, chain_of, place_of, count_in}
+use Rattle.er_links.specs.Chains.{chain_of, place_of}
 
 -- chain by chain the greater number of two rows
 abbrev pub IsRaised : List ℕ → List ℕ → List ℕ → Type 0
@@ -16,14 +15,6 @@ IsSet old chain number new = (c : ℕ) → slice_index new c ≡ (if c == chain 
 abbrev pub is_covered : List (List ℕ) → List ℕ → ℕ → Bool
 is_covered lists row i = nat_lt (place_of lists i) (slice_index row (chain_of lists i))
 
--- how many members of each chain have a path to the next action, which has these predecessors
-abbrev pub row_before : List ℕ → List (List ℕ) → List ℕ
-row_before p lists = map (count_in (λ i. joins (p ∷ lists) i (length lists))) (chains lists)
-
 -- the links into the next action
 abbrev pub links_before : List ℕ → List (List ℕ) → List ℕ
 links_before p lists = links_of (p ∷ lists) (length lists)
-
--- the row has all members of the chain
-abbrev pub IsFull : List ℕ → List ℕ → ℕ → Type 0
-IsFull row lengths chain = slice_index row chain ≡ slice_index lengths chain

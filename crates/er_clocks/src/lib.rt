@@ -2,11 +2,14 @@
 #![tactic(auto)]
 
 mod clocks;
+mod fit;
 pub mod laws;
+mod list;
 mod meter;
 mod paths;
 mod push;
 mod row;
+mod shared;
 pub mod sharing;
 mod sources;
 

@@ -1,22 +1,26 @@
 //! One action more.
 
-ghost use Rattle.std.specs.Prelude.{◌≡◌, ◌+◌, ◌≤◌, ◌<◌, ◌∷◌, ◌++◌, [], All, length, slice_index, IfOk, OnOk, OnErr};
+ghost use Rattle.std.specs.Prelude.{◌≡◌, ◌+◌, ◌≤◌, ◌<◌, [], All, length, slice_index, IfOk, OnOk, OnErr};
 ghost use Rattle.std.specs.Vec.{vec_len, vec_capacity};
-ghost use Rattle.er_clocks.specs.Clock.{full_number, IsTwin, StandsForMore};
-ghost use Rattle.er_clocks.specs.Rows.{IsFull};
 ghost use Rattle.er_paths.specs.Limits.{most_actions};
+ghost use Rattle.er_clocks.specs.Clock.{StandsForMore};
+ghost use Rattle.er_clocks.specs.Reached.{IsReachFrom, IsHeldOff, IsLikeOff};
+ghost use Rattle.er_clocks.specs.Shared.{shared, taken, AreShared, IsTakenFrom};
 
 use crate::Clocks;
-use crate::row::Row;
-use crate::sources::Sources;
+use crate::list::LinkList;
+use crate::row::{Row, number_at};
+use crate::shared::{Shared, Taken, put_number};
+use crate::sources::Reach;
 use er_chains::Chains;
 use er_outside::NoMemory;
+use std::alloc::Global;
 
 impl Clocks {
     /// Adds the next action, to which an edge leads from each of these, and answers its number.
     ///
-    /// A number that a greater one covers costs one look-up, and so does a link whose own links are those of the next greater.
-    /// Each other link costs one step a chain. Where the links are those of the newest action, they cost one step a chain in all.
+    /// Where the links are those of the newest action, or one alone, each number costs one look-up, and a row is written only where the action takes another chain than its link.
+    /// Else a number that a greater one covers costs one look-up, and so does a link whose own links are those of the next greater; each other link costs one step a chain.
     pub fn push(&mut self, preds: &[u32]) -> Result<u32, NoMemory>
         requires known { All (λ k. k < length self.old) preds.now }
         requires room { length self.old < most_actions }
@@ -25,36 +29,23 @@ impl Clocks {
         ensures grown { OnOk result (length self.new ≡ length self.old + 1) }
         ensures kept { OnErr result (self.new ≡ self.old) }
     {
-        let number = self.rows.len() as u32;
-        let alloc = *self.rows.allocator();
-        let mut sources = self.sources_of(alloc, preds)?;
-        let chain = choose(&self.chains, sources.row.numbers());
+        let number = self.numbers.len() as u32;
+        let alloc = *self.numbers.allocator();
+        let sources = self.sources_of(alloc, preds)?;
+        let chain = self.fit(&sources.reach);
         let place = place_at(&self.chains, chain);
-        sources.row.count(chain, place)?;
-        let twin = twin_of(&self.links, &self.twins, sources.links.numbers());
-        make_room(&mut self.rows, &mut self.links)?;
-        make_room_for_numbers(&mut self.numbers, &mut self.places, &mut self.twins)?;
+        let row = row_for(&self.rows, &self.numbers, alloc, sources.reach, chain)?;
+        let more = count_of(&self.links, &sources.links);
+        self.rows.make_room()?;
+        self.links.make_room()?;
+        make_room_for_numbers(&mut self.numbers, &mut self.places)?;
         self.chains.append(chain)?;
-        self.count += sources.links.numbers().len() as u64;
-        put(&mut self.rows, sources.row);
-        put(&mut self.links, sources.links);
+        self.count += more as u64;
+        self.rows.put(row);
+        self.links.put(sources.links);
         put_number(&mut self.numbers, chain);
         put_number(&mut self.places, place);
-        put_number(&mut self.twins, twin);
         Ok(number)
-    }
-}
-
-/// The chain that first fit takes.
-fn choose(chains: &Chains, row: &[u32]) -> u32
-    requires { length row.now ≡ length chains.now }
-    ensures chain { result ≡ full_number chains.now row.now }
-    ensures within { result ≤ length chains.now }
-    ensures full { result < length chains.now → IsFull row.now chains.now result }
-{
-    match chains.first_full(row) {
-        Some(chain) => chain,
-        None => chains.count(),
     }
 }
 
@@ -70,45 +61,72 @@ fn place_at(chains: &Chains, chain: u32) -> u32
     }
 }
 
-/// The twin of the next action: that of the newest, where the links are the same, else itself.
-fn twin_of(rows: &[Row], twins: &[u32], links: &[u32]) -> u32
-    requires long { length twins.now ≡ length rows.now }
-    requires few { length rows.now < most_actions }
-    ensures { IsTwin rows.now twins.now links.now result }
+/// The row with these entries, but at the chain that the action itself takes: where it may, that of an earlier action.
+fn row_for(
+    rows: &Shared<Row>,
+    numbers: &[u32],
+    alloc: Global,
+    reach: Reach,
+    chain: u32,
+) -> Result<Taken<Row>, NoMemory>
+    requires shared { AreShared rows.now.lists.items rows.now.numbers.items }
+    requires long { length numbers.now ≡ length rows.now.numbers.items }
+    requires known { IsReachFrom (length numbers.now) reach }
+    ensures known { IfOk result (λ row. IsTakenFrom (length numbers.now) row) }
+    ensures held { IfOk result
+        (λ row. IsHeldOff chain (shared [] rows.now.lists.items rows.now.numbers.items) numbers.now reach row) }
 {
-    let count = rows.len();
-    if count > 0 && rows[count - 1].numbers() == links {
-        return twins[count - 1];
+    match reach {
+        Reach::Like(j, number) => row_like(rows, numbers, alloc, j, number, chain),
+        Reach::Own(row) => Ok(Taken::Own(row)),
     }
-    count as u32
 }
 
-fn make_room(rows: &mut Vec<Row>, links: &mut Vec<Row>) -> Result<(), NoMemory>
-    ensures rows { rows.new.items ≡ rows.old.items }
-    ensures links { links.new.items ≡ links.old.items }
-    ensures rows_room { OnOk result (vec_len rows.new < vec_capacity rows.new) }
-    ensures links_room { OnOk result (vec_len links.new < vec_capacity links.new) }
+/// The row of j with this number at its chain.
+fn row_like(
+    rows: &Shared<Row>,
+    numbers: &[u32],
+    alloc: Global,
+    j: u32,
+    number: u32,
+    chain: u32,
+) -> Result<Taken<Row>, NoMemory>
+    requires shared { AreShared rows.now.lists.items rows.now.numbers.items }
+    requires long { length numbers.now ≡ length rows.now.numbers.items }
+    requires known { j < length numbers.now }
+    requires few { number ≤ most_actions }
+    ensures known { IfOk result (λ row. IsTakenFrom (length numbers.now) row) }
+    ensures held { IfOk result
+        (λ row. IsLikeOff chain (shared [] rows.now.lists.items rows.now.numbers.items) numbers.now j number row) }
 {
-    if rows.reserve(1).is_err() {
-        return Err(NoMemory);
+    let own = numbers[j as usize];
+    if own == chain {
+        return Ok(Taken::As(j));
     }
-    if links.reserve(1).is_err() {
-        return Err(NoMemory);
+    if number_at(rows.list(j).numbers(), own) == number {
+        return Ok(Taken::As(j));
     }
-    Ok(())
+    let row = Row::changed(alloc, rows.list(j).numbers(), own, number)?;
+    Ok(Taken::Own(row))
 }
 
-fn make_room_for_numbers(
-    numbers: &mut Vec<u32>,
-    places: &mut Vec<u32>,
-    twins: &mut Vec<u32>,
-) -> Result<(), NoMemory>
+/// How many links these are.
+fn count_of(links: &Shared<LinkList>, one: &Taken<LinkList>) -> usize
+    requires shared { AreShared links.now.lists.items links.now.numbers.items }
+    requires known { IsTakenFrom (length links.now.numbers.items) one.now }
+    ensures { result ≡ length (taken [] (shared [] links.now.lists.items links.now.numbers.items) one.now) }
+{
+    match one {
+        Taken::As(j) => links.list(*j).numbers().len(),
+        Taken::Own(list) => list.numbers().len(),
+    }
+}
+
+fn make_room_for_numbers(numbers: &mut Vec<u32>, places: &mut Vec<u32>) -> Result<(), NoMemory>
     ensures numbers { numbers.new.items ≡ numbers.old.items }
     ensures places { places.new.items ≡ places.old.items }
-    ensures twins { twins.new.items ≡ twins.old.items }
     ensures numbers_room { OnOk result (vec_len numbers.new < vec_capacity numbers.new) }
     ensures places_room { OnOk result (vec_len places.new < vec_capacity places.new) }
-    ensures twins_room { OnOk result (vec_len twins.new < vec_capacity twins.new) }
 {
     if numbers.reserve(1).is_err() {
         return Err(NoMemory);
@@ -116,26 +134,5 @@ fn make_room_for_numbers(
     if places.reserve(1).is_err() {
         return Err(NoMemory);
     }
-    if twins.reserve(1).is_err() {
-        return Err(NoMemory);
-    }
     Ok(())
-}
-
-fn put(rows: &mut Vec<Row>, row: Row)
-    requires { vec_len rows.old < vec_capacity rows.old }
-    ensures { rows.new.items ≡ rows.old.items ++ row ∷ [] }
-{
-    let Ok(()) = rows.push(row) else {
-        unreachable!()
-    };
-}
-
-fn put_number(numbers: &mut Vec<u32>, number: u32)
-    requires { vec_len numbers.old < vec_capacity numbers.old }
-    ensures { numbers.new.items ≡ numbers.old.items ++ number ∷ [] }
-{
-    let Ok(()) = numbers.push(number) else {
-        unreachable!()
-    };
 }

@@ -1,17 +1,20 @@
-//! A row of numbers, one a chain.
+//! A row of numbers, one a chain, and 0 past its end.
 
-ghost use Rattle.std.specs.Prelude.{◌≡◌, ◌+◌, ◌≤◌, ◌<◌, ◌^◌, length, replicate, slice_index, IfOk, OnOk};
+ghost use Rattle.std.specs.Prelude.{◌≡◌, ◌≤◌, ◌<◌, ℕ, [], length, slice_index, IfOk, OnOk};
+ghost use Rattle.er_paths.specs.Limits.{most_actions};
 ghost use Rattle.er_clocks.specs.Rows.{IsRaised, IsSet};
-ghost use Rattle.er_chains.specs.Lengths.{one_more};
 
 use er_outside::NoMemory;
 use std::alloc::Global;
 use std::marker::Model;
 
+/// A number that is kept in a row or a list of links: none is greater than the number of actions.
+pub(crate) type Number = u16;
+
 /// Callers see the list of numbers.
 #[derive(Drop)]
 pub(crate) struct Row {
-    numbers: Vec<u32>,
+    numbers: Vec<Number>,
 }
 
 impl Model for Row {
@@ -23,17 +26,17 @@ impl Model for Row {
 }
 
 impl Row {
-    pub(crate) fn zeros(alloc: Global, len: usize) -> Result<Self, NoMemory>
-        ensures { IfOk result (λ row. row ≡ replicate len 0) }
+    /// It takes no memory.
+    pub(crate) fn new(alloc: Global) -> Self
+        ensures { result ≡ [] }
     {
-        let Ok(numbers) = vec![in alloc; 0; len] else {
-            return Err(NoMemory);
-        };
-        Ok(Row { numbers })
+        Row {
+            numbers: Vec::new(alloc),
+        }
     }
 
     /// Takes no more memory than the numbers need.
-    pub(crate) fn copied(alloc: Global, numbers: &[u32]) -> Result<Self, NoMemory>
+    pub(crate) fn copied(alloc: Global, numbers: &[Number]) -> Result<Self, NoMemory>
         ensures { IfOk result (λ row. row ≡ numbers.now) }
     {
         let Ok(numbers) = Vec::from_slice(alloc, numbers) else {
@@ -42,59 +45,80 @@ impl Row {
         Ok(Row { numbers })
     }
 
-    pub(crate) fn numbers(&self) -> &[u32]
+    /// A copy with another number at a chain. Takes no more memory than that needs.
+    pub(crate) fn changed(
+        alloc: Global,
+        numbers: &[Number],
+        chain: u32,
+        number: u32,
+    ) -> Result<Self, NoMemory>
+        requires { number ≤ most_actions }
+        ensures { IfOk result (λ row. IsSet numbers.now chain number row) }
+    {
+        let width = numbers.len().max(chain as usize + 1);
+        let Ok(mut copy) = Vec::with_capacity(alloc, width) else {
+            return Err(NoMemory);
+        };
+        if copy.extend_from_slice(numbers).is_err() {
+            return Err(NoMemory);
+        }
+        let mut row = Row { numbers: copy };
+        row.set(chain, number)?;
+        Ok(row)
+    }
+
+    pub(crate) fn numbers(&self) -> &[Number]
         ensures { result.now ≡ self.now }
     {
         self.numbers.as_slice()
     }
 
-    /// The number at a chain: 0 past the end.
-    pub(crate) fn at(&self, chain: u32) -> u32
-        ensures { result ≡ slice_index self.now chain }
+    /// Raises each number to that of the other row.
+    pub(crate) fn raise(&mut self, other: &[Number]) -> Result<(), NoMemory>
+        ensures { OnOk result (IsRaised self.old other.now self.new) }
     {
-        number_at(&self.numbers, chain as usize)
-    }
-
-    /// Raises each number to that of a row that is no longer.
-    pub(crate) fn raise(&mut self, other: &Row)
-        requires { length other.now ≤ length self.old }
-        ensures len { length self.new ≡ length self.old }
-        ensures raised { IsRaised self.old other.now self.new }
-    {
-        raise_numbers(&mut self.numbers, &other.numbers);
+        widen(&mut self.numbers, other.len())?;
+        raise_numbers(&mut self.numbers, other);
+        Ok(())
     }
 
     /// Sets the number at a chain.
-    pub(crate) fn set(&mut self, chain: u32, number: u32)
-        requires { chain < length self.old }
-        ensures len { length self.new ≡ length self.old }
-        ensures set { IsSet self.old chain number self.new }
+    pub(crate) fn set(&mut self, chain: u32, number: u32) -> Result<(), NoMemory>
+        requires { number ≤ most_actions }
+        ensures { OnOk result (IsSet self.old chain number self.new) }
     {
-        set_number(&mut self.numbers, chain as usize, number);
-    }
-
-    /// Counts one more member of the chain, of which the row has all.
-    pub(crate) fn count(&mut self, chain: u32, place: u32) -> Result<(), NoMemory>
-        requires within { chain ≤ length self.old }
-        requires full { chain < length self.old → slice_index self.old chain ≡ place }
-        requires small { place < 2 ^ 31 }
-        ensures { OnOk result (self.new ≡ one_more chain self.old) }
-    {
-        count_number(&mut self.numbers, chain as usize, place)
+        widen(&mut self.numbers, chain as usize + 1)?;
+        set_number(&mut self.numbers, chain as usize, number as Number);
+        Ok(())
     }
 }
 
-fn number_at(numbers: &[u32], chain: usize) -> u32
+/// The number at a chain: 0 past the end.
+pub(crate) fn number_at(numbers: &[Number], chain: u32) -> u32
     ensures { result ≡ slice_index numbers.now chain }
 {
+    let chain = chain as usize;
     if chain < numbers.len() {
-        numbers[chain]
+        u32::from(numbers[chain])
     } else {
         0
     }
 }
 
-fn raise_numbers(numbers: &mut [u32], more: &[u32])
+/// Writes out zeros up to this length.
+fn widen(numbers: &mut Vec<Number>, len: usize) -> Result<(), NoMemory>
+    ensures wide { OnOk result (len ≤ length numbers.new.items) }
+    ensures same { OnOk result ((c : ℕ) → slice_index numbers.new.items c ≡ slice_index numbers.old.items c) }
+{
+    if numbers.len() < len {
+        if numbers.resize(len, 0).is_err() {
+            return Err(NoMemory);
+        }
+    }
+    Ok(())
+}
+
+fn raise_numbers(numbers: &mut [Number], more: &[Number])
     requires { length more.now ≤ length numbers.old }
     ensures { IsRaised numbers.old more.now numbers.new }
 {
@@ -103,29 +127,9 @@ fn raise_numbers(numbers: &mut [u32], more: &[u32])
     }
 }
 
-fn set_number(numbers: &mut [u32], chain: usize, number: u32)
+fn set_number(numbers: &mut [Number], chain: usize, number: Number)
     requires { chain < length numbers.old }
     ensures { IsSet numbers.old chain number numbers.new }
 {
     numbers[chain] = number;
-}
-
-#[tactic(auto, using(er_chains::proofs::Lengths::more_set, er_chains::proofs::Lengths::more_end))]
-fn count_number(numbers: &mut Vec<u32>, chain: usize, place: u32) -> Result<(), NoMemory>
-    requires within { chain ≤ length numbers.old.items }
-    requires full { chain < length numbers.old.items → slice_index numbers.old.items chain ≡ place }
-    requires small { place < 2 ^ 31 }
-    ensures { OnOk result (numbers.new.items ≡ one_more chain numbers.old.items) }
-{
-    if chain < numbers.len() {
-        numbers[chain] = place + 1;
-        return Ok(());
-    }
-    if numbers.reserve_exact(1).is_err() {
-        return Err(NoMemory);
-    }
-    let Ok(()) = numbers.push(1) else {
-        return Err(NoMemory);
-    };
-    Ok(())
 }

@@ -1,83 +1,195 @@
 //! Which of the handed numbers are links, and the row that the rows of these make.
 //!
-//! Where the links are those of the newest action, its row is taken, without itself.
+//! Where the links are those of the newest action, or one alone, nothing is sorted and no row is made.
 //! Else the numbers, sorted, are taken from the greatest down. One that the row covers already is no link, and costs a look-up.
 
-ghost use Rattle.std.specs.Prelude.{◌≡◌, ◌≤◌, ◌<◌, ℕ, true, List, [], All, length, replicate, slice_index, IfOk, OnOk};
+ghost use Rattle.std.specs.Prelude.{◌≡◌, ◌≤◌, ◌<◌, ℕ, true, List, [], All, length, slice_index, IfOk, OnOk, IfSome};
 ghost use Rattle.er_paths.specs.Paths.{is_among};
-ghost use Rattle.er_links.specs.Chains.{chains, chain_of, place_of};
+ghost use Rattle.er_links.specs.Chains.{chain_of, place_of};
+ghost use Rattle.er_links.specs.Links.{links_of};
 ghost use Rattle.std.specs.List.Sorted.{IsStrictlyIncreasing};
-ghost use Rattle.er_clocks.specs.Sources.{ComeBefore, HasTwin, IsTaken, ReachesToo, RepeatsNewest, TakesToo};
-ghost use Rattle.er_clocks.specs.Rows.{links_before, row_before};
+ghost use Rattle.er_clocks.specs.Sources.{AllJoin, ComeBefore, HasLinks, HasTwin, IsFoundWith, IsOnlyLink, IsTaken, ReachesToo, RepeatsNewest, TakesToo};
+ghost use Rattle.er_clocks.specs.Reached.{IsReachedBy, IsReachFrom, LinksAre};
+ghost use Rattle.er_clocks.specs.Shared.{IsTakenFrom};
 
 use crate::Clocks;
-use crate::row::Row;
+use crate::list::LinkList;
+use crate::row::{Number, Row};
+use crate::shared::Taken;
 use er_outside::NoMemory;
 use std::alloc::Global;
 
-/// The links into an action that is to come, and its row before it stands in a chain itself.
+/// The entries of an action that is to come, before it stands in a chain itself.
+#[derive(Drop)]
+pub(crate) enum Reach {
+    /// Those of an action, with this number at its chain.
+    Like(u32, u32),
+    Own(Row),
+}
+
+/// The links into an action that is to come, and its entries.
 #[derive(Drop)]
 pub(crate) struct Sources {
-    pub(crate) links: Row,
-    pub(crate) row: Row,
+    pub(crate) links: Taken<LinkList>,
+    pub(crate) reach: Reach,
 }
 
 impl Clocks {
-    /// Whether the link taken last has the same links as i.
-    fn has_twin(&self, i: u32, links: &[u32]) -> bool
-        requires known { i < length self.now }
-        requires taken { All (λ k. k < length self.now) links.now }
-        ensures { result ≡ true → HasTwin self.now links.now i }
+    /// The links into an action with these predecessors, and its entries.
+    pub(crate) fn sources_of(&self, alloc: Global, preds: &[u32]) -> Result<Sources, NoMemory>
+        requires { All (λ k. k < length self.now) preds.now }
+        ensures known { IfOk result
+            (λ s. IsTakenFrom (length self.now) s.links × IsReachFrom (length self.now) s.reach) }
+        ensures links { IfOk result (λ s. LinksAre self.now s.links preds.now) }
+        ensures reach { IfOk result (λ s. IsReachedBy self.now s.reach preds.now) }
     {
-        let count = links.len();
-        if count == 0 {
-            return false;
+        if self.repeats_newest(preds) {
+            return Ok(self.sources_of_newest());
         }
-        let last = links[count - 1];
-        self.twins[last as usize] == self.twins[i as usize]
+        match self.only_link(preds) {
+            Some(link) => self.sources_behind(alloc, link),
+            None => self.joined_sources(alloc, preds),
+        }
     }
 
-    /// Raises the row by that of i. Where a link was taken with the same links as i, the row has all that but i itself.
-    fn join(&self, i: u32, row: &mut Row, links: &[u32])
-        requires known { i < length self.now }
-        requires taken { All (λ k. k < length self.now) links.now }
-        requires long { length row.old ≡ length (chains self.now) }
-        requires low { slice_index row.old (chain_of self.now i) ≤ place_of self.now i }
-        ensures long { length row.new ≡ length row.old }
-        ensures joined { ReachesToo self.now i row.old links.now row.new }
+    /// Whether the next action has the links of the newest.
+    fn repeats_newest(&self, preds: &[u32]) -> bool
+        requires { All (λ k. k < length self.now) preds.now }
+        ensures { result ≡ true → RepeatsNewest self.now preds.now }
     {
-        if self.has_twin(i, links) {
-            row.set(self.numbers[i as usize], self.places[i as usize] + 1);
+        let count = self.numbers.len() as u32;
+        count > 0 && self.repeats(preds, count - 1)
+    }
+
+    /// Whether each of these has a path to j and is not j, and all links of j are among them. They stand descending, as the links ascend.
+    fn repeats(&self, preds: &[u32], j: u32) -> bool
+        requires known { All (λ k. k < length self.now) preds.now }
+        requires begun { j < length self.now }
+        ensures before { result ≡ true → ComeBefore self.now preds.now j }
+        ensures links { result ≡ true → HasLinks self.now preds.now j }
+    {
+        let links = self.links.list(j).numbers();
+        let len = preds.len();
+        let mut found = 0;
+        for n in 0..len {
+            let Some(more) = self.found_with(preds[len - 1 - n], links, found, j) else {
+                return false;
+            };
+            found = more;
+        }
+        found == links.len()
+    }
+
+    /// How many links of j are found with k, where it is the next link or has a path to j.
+    fn found_with(&self, k: u32, links: &[Number], found: usize, j: u32) -> Option<usize>
+        requires known { k < length self.now }
+        requires begun { j < length self.now }
+        requires links { links.now ≡ links_of self.now j }
+        requires within { found ≤ length links.now }
+        ensures { IfSome result (λ more. IsFoundWith self.now j links.now k found more) }
+    {
+        if found < links.len() && u32::from(links[found]) == k {
+            return Some(found + 1);
+        }
+        if k < j && self.has_path(k, j) {
+            return Some(found);
+        }
+        None
+    }
+
+    /// The links of the newest action and its entries, but for itself.
+    fn sources_of_newest(&self) -> Sources
+        requires { 0 < length self.now }
+        ensures known { IsTakenFrom (length self.now) result.links × IsReachFrom (length self.now) result.reach }
+        ensures links { (p : List ℕ) → RepeatsNewest self.now p → LinksAre self.now result.links p }
+        ensures reach { (p : List ℕ) → RepeatsNewest self.now p → IsReachedBy self.now result.reach p }
+    {
+        let newest = self.numbers.len() as u32 - 1;
+        Sources {
+            links: Taken::As(newest),
+            reach: Reach::Like(newest, self.places[newest as usize]),
+        }
+    }
+
+    /// The one number that all have a path to, if there is such a one.
+    fn only_link(&self, preds: &[u32]) -> Option<u32>
+        requires { All (λ k. k < length self.now) preds.now }
+        ensures { IfSome result (λ i. IsOnlyLink self.now preds.now i) }
+    {
+        if preds.is_empty() {
+            return None;
+        }
+        let link = greatest(preds);
+        if self.all_join(preds, link) {
+            Some(link)
         } else {
-            row.raise(&self.rows[i as usize]);
+            None
         }
     }
 
-    /// Takes one number more. Where the row covers it, it has a path to one that was taken, and is no link.
-    fn take(&self, i: u32, row: &mut Row, links: &mut Vec<u32>) -> Result<(), NoMemory>
-        requires known { i < length self.now }
-        requires taken { All (λ k. k < length self.now) links.old.items }
-        requires long { length row.old ≡ length (chains self.now) }
-        ensures long { OnOk result (length row.new ≡ length row.old) }
-        ensures known { OnOk result (All (λ k. k < length self.now) links.new.items) }
-        ensures taken { OnOk result (TakesToo self.now i row.old links.old.items row.new links.new.items) }
+    /// Whether each of these has a path to j.
+    fn all_join(&self, numbers: &[u32], j: u32) -> bool
+        requires known { All (λ k. k < length self.now) numbers.now }
+        requires begun { j < length self.now }
+        ensures { result ≡ true → AllJoin self.now numbers.now j }
     {
-        if self.covers(row, i) {
-            return Ok(());
+        for n in 0..numbers.len() {
+            if !self.has_path(numbers[n], j) {
+                return false;
+            }
         }
-        self.join(i, row, links);
-        let Ok(()) = links.push(i) else {
-            return Err(NoMemory);
-        };
-        Ok(())
+        true
+    }
+
+    /// This one link, and the entries of it.
+    fn sources_behind(&self, alloc: Global, link: u32) -> Result<Sources, NoMemory>
+        requires { link < length self.now }
+        ensures known { IfOk result
+            (λ s. IsTakenFrom (length self.now) s.links × IsReachFrom (length self.now) s.reach) }
+        ensures links { IfOk result
+            (λ s. (p : List ℕ) → IsOnlyLink self.now p link → LinksAre self.now s.links p) }
+        ensures reach { IfOk result
+            (λ s. (p : List ℕ) → IsOnlyLink self.now p link → IsReachedBy self.now s.reach p) }
+    {
+        let number = self.places[link as usize] + 1;
+        let links = LinkList::copied(alloc, &[link as Number])?;
+        Ok(Sources {
+            links: Taken::Own(links),
+            reach: Reach::Like(link, number),
+        })
+    }
+
+    /// The links among these numbers, and the row that they make.
+    fn joined_sources(&self, alloc: Global, preds: &[u32]) -> Result<Sources, NoMemory>
+        requires { All (λ k. k < length self.now) preds.now }
+        ensures known { IfOk result
+            (λ s. IsTakenFrom (length self.now) s.links × IsReachFrom (length self.now) s.reach) }
+        ensures links { IfOk result (λ s. LinksAre self.now s.links preds.now) }
+        ensures reach { IfOk result (λ s. IsReachedBy self.now s.reach preds.now) }
+    {
+        let sorted = sorted_once(alloc, preds)?;
+        let mut row = Row::new(alloc);
+        let mut links = Vec::new(alloc);
+        self.take_all(&sorted, &mut row, &mut links)?;
+        links.reverse();
+        let links = LinkList::copied(alloc, &links)?;
+        let row = Row::copied(alloc, row.numbers())?;
+        Ok(Sources {
+            links: Taken::Own(links),
+            reach: Reach::Own(row),
+        })
     }
 
     /// Takes ascending numbers, the last first.
-    fn take_all(&self, sorted: &[u32], row: &mut Row, links: &mut Vec<u32>) -> Result<(), NoMemory>
+    fn take_all(
+        &self,
+        sorted: &[u32],
+        row: &mut Row,
+        links: &mut Vec<Number>,
+    ) -> Result<(), NoMemory>
         requires known { All (λ k. k < length self.now) sorted.now }
-        requires zero { row.old ≡ replicate (length (chains self.now)) 0 }
+        requires zero { row.old ≡ [] }
         requires none { links.old.items ≡ [] }
-        ensures long { OnOk result (length row.new ≡ length (chains self.now)) }
         ensures taken { OnOk result (IsTaken self.now row.new links.new.items sorted.now) }
     {
         let mut n = sorted.len();
@@ -88,82 +200,67 @@ impl Clocks {
         Ok(())
     }
 
-    /// The links into an action with these predecessors, and the row that they make.
-    pub(crate) fn sources_of(&self, alloc: Global, preds: &[u32]) -> Result<Sources, NoMemory>
-        requires { All (λ k. k < length self.now) preds.now }
-        ensures links { IfOk result (λ s. s.links ≡ links_before preds.now self.now) }
-        ensures row { IfOk result (λ s. s.row ≡ row_before preds.now self.now) }
+    /// Takes one number more. Where the row covers it, it has a path to one that was taken, and is no link.
+    fn take(&self, i: u32, row: &mut Row, links: &mut Vec<Number>) -> Result<(), NoMemory>
+        requires known { i < length self.now }
+        requires taken { All (λ k. k < length self.now) links.old.items }
+        ensures known { OnOk result (All (λ k. k < length self.now) links.new.items) }
+        ensures taken { OnOk result (TakesToo self.now i row.old links.old.items row.new links.new.items) }
     {
-        let sorted = sorted_once(alloc, preds)?;
-        if self.repeats_newest(&sorted) {
-            return self.sources_of_newest(alloc);
+        if self.covers(row.numbers(), i) {
+            return Ok(());
         }
-        let mut row = Row::zeros(alloc, self.chains.count() as usize)?;
-        let mut links = Vec::new(alloc);
-        self.take_all(&sorted, &mut row, &mut links)?;
-        links.reverse();
-        let links = Row::copied(alloc, &links)?;
-        Ok(Sources { links, row })
+        self.join(i, row, links)?;
+        let Ok(()) = links.push(i as Number) else {
+            return Err(NoMemory);
+        };
+        Ok(())
     }
 
-    /// Whether the next action has the links of the newest, where these ascending numbers are handed.
-    fn repeats_newest(&self, sorted: &[u32]) -> bool
-        requires { All (λ k. k < length self.now) sorted.now }
-        ensures { result ≡ true → RepeatsNewest self.now sorted.now }
+    /// Raises the row by that of i. Where a link was taken with the same links as i, the row has all that but i itself.
+    fn join(&self, i: u32, row: &mut Row, links: &[Number]) -> Result<(), NoMemory>
+        requires known { i < length self.now }
+        requires taken { All (λ k. k < length self.now) links.now }
+        requires low { slice_index row.old (chain_of self.now i) ≤ place_of self.now i }
+        ensures { OnOk result (ReachesToo self.now i row.old links.now row.new) }
     {
-        let count = self.rows.len() as u32;
+        let chain = self.numbers[i as usize];
+        let number = self.places[i as usize] + 1;
+        if self.has_twin(i, links) {
+            row.set(chain, number)?;
+            return Ok(());
+        }
+        row.raise(self.rows.list(i).numbers())?;
+        row.set(chain, number)?;
+        Ok(())
+    }
+
+    /// Whether the link taken last has the same links as i.
+    fn has_twin(&self, i: u32, links: &[Number]) -> bool
+        requires known { i < length self.now }
+        requires taken { All (λ k. k < length self.now) links.now }
+        ensures { result ≡ true → HasTwin self.now links.now i }
+    {
+        let count = links.len();
         if count == 0 {
             return false;
         }
-        self.come_before(sorted, count - 1) && has_all(sorted, self.links_of(count - 1))
-    }
-
-    /// Whether each of these has a path to j and is not j.
-    fn come_before(&self, numbers: &[u32], j: u32) -> bool
-        requires known { All (λ k. k < length self.now) numbers.now }
-        requires begun { j < length self.now }
-        ensures { result ≡ true → ComeBefore self.now numbers.now j }
-    {
-        for n in 0..numbers.len() {
-            if numbers[n] >= j {
-                return false;
-            }
-            if !self.joined(numbers[n], j) {
-                return false;
-            }
-        }
-        true
-    }
-
-    /// The links of the newest action, and its row without itself.
-    fn sources_of_newest(&self, alloc: Global) -> Result<Sources, NoMemory>
-        requires { 0 < length self.now }
-        ensures links { IfOk result
-            (λ s. (p : List ℕ) → RepeatsNewest self.now p → s.links ≡ links_before p self.now) }
-        ensures row { IfOk result
-            (λ s. (p : List ℕ) → RepeatsNewest self.now p → s.row ≡ row_before p self.now) }
-    {
-        let newest = self.rows.len() - 1;
-        let links = Row::copied(alloc, self.links[newest].numbers())?;
-        let mut row = Row::zeros(alloc, self.chains.count() as usize)?;
-        row.raise(&self.rows[newest]);
-        row.set(self.numbers[newest], self.places[newest]);
-        Ok(Sources { links, row })
+        self.links.is_one(u32::from(links[count - 1]), i)
     }
 }
 
-/// Whether the wanted numbers stand among the others in their order.
-fn has_all(numbers: &[u32], wanted: &[u32]) -> bool
-    ensures { result ≡ true → (k : ℕ)
-        → is_among k wanted.now ≡ true → is_among k numbers.now ≡ true }
+/// The greatest of these numbers, of which there is one.
+fn greatest(numbers: &[u32]) -> u32
+    requires { 0 < length numbers.now }
+    ensures { is_among result numbers.now ≡ true }
 {
-    let mut found = 0;
-    for n in 0..numbers.len() {
-        if found < wanted.len() && wanted[found] == numbers[n] {
-            found += 1;
+    let mut most = numbers[0];
+    for n in 1..numbers.len() {
+        if numbers[n] > most {
+            most = numbers[n];
         }
     }
-    found == wanted.len()
+    most
 }
 
 /// The same numbers, each once, ascending.

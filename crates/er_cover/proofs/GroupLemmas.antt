@@ -1,18 +1,17 @@
 -- The steps from classes to groups, and from groups to what each race names.
-use Rattle.std.proofs.Common.{inl, inr, ◌≡◌, ℕ, ◌+◌, ◌*◌, ◌^◌, ◌<◌, ◌≤◌, Bool, true, List, [], ◌∷◌, length, refl, sym, ap, ◌∙◌, arith, subst, All, IsPermutation}
+use Rattle.std.proofs.Common.{inl, inr, ◌≡◌, ℕ, ◌+◌, ◌*◌, ◌<◌, ◌≤◌, Bool, true, List, [], ◌∷◌, length, refl, sym, ap, ◌∙◌, arith, subst, All, IsPermutation}
 use Rattle.std.specs.Prelude.{map, slice_index, IsTrue}
 use Rattle.std.specs.List.{list_any, AllByRecursion, filter, position_or_len}
 use Rattle.std.proofs.lemmas.List.Elements.{recursion_from_All, All-from_recursion}
 use Rattle.std.proofs.lemmas.List.Sorted.{All-permutation}
 use Rattle.std.proofs.lemmas.List.FromFn.{length-map-range_with_len, get_or-map-range_with_len}
 use Rattle.std.proofs.lemmas.Grind.{same_number_lists}
-use Rattle.std.proofs.lemmas.Nat.{mul-le}
 use Rattle.er_cover.specs.declared.class.Class.{Class}
 use Rattle.er_cover.specs.Classes.{same, is_among, each_once}
 use Rattle.er_cover.specs.Groups.{the_groups, covers, is_maximal, maximal_of, name_of, representative, size_of, groups_by, names_by, representatives_by, sizes_by, grouping_by}
 use Rattle.er_cover.specs.Passes.{AreDistinct, AreMaximal, IsKnown}
 use Rattle.er_cover.proofs.CoverLemmas.{AreOrders, decide, same_bool, same_is, same_sym, and_true, top_parts, both, member_filter, each_covered, name_below}
-use Rattle.er_cover.proofs.PassLemmas.{all_at, filter_le}
+use Rattle.er_cover.proofs.PassLemmas.{all_at}
 use Rattle.er_cover.proofs.OrderLemmas.{once_distinct, maximal_distinct, each_member, filter_alike, in_order, as_many, apart_any_order, classes_apart}
 use Rattle.er_cover.proofs.NumberLemmas.{once_members, values_at}
 
@@ -58,19 +57,6 @@ groups_are joined pairs s groups gs e f g = g ∙ f ∙ ap (λ (ws : List Class)
 
 pub groups_known : (n : ℕ) (joined : ℕ → ℕ → Bool) (pairs gs : List Class) → gs ≡ groups_by joined pairs → All (IsKnown n) pairs → All (IsKnown n) gs
 groups_known n joined pairs gs e a = let Q : List Class → Type 0 = λ ws. All (IsKnown n) ws in subst Q (sym e) (All-from_recursion (IsKnown n) (groups_by joined pairs) (fewer (IsKnown n) pairs (groups_by joined pairs) (λ x m. in_once pairs x (in_groups joined pairs x m)) (recursion_from_All (IsKnown n) pairs a)))
-
-pub groups_few : (joined : ℕ → ℕ → Bool) (pairs gs : List Class) → gs ≡ groups_by joined pairs → length (each_once pairs) ≤ 2 ^ 14 → length gs ≤ 2 ^ 14
-groups_few joined pairs gs e h =
-    let few : length (groups_by joined pairs) ≤ length (each_once pairs) = filter_le (λ x. is_maximal joined (each_once pairs) x) (each_once pairs) in
-    let same : length gs ≡ length (groups_by joined pairs) = ap (λ (ws : List Class). length ws) e in
-    omega arith
-
-pub room_after : (joined : ℕ → ℕ → Bool) (pairs s : List Class) (o t : ℕ) → o < 2 ^ 61 → length (each_once pairs) ≤ 2 ^ 14 → s ≡ each_once pairs → t ≤ o + 2 * (length s * length (maximal_of joined s)) → t < 2 ^ 61 + 2 ^ 31
-room_after joined pairs s o t r h e b =
-    let few : length (maximal_of joined s) ≤ length s = filter_le (λ x. is_maximal joined s x) s in
-    let same : length s ≡ length (each_once pairs) = ap (λ (ws : List Class). length ws) e in
-    let m : length s * length (maximal_of joined s) ≤ 16384 * 16384 = mul-le (length s) (length (maximal_of joined s)) 16384 16384 (omega arith) (omega arith) in
-    omega arith
 
 -- each race has its class, and each group is one
 pub races_there : (pairs keys : List Class) → keys ≡ each_once pairs → AllByRecursion (λ x. is_among x keys ≡ true) pairs
@@ -145,14 +131,3 @@ covered_alone n joined pairs own known x y mx my =
 
 pub groups_maximal : (n : ℕ) (joined : ℕ → ℕ → Bool) (pairs keys : List Class) → ((i : ℕ) → i < n → joined i i ≡ true) → All (IsKnown n) pairs → keys ≡ groups_by joined pairs → AreMaximal joined keys
 groups_maximal n joined pairs keys own known e = subst (AreMaximal joined) (sym e) (covered_alone n joined pairs own known)
-
--- both passes together
-pub whole_bound : (joined : ℕ → ℕ → Bool) (pairs first second keys : List Class) (o t u : ℕ) → first ≡ each_once pairs → second ≡ each_once pairs → keys ≡ groups_by joined pairs
-    → t ≤ o + 2 * (length first * length (maximal_of joined first)) → u ≤ t + 2 * (length second * length keys) → u ≤ o + 2 * (2 * (length (each_once pairs) * length (groups_by joined pairs)))
-whole_bound joined pairs first second keys o t u f s k a b =
-    let one : length first * length (maximal_of joined first) ≡ length (each_once pairs) * length (groups_by joined pairs) = ap (λ (ws : List Class). length ws * length (maximal_of joined ws)) f in
-    let two : length second * length keys ≡ length (each_once pairs) * length (groups_by joined pairs) = ap (λ (ws : List Class). length ws * length keys) s ∙ ap (λ (ws : List Class). length (each_once pairs) * length ws) k in
-    sum o t u _ _ _ one two a b
-  where
-    sum : (o t u m n k : ℕ) → m ≡ k → n ≡ k → t ≤ o + 2 * m → u ≤ t + 2 * n → u ≤ o + 2 * (2 * k)
-    sum o t u m n k e f a b = omega arith

@@ -4,6 +4,7 @@ pub mod GroupLemmas
 pub mod LawLemmas
 pub mod NumberLemmas
 pub mod OrderLemmas
+pub mod PartLemmas
 pub mod PassLemmas
 pub mod RaceLemmas
 pub mod RowLemmas

@@ -144,7 +144,7 @@ scan_bound o t u i f n g a b c d = let m : (i + 1) * f ≤ n * g = mul-le (i + 1
 pub step_bound : (o t u i f g : ℕ) → t ≤ o + 2 * (i * f) → u ≤ t + 2 * f → f ≤ g → u ≤ o + 2 * ((i + 1) * g)
 step_bound o t u i f g a b d = scan_bound o t u i f (i + 1) g a b (omega arith) d
 
-pub room_left : (o t i f : ℕ) → o < 2 ^ 61 + 2 ^ 31 → t ≤ o + 2 * (i * f) → i < 2 ^ 15 → f < 2 ^ 15 → t + 2 * f < 2 ^ 62
+pub room_left : (o t i f : ℕ) → o < 2 ^ 61 + 2 ^ 31 → t ≤ o + 2 * (i * f) → i ≤ 2 ^ 15 → f ≤ 2 ^ 15 → t + 2 * f < 2 ^ 62
 room_left o t i f a b c d = let m : i * f ≤ 32768 * 32768 = mul-le i f 32768 32768 (omega arith) (omega arith) in omega arith
 
 pub longer_if : (b : Bool) (found : List Class) (x : Class) → length found ≤ length (if b then found ++ x ∷ [] else found)
@@ -237,7 +237,7 @@ stopped joined xs found i o t u f a e =
     let c : length (maximal_of joined xs) * length xs ≡ length xs * length (maximal_of joined xs) = grind arith in
     omega arith
 
-pub room_kept : (joined : ℕ → ℕ → Bool) (xs found : List Class) (i o t : ℕ) → found ≡ filter (λ y. is_maximal joined xs y) (take i xs) → length xs ≤ 16384 → o < 2 ^ 61 → t ≤ o + 2 * (length found * length xs) → t + 2 * length xs < 2 ^ 62
+pub room_kept : (joined : ℕ → ℕ → Bool) (xs found : List Class) (i o t : ℕ) → found ≡ filter (λ y. is_maximal joined xs y) (take i xs) → length xs ≤ 32768 → o < 2 ^ 61 → t ≤ o + 2 * (length found * length xs) → t + 2 * length xs < 2 ^ 62
 room_kept joined xs found i o t f few r a =
     let l : length found ≤ length xs = found_small joined xs found i f in
     room_left o t (length found) (length xs) (omega arith) a (omega arith) (omega arith)

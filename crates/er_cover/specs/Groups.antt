@@ -71,7 +71,7 @@ grouping_of joined accesses = grouping_by joined (classes_by_race joined accesse
 
 -- how many classes there may be
 abbrev pub most_classes : ℕ
-most_classes = 16384
+most_classes = 32768
 
 -- how many comparisons there may be: four for each class and each group
 abbrev pub most_tests : (ℕ → ℕ → Bool) → List Kept → ℕ

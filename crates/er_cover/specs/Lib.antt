@@ -1,6 +1,7 @@
 pub mod Classes
 pub mod Groups
 pub mod Laws
+pub mod Parts
 pub mod Passes
 pub mod Rows
 pub mod Told

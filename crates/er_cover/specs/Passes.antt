@@ -105,10 +105,6 @@ pass_tests classes groups = 2 * (length classes * length groups)
 abbrev pub maximal_tests : (ℕ → ℕ → Bool) → List Class → ℕ
 maximal_tests joined classes = pass_tests classes (maximal_of joined classes)
 
--- in both passes
-abbrev pub all_tests : (ℕ → ℕ → Bool) → List Class → ℕ
-all_tests joined by_race = 2 * maximal_tests joined (each_once by_race)
-
 -- these are the sizes of so many groups
 pub record AreSizes (names : List ℕ) (count : ℕ) (sizes : List ℕ) : Type 0 where
   pub long : length sizes ≡ count

@@ -12,18 +12,18 @@ use indexmap::IndexSet;
 use std::alloc::Global;
 
 /// The classes in the order of their first races, and for each its first race.
-pub(crate) struct Classes {
+pub(crate) struct Distinct {
     pub(crate) set: IndexSet<Class>,
     pub(crate) firsts: Vec<u32>,
 }
 
-impl Drop for Classes {
+impl Drop for Distinct {
     fn drop(self) {
-        let Classes { set: _, firsts: _ } = self;
+        let Distinct { set: _, firsts: _ } = self;
     }
 }
 
-pub(crate) fn classes_of(alloc: Global, by_race: &[Class]) -> Result<Classes, NoMemory>
+pub(crate) fn classes_of(alloc: Global, by_race: &[Class]) -> Result<Distinct, NoMemory>
     requires { length by_race.now ≤ most_races }
     ensures classes { IfOk result (λ v. v.set.keys ≡ each_once by_race.now) }
     ensures firsts { IfOk result (λ v. v.firsts.items ≡ spec.first_races by_race.now) }
@@ -33,7 +33,7 @@ pub(crate) fn classes_of(alloc: Global, by_race: &[Class]) -> Result<Classes, No
     for (race, class) in by_race.iter().enumerate() {
         take_in(&mut set, &mut firsts, *class, race as u32)?;
     }
-    Ok(Classes { set, firsts })
+    Ok(Distinct { set, firsts })
 }
 
 /// A new class goes last.

@@ -9,8 +9,11 @@ mod groups;
 pub mod laws;
 mod maximal;
 mod names;
+mod parts;
+pub mod sharing;
 
 pub use class::Class;
 pub use fault::CoverFault;
 pub use grouping::group;
 pub use groups::Groups;
+pub use parts::{Classes, gather, make_classes, name_part};

@@ -4,28 +4,21 @@ use Rattle.std.specs.Prelude.{◌==◌, not, ◌||◌}
 use Rattle.std.specs.List.{list_any}
 use Rattle.er_trace.specs.declared.record.Record.{Record}
 use Rattle.er_trace.specs.declared.record.Record.TheVariants.{Back}
+use Rattle.er_trace.specs.declared.version.Version.{Version}
 use Rattle.er_history.specs.History.{History, Action, told, event_begun, begins}
 use Rattle.er_history.specs.Rules.{Rule, any_holds, rules, parse_rules, script_rules, load_rules, dispatch_rules, timer_rules, request_rules}
 use Rattle.er_history.specs.Edges.{path}
 use Rattle.er_history.specs.Sound.{leads_back, out_of_order}
-use Rattle.er_history.specs.Handed.{HasGroup}
-use Rattle.er_pieces.proofs.SteadyLemmas.{has_first, has_second, has_itself}
 use Rattle.er_history.proofs.OrderLemmas.{leads_append, none_passes, not_both}
 
 -- one a crate of rules, in the order of their numbers
-abbrev pub groups : List (List (ℕ × Rule))
-groups = parse_rules ∷ script_rules ∷ load_rules ∷ dispatch_rules ∷ timer_rules ∷ request_rules ∷ []
+abbrev pub groups : Version → List (List (ℕ × Rule))
+groups v = parse_rules ∷ script_rules ∷ load_rules ∷ dispatch_rules ∷ timer_rules v ∷ request_rules ∷ []
 
 -- the rules of all groups
 abbrev pub together : List (List (ℕ × Rule)) → List (ℕ × Rule)
 together [] = []
 together (group ∷ rest) = group ++ together rest
-
--- the table of all rules has those of timers
-pub has_timers : HasGroup rules timer_rules
-has_timers =
-    let four : List (ℕ × Rule) = parse_rules ++ script_rules ++ load_rules ++ dispatch_rules in
-    has_first (four ++ timer_rules) request_rules timer_rules (has_second four timer_rules timer_rules (has_itself timer_rules))
 
 -- an empty table puts no record out of order
 nothing_leads : (joined : ℕ → ℕ → Bool) (h : History) (x : Record) → leads_back [] joined h x ≡ false
@@ -48,5 +41,5 @@ late_together (b ∷ bs) (group ∷ rest) joined h x are =
     ap (λ c. c || list_any (λ (b : Bool). b) bs) are.0
     ∙ (ap (λ c. leads_back group joined h x || c) (late_together bs rest joined h x are.1) ∙ sym (leads_append group (together rest) joined h x))
 
-pub late : (bs : List Bool) (h : List Record) (x : Record) → AreLate bs groups (path rules h) (told h) x → list_any (λ (b : Bool). b) bs ≡ out_of_order rules h x
-late bs h x are = late_together bs groups (path rules h) (told h) x are
+pub late : (v : Version) (bs : List Bool) (h : List Record) (x : Record) → AreLate bs (groups v) (path (rules v) h) (told h) x → list_any (λ (b : Bool). b) bs ≡ out_of_order (rules v) h x
+late v bs h x are = late_together bs (groups v) (path (rules v) h) (told h) x are

@@ -11,6 +11,7 @@ use Rattle.er_trace.specs.declared.record.Record.{Record}
 use Rattle.er_paths.specs.Paths.{joins}
 use Rattle.er_paths.specs.Laws.{IsEnough}
 use Rattle.er_paths.proofs.Paths.{enough_long, handed_paths, any_from, paths_stand}
+use Rattle.er_trace.specs.declared.version.Version.{Version}
 use Rattle.er_history.specs.History.{told, begins, or_else, action_begun, Action, History}
 use Rattle.er_history.specs.Edges.{edge, edges, sources, path}
 use Rattle.er_history.specs.Laws.{IsNumbered}
@@ -27,6 +28,7 @@ use Rattle.er_page.specs.declared.page.Page.{Page}
 use Rattle.er_page.specs.Accepted.{result_of}
 use Rattle.er_page.specs.Page as pages
 use Rattle.er_page.specs.Page.{IsPage, IsSomePage}
+use Rattle.er_rules_timer.specs.Timed.{IsTimed, IsSomeTimed}
 use Rattle.er_history.specs.Rules.{Rule, rules}
 use Rattle.er_graph.specs.Accepted.{Accepted, records, lines_of, cause_now, edges_of, IsTold, AreTimed, IsNext, IsSomeGraph}
 
@@ -67,28 +69,31 @@ lines_counted (x ∷ older) = step (begins x.read) (lines_counted older)
     step true e = omega (arith, length_push (lines_of older) x.line, e)
     step false e = e
 
-pub clocks_counted : (links : List (List ℕ)) (accepted : List Accepted) → AreTimed links accepted → length (told (records accepted)).actions ≡ length links
-clocks_counted links accepted timed = sym (edges_length rules (told (records accepted)).actions) ∙ sym (clocks_tell_paths links (edges_of accepted) timed).0
+pub clocks_counted : (v : Version) (links : List (List ℕ)) (accepted : List Accepted) → AreTimed v links accepted → length (told (records accepted)).actions ≡ length links
+clocks_counted v links accepted timed = sym (edges_length (rules v) (told (records accepted)).actions) ∙ sym (clocks_tell_paths links (edges_of v accepted) timed).0
 
 -- what the page, the lines and the clocks are asked for
 
-pub some_page : (page : Page) (links : List (List ℕ)) (kept : List ℕ) (x : Record) → ∥ IsNext page links kept x ∥₁ → ∥ IsSomePage page ∥₁
-some_page page links kept x some = ∥∥₁_map some (λ next. record { list = records next.accepted; stands = next.told.page })
+pub some_page : (v : Version) (page : Page) (links : List (List ℕ)) (kept : List ℕ) (x : Record) → ∥ IsNext v page links kept x ∥₁ → ∥ IsSomePage page ∥₁
+some_page v page links kept x some = ∥∥₁_map some (λ next. record { list = records next.accepted; stands = next.told.page })
 
-pub next_page : (page : Page) (links : List (List ℕ)) (kept : List ℕ) (x : Record) → ∥ IsNext page links kept x ∥₁ → ∥ pages.IsNext page x ∥₁
-next_page page links kept x some = ∥∥₁_map some (λ next. let p = no_cause rules (records next.accepted) x next.legal in record { list = records next.accepted; stands = next.told.page; named = p.named; fits = p.fits })
+pub some_timed : (v : Version) (page : Page) (links : List (List ℕ)) (kept : List ℕ) (x : Record) → ∥ IsNext v page links kept x ∥₁ → ∥ IsSomeTimed v page links ∥₁
+some_timed v page links kept x some = ∥∥₁_map some (λ next. record { list = records next.accepted; stands = record { page = next.told.page; clocks = next.timed } })
 
-pub known_sources : (page : Page) (links : List (List ℕ)) (kept : List ℕ) (x : Record) (found passed : List ℕ) → ∥ IsNext page links kept x ∥₁ → passed ≡ found
-    → ((h : List Record) → IsPage page h → IsSound rules h → naming h x ≡ None → out_of_order rules h x ≡ false → ArePiecesHanded rules (path rules h) (told h) x found)
+pub next_page : (v : Version) (page : Page) (links : List (List ℕ)) (kept : List ℕ) (x : Record) → ∥ IsNext v page links kept x ∥₁ → ∥ pages.IsNext page x ∥₁
+next_page v page links kept x some = ∥∥₁_map some (λ next. let p = no_cause (rules v) (records next.accepted) x next.legal in record { list = records next.accepted; stands = next.told.page; named = p.named; fits = p.fits })
+
+pub known_sources : (v : Version) (page : Page) (links : List (List ℕ)) (kept : List ℕ) (x : Record) (found passed : List ℕ) → ∥ IsNext v page links kept x ∥₁ → passed ≡ found
+    → ((h : List Record) → IsTimed v page links h → IsSound (rules v) h → naming h x ≡ None → out_of_order (rules v) h x ≡ false → ArePiecesHanded (rules v) (path (rules v) h) (told h) x found)
     → All (λ k. k < length links) passed
-known_sources page links kept x found passed some same handed = ∥∥₁_elim some (hlevel props) (λ next. known next)
+known_sources v page links kept x found passed some same handed = ∥∥₁_elim some (hlevel props) (λ next. known next)
   where
-    known : IsNext page links kept x → All (λ k. k < length links) passed
+    known : IsNext v page links kept x → All (λ k. k < length links) passed
     known next =
         let h = records next.accepted in
-        let p = no_cause rules h x next.legal in
-        let are = handed h next.told.page next.told.sound p.named p.ordered in
-        subst (All (λ k. k < length links)) (sym same) (subst (λ n. All (λ k. k < n) found) (clocks_counted links next.accepted next.timed) (handed_are_below rules h x found are))
+        let p = no_cause (rules v) h x next.legal in
+        let are = handed h (record { page = next.told.page; clocks = next.timed }) next.told.sound p.named p.ordered in
+        subst (All (λ k. k < length links)) (sym same) (subst (λ n. All (λ k. k < n) found) (clocks_counted v links next.accepted next.timed) (handed_are_below (rules v) h x found are))
 
 -- an action that may begin has room in the clocks
 room_left : (h : List Record) (x : Record) → room h x ≡ None → begins x ≡ true → length (told h).actions < most_actions
@@ -99,13 +104,13 @@ room_left h x fits begin = step (begins x) (nat_lt (length (told h).actions) mos
     step true false d e f g = absurd (cc)
     step false c d e f g = absurd (cc)
 
-pub clocks_room : (page : Page) (links : List (List ℕ)) (kept : List ℕ) (x : Record) → ∥ IsNext page links kept x ∥₁ → begins x ≡ true → length links < most_actions
-clocks_room page links kept x some begin = ∥∥₁_elim some (hlevel props) (λ next. room_of next)
+pub clocks_room : (v : Version) (page : Page) (links : List (List ℕ)) (kept : List ℕ) (x : Record) → ∥ IsNext v page links kept x ∥₁ → begins x ≡ true → length links < most_actions
+clocks_room v page links kept x some begin = ∥∥₁_elim some (hlevel props) (λ next. room_of next)
   where
-    room_of : IsNext page links kept x → length links < most_actions
+    room_of : IsNext v page links kept x → length links < most_actions
     room_of next =
         let h = records next.accepted in
-        omega (arith, clocks_counted links next.accepted next.timed, room_left h x (no_cause rules h x next.legal).fits begin)
+        omega (arith, clocks_counted v links next.accepted next.timed, room_left h x (no_cause (rules v) h x next.legal).fits begin)
 
 -- handed from the start
 pub from_nothing : (table : List (ℕ × Rule)) (joined : ℕ → ℕ → Bool) (h : History) (x : Record) (new : List ℕ) → HasHandedPieces table joined h x [] new → ArePiecesHanded table joined h x new
@@ -137,53 +142,53 @@ begun_lines line x accepted kept new begin is grown =
 pub same_lines : (line : ℕ) (x : Record) (accepted : List Accepted) (kept : List ℕ) → begins x ≡ false → kept ≡ lines_of accepted → kept ≡ lines_of (record { line = line; read = x } ∷ accepted)
 same_lines line x accepted kept begin is = is ∙ sym (ap (λ b. if b then lines_of accepted ++ line ∷ [] else lines_of accepted) begin)
 
-pub told_more : (old new : Page) (kept grown : List ℕ) (line : ℕ) (x : Record) (accepted : List Accepted) → IsTold old kept accepted → cause_now accepted x ≡ None
-    → ((h : List Record) → IsPage old h → naming h x ≡ None → room h x ≡ None → IsPage new (x ∷ h)) → grown ≡ lines_of (record { line = line; read = x } ∷ accepted) → IsTold new grown (record { line = line; read = x } ∷ accepted)
-told_more old new kept grown line x accepted told legal taken lines =
-    let p = no_cause rules (records accepted) x legal in
+pub told_more : (v : Version) (old new : Page) (kept grown : List ℕ) (line : ℕ) (x : Record) (accepted : List Accepted) → IsTold v old kept accepted → cause_now v accepted x ≡ None
+    → ((h : List Record) → IsPage old h → naming h x ≡ None → room h x ≡ None → IsPage new (x ∷ h)) → grown ≡ lines_of (record { line = line; read = x } ∷ accepted) → IsTold v new grown (record { line = line; read = x } ∷ accepted)
+told_more v old new kept grown line x accepted told legal taken lines =
+    let p = no_cause (rules v) (records accepted) x legal in
     record { page = taken (records accepted) told.page p.named p.fits; sound = (legal, told.sound); lines = lines }
 
-pub told_still : (old new : Page) (kept same : List ℕ) (accepted : List Accepted) → ((h : List Record) → IsPage old h → IsPage new h) → same ≡ kept → IsTold old kept accepted → IsTold new same accepted
-told_still old new kept same accepted stays e told = record { page = stays (records accepted) told.page; sound = told.sound; lines = e ∙ told.lines }
+pub told_still : (v : Version) (old new : Page) (kept same : List ℕ) (accepted : List Accepted) → ((h : List Record) → IsPage old h → IsPage new h) → same ≡ kept → IsTold v old kept accepted → IsTold v new same accepted
+told_still v old new kept same accepted stays e told = record { page = stays (records accepted) told.page; sound = told.sound; lines = e ∙ told.lines }
 
 -- a record that begins an action is pushed, with enough of the sources of edges to it
-pub timed_more : (page : Page) (links more : List (List ℕ)) (kept : List ℕ) (line : ℕ) (x : Record) (accepted : List Accepted) (found passed : List ℕ) → IsTold page kept accepted → AreTimed links accepted → cause_now accepted x ≡ None → begins x ≡ true
-    → ((h : List Record) → IsPage page h → IsSound rules h → naming h x ≡ None → out_of_order rules h x ≡ false → ArePiecesHanded rules (path rules h) (told h) x found)
-    → passed ≡ found → ((lists : List (List ℕ)) → StandsFor links lists → StandsFor more (passed ∷ lists)) → AreTimed more (record { line = line; read = x } ∷ accepted)
-timed_more page links more kept line x accepted found passed told_ timed legal begin handed same pushed =
+pub timed_more : (v : Version) (page : Page) (links more : List (List ℕ)) (kept : List ℕ) (line : ℕ) (x : Record) (accepted : List Accepted) (found passed : List ℕ) → IsTold v page kept accepted → AreTimed v links accepted → cause_now v accepted x ≡ None → begins x ≡ true
+    → ((h : List Record) → IsTimed v page links h → IsSound (rules v) h → naming h x ≡ None → out_of_order (rules v) h x ≡ false → ArePiecesHanded (rules v) (path (rules v) h) (told h) x found)
+    → passed ≡ found → ((lists : List (List ℕ)) → StandsFor links lists → StandsFor more (passed ∷ lists)) → AreTimed v more (record { line = line; read = x } ∷ accepted)
+timed_more v page links more kept line x accepted found passed told_ timed legal begin handed same pushed =
     let h = records accepted in
-    let p = no_cause rules h x legal in
-    let now = edges_of (record { line = line; read = x } ∷ accepted) in
-    let enough = handed_stay_enough rules h x found (edges_of accepted) begin (handed h told_.page told_.sound p.named p.ordered) (enough_itself rules (told h).actions (actions_are_numbered h)) in
-    clocks_of_paths more (found ∷ edges_of accepted) now (enough_long (found ∷ edges_of accepted) now enough) (λ i j. handed_paths (found ∷ edges_of accepted) now i j enough)
-    (subst (λ (l : List ℕ). StandsFor more (l ∷ edges_of accepted)) same (pushed (edges_of accepted) timed))
+    let p = no_cause (rules v) h x legal in
+    let now = edges_of v (record { line = line; read = x } ∷ accepted) in
+    let enough = handed_stay_enough (rules v) h x found (edges_of v accepted) begin (handed h (record { page = told_.page; clocks = timed }) told_.sound p.named p.ordered) (enough_itself (rules v) (told h).actions (actions_are_numbered h)) in
+    clocks_of_paths more (found ∷ edges_of v accepted) now (enough_long (found ∷ edges_of v accepted) now enough) (λ i j. handed_paths (found ∷ edges_of v accepted) now i j enough)
+    (subst (λ (l : List ℕ). StandsFor more (l ∷ edges_of v accepted)) same (pushed (edges_of v accepted) timed))
 
 -- another record changes no edge
-pub timed_still : (links : List (List ℕ)) (line : ℕ) (x : Record) (accepted : List Accepted) → begins x ≡ false → AreTimed links accepted → AreTimed links (record { line = line; read = x } ∷ accepted)
-timed_still links line x accepted begin timed = subst (λ (actions : List Action). StandsFor links (edges rules actions)) (sym (same_actions (records accepted) x begin)) timed
+pub timed_still : (v : Version) (links : List (List ℕ)) (line : ℕ) (x : Record) (accepted : List Accepted) → begins x ≡ false → AreTimed v links accepted → AreTimed v links (record { line = line; read = x } ∷ accepted)
+timed_still v links line x accepted begin timed = subst (λ (actions : List Action). StandsFor links (edges (rules v) actions)) (sym (same_actions (records accepted) x begin)) timed
 
 -- the answers of a check
 
-pub named_first : (accepted : List Accepted) (x : Record) (c : Cause) → Err c ≡ result_of (naming (records accepted) x) → Err c ≡ result_of (cause_now accepted x)
-named_first accepted x c e = first_named (naming (records accepted) x) (if out_of_order rules (records accepted) x then Some OutOfOrder else room (records accepted) x) c e
+pub named_first : (v : Version) (accepted : List Accepted) (x : Record) (c : Cause) → Err c ≡ result_of (naming (records accepted) x) → Err c ≡ result_of (cause_now v accepted x)
+named_first v accepted x c e = first_named (naming (records accepted) x) (if out_of_order (rules v) (records accepted) x then Some OutOfOrder else room (records accepted) x) c e
 
-pub room_last : (accepted : List Accepted) (x : Record) (found : Result (Unit {0}) Cause) → Ok tt ≡ result_of (naming (records accepted) x) → false ≡ out_of_order rules (records accepted) x
-    → found ≡ result_of (room (records accepted) x) → found ≡ result_of (cause_now accepted x)
-room_last accepted x found named ordered fits =
+pub room_last : (v : Version) (accepted : List Accepted) (x : Record) (found : Result (Unit {0}) Cause) → Ok tt ≡ result_of (naming (records accepted) x) → false ≡ out_of_order (rules v) (records accepted) x
+    → found ≡ result_of (room (records accepted) x) → found ≡ result_of (cause_now v accepted x)
+room_last v accepted x found named ordered fits =
     let h = records accepted in
-    fits ∙ sym (ap result_of (then_room (naming h x) (room h x) (out_of_order rules h x) named ordered))
+    fits ∙ sym (ap result_of (then_room (naming h x) (room h x) (out_of_order (rules v) h x) named ordered))
 
-pub late_next : (accepted : List Accepted) (x : Record) → Ok tt ≡ result_of (naming (records accepted) x) → true ≡ out_of_order rules (records accepted) x → Err OutOfOrder ≡ result_of (cause_now accepted x)
-late_next accepted x named late = let h = records accepted in then_late (naming h x) (room h x) (out_of_order rules h x) named late
+pub late_next : (v : Version) (accepted : List Accepted) (x : Record) → Ok tt ≡ result_of (naming (records accepted) x) → true ≡ out_of_order (rules v) (records accepted) x → Err OutOfOrder ≡ result_of (cause_now v accepted x)
+late_next v accepted x named late = let h = records accepted in then_late (naming h x) (room h x) (out_of_order (rules v) h x) named late
 
 -- look-ups
 
-pub line_there : (page : Page) (kept : List ℕ) (accepted : List Accepted) (action : ℕ) → IsTold page kept accepted → action < length (told (records accepted)).actions → action < length kept
-line_there page kept accepted action is below = omega (arith, lines_counted accepted, ap length is.lines)
+pub line_there : (v : Version) (page : Page) (kept : List ℕ) (accepted : List Accepted) (action : ℕ) → IsTold v page kept accepted → action < length (told (records accepted)).actions → action < length kept
+line_there v page kept accepted action is below = omega (arith, lines_counted accepted, ap length is.lines)
 
 -- no record yet
-pub nothing_yet : (page : Page) (links : List (List ℕ)) (kept : List ℕ) → IsPage page [] → StandsFor links [] → kept ≡ [] → IsSomeGraph page links kept false
-nothing_yet page links kept shown clocks empty = record {
+pub nothing_yet : (v : Version) (page : Page) (links : List (List ℕ)) (kept : List ℕ) → IsPage page [] → StandsFor links [] → kept ≡ [] → IsSomeGraph v page links kept false
+nothing_yet v page links kept shown clocks empty = record {
   accepted = [];
   told = record { page = shown; sound = tt; lines = empty };
   timed = λ e. clocks;

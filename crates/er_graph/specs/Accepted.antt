@@ -2,6 +2,7 @@
 use Rattle.std.specs.Prelude.{◌≡◌, ℕ, Bool, false, List, [], ◌∷◌, ◌++◌, map, if◌then◌else◌, Option, None}
 use Rattle.er_text.specs.declared.causes.Cause.{Cause}
 use Rattle.er_trace.specs.declared.record.Record.{Record}
+use Rattle.er_trace.specs.declared.version.Version.{Version}
 use Rattle.er_history.specs.History.{told, begins}
 use Rattle.er_history.specs.Edges.{edges}
 use Rattle.er_history.specs.Sound.{cause, IsSound}
@@ -24,32 +25,32 @@ lines_of [] = []
 lines_of (x ∷ older) = if begins x.read then lines_of older ++ x.line ∷ [] else lines_of older
 
 -- a page and lines say what the accepted records say
-pub record IsTold (shown : Page) (kept : List ℕ) (accepted : List Accepted) : Type 0 where
+pub record IsTold (v : Version) (shown : Page) (kept : List ℕ) (accepted : List Accepted) : Type 0 where
   pub page : IsPage shown (records accepted)
-  pub sound : IsSound rules (records accepted)
+  pub sound : IsSound (rules v) (records accepted)
   pub lines : kept ≡ lines_of accepted
 
 -- the edges between the actions of the accepted records
-abbrev pub edges_of : List Accepted → List (List ℕ)
-edges_of accepted = edges rules (told (records accepted)).actions
+abbrev pub edges_of : Version → List Accepted → List (List ℕ)
+edges_of v accepted = edges (rules v) (told (records accepted)).actions
 
 -- clocks stand for these edges
-abbrev pub AreTimed : List (List ℕ) → List Accepted → Type 0
-AreTimed links accepted = StandsFor links (edges_of accepted)
+abbrev pub AreTimed : Version → List (List ℕ) → List Accepted → Type 0
+AreTimed v links accepted = StandsFor links (edges_of v accepted)
 
 -- the first cause against a record after the accepted ones
-abbrev pub cause_now : List Accepted → Record → Option Cause
-cause_now accepted x = cause rules (records accepted) x
+abbrev pub cause_now : Version → List Accepted → Record → Option Cause
+cause_now v accepted x = cause (rules v) (records accepted) x
 
 -- the parts of a graph are those of some accepted records, after which the record is accepted
-pub record IsNext (shown : Page) (links : List (List ℕ)) (kept : List ℕ) (x : Record) : Type 0 where
+pub record IsNext (v : Version) (shown : Page) (links : List (List ℕ)) (kept : List ℕ) (x : Record) : Type 0 where
   pub accepted : List Accepted
-  pub told : IsTold shown kept accepted
-  pub timed : AreTimed links accepted
-  pub legal : cause_now accepted x ≡ None
+  pub told : IsTold v shown kept accepted
+  pub timed : AreTimed v links accepted
+  pub legal : cause_now v accepted x ≡ None
 
 -- the parts of a graph are those of some accepted records; after want of memory without the clocks
-pub record IsSomeGraph (shown : Page) (links : List (List ℕ)) (kept : List ℕ) (has_failed : Bool) : Type 0 where
+pub record IsSomeGraph (v : Version) (shown : Page) (links : List (List ℕ)) (kept : List ℕ) (has_failed : Bool) : Type 0 where
   pub accepted : List Accepted
-  pub told : IsTold shown kept accepted
-  pub timed : has_failed ≡ false → AreTimed links accepted
+  pub told : IsTold v shown kept accepted
+  pub timed : has_failed ≡ false → AreTimed v links accepted

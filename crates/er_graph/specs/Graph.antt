@@ -9,12 +9,12 @@ use Rattle.er_graph.specs.Accepted.{Accepted, records, cause_now, IsTold, AreTim
 
 -- Its page and its lines are those of the accepted records. This outlives want of memory.
 abbrev pub IsListed : Graph → List Accepted → Type 0
-IsListed graph accepted = IsTold graph.page graph.lines.items accepted
+IsListed graph accepted = IsTold graph.version graph.page graph.lines.items accepted
 
 -- It stands for the accepted records: its clocks are those of their edges besides.
 pub record IsGraph (graph : Graph) (accepted : List Accepted) : Type 0 where
   pub listed : IsListed graph accepted
-  pub timed : AreTimed graph.clocks accepted
+  pub timed : AreTimed graph.version graph.clocks accepted
   pub whole : graph.has_failed ≡ false
 
 -- memory ran out in an earlier call
@@ -29,5 +29,5 @@ pub record HasBegun (graph : Graph) (action : ℕ) : Type 0 where
 
 -- What a fault says. A refusal has the line that was handed in and the first cause against the record, and changes nothing; after want of memory the graph is marked, and its page and lines are as they were.
 abbrev pub IsFault : GraphFault → ℕ → Record → Graph → Graph → Type 0
-IsFault (Refused l c) line x old new = (l ≡ line) × (new ≡ old) × ((accepted : List Accepted) → IsListed old accepted → cause_now accepted x ≡ Some c)
+IsFault (Refused l c) line x old new = (l ≡ line) × (new ≡ old) × ((accepted : List Accepted) → IsListed old accepted → cause_now old.version accepted x ≡ Some c)
 IsFault NoMemory line x old new = HasFailed new × ((accepted : List Accepted) → IsListed old accepted → IsListed new accepted)

@@ -15,14 +15,17 @@ use er_outside::NoMemory;
 use er_page::page::Page;
 use er_text::Cause;
 use er_trace::record::Record;
+use er_trace::version::Version;
 use std::alloc::Global;
 
 impl Graph {
-    /// No record yet.
-    pub fn new(alloc: Global) -> Result<Graph, NoMemory>
-        ensures { IfOk result (λ graph. IsGraph graph []) }
+    /// No record yet, in this version.
+    pub fn new(alloc: Global, version: Version) -> Result<Graph, NoMemory>
+        ensures graph { IfOk result (λ graph. IsGraph graph []) }
+        ensures version { IfOk result (λ graph. graph.version ≡ version) }
     {
         Ok(Graph {
+            version,
             page: Page::new(alloc)?,
             clocks: Clocks::new(alloc),
             lines: Vec::new(alloc),
@@ -34,9 +37,10 @@ impl Graph {
     ///
     /// Naming and nesting are asked first, then order, then room. After `NoMemory` every later call answers `NoMemory`.
     pub fn accept(&mut self, line: u32, rec: &Record) -> Result<(), GraphFault>
-        ensures accepted { OnOk result ((accepted : List Accepted) → IsGraph self.old accepted → (cause_now accepted rec.now ≡ None) × IsGraph self.new (record { line = line; read = rec.now } ∷ accepted)) }
+        ensures accepted { OnOk result ((accepted : List Accepted) → IsGraph self.old accepted → (cause_now self.old.version accepted rec.now ≡ None) × IsGraph self.new (record { line = line; read = rec.now } ∷ accepted)) }
         ensures refused { IfErr result (λ fault. IsFault fault line rec.now self.old self.new) }
         ensures failed { HasFailed self.old → result ≡ Err (GraphFault.NoMemory) }
+        ensures version { self.new.version ≡ self.old.version }
     {
         if self.has_failed {
             return Err(GraphFault::NoMemory);
@@ -48,6 +52,13 @@ impl Graph {
             return Err(GraphFault::NoMemory);
         };
         Ok(())
+    }
+
+    /// The version by whose rules the records are ordered.
+    pub fn version(&self) -> Version
+        ensures { result ≡ self.now.version }
+    {
+        self.version
     }
 
     /// The page of the accepted records.
@@ -67,14 +78,14 @@ impl Graph {
 
     /// The clocks of the actions: which paths lead between them, their chains and their links.
     pub fn clocks(&self) -> &Clocks
-        ensures { (accepted : List Accepted) → IsGraph self.now accepted → AreTimed result.now accepted }
+        ensures { (accepted : List Accepted) → IsGraph self.now accepted → AreTimed self.now.version result.now accepted }
     {
         &self.clocks
     }
 
     /// The first cause against the record, if there is one.
     fn check(&self, rec: &Record) -> Result<(), Cause>
-        ensures { (accepted : List Accepted) → IsListed self.now accepted → result ≡ result_of (cause_now accepted rec.now) }
+        ensures { (accepted : List Accepted) → IsListed self.now accepted → result ≡ result_of (cause_now self.now.version accepted rec.now) }
     {
         // An access names nothing, no rule orders it, and it needs no room.
         if let Record::Access { .. } = rec {
@@ -95,13 +106,21 @@ impl Graph {
 
     /// Takes a record that `check` accepts. The graph is marked as failed first, so that it stays so where memory runs out.
     fn take(&mut self, line: u32, rec: &Record) -> Result<(), NoMemory>
-        requires next { ∥ IsNext self.old.page self.old.clocks self.old.lines.items rec.now ∥₁ }
-        ensures taken { OnOk result ((accepted : List Accepted) → IsGraph self.old accepted → cause_now accepted rec.now ≡ None → IsGraph self.new (record { line = line; read = rec.now } ∷ accepted)) }
+        requires next { ∥ IsNext self.old.version self.old.page self.old.clocks self.old.lines.items rec.now ∥₁ }
+        ensures taken { OnOk result ((accepted : List Accepted) → IsGraph self.old accepted → cause_now self.old.version accepted rec.now ≡ None → IsGraph self.new (record { line = line; read = rec.now } ∷ accepted)) }
         ensures failed { OnErr result (HasFailed self.new) }
+        ensures version { self.new.version ≡ self.old.version }
         ensures kept { OnErr result ((accepted : List Accepted) → IsListed self.old accepted → IsListed self.new accepted) }
     {
         self.has_failed = true;
-        grow(&mut self.page, &mut self.clocks, &mut self.lines, line, rec)?;
+        grow(
+            self.version,
+            &mut self.page,
+            &mut self.clocks,
+            &mut self.lines,
+            line,
+            rec,
+        )?;
         self.has_failed = false;
         Ok(())
     }

@@ -10,42 +10,45 @@ use er_outside::NoMemory;
 use er_page::page::Page;
 use er_page::piece::begins;
 use er_trace::record::Record;
+use er_trace::version::Version;
 
 /// Takes a record against which there is no cause. After `NoMemory` the clocks may have one action more.
 pub(crate) fn grow(
+    version: Version,
     page: &mut Page,
     clocks: &mut Clocks,
     lines: &mut Vec<u32>,
     line: u32,
     rec: &Record,
 ) -> Result<(), NoMemory>
-    requires next { ∥ IsNext page.old clocks.old lines.old.items rec.now ∥₁ }
-    ensures told { OnOk result ((accepted : List Accepted) → IsTold page.old lines.old.items accepted → cause_now accepted rec.now ≡ None → IsTold page.new lines.new.items (record { line = line; read = rec.now } ∷ accepted)) }
-    ensures timed { OnOk result ((accepted : List Accepted) → IsTold page.old lines.old.items accepted → AreTimed clocks.old accepted → cause_now accepted rec.now ≡ None → AreTimed clocks.new (record { line = line; read = rec.now } ∷ accepted)) }
-    ensures kept { OnErr result ((accepted : List Accepted) → IsTold page.old lines.old.items accepted → IsTold page.new lines.new.items accepted) }
+    requires next { ∥ IsNext version page.old clocks.old lines.old.items rec.now ∥₁ }
+    ensures told { OnOk result ((accepted : List Accepted) → IsTold version page.old lines.old.items accepted → cause_now version accepted rec.now ≡ None → IsTold version page.new lines.new.items (record { line = line; read = rec.now } ∷ accepted)) }
+    ensures timed { OnOk result ((accepted : List Accepted) → IsTold version page.old lines.old.items accepted → AreTimed version clocks.old accepted → cause_now version accepted rec.now ≡ None → AreTimed version clocks.new (record { line = line; read = rec.now } ∷ accepted)) }
+    ensures kept { OnErr result ((accepted : List Accepted) → IsTold version page.old lines.old.items accepted → IsTold version page.new lines.new.items accepted) }
 {
     if begins(rec) {
-        return begin(page, clocks, lines, line, rec);
+        return begin(version, page, clocks, lines, line, rec);
     }
     page.apply(rec)
 }
 
 /// Takes a record that begins an action.
 fn begin(
+    version: Version,
     page: &mut Page,
     clocks: &mut Clocks,
     lines: &mut Vec<u32>,
     line: u32,
     rec: &Record,
 ) -> Result<(), NoMemory>
-    requires next { ∥ IsNext page.old clocks.old lines.old.items rec.now ∥₁ }
+    requires next { ∥ IsNext version page.old clocks.old lines.old.items rec.now ∥₁ }
     requires begins { history.begins rec.now ≡ true }
-    ensures told { OnOk result ((accepted : List Accepted) → IsTold page.old lines.old.items accepted → cause_now accepted rec.now ≡ None → IsTold page.new lines.new.items (record { line = line; read = rec.now } ∷ accepted)) }
-    ensures timed { OnOk result ((accepted : List Accepted) → IsTold page.old lines.old.items accepted → AreTimed clocks.old accepted → cause_now accepted rec.now ≡ None → AreTimed clocks.new (record { line = line; read = rec.now } ∷ accepted)) }
-    ensures kept { OnErr result ((accepted : List Accepted) → IsTold page.old lines.old.items accepted → IsTold page.new lines.new.items accepted) }
+    ensures told { OnOk result ((accepted : List Accepted) → IsTold version page.old lines.old.items accepted → cause_now version accepted rec.now ≡ None → IsTold version page.new lines.new.items (record { line = line; read = rec.now } ∷ accepted)) }
+    ensures timed { OnOk result ((accepted : List Accepted) → IsTold version page.old lines.old.items accepted → AreTimed version clocks.old accepted → cause_now version accepted rec.now ≡ None → AreTimed version clocks.new (record { line = line; read = rec.now } ∷ accepted)) }
+    ensures kept { OnErr result ((accepted : List Accepted) → IsTold version page.old lines.old.items accepted → IsTold version page.new lines.new.items accepted) }
 {
     let alloc = *lines.allocator();
-    let sources = sources(alloc, page, rec)?;
+    let sources = sources(alloc, page, clocks, version, rec)?;
     let Ok(()) = lines.reserve(1) else {
         return Err(NoMemory);
     };

@@ -10,7 +10,10 @@ ghost use Rattle.er_history.specs.Naming.{naming};
 ghost use Rattle.er_history.specs.Sound.{IsSound, out_of_order};
 ghost use Rattle.er_pieces.specs.PiecesHanded.{ArePiecesHanded};
 ghost use Rattle.er_page.specs.Page.{IsPage, IsSomePage};
+ghost use Rattle.er_rules_timer.specs.Timed.{IsTimed, IsSomeTimed};
+ghost use Rattle.er_trace.specs.declared.version.Version.{Version};
 
+use er_clocks::Clocks;
 use er_outside::NoMemory;
 use er_page::page::Page;
 use er_rules_dispatch as dispatch;
@@ -20,13 +23,14 @@ use er_rules_request as request;
 use er_rules_script as script;
 use er_rules_timer as timer;
 use er_trace::record::Record;
+use er_trace::version::Version;
 use smallvec::SmallVec;
 use std::alloc::Global;
 
 /// Whether a rule leads from the event that the record would begin to one that has begun. It takes no memory.
 pub(crate) fn is_late(page: &Page, rec: &Record) -> bool
-    ensures { (h : List Record) → IsPage page.now h → IsSound rules h → naming h rec.now ≡ None
-        → result ≡ out_of_order rules h rec.now }
+    ensures { (v : Version) (h : List Record) → IsPage page.now h → IsSound (rules v) h
+        → naming h rec.now ≡ None → result ≡ out_of_order (rules v) h rec.now }
 {
     let late = [
         parse::against::against(page, rec),
@@ -49,18 +53,22 @@ fn is_any(late: &[bool]) -> bool
 pub(crate) fn sources(
     alloc: Global,
     page: &Page,
+    clocks: &Clocks,
+    version: Version,
     rec: &Record,
 ) -> Result<SmallVec<u32, 8>, NoMemory>
     requires some { ∥ IsSomePage page.now ∥₁ }
-    ensures { IfOk result (λ found. (h : List Record) → IsPage page.now h → IsSound rules h → naming h rec.now ≡ None
-        → out_of_order rules h rec.now ≡ false → ArePiecesHanded rules (path rules h) (told h) rec.now found.items) }
+    requires timed { ∥ IsSomeTimed version page.now clocks.now ∥₁ }
+    ensures { IfOk result (λ found. (h : List Record) → IsTimed version page.now clocks.now h
+        → IsSound (rules version) h → naming h rec.now ≡ None → out_of_order (rules version) h rec.now ≡ false
+        → ArePiecesHanded (rules version) (path (rules version) h) (told h) rec.now found.items) }
 {
     let mut found = SmallVec::new(alloc);
     parse::predecessors::predecessors(page, rec, &mut found)?;
     script::predecessors::predecessors(page, rec, &mut found)?;
     load::predecessors::predecessors(page, rec, &mut found)?;
     dispatch::predecessors::predecessors(page, rec, &mut found)?;
-    timer::predecessors::predecessors(page, rec, &mut found)?;
+    timer::predecessors::predecessors(page, clocks, version, rec, &mut found)?;
     request::predecessors::predecessors(page, rec, &mut found)?;
     Ok(found)
 }

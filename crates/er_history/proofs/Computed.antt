@@ -1,15 +1,21 @@
 -- Rows, by computing.
 use Rattle.std.proofs.Common.{refl}
-use Rattle.er_history.specs.Rows.{RulesAreNumbered, EachRule, NestedDispatches, LateRecords}
+use Rattle.er_history.specs.Rows.{RulesAreNumbered, EachRule, NestedDispatches, TimersOnTimers, TimersOfPieces, LateRecords}
 
 pub rules_are_numbered : RulesAreNumbered
-rules_are_numbered = refl
+rules_are_numbered v = refl
 
 pub each_rule : EachRule
-each_rule = record { edges = refl; legal = refl }
+each_rule = record { one = record { edges = refl; legal = refl }; two = record { edges = refl; legal = refl } }
 
 pub nested_dispatches : NestedDispatches
-nested_dispatches = record { edges = refl; legal = refl }
+nested_dispatches = record { one = record { edges = refl; legal = refl }; two = record { edges = refl; legal = refl } }
+
+pub timers_on_timers : TimersOnTimers
+timers_on_timers = record { edges = refl; legal = refl }
+
+pub timers_of_pieces : TimersOfPieces
+timers_of_pieces = record { edges = refl; legal = refl }
 
 pub late_records : LateRecords
 late_records = refl

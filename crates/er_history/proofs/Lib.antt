@@ -9,3 +9,4 @@ pub mod ExactLemmas
 pub mod UnfinishedLemmas
 pub mod EventLemmas
 pub mod HandedLemmas
+pub mod VersionLemmas

@@ -80,18 +80,21 @@ element_maker_below h number m e = of (first_to (makes_element number) (told h).
 
 -- a timeout
 
+abbrev pub TimeoutBelow : ℕ → Timeout → Type 0
+TimeoutBelow n x = (x.maker < n) × (x.piece < n)
+
 pub timeout_of : (n number : ℕ) (place : ℕ) (action : Option Action) (read : Record) (y : Timeout) → RunsBelow n action
-    → makes_timeout number (record { read = read; place = place; action = action }) ≡ Some y → y.maker < n
-timeout_of n number place (Some a) (Set t d) y below is = set_below (t == number) (record { delay = d; place = place; maker = a.event.number; piece = a.number }) below.1 is
+    → makes_timeout number (record { read = read; place = place; action = action }) ≡ Some y → TimeoutBelow n y
+timeout_of n number place (Some a) (Set t d) y below is = set_below (t == number) (record { delay = d; place = place; maker = a.event.number; piece = a.number }) (below.1, below.0) is
   where
-    set_below : (b : Bool) (x : Timeout) → x.maker < n → (if b then Some x else None) ≡ Some y → y.maker < n
-    set_below true x below e = let same : x ≡ y = cc in subst (λ (z : Timeout). z.maker < n) same below
+    set_below : (b : Bool) (x : Timeout) → TimeoutBelow n x → (if b then Some x else None) ≡ Some y → TimeoutBelow n y
+    set_below true x below e = let same : x ≡ y = cc in subst (TimeoutBelow n) same below
     set_below false x below e = absurd (cc)
 timeout_of n number place _ _ y below is = absurd (cc)
 
-pub timeout_below : (h : List Record) (number : ℕ) (y : Timeout) → first_to (makes_timeout number) (told h).entries ≡ Some y → y.maker < length (told h).actions
+pub timeout_below : (h : List Record) (number : ℕ) (y : Timeout) → first_to (makes_timeout number) (told h).entries ≡ Some y → TimeoutBelow (length (told h).actions) y
 timeout_below h number y e =
-    first_gives (length (told h).actions) (makes_timeout number) (λ (z : Timeout). z.maker < length (told h).actions) (told h).entries
+    first_gives (length (told h).actions) (makes_timeout number) (TimeoutBelow (length (told h).actions)) (told h).entries
     (λ entry b below is. timeout_of (length (told h).actions) number entry.place entry.action entry.read b below is) (entries_below h) y e
 
 -- a document, a handler, an interval or a request

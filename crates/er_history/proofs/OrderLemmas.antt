@@ -6,8 +6,10 @@ use Rattle.std.proofs.lemmas.Bool.{ne_eqb}
 use Rattle.std.proofs.lemmas.Bool.Decides.{nat_tests}
 use Rattle.er_trace.specs.declared.record.Record.{Record}
 use Rattle.er_trace.specs.declared.record.Record.TheVariants.{Back}
+use Rattle.er_trace.specs.declared.version.Version.{Version}
+use Rattle.er_trace.specs.declared.version.Version.TheVariants.{One, Two}
 use Rattle.er_history.specs.History.{Element, Timeout, Delivery, DclOf, LoadOf, EloadOf, FireAt, InlineAt, WindowFire, ReplyOf, What, ParseStep, ScriptRun, TimeoutRun, TickRun, BeginOf, HandlerOf, CloseOf, Unnamed, Event, Action, History, told, begins, event_begun}
-use Rattle.er_history.specs.Rules.{Rule, any_holds, recorded, made_by, of_made, parse_rules, timer_rules, request_rules, parse_steps_in_order, document_before_its_steps, script_made_before_run, static_loads_before_load, inner_load_before_frame_load, target_before_dispatch, registered_before_run, dispatches_of_one_type_in_order, set_before_timer, timers_of_one_event_in_order, ticks_in_order, replies_in_order}
+use Rattle.er_history.specs.Rules.{Rule, any_holds, recorded, made_by, of_made, parse_rules, timer_rules, request_rules, parse_steps_in_order, document_before_its_steps, script_made_before_run, static_loads_before_load, inner_load_before_frame_load, target_before_dispatch, registered_before_run, dispatches_of_one_type_in_order, set_before_timer, timers_in_order, ticks_in_order, replies_in_order}
 use Rattle.er_history.specs.Laws.{Among}
 use Rattle.er_history.specs.Facts.{DeliveryStays, WhatStays}
 use Rattle.er_history.specs.Edges.{path}
@@ -16,7 +18,7 @@ use Rattle.er_history.specs.Sound.{leads_back, out_of_order, NeverLeadBack}
 use Rattle.er_history.proofs.HistoryLemmas.{event_below, told_before, goes_on}
 use Rattle.er_history.proofs.DeclaredLemmas.{or_none}
 use Rattle.er_history.proofs.FactsLemmas.{facts_stay}
-use Rattle.er_history.proofs.MakersLemmas.{ElementBelow, maker_below, element_below, element_maker_below, timeout_below}
+use Rattle.er_history.proofs.MakersLemmas.{ElementBelow, TimeoutBelow, maker_below, element_below, element_maker_below, timeout_below}
 
 -- the makers that an event kept are numbers below n
 
@@ -27,7 +29,7 @@ abbrev pub ElementBefore : ℕ → Option Element → Type 0
 ElementBefore n made = (x : Element) → made ≡ Some x → ElementBelow n x
 
 abbrev pub TimeoutBefore : ℕ → Option Timeout → Type 0
-TimeoutBefore n made = (x : Timeout) → made ≡ Some x → x.maker < n
+TimeoutBefore n made = (x : Timeout) → made ≡ Some x → TimeoutBelow n x
 
 abbrev pub DeliveryBefore : ℕ → Delivery → Type 0
 DeliveryBefore n (DclOf d m) = MadeBefore n m
@@ -94,7 +96,7 @@ not_element_maker (Some x) n before = let below = (before x refl).0 in ne_eqb x.
 
 pub not_timeout_maker : (made : Option Timeout) (n : ℕ) → TimeoutBefore n made → of_made (λ (x : Timeout). x.maker == n) made ≡ false
 not_timeout_maker None n before = refl
-not_timeout_maker (Some x) n before = let below = before x refl in ne_eqb x.maker n (λ e. omega arith)
+not_timeout_maker (Some x) n before = let below = (before x refl).0 in ne_eqb x.maker n (λ e. omega arith)
 
 -- the rules
 
@@ -110,8 +112,9 @@ inner_load_never_back joined u v before = rw (not_recorded u v before.0)
 pub dispatches_never_back : NeverBack dispatches_of_one_type_in_order
 dispatches_never_back joined u v before = rw (not_recorded u v before.0)
 
-pub timers_never_back : NeverBack timers_of_one_event_in_order
-timers_never_back joined u v before = rw (not_recorded u v before.0)
+pub timers_never_back : (v : Version) → NeverBack (timers_in_order v)
+timers_never_back One joined u v before = rw (not_recorded u v before.0)
+timers_never_back Two joined u v before = rw (not_recorded u v before.0)
 
 pub document_never_back : NeverBack document_before_its_steps
 document_never_back joined u v before = by v.what before.1
@@ -223,8 +226,8 @@ none_lead_back rules none joined h x =
 pub parse_rules_never_lead_back : NeverLeadBack parse_rules
 parse_rules_never_lead_back = none_lead_back parse_rules (parse_steps_never_back, (document_never_back, tt))
 
-pub timer_rules_never_lead_back : NeverLeadBack timer_rules
-timer_rules_never_lead_back = none_lead_back timer_rules (set_never_back, (timers_never_back, (ticks_never_back, tt)))
+pub timer_rules_never_lead_back : (v : Version) → NeverLeadBack (timer_rules v)
+timer_rules_never_lead_back v = none_lead_back (timer_rules v) (set_never_back, (timers_never_back v, (ticks_never_back, tt)))
 
 pub request_rules_never_lead_back : NeverLeadBack request_rules
 request_rules_never_lead_back = none_lead_back request_rules (replies_never_back, tt)

@@ -11,3 +11,4 @@ pub mod Rows
 pub mod Rules
 pub mod Sound
 pub mod Unfinished
+pub mod Versions

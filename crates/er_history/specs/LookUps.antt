@@ -79,6 +79,10 @@ timeout_made h t = first_to (makes_timeout t) (told h).entries
 abbrev pub maker_of_timeout : List Record → ℕ → Option ℕ
 maker_of_timeout h t = option_map (λ (x : Timeout). x.maker) (timeout_made h t)
 
+-- the piece that set it
+abbrev pub setting_piece : List Record → ℕ → Option ℕ
+setting_piece h t = option_map (λ (x : Timeout). x.piece) (timeout_made h t)
+
 -- Elements and documents.
 
 abbrev pub element_made : List Record → ℕ → Option Element
@@ -258,6 +262,20 @@ fires_of h u _ = []
 abbrev pub fired_with : List Record → ℕ → List ℕ
 fired_with [] u = []
 fired_with (x ∷ h) u = fired_with h u ++ fires_of h u x
+
+-- the timeout whose callback the record begins, where one set it
+abbrev pub fires : List Record → Record → List ℕ
+fires h (Timer t) = by (timeout_made h t)
+  where
+    by : Option Timeout → List ℕ
+    by None = []
+    by (Some made) = t ∷ []
+fires h _ = []
+
+-- all timeouts that have fired, in order of firing
+abbrev pub fired : List Record → List ℕ
+fired [] = []
+fired (x ∷ h) = fired h ++ fires h x
 
 abbrev pub place_of : List Record → ℕ → Option ℕ
 place_of h t = option_map (λ (x : Timeout). x.place) (timeout_made h t)

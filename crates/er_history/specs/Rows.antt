@@ -1,4 +1,4 @@
--- What the definitions say of three small lists of records, and the numbers of the rules. Each rule and each kind of piece is reached.
+-- What the definitions say of small lists of records, and the numbers of the rules. Each rule and each kind of piece is reached.
 use Rattle.std.specs.Prelude.{◌≡◌, ℕ, List, [], ◌∷◌, map, filter, reverse, codes, Option, Some, None}
 use Rattle.er_text.specs.declared.causes.Cause.{Cause}
 use Rattle.er_text.specs.declared.causes.Cause.TheVariants.{Unknown, OutOfOrder}
@@ -6,14 +6,16 @@ use Rattle.er_trace.specs.declared.record.Record.{Record}
 use Rattle.er_trace.specs.declared.record.Record.TheVariants.{Parse, ParseFrame, Exec, Timer, Tick, Dcl, Load, Eload, Fire, Wfire, Reply, Inline, Run, Close, Back, New, On, Set, Every, Send}
 use Rattle.er_trace.specs.declared.record.Kind.TheVariants as kinds
 use Rattle.er_trace.specs.declared.record.NewKind.TheVariants as new_kinds
+use Rattle.er_trace.specs.declared.version.Version.{Version}
+use Rattle.er_trace.specs.declared.version.Version.TheVariants.{One, Two}
 use Rattle.er_history.specs.History.{told, begins}
 use Rattle.er_history.specs.Rules as tables
 use Rattle.er_history.specs.Edges as between
 use Rattle.er_history.specs.Sound as sound
 
--- The rules between events have the numbers 1 to 21, in this order.
+-- The rules between events have the numbers 1 to 21, in this order, in each version.
 abbrev pub RulesAreNumbered : Type 0
-RulesAreNumbered = map (λ r. r.0) tables.rules ≡ 1 ∷ 2 ∷ 3 ∷ 4 ∷ 5 ∷ 6 ∷ 7 ∷ 8 ∷ 9 ∷ 10 ∷ 11 ∷ 12 ∷ 13 ∷ 14 ∷ 15 ∷ 16 ∷ 17 ∷ 18 ∷ 19 ∷ 20 ∷ 21 ∷ []
+RulesAreNumbered = (v : Version) → map (λ r. r.0) (tables.rules v) ≡ 1 ∷ 2 ∷ 3 ∷ 4 ∷ 5 ∷ 6 ∷ 7 ∷ 8 ∷ 9 ∷ 10 ∷ 11 ∷ 12 ∷ 13 ∷ 14 ∷ 15 ∷ 16 ∷ 17 ∷ 18 ∷ 19 ∷ 20 ∷ 21 ∷ []
 
 -- A record, and the actions with an edge to the action that it begins, newest first; none where it begins none. A row has its lines oldest first.
 abbrev pub Line : Type 0
@@ -28,18 +30,27 @@ abbrev pub sources_in : List Line → List (List ℕ)
 sources_in lines = map (λ (l : Line). l.1) (filter (λ (l : Line). begins l.0) (reverse lines))
 
 -- the cause of each record after those before it
-abbrev pub causes_in : List Record → List (Option Cause)
-causes_in [] = []
-causes_in (x ∷ h) = sound.cause tables.rules h x ∷ causes_in h
+abbrev pub causes_in : Version → List Record → List (Option Cause)
+causes_in v [] = []
+causes_in v (x ∷ h) = sound.cause (tables.rules v) h x ∷ causes_in v h
 
--- By all rules the edges are these, and no record has a cause.
-pub record IsRow (lines : List Line) : Type 0 where
-  pub edges : between.edges tables.rules (told (records_in lines)).actions ≡ sources_in lines
-  pub legal : causes_in (records_in lines) ≡ map (λ (l : Line). None) lines
+-- By all rules of the version the edges are these, and no record has a cause.
+pub record IsRowOf (v : Version) (lines : List Line) : Type 0 where
+  pub edges : between.edges (tables.rules v) (told (records_in lines)).actions ≡ sources_in lines
+  pub legal : causes_in v (records_in lines) ≡ map (λ (l : Line). None) lines
+
+-- a row of version 1
+abbrev pub IsRow : List Line → Type 0
+IsRow lines = IsRowOf One lines
+
+-- a row of each version
+pub record IsSharedRow (lines : List Line) : Type 0 where
+  pub one : IsRowOf One lines
+  pub two : IsRowOf Two lines
 
 -- Each of the rules 1 to 21. Behind each line stands the action that it begins.
 abbrev pub EachRule : Type 0
-EachRule = IsRow (
+EachRule = IsSharedRow (
     (Parse 0 1 kinds.Sync, []) ∷  -- 0
     (Exec 1, 0 ∷ []) ∷  -- 1
     (Parse 0 2 kinds.Defer, 1 ∷ 0 ∷ []) ∷  -- 2
@@ -80,7 +91,7 @@ EachRule = IsRow (
 
 -- Inline dispatches in a handler, in one another's handlers and in closes: rules 22 and 23, and what is of one event.
 abbrev pub NestedDispatches : Type 0
-NestedDispatches = IsRow (
+NestedDispatches = IsSharedRow (
     (Parse 0 1 kinds.Inline, []) ∷  -- 0
     (Exec 1, 0 ∷ []) ∷  -- 1
     (On 1, []) ∷
@@ -111,8 +122,53 @@ NestedDispatches = IsRow (
     (Close 7, 23 ∷ []) ∷  -- 24
     [])
 
+-- Rule 19 of version 2, whose path may rest on the same rule: action 1 leads to 2, so what was set in 1 fires before what was set in 2.
+abbrev pub TimersOnTimers : Type 0
+TimersOnTimers = IsRowOf Two (
+    (Parse 0 1 kinds.Plain, []) ∷  -- 0
+    (Set 1 0, []) ∷
+    (Set 2 0, []) ∷
+    (Timer 1, 0 ∷ []) ∷  -- 1
+    (Set 3 4, []) ∷
+    (Timer 2, 1 ∷ 0 ∷ []) ∷  -- 2
+    (Set 4 4, []) ∷
+    (Timer 3, 2 ∷ 1 ∷ []) ∷  -- 3
+    (Timer 4, 3 ∷ 2 ∷ 1 ∷ []) ∷  -- 4
+    [])
+
+-- Timeouts set in pieces that a path joins, and in pieces that none does: among them the pieces of a script around an inline dispatch.
+abbrev pub TimersOfPieces : Type 0
+TimersOfPieces = IsRowOf Two (
+    (Parse 0 1 kinds.Inline, []) ∷  -- 0
+    (Set 1 5, []) ∷
+    (Exec 1, 0 ∷ []) ∷  -- 1
+    (Set 2 5, []) ∷
+    (Inline 1 1 (codes "x"), 1 ∷ 0 ∷ []) ∷  -- 2
+    (Set 3 5, []) ∷
+    (Close 1, 2 ∷ []) ∷  -- 3
+    (Set 4 4, []) ∷
+    (Back 1, 3 ∷ 1 ∷ 0 ∷ []) ∷  -- 4
+    (Set 5 5, []) ∷
+    (Parse 0 2 kinds.Async, 4 ∷ 1 ∷ 0 ∷ []) ∷  -- 5
+    (Exec 2, 5 ∷ []) ∷  -- 6
+    (Set 6 9, []) ∷
+    (Timer 1, 0 ∷ []) ∷  -- 7
+    (Set 8 0, []) ∷
+    (Parse 0 3 kinds.Plain, 5 ∷ 4 ∷ 1 ∷ 0 ∷ []) ∷  -- 8
+    (Set 7 9, []) ∷
+    (Timer 5, 7 ∷ 4 ∷ 1 ∷ []) ∷  -- 9
+    (Set 9 0, []) ∷
+    (Timer 3, 7 ∷ 2 ∷ []) ∷  -- 10
+    (Timer 4, 3 ∷ []) ∷  -- 11
+    (Timer 2, 7 ∷ 4 ∷ 1 ∷ []) ∷  -- 12
+    (Timer 7, 12 ∷ 11 ∷ 10 ∷ 9 ∷ 8 ∷ 7 ∷ []) ∷  -- 13
+    (Timer 6, 12 ∷ 11 ∷ 10 ∷ 9 ∷ 7 ∷ 6 ∷ []) ∷  -- 14
+    (Timer 9, 9 ∷ []) ∷  -- 15
+    (Timer 8, 7 ∷ []) ∷  -- 16
+    [])
+
 -- After the second of three deferred scripts has run, the first is late, and so is a parse step.
 abbrev pub LateRecords : Type 0
-LateRecords = map (sound.cause tables.rules (Exec 2 ∷ Parse 0 3 kinds.Defer ∷ Parse 0 2 kinds.Defer ∷ Parse 0 1 kinds.Defer ∷ []))
+LateRecords = map (sound.cause (tables.rules One) (Exec 2 ∷ Parse 0 3 kinds.Defer ∷ Parse 0 2 kinds.Defer ∷ Parse 0 1 kinds.Defer ∷ []))
     (Exec 1 ∷ Exec 3 ∷ Parse 0 4 kinds.Plain ∷ Dcl 1 0 ∷ Back 1 ∷ [])
     ≡ Some OutOfOrder ∷ None ∷ Some OutOfOrder ∷ None ∷ Some Unknown ∷ []

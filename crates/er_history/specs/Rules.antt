@@ -3,6 +3,8 @@ use Rattle.std.specs.Prelude.{ℕ, Bool, true, false, not, ◌==◌, ◌&&◌, �
 use Rattle.std.specs.List.{list_any}
 use Rattle.er_trace.specs.declared.record.Kind.{Kind}
 use Rattle.er_trace.specs.declared.record.Kind.TheVariants as kinds
+use Rattle.er_trace.specs.declared.version.Version.{Version}
+use Rattle.er_trace.specs.declared.version.Version.TheVariants.{One, Two}
 use Rattle.er_history.specs.History.{Form, Kinded, Framing, Element, Delivery, DclOf, LoadOf, EloadOf, FireAt, InlineAt, WindowFire, ReplyOf, What, ParseStep, ScriptRun, TimeoutRun, TickRun, BeginOf, HandlerOf, CloseOf, Event}
 
 -- A rule between two events. It is told which earlier actions a path joins. It says nothing of lists in which naming refuses a record.
@@ -89,7 +91,7 @@ step_or_script test d (ParseStep c m) = c == d
 step_or_script test d (ScriptRun e made) = of_made (λ x. test x && (x.doc == d)) made
 step_or_script test d _ = false
 
--- The rules, in the order of their numbers. Each says: u before v. None asks yet which paths there are.
+-- The rules, in the order of their numbers. Each says: u before v. One alone asks which paths there are: rule 19 of version 2.
 
 -- 1. A parse step of a document before a later parse step of it (recorded). HTML Standard, "Parsing HTML documents".
 abbrev pub parse_steps_in_order : Rule
@@ -280,13 +282,26 @@ set_before_timer joined u v = go v.what
     go (TimeoutRun t made) = of_made (λ x. x.maker == u.number) made
     go _ = false
 
--- 19. The callback of a timeout before that of another that the same event set later with no lesser delay (recorded). HTML Standard, "Timers"; that delays alone are compared is this project's own.
+-- 19, in version 1. The callback of a timeout before that of another that the same event set later with no lesser delay (recorded). HTML Standard, "Timers"; that delays alone are compared is this project's own.
 abbrev pub timers_of_one_event_in_order : Rule
 timers_of_one_event_in_order joined u v = recorded u v && go u.what v.what
   where
     go : What → What → Bool
     go (TimeoutRun s made) (TimeoutRun t made2) = both_made (λ x y. (x.maker == y.maker) && (nat_lt x.place y.place && nat_le x.delay y.delay)) made made2
     go _ _ = false
+
+-- 19, in version 2. The callback of a timeout before that of another that was set later with no lesser delay, in a piece to which a path leads from the piece that set the first (recorded). HTML Standard, "Timers"; that delays alone are compared is this project's own.
+abbrev pub timers_of_joined_pieces_in_order : Rule
+timers_of_joined_pieces_in_order joined u v = recorded u v && go u.what v.what
+  where
+    go : What → What → Bool
+    go (TimeoutRun s made) (TimeoutRun t made2) = both_made (λ x y. nat_lt x.place y.place && (nat_le x.delay y.delay && joined x.piece y.piece)) made made2
+    go _ _ = false
+
+-- rule 19 of a version
+abbrev pub timers_in_order : Version → Rule
+timers_in_order One = timers_of_one_event_in_order
+timers_in_order Two = timers_of_joined_pieces_in_order
 
 -- 20. The event that set an interval before each callback of it; a callback before a later one of the same interval (recorded). HTML Standard, "Timers".
 abbrev pub ticks_in_order : Rule
@@ -320,7 +335,7 @@ replies_in_order joined u v = go v.what
     go (BeginOf q) = of q.delivers
     go _ = false
 
--- Each rule between events with its number, in the groups of the crates that ask it. Rules 22 and 23 speak of pieces (Edges).
+-- Each rule between events with its number, in the groups of the crates that ask it. Rule 19 alone differs by version. Rules 22 and 23 speak of pieces (Edges).
 abbrev pub parse_rules : List (ℕ × Rule)
 parse_rules = (1, parse_steps_in_order) ∷ (2, document_before_its_steps) ∷ []
 
@@ -333,15 +348,15 @@ load_rules = (8, parsed_before_dcl) ∷ (9, dcl_before_load) ∷ (10, parsed_bef
 abbrev pub dispatch_rules : List (ℕ × Rule)
 dispatch_rules = (14, target_before_dispatch) ∷ (15, registered_before_run) ∷ (16, dispatch_in_order) ∷ (17, dispatches_of_one_type_in_order) ∷ []
 
-abbrev pub timer_rules : List (ℕ × Rule)
-timer_rules = (18, set_before_timer) ∷ (19, timers_of_one_event_in_order) ∷ (20, ticks_in_order) ∷ []
+abbrev pub timer_rules : Version → List (ℕ × Rule)
+timer_rules v = (18, set_before_timer) ∷ (19, timers_in_order v) ∷ (20, ticks_in_order) ∷ []
 
 abbrev pub request_rules : List (ℕ × Rule)
 request_rules = (21, replies_in_order) ∷ []
 
--- All rules between events, in the order of their numbers.
-abbrev pub rules : List (ℕ × Rule)
-rules = parse_rules ++ script_rules ++ load_rules ++ dispatch_rules ++ timer_rules ++ request_rules
+-- All rules between events of a version, in the order of their numbers.
+abbrev pub rules : Version → List (ℕ × Rule)
+rules v = parse_rules ++ script_rules ++ load_rules ++ dispatch_rules ++ timer_rules v ++ request_rules
 
 -- one of the rules of a table holds between two events
 abbrev pub any_holds : List (ℕ × Rule) → (ℕ → ℕ → Bool) → Event → Event → Bool

@@ -5,9 +5,11 @@
 ghost use Rattle.er_history.specs.Laws.{ActionsAreKept, ActionsAreNumbered, EdgesAreEdges, EdgesGoForward, EdgesJoinActions, EdgesStay, EntriesAreCounted, EventsBeginBefore, EventsHaveFirstPieces, PathsLeadOverEdges, PathsLeadOverActions, PathsStay};
 ghost use Rattle.er_history.specs.Facts.{FactsAreExact, FactsStay};
 ghost use Rattle.er_history.specs.Rules.{parse_rules, timer_rules, request_rules};
-ghost use Rattle.er_history.specs.Rows.{EachRule, LateRecords, NestedDispatches, RulesAreNumbered};
+ghost use Rattle.er_history.specs.Rows.{EachRule, LateRecords, NestedDispatches, RulesAreNumbered, TimersOfPieces, TimersOnTimers};
 ghost use Rattle.er_history.specs.Sound.{NeverLeadBack, SoundListsAreNamed};
 ghost use Rattle.er_history.specs.Unfinished.{StackIsUnfinished};
+ghost use Rattle.er_history.specs.Versions.{CausesAreShared, PathsBeforeSuffice, SetBeforeCallback, SoundListsAreShared};
+ghost use Rattle.er_trace.specs.declared.version.Version.{Version};
 
 /// The actions are numbered in the order in which they begin.
 #[tactic(auto, using(crate::proofs::HistoryLemmas::actions_are_numbered))]
@@ -99,12 +101,28 @@ pub fn sound_lists_are_named()
     ensures { SoundListsAreNamed }
 {}
 
-/// The rules of parsing, timers and requests put no record out of order.
+/// The rules of parsing, timers and requests put no record out of order, in each version.
 #[tactic(auto, using(crate::proofs::OrderLemmas::parse_rules_never_lead_back, crate::proofs::OrderLemmas::timer_rules_never_lead_back, crate::proofs::OrderLemmas::request_rules_never_lead_back))]
 pub fn later_events_never_lead_back()
     ensures parsing { NeverLeadBack parse_rules }
-    ensures timers { NeverLeadBack timer_rules }
+    ensures timers { (v : Version) → NeverLeadBack (timer_rules v) }
     ensures requests { NeverLeadBack request_rules }
+{}
+
+/// Whether a record has a cause, and a list is sound, does not depend on the version.
+pub fn sound_lists_are_shared()
+    ensures causes { CausesAreShared }
+    ensures lists { SoundListsAreShared }
+{}
+
+/// The piece that set a timeout comes before the event of its callback.
+pub fn set_before_callback()
+    ensures { SetBeforeCallback }
+{}
+
+/// A rule that is told of the paths before an event holds exactly where it does by all paths.
+pub fn paths_before_suffice()
+    ensures { PathsBeforeSuffice }
 {}
 
 /// Where naming refuses no record, the stack has the numbers of the dispatches that have begun and are not finished.
@@ -113,16 +131,18 @@ pub fn stack_is_unfinished()
     ensures { StackIsUnfinished }
 {}
 
-/// The rules between events have the numbers 1 to 21.
+/// The rules between events have the numbers 1 to 21, in each version.
 #[tactic(auto, using(crate::proofs::Computed::rules_are_numbered))]
 pub fn rules_are_numbered()
     ensures { RulesAreNumbered }
 {}
 
-/// The edges of two small lists that reach each rule and each kind of piece, and the causes of records after a third.
-#[tactic(auto, using(crate::proofs::Computed::each_rule, crate::proofs::Computed::nested_dispatches, crate::proofs::Computed::late_records))]
+/// The edges of small lists that reach each rule and each kind of piece, and the causes of records after another.
+#[tactic(auto, using(crate::proofs::Computed::each_rule, crate::proofs::Computed::nested_dispatches, crate::proofs::Computed::timers_on_timers, crate::proofs::Computed::timers_of_pieces, crate::proofs::Computed::late_records))]
 pub fn worked_edges()
     ensures rules { EachRule }
     ensures pieces { NestedDispatches }
+    ensures later_rule { TimersOnTimers }
+    ensures joined { TimersOfPieces }
     ensures late { LateRecords }
 {}

@@ -1,10 +1,11 @@
 -- The rows, by computing.
 use Rattle.std.proofs.Common.{refl}
 use Rattle.er_history_rows.specs.Apart.{PlainElementNotForLoad, MadeElementNotForLoad, CloseForLoad, OtherDocumentNotForLoad, WindowsApart, ElementAndWindowApart, TypesApart, LongerDelaySetFirst, ShorterDelaySetLast, DeferredOfTwoDocuments}
-use Rattle.er_history_rows.specs.Full.{FullParse, FullScript, FullLoad, FullEload, LegalEload, FullTimer, FullRequest, FullBegins, FullDispatch}
+use Rattle.er_history_rows.specs.Full.{FullParse, FullScript, FullLoad, FullEload, LegalEload, FullTimer, FullTimerOfPieces, FullRequest, FullBegins, FullDispatch}
 use Rattle.er_history_rows.specs.Realistic.{RealisticPage}
 use Rattle.er_history_rows.specs.Nested.{SuspendedScript, CutShort, InAHandler, InAClose, InCallbacks}
 use Rattle.er_history_rows.specs.Late.{StepAfterDeferredScript, StepAfterDcl, StepAfterLoad, BlockingAfterStep, BlockingAfterDeferred, DeferredExchanged, ScriptAfterDcl, ScriptAfterLoad, ScriptAfterItsLoad, DclAfterLoad, HandlerAfterGreaterGroup}
+use Rattle.er_history_rows.specs.Timers.{FirstTimers, SecondTimers, ThirdTimers, FourthTimers}
 use Rattle.er_history_rows.specs.Random.{FirstPage, SecondPage, ThirdPage, FourthPage, FifthPage, SixthPage, SeventhPage, EighthPage, NinthPage, TenthPage, EleventhPage, TwelfthPage}
 
 pub realistic_page : RealisticPage
@@ -150,3 +151,18 @@ full_begins = record { given = refl; allowed = refl; legal = refl }
 
 pub full_dispatch : FullDispatch
 full_dispatch = record { given = refl; allowed = refl; legal = refl }
+
+pub full_timer_of_pieces : FullTimerOfPieces
+full_timer_of_pieces = record { given = refl; allowed = refl; legal = refl }
+
+pub first_timers : FirstTimers
+first_timers = record { edges = refl; legal = refl }
+
+pub second_timers : SecondTimers
+second_timers = record { edges = refl; legal = refl }
+
+pub third_timers : ThirdTimers
+third_timers = record { edges = refl; legal = refl }
+
+pub fourth_timers : FourthTimers
+fourth_timers = record { edges = refl; legal = refl }

@@ -3,7 +3,11 @@ use Rattle.std.specs.Prelude.{◌≡◌, ℕ, List, [], ◌∷◌, map, reverse,
 use Rattle.er_trace.specs.declared.record.Record.{Record}
 use Rattle.er_trace.specs.declared.record.Record.TheVariants.{Parse, ParseFrame, Exec, Timer, Tick, Dcl, Load, Eload, Fire, Wfire, Reply, Inline, Run, Close, Back, On, Set, Every, Send}
 use Rattle.er_trace.specs.declared.record.Kind.TheVariants as kinds
+use Rattle.er_trace.specs.declared.version.Version.{Version}
+use Rattle.er_trace.specs.declared.version.Version.TheVariants.{One, Two}
 use Rattle.er_history.specs.History.{History, told}
+use Rattle.er_history.specs.Rules.{rules}
+use Rattle.er_history.specs.Edges.{path}
 use Rattle.er_history.specs.Rows.{causes_in}
 use Rattle.er_pieces.specs.HandedPieces.{parse_handed, script_handed, load_handed, timer_handed, request_handed, dispatch_handed}
 use Rattle.er_pieces.specs.Counts.{most_parse, most_script, most_load, most_timer, most_request, most_dispatch}
@@ -17,10 +21,13 @@ abbrev pub records_of : Next → List Record
 records_of n = n.1 ∷ reverse n.0
 
 -- In each the record is handed as many pieces as it says, which is the most that is allowed, and no record has a cause.
-pub record AllFull (handed : History → Record → List ℕ) (most : List Record → Record → ℕ) (rows : List Next) : Type 0 where
-  pub given : map (λ (n : Next). length (handed (told (reverse n.0)) n.1)) rows ≡ map (λ (n : Next). n.2) rows
+pub record AllFullOf (v : Version) (handed : List Record → Record → List ℕ) (most : List Record → Record → ℕ) (rows : List Next) : Type 0 where
+  pub given : map (λ (n : Next). length (handed (reverse n.0) n.1)) rows ≡ map (λ (n : Next). n.2) rows
   pub allowed : map (λ (n : Next). most (reverse n.0) n.1) rows ≡ map (λ (n : Next). n.2) rows
-  pub legal : map (λ (n : Next). causes_in (records_of n)) rows ≡ map (λ (n : Next). map (λ (x : Record). None) (records_of n)) rows
+  pub legal : map (λ (n : Next). causes_in v (records_of n)) rows ≡ map (λ (n : Next). map (λ (x : Record). None) (records_of n)) rows
+
+abbrev pub AllFull : (History → Record → List ℕ) → (List Record → Record → ℕ) → List Next → Type 0
+AllFull handed most rows = AllFullOf One (λ h x. handed (told h) x) most rows
 
 -- A parse step: the latest parse step of its document, and the event that declared this.
 abbrev pub FullParse : Type 0
@@ -57,11 +64,21 @@ abbrev pub LegalEload : Type 0
 LegalEload = (length (load_handed (told (reverse (ParseFrame 0 1 1 ∷ Load 1 1 ∷ Close 1 ∷ []))) (Eload 2 1)) ≡ 2)
     × (length (load_handed (told (reverse (Parse 0 1 kinds.Async ∷ Exec 1 ∷ []))) (Eload 1 1)) ≡ 2)
 
+abbrev pub AllFullTimers : Version → List Next → Type 0
+AllFullTimers v rows = AllFullOf v (λ h x. timer_handed v (path (rules v) h) (told h) x) (most_timer v) rows
+
 -- A timeout behind two that were set in the same event, and a tick behind one.
 abbrev pub FullTimer : Type 0
-FullTimer = AllFull timer_handed most_timer (
+FullTimer = AllFullTimers One (
     (Parse 0 1 kinds.Inline ∷ Exec 1 ∷ Set 1 0 ∷ Set 2 0 ∷ Set 3 0 ∷ Timer 1 ∷ Timer 2 ∷ [], Timer 3, 3) ∷
     (Parse 0 1 kinds.Inline ∷ Exec 1 ∷ Every 1 5 ∷ Tick 1 ∷ [], Tick 1, 2) ∷
+    [])
+
+-- In version 2 a timeout behind two that were set in other pieces, which have a path to that in which it was set.
+abbrev pub FullTimerOfPieces : Type 0
+FullTimerOfPieces = AllFullTimers Two (
+    (Parse 0 1 kinds.Inline ∷ Set 1 0 ∷ Exec 1 ∷ Set 2 0 ∷ Parse 0 2 kinds.Plain ∷ Set 3 0 ∷ Timer 1 ∷ Timer 2 ∷ [], Timer 3, 3) ∷
+    (Parse 0 1 kinds.Inline ∷ Exec 1 ∷ Set 1 0 ∷ Set 2 0 ∷ Set 3 0 ∷ Timer 1 ∷ Timer 2 ∷ [], Timer 3, 3) ∷
     [])
 
 -- A reply behind a closed one of its request.

@@ -4,6 +4,7 @@ use Rattle.er_trace.specs.declared.record.Record.{Record}
 use Rattle.er_trace.specs.declared.record.Record.TheVariants.{Parse, ParseFrame, Exec, Dcl, Load, Eload, Fire, Run, Close, New, On}
 use Rattle.er_trace.specs.declared.record.Kind.TheVariants as kinds
 use Rattle.er_trace.specs.declared.record.NewKind.TheVariants as new_kinds
+use Rattle.er_trace.specs.declared.version.Version.TheVariants.{One}
 use Rattle.er_history.specs.Rules as tables
 use Rattle.er_history.specs.Naming.{naming}
 use Rattle.er_history.specs.Sound.{out_of_order}
@@ -11,8 +12,8 @@ use Rattle.er_history.specs.Sound.{out_of_order}
 -- After these records, oldest first, naming accepts each of the others; the late ones are out of order, and those in order are not.
 pub record Judges (before late ordered : List Record) : Type 0 where
   pub named : map (naming (reverse before)) (late ++ ordered) ≡ map (λ x. None) (late ++ ordered)
-  pub late_ones : map (out_of_order tables.rules (reverse before)) late ≡ map (λ x. true) late
-  pub in_order : map (out_of_order tables.rules (reverse before)) ordered ≡ map (λ x. false) ordered
+  pub late_ones : map (out_of_order (tables.rules One) (reverse before)) late ≡ map (λ x. true) late
+  pub in_order : map (out_of_order (tables.rules One) (reverse before)) ordered ≡ map (λ x. false) ordered
 
 -- Rule 5: a parse step after a deferred script of its document has run.
 abbrev pub StepAfterDeferredScript : Type 0

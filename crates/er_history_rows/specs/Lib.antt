@@ -4,3 +4,4 @@ pub mod Late
 pub mod Nested
 pub mod Random
 pub mod Realistic
+pub mod Timers

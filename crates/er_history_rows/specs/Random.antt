@@ -8,6 +8,7 @@ use Rattle.er_trace.specs.declared.record.Kind.TheVariants as kinds
 use Rattle.er_trace.specs.declared.record.NewKind.TheVariants as new_kinds
 use Rattle.er_trace.specs.declared.record.Mode.TheVariants as modes
 use Rattle.er_trace.specs.declared.record.Loc.TheVariants.{Var, Elem, Slot}
+use Rattle.er_trace.specs.declared.version.Version.TheVariants.{One}
 use Rattle.er_history.specs.Rules as tables
 use Rattle.er_history.specs.Sound as sound
 use Rattle.er_history.specs.Rows.{Line, records_in, IsRow}
@@ -15,7 +16,7 @@ use Rattle.er_history.specs.Rows.{Line, records_in, IsRow}
 -- A row, and the cause of each record that may come behind it.
 pub record IsRowBefore (lines : List Line) (nexts : List (Record × Option Cause)) : Type 0 where
   pub row : IsRow lines
-  pub next : map (λ (n : Record × Option Cause). sound.cause tables.rules (records_in lines) n.0) nexts ≡ map (λ (n : Record × Option Cause). n.1) nexts
+  pub next : map (λ (n : Record × Option Cause). sound.cause (tables.rules One) (records_in lines) n.0) nexts ≡ map (λ (n : Record × Option Cause). n.1) nexts
 
 abbrev pub FirstPage : Type 0
 FirstPage = IsRowBefore (

@@ -4,11 +4,12 @@
 #![tactic(auto)]
 
 ghost use Rattle.er_history_rows.specs.Apart.{PlainElementNotForLoad, MadeElementNotForLoad, CloseForLoad, OtherDocumentNotForLoad, WindowsApart, ElementAndWindowApart, TypesApart, LongerDelaySetFirst, ShorterDelaySetLast, DeferredOfTwoDocuments};
-ghost use Rattle.er_history_rows.specs.Full.{FullParse, FullScript, FullLoad, FullEload, LegalEload, FullTimer, FullRequest, FullBegins, FullDispatch};
+ghost use Rattle.er_history_rows.specs.Full.{FullParse, FullScript, FullLoad, FullEload, LegalEload, FullTimer, FullTimerOfPieces, FullRequest, FullBegins, FullDispatch};
 ghost use Rattle.er_history_rows.specs.Late.{StepAfterDeferredScript, StepAfterDcl, StepAfterLoad, BlockingAfterStep, BlockingAfterDeferred, DeferredExchanged, ScriptAfterDcl, ScriptAfterLoad, ScriptAfterItsLoad, DclAfterLoad, HandlerAfterGreaterGroup};
 ghost use Rattle.er_history_rows.specs.Nested.{SuspendedScript, CutShort, InAHandler, InAClose, InCallbacks};
 ghost use Rattle.er_history_rows.specs.Random.{FirstPage, SecondPage, ThirdPage, FourthPage, FifthPage, SixthPage, SeventhPage, EighthPage, NinthPage, TenthPage, EleventhPage, TwelfthPage};
 ghost use Rattle.er_history_rows.specs.Realistic.{RealisticPage};
+ghost use Rattle.er_history_rows.specs.Timers.{FirstTimers, SecondTimers, ThirdTimers, FourthTimers};
 
 /// The edges of a page as it is met.
 #[tactic(auto, using(crate::proofs::Computed::realistic_page))]
@@ -62,9 +63,10 @@ pub fn full_pages()
 {}
 
 /// Lists that reach the most pieces that the rules of timeouts, requests and dispatches hand.
-#[tactic(auto, using(crate::proofs::Computed::full_timer, crate::proofs::Computed::full_request, crate::proofs::Computed::full_begins, crate::proofs::Computed::full_dispatch))]
+#[tactic(auto, using(crate::proofs::Computed::full_timer, crate::proofs::Computed::full_timer_of_pieces, crate::proofs::Computed::full_request, crate::proofs::Computed::full_begins, crate::proofs::Computed::full_dispatch))]
 pub fn full_callbacks()
     ensures full_timer { FullTimer }
+    ensures full_timer_of_pieces { FullTimerOfPieces }
     ensures full_request { FullRequest }
     ensures full_begins { FullBegins }
     ensures full_dispatch { FullDispatch }
@@ -116,4 +118,13 @@ pub fn more_random_pages()
     ensures tenth_page { TenthPage }
     ensures eleventh_page { EleventhPage }
     ensures twelfth_page { TwelfthPage }
+{}
+
+/// The edges of random pages with many timeouts, in version 2.
+#[tactic(auto, using(crate::proofs::Computed::first_timers, crate::proofs::Computed::second_timers, crate::proofs::Computed::third_timers, crate::proofs::Computed::fourth_timers))]
+pub fn random_timers()
+    ensures first_timers { FirstTimers }
+    ensures second_timers { SecondTimers }
+    ensures third_timers { ThirdTimers }
+    ensures fourth_timers { FourthTimers }
 {}

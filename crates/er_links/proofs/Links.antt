@@ -40,7 +40,7 @@ some_below q (suc n) e = elim (or_cases (list_any q (numbers_below n)) (list_any
 
 -- paths to the newest
 
-joins_still : (p : List ℕ) (older : List (List ℕ)) (i j : ℕ) → joins older i j ≡ true → joins (p ∷ older) i j ≡ true
+pub joins_still : (p : List ℕ) (older : List (List ℕ)) (i j : ℕ) → joins older i j ≡ true → joins (p ∷ older) i j ≡ true
 joins_still p older i j h = joins_older p older i j (joins_below older i j h) ∙ h
 
 last_step : (p : List ℕ) (older : List (List ℕ)) (i : ℕ) → i ≢ length older → joins (p ∷ older) i (length older) ≡ true → (m : ℕ) × (is_among m p ≡ true) × (joins older i m ≡ true)
@@ -196,7 +196,7 @@ links_grow p older =
     ap (λ (x : List ℕ). x ∷ links_to (p ∷ older) (length older)) (links_newest p older)
     ∙ ap (λ (xs : List (List ℕ)). kept_of older p ∷ xs) (links_to_still p older (length older) (omega arith))
 
-links_long : (lists : List (List ℕ)) (n : ℕ) → length (links_to lists n) ≡ n
+pub links_long : (lists : List (List ℕ)) (n : ℕ) → length (links_to lists n) ≡ n
 links_long lists zero = refl
 links_long lists (suc n) = ap suc (links_long lists n)
 

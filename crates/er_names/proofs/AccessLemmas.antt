@@ -10,7 +10,7 @@ use Rattle.er_trace.specs.declared.record.Mode.{Mode}
 use Rattle.er_history.specs.History.{told, or_else, first_to, maker_by, running, actions_after, Action}
 use Rattle.er_names.specs.declared.names.Names.{Names}
 use Rattle.er_names.specs.declared.tables.Tables.{Tables}
-use Rattle.er_history.specs.LookUps.{fired_with}
+use Rattle.er_history.specs.LookUps as says
 use Rattle.er_names.specs.Names.{MakersAre, FirstsAre, TablesAre, NamesAre}
 use Rattle.er_names.proofs.NamesLemmas.{elements_more, timeouts_more}
 use Rattle.er_names.proofs.RankLemmas.{ranked_more}
@@ -60,5 +60,11 @@ pub names_same : (names : Names) (h : List Record) (m : Mode) (l : Loc) (a : Act
     → NamesAre names h → NamesAre names (Access m l ∷ h)
 names_same names h m l a runs stands = record {
   tables = tables_same names.tables h m l a runs stands.tables;
-  fired = record { all = λ u. stands.fired.all u ∙ sym (append-nil (fired_with h u)) };
+  fired = record {
+    all = stands.fired.all ∙ sym (append-nil (says.fired h));
+    all_timeouts = stands.fired.all_timeouts ∙ sym (append-nil (says.fired h));
+    each = λ u. stands.fired.each u ∙ sym (append-nil (says.fired_with h u));
+    each_timeouts = λ u. stands.fired.each_timeouts u ∙ sym (append-nil (says.fired_with h u));
+  };
+  found = stands.found;
 }

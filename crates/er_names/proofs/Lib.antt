@@ -1,3 +1,4 @@
 pub mod AccessLemmas
+pub mod FoundLemmas
 pub mod NamesLemmas
 pub mod RankLemmas

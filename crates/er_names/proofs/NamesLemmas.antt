@@ -1,15 +1,16 @@
 -- How a table comes to stand for one record more.
 use Rattle.std.proofs.Common.{◌≡◌, ℕ, Bool, true, false, List, [], ◌∷◌, length, Option, Some, None, option_map, is_some, refl, sym, ap, subst, ◌∙◌}
-use Rattle.std.specs.Prelude.{◌||◌, ◌==◌, if◌then◌else◌}
+use Rattle.std.specs.Prelude.{◌||◌, ◌==◌, if◌then◌else◌, map}
 use Rattle.er_trace.specs.declared.record.Record.{Record}
 use Rattle.er_trace.specs.declared.record.Record.TheVariants.{Timer}
 use Rattle.er_history.specs.History as history
 use Rattle.er_history.specs.History.{told, or_else, first_to, makes_element, makes_timeout, running, actions_after, Action, Entry}
-use Rattle.er_history.specs.LookUps.{timeout_made, fires_of}
+use Rattle.er_history.specs.LookUps.{timeout_made, fires, fires_of}
 use Rattle.er_names.specs.declared.names.Element.{Element}
+use Rattle.er_names.specs.declared.names.SetTimeout.{SetTimeout}
 use Rattle.er_names.specs.declared.names.Timeout.{Timeout}
 use Rattle.er_names.specs.Noted.{noted_in}
-use Rattle.er_names.specs.Fired.{timer_found, timers_of}
+use Rattle.er_names.specs.Fired.{number_of, numbered, timer_found, timer_listed, timers_of}
 use Rattle.er_names.specs.Names.{Setting, ElementsAre, TimeoutsAre, ElementGiven, SettingGiven, element_of, setting_of, setting}
 
 pub map_or_else : {A B : Type 0} (f : A → B) (o p : Option A) → option_map f (or_else o p) ≡ or_else (option_map f o) (option_map f p)
@@ -56,18 +57,39 @@ timeouts_more old new pair h x a more stands given runs = record {
 }
 
 -- what is found of a timer's timeout is what the list says of it
-pub timer_fires : (h : List Record) (x : Record) (found : ℕ → Option Timeout) (timer : Option (ℕ × ℕ)) → TimeoutsAre found h → timer ≡ timer_found found x → (u : ℕ) → timers_of u timer ≡ fires_of h u x
-timer_fires h (Timer t) found timer stands e u = ap (timers_of u) e ∙ (by_setting (found t) ∙ (ap of (stands.made t) ∙ sym (by_list (timeout_made h t) refl)))
+pub timer_fires : (h : List Record) (x : Record) (found : ℕ → Option Timeout) (timer : Option SetTimeout) → TimeoutsAre found h → timer ≡ timer_found found x → (u : ℕ) → map number_of (timers_of u timer) ≡ fires_of h u x
+timer_fires h (Timer t) found timer stands e u = ap (λ o. map number_of (timers_of u o)) e ∙ (by_setting (found t) ∙ (ap of (stands.made t) ∙ sym (by_list (timeout_made h t) refl)))
   where
     of : Option Setting → List ℕ
     of None = []
     of (Some s) = if s.maker == u then t ∷ [] else []
 
-    by_setting : (o : Option Timeout) → timers_of u (option_map (λ (x : Timeout). (x.maker, t)) o) ≡ of (option_map setting_of o)
+    alone : (b : Bool) (y : SetTimeout) → map number_of (if b then y ∷ [] else []) ≡ (if b then y.timeout ∷ [] else [])
+    alone true y = refl
+    alone false y = refl
+
+    by_setting : (o : Option Timeout) → map number_of (timers_of u (option_map (numbered t) o)) ≡ of (option_map setting_of o)
     by_setting None = refl
-    by_setting (Some x) = refl
+    by_setting (Some x) = alone (x.maker == u) (numbered t x)
 
     by_list : (o : Option history.Timeout) → timeout_made h t ≡ o → fires_of h u (Timer t) ≡ of (option_map setting o)
     by_list None e = rw e refl
     by_list (Some x) e = rw e refl
-timer_fires h _ found timer stands e u = ap (timers_of u) e
+timer_fires h _ found timer stands e u = ap (λ o. map number_of (timers_of u o)) e
+
+-- and so is the timeout itself
+pub timer_listed_fires : (h : List Record) (x : Record) (found : ℕ → Option Timeout) (timer : Option SetTimeout) → TimeoutsAre found h → timer ≡ timer_found found x → timer_listed timer ≡ fires h x
+timer_listed_fires h (Timer t) found timer stands e = ap timer_listed e ∙ (by_setting (found t) ∙ (ap of (stands.made t) ∙ sym (by_list (timeout_made h t) refl)))
+  where
+    of : Option Setting → List ℕ
+    of None = []
+    of (Some s) = t ∷ []
+
+    by_setting : (o : Option Timeout) → timer_listed (option_map (numbered t) o) ≡ of (option_map setting_of o)
+    by_setting None = refl
+    by_setting (Some x) = refl
+
+    by_list : (o : Option history.Timeout) → timeout_made h t ≡ o → fires h (Timer t) ≡ of (option_map setting o)
+    by_list None e = rw e refl
+    by_list (Some x) e = rw e refl
+timer_listed_fires h _ found timer stands e = ap timer_listed e

@@ -1,39 +1,88 @@
 -- What the timeouts that have fired stand for.
-use Rattle.std.specs.Prelude.{◌≡◌, ℕ, ◌<◌, ◌==◌, if◌then◌else◌, List, [], ◌∷◌, Option, Some, None, IsSomeAnd, option_map, nat_eq, Vec, vec_len, vec_capacity}
+use Rattle.std.specs.Prelude.{◌≡◌, ℕ, ◌<◌, ◌==◌, if◌then◌else◌, List, [], ◌∷◌, Option, Some, None, IsSomeAnd, option_map, map, nat_eq, vec_len, vec_capacity}
+use Rattle.std.specs.List.{All}
 use Rattle.indexmap.specs.IndexMap.{get}
 use Rattle.er_trace.specs.declared.record.Record.{Record}
 use Rattle.er_trace.specs.declared.record.Record.TheVariants.{Timer}
 use Rattle.er_names.specs.declared.fired.Fired.{Fired}
+use Rattle.er_names.specs.declared.fired.Firings.{Firings}
+use Rattle.er_names.specs.declared.names.SetTimeout.{SetTimeout}
 use Rattle.er_names.specs.declared.names.Timeout.{Timeout}
-use Rattle.er_history.specs.LookUps.{fired_with}
+use Rattle.er_history.specs.LookUps as says
+
+abbrev pub number_of : SetTimeout → ℕ
+number_of x = x.timeout
+
+-- the timeout with its number
+abbrev pub numbered : ℕ → Timeout → SetTimeout
+numbered t x = record {
+  timeout = t;
+  delay = x.delay;
+  maker = x.maker;
+  piece = x.piece;
+  rank = x.rank;
+}
+
+-- it is what is found under its number
+abbrev pub IsFound : (ℕ → Option Timeout) → SetTimeout → Type 0
+IsFound found x = option_map (numbered x.timeout) (found x.timeout) ≡ Some x
+
+-- what was found under a number is found there still
+abbrev pub KeepsEach : (ℕ → Option Timeout) → (ℕ → Option Timeout) → Type 0
+KeepsEach old new = (k : ℕ) (x : Timeout) → old k ≡ Some x → new k ≡ Some x
 
 -- no list is as an empty one
-abbrev pub items_of : {A : Type 0} → Option (Vec ℕ A) → List ℕ
-items_of None = []
-items_of (Some v) = v.items
 
-abbrev pub items_at : Fired → ℕ → List ℕ
-items_at fired u = items_of (get nat_eq fired.lists u)
+abbrev pub numbers_of : Option Firings → List ℕ
+numbers_of None = []
+numbers_of (Some list) = list.numbers.items
 
--- under each event the timeouts that it set and that have fired
+abbrev pub timeouts_of : Option Firings → List SetTimeout
+timeouts_of None = []
+timeouts_of (Some list) = list.timeouts.items
+
+abbrev pub numbers_at : Fired → ℕ → List ℕ
+numbers_at fired u = numbers_of (get nat_eq fired.lists u)
+
+abbrev pub timeouts_at : Fired → ℕ → List SetTimeout
+timeouts_at fired u = timeouts_of (get nat_eq fired.lists u)
+
+-- the timeouts that have fired: all of them, and under each event those that it set
 pub record FiredAre (fired : Fired) (h : List Record) : Type 0 where
-  pub all : (u : ℕ) → items_at fired u ≡ fired_with h u
+  pub all : fired.all.numbers.items ≡ says.fired h
+  pub all_timeouts : map number_of fired.all.timeouts.items ≡ says.fired h
+  pub each : (u : ℕ) → numbers_at fired u ≡ says.fired_with h u
+  pub each_timeouts : (u : ℕ) → map number_of (timeouts_at fired u) ≡ says.fired_with h u
 
--- the timeout whose callback the record begins, behind the event that set it
-abbrev pub timer_found : (ℕ → Option Timeout) → Record → Option (ℕ × ℕ)
-timer_found found (Timer t) = option_map (λ (x : Timeout). (x.maker, t)) (found t)
+-- each stands as it is found
+pub record AreFound (found : ℕ → Option Timeout) (fired : Fired) : Type 0 where
+  pub all : All (IsFound found) fired.all.timeouts.items
+  pub each : (u : ℕ) → All (IsFound found) (timeouts_at fired u)
+
+-- the timeout whose callback the record begins
+abbrev pub timer_found : (ℕ → Option Timeout) → Record → Option SetTimeout
+timer_found found (Timer t) = option_map (numbered t) (found t)
 timer_found found _ = None
 
--- the timeout of such a pair, where it is this event that set it
-abbrev pub timers_of : ℕ → Option (ℕ × ℕ) → List ℕ
+-- the timeout, where this event set it
+abbrev pub timers_of : ℕ → Option SetTimeout → List SetTimeout
 timers_of u None = []
-timers_of u (Some p) = if p.0 == u then p.1 ∷ [] else []
+timers_of u (Some x) = if x.maker == u then x ∷ [] else []
 
--- the list of this event has room for one timeout more
+abbrev pub timer_listed : Option SetTimeout → List ℕ
+timer_listed None = []
+timer_listed (Some x) = x.timeout ∷ []
+
+-- the list has room for one timeout more
+abbrev pub HasPlace : Firings → Type 0
+HasPlace list =
+    (vec_len list.numbers < vec_capacity list.numbers)
+    × (vec_len list.timeouts < vec_capacity list.timeouts)
+
+-- the list of this event has
 abbrev pub ListHasPlace : Fired → ℕ → Type 0
-ListHasPlace fired event =
-    IsSomeAnd (get nat_eq fired.lists event) (λ list. vec_len list < vec_capacity list)
+ListHasPlace fired event = IsSomeAnd (get nat_eq fired.lists event) HasPlace
 
-abbrev pub HasPlaceFor : Fired → Option (ℕ × ℕ) → Type 0
+abbrev pub HasPlaceFor : Fired → Option SetTimeout → Type 0
 HasPlaceFor fired None = Unit {0}
-HasPlaceFor fired (Some p) = ListHasPlace fired p.0
+HasPlaceFor fired (Some x) = HasPlace fired.all × ListHasPlace fired x.maker

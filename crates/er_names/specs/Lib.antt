@@ -1,4 +1,3 @@
 pub mod Fired
-pub mod LookUps
 pub mod Names
 pub mod Noted

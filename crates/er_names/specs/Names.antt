@@ -9,11 +9,12 @@ use Rattle.er_history.specs.Naming.{knows_document, declares_element, sets_timeo
 use Rattle.er_names.specs.declared.names.Form.{Form}
 use Rattle.er_names.specs.declared.names.Form.TheVariants.{Kinded, Framing}
 use Rattle.er_names.specs.declared.names.Element.{Element}
+use Rattle.er_names.specs.declared.names.SetTimeout.{SetTimeout}
 use Rattle.er_names.specs.declared.names.Timeout.{Timeout}
 use Rattle.er_names.specs.declared.names.Names.{Names}
 use Rattle.er_names.specs.declared.names.Now.{Now}
 use Rattle.er_names.specs.declared.tables.Tables.{Tables}
-use Rattle.er_names.specs.Fired.{FiredAre, HasPlaceFor, timer_found}
+use Rattle.er_names.specs.Fired.{FiredAre, AreFound, HasPlaceFor, numbered, timer_found}
 use Rattle.er_names.specs.Noted.{noted_in}
 use Rattle.er_history.specs.LookUps.{place_of, before, closes_dispatch, makes_frame, begins_dcl, begins_load, begins_eload}
 
@@ -131,6 +132,15 @@ pub record TablesAre (tables : Tables) (h : List Record) : Type 0 where
 pub record NamesAre (names : Names) (h : List Record) : Type 0 where
   pub tables : TablesAre names.tables h
   pub fired : FiredAre names.fired h
+  pub found : AreFound (get nat_eq names.tables.timeouts) names.fired
+
+-- the timeout of this number
+abbrev pub timeout_at : Names → ℕ → Option SetTimeout
+timeout_at names t = option_map (numbered t) (get nat_eq names.tables.timeouts t)
+
+-- it is the timeout of its number
+abbrev pub IsSet : Names → SetTimeout → Type 0
+IsSet names x = timeout_at names x.timeout ≡ Some x
 
 -- each table has room for one number more
 pub record HaveSpare (tables : Tables) : Type 0 where

@@ -10,9 +10,9 @@
 //! | a number that was declared, its maker | `maker_of_element`, `maker_of_document`, `maker_of_handler`, `maker_of_timeout`, `maker_of_interval`, `maker_of_request` |
 //! | an element | `element`, `document_of`, `is_static`, `parse_action`; a script: `script_kind`, `run_of`; a frame: `inner_of`; its load: `eload_of` |
 //! | a document | `frame_of`, `dcl_of`, `load_of` |
-//! | a timeout | `delay_of`, `setting_piece`, `timer_event`; two of them: `set_before` |
+//! | a timeout | `timeout`, `delay_of`, `setting_piece`, `timer_event`; two of them: `set_before`; all that have fired: `fired`, `fired_timeouts` |
 //! | a dispatch | `begin_event`, `close_event` |
-//! | an event | `fired_with` |
+//! | an event | `fired_with`, `fired_timeouts_with` |
 //!
 //! A record is taken in two steps. `make_room` may answer `NoMemory`, and leaves what the names stand for;
 //! `take` needs the room and the action that runs when the record has been read, with its event (`Now`), and can't fail.

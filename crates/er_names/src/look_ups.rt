@@ -1,13 +1,15 @@
 //! What the list of accepted records says, by number. No look-up takes memory.
 
-ghost use Rattle.std.specs.Prelude.{◌≡◌, ℕ, List, Some, None, option_map, nat_eq};
+ghost use Rattle.std.specs.Prelude.{◌≡◌, ℕ, List, Some, None, option_map, map, nat_eq};
+ghost use Rattle.std.specs.List.{All};
 ghost use Rattle.indexmap.specs.IndexMap.{get};
 ghost use Rattle.er_trace.specs.declared.record.Record.{Record};
 ghost use Rattle.er_history.specs.LookUps as says;
-ghost use Rattle.er_names.specs.LookUps.{setting_piece};
-ghost use Rattle.er_names.specs.Names.{Answers, NamesAre, rank_of};
+ghost use Rattle.er_names.specs.Fired.{number_of};
+ghost use Rattle.er_names.specs.Names.{Answers, NamesAre, IsSet, rank_of, timeout_at};
 
-use crate::names::{Form, Names};
+use crate::names::{Form, Names, SetTimeout};
+use crate::tables::numbered;
 use er_trace::record::Kind;
 
 /// Makers: the events whose pieces hold the records that declare the numbers.
@@ -164,7 +166,7 @@ impl Names {
 
     /// The piece that set the timeout.
     pub fn setting_piece(&self, timeout: u32) -> Option<u32>
-        ensures { Answers self.now (λ h. setting_piece h timeout) result }
+        ensures { Answers self.now (λ h. says.setting_piece h timeout) result }
     {
         let set = self.tables.timeouts.get(&timeout)?;
         Some(set.piece)
@@ -177,11 +179,42 @@ impl Names {
         self.tables.callbacks.get(&timeout).copied()
     }
 
+    /// All timeouts that have fired, in order of firing.
+    pub fn fired(&self) -> &[u32]
+        ensures { Answers self.now (λ h. says.fired h) result.now }
+    {
+        self.fired.all()
+    }
+
     /// The timeouts set in the event that have fired, in order of firing.
     pub fn fired_with(&self, event: u32) -> &[u32]
         ensures { Answers self.now (λ h. says.fired_with h event) result.now }
     {
         self.fired.with(event)
+    }
+
+    /// The timeout of this number, as it was set.
+    pub fn timeout(&self, timeout: u32) -> Option<SetTimeout>
+        ensures { result ≡ timeout_at self.now timeout }
+    {
+        let set = self.tables.timeouts.get(&timeout)?;
+        Some(numbered(timeout, *set))
+    }
+
+    /// All timeouts that have fired, in order of firing, as they were set.
+    pub fn fired_timeouts(&self) -> &[SetTimeout]
+        ensures numbers { Answers self.now (λ h. says.fired h) (map number_of result.now) }
+        ensures set { (h : List Record) → NamesAre self.now h → All (IsSet self.now) result.now }
+    {
+        self.fired.all_timeouts()
+    }
+
+    /// The timeouts set in the event that have fired, in order of firing, as they were set.
+    pub fn fired_timeouts_with(&self, event: u32) -> &[SetTimeout]
+        ensures numbers { Answers self.now (λ h. says.fired_with h event) (map number_of result.now) }
+        ensures set { (h : List Record) → NamesAre self.now h → All (IsSet self.now) result.now }
+    {
+        self.fired.timeouts_with(event)
     }
 
     /// Whether both timeouts are set, the first in an earlier line.

@@ -4,6 +4,7 @@ ghost use Rattle.std.specs.Prelude.{◌≡◌, ℕ, ◌<◌, List, ◌∷◌, na
 ghost use Rattle.indexmap.specs.IndexMap.{get, spare, index_map_len};
 ghost use Rattle.er_trace.specs.declared.record.Record.{Record};
 ghost use Rattle.er_history.specs.History as history;
+ghost use Rattle.er_names.specs.Fired.{KeepsEach};
 ghost use Rattle.er_names.specs.Names.{ElementsAre, TimeoutsAre, ElementGiven, SettingGiven, HasRank, IsRankedByPlace, IsNow, Takes};
 
 use crate::firsts::note_pair;
@@ -24,6 +25,7 @@ pub(crate) fn note_element(table: &mut IndexMap<u32, Element>, rec: &Record, now
 pub(crate) fn note_timeout(table: &mut IndexMap<u32, Timeout>, rec: &Record, now: Now)
     requires room { 0 < spare table.old }
     ensures set { Takes TimeoutsAre (get nat_eq table.old) (get nat_eq table.new) rec.now now }
+    ensures kept { KeepsEach (get nat_eq table.old) (get nat_eq table.new) }
     ensures ranked { (h : List Record)
         → IsRankedByPlace (get nat_eq table.old) (index_map_len table.old) h
         → IsNow h rec.now now

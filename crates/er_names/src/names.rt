@@ -36,6 +36,16 @@ pub(crate) struct Timeout {
     pub(crate) rank: usize,
 }
 
+/// A timeout that was set: its number, its delay, the event and the piece that set it, and how many were set before.
+#[derive(Clone, Copy)]
+pub struct SetTimeout {
+    pub timeout: u32,
+    pub delay: u32,
+    pub maker: u32,
+    pub piece: u32,
+    pub rank: usize,
+}
+
 /// The running action, and its event.
 #[derive(Clone, Copy)]
 pub struct Now {

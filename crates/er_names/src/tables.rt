@@ -2,12 +2,13 @@
 
 ghost use Rattle.std.specs.Prelude.{◌≡◌, ℕ, [], OnOk, nat_eq};
 ghost use Rattle.indexmap.specs.IndexMap.{get};
-ghost use Rattle.er_names.specs.Fired.{timer_found};
+ghost use Rattle.er_names.specs.Fired.{KeepsEach, timer_found};
+ghost use Rattle.er_names.specs.Fired as says;
 ghost use Rattle.er_names.specs.Names.{TablesAre, HaveSpare, Keeps, Takes};
 
 use crate::firsts::make_room;
 use crate::made::{note_element, note_timeout};
-use crate::names::{Element, Now, Timeout};
+use crate::names::{Element, Now, SetTimeout, Timeout};
 use crate::notes::{
     note_begin, note_callback, note_close, note_dcl, note_document, note_eload, note_frame,
     note_handler, note_interval, note_load, note_request, note_run,
@@ -114,7 +115,8 @@ impl Tables {
     /// Takes a record, after which this action runs.
     pub(crate) fn take(&mut self, rec: &Record, now: Now)
         requires room { HaveSpare self.old }
-        ensures { Takes TablesAre self.old self.new rec.now now }
+        ensures taken { Takes TablesAre self.old self.new rec.now now }
+        ensures kept { KeepsEach (get nat_eq self.old.timeouts) (get nat_eq self.new.timeouts) }
     {
         note_element(&mut self.elements, rec, now);
         note_timeout(&mut self.timeouts, rec, now);
@@ -132,14 +134,27 @@ impl Tables {
         note_eload(&mut self.eloads, rec);
     }
 
-    /// The timeout whose callback the record begins, behind the event that set it.
-    pub(crate) fn timer_in(&self, rec: &Record) -> Option<(u32, u32)>
+    /// The timeout whose callback the record begins.
+    pub(crate) fn timer_in(&self, rec: &Record) -> Option<SetTimeout>
         ensures { result ≡ timer_found (get nat_eq self.now.timeouts) rec.now }
     {
         let Record::Timer { timeout } = rec else {
             return None;
         };
         let set = self.timeouts.get(timeout)?;
-        Some((set.maker, *timeout))
+        Some(numbered(*timeout, *set))
+    }
+}
+
+/// The timeout with its number.
+pub(crate) fn numbered(timeout: u32, set: Timeout) -> SetTimeout
+    ensures { result ≡ says.numbered timeout set }
+{
+    SetTimeout {
+        timeout,
+        delay: set.delay,
+        maker: set.maker,
+        piece: set.piece,
+        rank: set.rank,
     }
 }

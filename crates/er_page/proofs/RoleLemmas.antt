@@ -64,7 +64,7 @@ form_now h (Back p) b g placed = absurd (cc)
 form_now h _ b g placed = absurd (cc)
 
 -- so does the record of a first piece
-form_first : (h : List Record) → IsNamed h → (a : Action) → Among a (told h).actions → a.event.number ≡ a.number → Form a.begin a.event.what
+pub form_first : (h : List Record) → IsNamed h → (a : Action) → Among a (told h).actions → a.event.number ≡ a.number → Form a.begin a.event.what
 form_first [] named a among own = absurd among
 form_first (x ∷ h) named a among own =
     let placed = (none_holds h x named.0).placed in

@@ -6,24 +6,28 @@
 //! |---|---|
 //! | the list | `actions`, `running`, `open_dispatch`, `inline_depth` |
 //! | an action | `begin_of`, `event_of` |
-//! | an event | `latest_piece`, `begun_as`; the timeouts set in it: `fired_with` |
+//! | an event | `latest_piece`, `begun_as`; the timeouts set in it: `fired_with`, `fired_timeouts_with` |
 //! | a number that was declared, its maker | `maker_of_element`, `maker_of_document`, `maker_of_handler`, `maker_of_timeout`, `maker_of_interval`, `maker_of_request` |
-//! | an element | `document_of`, `is_static`, `parse_action`; a script: `script_kind`, `run_of`; a frame: `inner_of`; its load: `eload_of` |
+//! | an element | `element`, `document_of`, `is_static`, `parse_action`; a script: `script_kind`, `run_of`; a frame: `inner_of`; its load: `eload_of` |
 //! | a document | `frame_of`, `dcl_of`, `load_of`; what came last in it: `last_parse`, `last_blocking_run`, `last_deferred_run`, `last_deferred_element`; all of a kind: `async_runs`, `static_closes` |
-//! | a timeout | `delay_of`, `timer_event`; two of them: `set_before` |
+//! | a timeout | `timeout`, `delay_of`, `setting_piece`, `timer_event`; two of them: `set_before`; all that have fired: `fired`, `fired_timeouts` |
 //! | an interval, a request | `last_tick`, `last_reply_close` |
 //! | a dispatch | `begin_event`, `close_event`, `suspended_by`; its handlers: `last_group`, `runs_in`, `group_below` |
 //! | a target and a type | `last_element_close`, `last_window_close` |
 
-ghost use Rattle.std.specs.Prelude.{◌≡◌, ℕ, List, length, Some, None};
+ghost use Rattle.std.specs.Prelude.{◌≡◌, ℕ, List, length, option_map, map, Some, None};
+ghost use Rattle.std.specs.List.{All};
 ghost use Rattle.er_trace.specs.declared.record.Record.{Record};
 ghost use Rattle.er_history.specs.History.{told};
 ghost use Rattle.er_history.specs.LookUps as says;
+ghost use Rattle.er_names.specs.Fired.{number_of};
+ghost use Rattle.er_names.specs.Names.{IsSet, element_of, timeout_at};
 ghost use Rattle.er_page.specs.LookUps.{begun_of, suspended_at};
-ghost use Rattle.er_page.specs.Page.{Answers, HasBegun, HasEvent};
+ghost use Rattle.er_page.specs.Page.{Answers, HasBegun, HasEvent, IsPage};
 
 use crate::page::Page;
 use crate::piece::Begun;
+use er_names::names::{Element, SetTimeout};
 use er_trace::name::Name;
 use er_trace::record::{Kind, Record};
 
@@ -128,6 +132,13 @@ impl Page {
 
 /// Elements and documents.
 impl Page {
+    /// The element: its document, its form, and what made it.
+    pub fn element(&self, element: u32) -> Option<Element>
+        ensures { Answers self.now (λ h. says.element_made h element) (option_map element_of result) }
+    {
+        self.names.element(element)
+    }
+
     /// The document in which the element was made.
     pub fn document_of(&self, element: u32) -> Option<u32>
         ensures { Answers self.now (λ h. says.document_of h element) result }
@@ -260,11 +271,48 @@ impl Page {
         self.names.timer_event(timeout)
     }
 
+    /// The piece that set the timeout.
+    pub fn setting_piece(&self, timeout: u32) -> Option<u32>
+        ensures { Answers self.now (λ h. says.setting_piece h timeout) result }
+    {
+        self.names.setting_piece(timeout)
+    }
+
+    /// All timeouts that have fired, in order of firing.
+    pub fn fired(&self) -> &[u32]
+        ensures { Answers self.now (λ h. says.fired h) result.now }
+    {
+        self.names.fired()
+    }
+
     /// The timeouts set in the event that have fired, in order of firing.
     pub fn fired_with(&self, event: u32) -> &[u32]
         ensures { Answers self.now (λ h. says.fired_with h event) result.now }
     {
         self.names.fired_with(event)
+    }
+
+    /// The timeout of this number, as it was set.
+    pub fn timeout(&self, timeout: u32) -> Option<SetTimeout>
+        ensures { result ≡ timeout_at self.now.names timeout }
+    {
+        self.names.timeout(timeout)
+    }
+
+    /// All timeouts that have fired, in order of firing, as they were set.
+    pub fn fired_timeouts(&self) -> &[SetTimeout]
+        ensures numbers { Answers self.now (λ h. says.fired h) (map number_of result.now) }
+        ensures set { (h : List Record) → IsPage self.now h → All (IsSet self.now.names) result.now }
+    {
+        self.names.fired_timeouts()
+    }
+
+    /// The timeouts set in the event that have fired, in order of firing, as they were set.
+    pub fn fired_timeouts_with(&self, event: u32) -> &[SetTimeout]
+        ensures numbers { Answers self.now (λ h. says.fired_with h event) (map number_of result.now) }
+        ensures set { (h : List Record) → IsPage self.now h → All (IsSet self.now.names) result.now }
+    {
+        self.names.fired_timeouts_with(event)
     }
 
     /// Whether both timeouts are set, the first in an earlier line.

@@ -24,7 +24,7 @@ use er_trace::record::Record;
 use std::alloc::Global;
 
 /// How many actions may begin.
-const MOST_ACTIONS: usize = 16_384;
+const MOST_ACTIONS: usize = 32_768;
 
 /// How many inline dispatches the stack may hold.
 const MOST_INLINE: u32 = 256;

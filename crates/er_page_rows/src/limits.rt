@@ -11,11 +11,11 @@ use std::alloc::Global;
 use std::test::Fail;
 
 /// How many actions may begin.
-const MOST_ACTIONS: u32 = 16_384;
+const MOST_ACTIONS: u32 = 32_768;
 
 /// Lines after the last action that may begin. Naming comes first, and a note begins no action.
 static LINES: [(&str, Option<Cause>); 4] = [
-    ("parse 0 16384 plain", Some(Cause::TooManyActions)),
+    ("parse 0 32768 plain", Some(Cause::TooManyActions)),
     ("parse 0 7 plain", Some(Cause::Again)),
     ("send 1", None),
     ("reply 1 1", Some(Cause::TooManyActions)),

@@ -3,4 +3,4 @@ use Rattle.std.specs.Prelude.{ℕ}
 
 -- how many actions there may be: as many lists of predecessors
 abbrev pub most_actions : ℕ
-most_actions = 16384
+most_actions = 32768

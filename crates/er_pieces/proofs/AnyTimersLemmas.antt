@@ -5,8 +5,10 @@ use Rattle.std.proofs.lemmas.Bool.{eqb-true, eq-eqb}
 use Rattle.er_trace.specs.declared.record.Record.{Record}
 use Rattle.er_trace.specs.declared.record.Record.TheVariants.{Timer, Tick, Run, Close, Back}
 use Rattle.er_paths.proofs.Paths.{or_cases, or_left, or_right}
+use Rattle.er_trace.specs.declared.version.Version.{Version}
+use Rattle.er_trace.specs.declared.version.Version.TheVariants.{One, Two}
 use Rattle.er_history.specs.History.{Timeout, Event, What, TimeoutRun, TickRun, Action, told, begins, what_begun, action_begun, maker_by, declares_interval, first_to, makes_timeout}
-use Rattle.er_history.specs.Rules.{Rule, any_holds, made_by, set_before_timer, timers_of_one_event_in_order, ticks_in_order}
+use Rattle.er_history.specs.Rules.{Rule, any_holds, made_by, set_before_timer, timers_of_one_event_in_order, timers_of_joined_pieces_in_order, timers_in_order, ticks_in_order}
 use Rattle.er_history.specs.Edges.{path, up_to, is_ruled}
 use Rattle.er_history.specs.Laws.{Among}
 use Rattle.er_history.specs.Naming.{naming}
@@ -14,7 +16,10 @@ use Rattle.er_history.specs.Handed.{HasGroup, AreSources, AreEnough}
 use Rattle.er_history.specs.Latest.{newest, latest_piece, latest_of, latest_of_each}
 use Rattle.er_history.specs.Kinds.{is_tick_of}
 use Rattle.er_pieces.specs.Enough.{IsSteady, NestedFacts}
-use Rattle.er_pieces.specs.AnyTimers.{timers_by, OnlyToTimeouts, timeout_handed_by, timer_handed_by, HandsTimersBy}
+use Rattle.er_pieces.specs.AnyTimers.{timers_by, OnlyToTimeouts, HandsTimersBy}
+use Rattle.er_pieces.specs.Enough.{EnoughTimer}
+use Rattle.er_pieces.specs.HandedPieces.{timeout_handed, timer_handed_by}
+use Rattle.er_pieces.specs.Hands.{HandsTimer}
 use Rattle.er_history.proofs.HistoryLemmas.{actions_are_numbered, told_before, event_below}
 use Rattle.er_history.proofs.NamedLemmas.{none_holds}
 use Rattle.er_pieces.proofs.StackLemmas.{run_serves, close_serves}
@@ -45,7 +50,7 @@ three rule joined u v e =
 -- to a timeout
 
 reach_timeout_by : (rule : Rule) → OnlyToTimeouts rule → (table : List (ℕ × Rule)) (h : List Record) (n t : ℕ) (o : Option Timeout) (i : Action) → Among i (told h).actions
-    → HoldsBy rule (up_to n (path table h)) i.event (event_with n (TimeoutRun t o)) → Reaches (path table h) i.number (timeout_handed_by rule (path table h) (told h) (event_with n (TimeoutRun t o)) o)
+    → HoldsBy rule (up_to n (path table h)) i.event (event_with n (TimeoutRun t o)) → Reaches (path table h) i.number (timeout_handed rule (path table h) (told h) (event_with n (TimeoutRun t o)) o)
 reach_timeout_by rule only table h n t None i among e =
     elim (three rule (up_to n (path table h)) i.event (event_with n (TimeoutRun t None)) e) [
       | inl set ↦ absurd (never set)
@@ -145,7 +150,7 @@ holds_by : (rule : Rule) (h : List Record) (joined : ℕ → ℕ → Bool) (w : 
 holds_by rule h joined w i among e = one_holds (timers_by rule) joined i.event (event_with (length (told h).actions) w) (λ same. let below = event_below (told h).actions i (told_before h) among in absurd (omega (arith, same, below))) e
 
 timeout_sources_by : (rule : Rule) (h : List Record) (joined : ℕ → ℕ → Bool) (t : ℕ) (o : Option Timeout)
-    → Each (λ i. any_holds (timers_by rule) (up_to (length (told h).actions) joined) i.event (event_with (length (told h).actions) (TimeoutRun t o)) ≡ true) (told h).actions (timeout_handed_by rule joined (told h) (event_with (length (told h).actions) (TimeoutRun t o)) o)
+    → Each (λ i. any_holds (timers_by rule) (up_to (length (told h).actions) joined) i.event (event_with (length (told h).actions) (TimeoutRun t o)) ≡ true) (told h).actions (timeout_handed rule joined (told h) (event_with (length (told h).actions) (TimeoutRun t o)) o)
 timeout_sources_by rule h joined t None = each_none (λ i. any_holds (timers_by rule) (up_to (length (told h).actions) joined) i.event (event_with (length (told h).actions) (TimeoutRun t None)) ≡ true) (told h).actions
 timeout_sources_by rule h joined t (Some x) =
     let acts = (told h).actions in
@@ -199,3 +204,24 @@ one_event_only joined u v e = by u.what v.what refl e
     by (TimeoutRun s (Some x)) (TimeoutRun t None) what e = absurd (never (and_right _ _ e))
     by (TimeoutRun s made) _ what e = absurd (never (and_right _ _ e))
     by _ z what e = absurd (never (and_right _ _ e))
+
+-- that of version 2 too
+pub joined_pieces_only : OnlyToTimeouts timers_of_joined_pieces_in_order
+joined_pieces_only joined u v e = by u.what v.what refl e
+  where
+    by : (w z : What) → v.what ≡ z → timers_of_joined_pieces_in_order joined (event_with u.number w) (event_with v.number z) ≡ true → (t : ℕ) × (x : Timeout) × (v.what ≡ TimeoutRun t (Some x))
+    by (TimeoutRun s (Some x)) (TimeoutRun t (Some y)) what e = (t, y, what)
+    by (TimeoutRun s None) (TimeoutRun t made) what e = absurd (never (and_right _ _ e))
+    by (TimeoutRun s (Some x)) (TimeoutRun t None) what e = absurd (never (and_right _ _ e))
+    by (TimeoutRun s made) _ what e = absurd (never (and_right _ _ e))
+    by _ z what e = absurd (never (and_right _ _ e))
+
+pub only_to_timeouts : (v : Version) → OnlyToTimeouts (timers_in_order v)
+only_to_timeouts One = one_event_only
+only_to_timeouts Two = joined_pieces_only
+
+pub enough_timer : EnoughTimer
+enough_timer v table has facts h x steady named ordered = enough_by (timers_in_order v) (only_to_timeouts v) table has facts h x steady named
+
+pub hands_timer : HandsTimer
+hands_timer v table has facts h x steady named ordered = hands_timers_by (timers_in_order v) (only_to_timeouts v) table has facts h x steady named ordered

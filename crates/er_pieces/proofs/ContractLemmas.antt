@@ -105,10 +105,10 @@ pub sources_by : {E : Type 0} → (stands : List Record → Type 0) (group : Lis
 sources_by stands group handed hands (Ok u) x old new front = tt
 sources_by stands group handed hands (Err e) x old new front = λ table h is next. has_handed_some table group handed (hands table (nested_facts table)) h x old new next (front h is)
 
-grew_few : (old due new : List ℕ) (most : ℕ) → length due ≤ most → GrewBy old due new → length new ≤ length old + most
+pub grew_few : (old due new : List ℕ) (most : ℕ) → length due ≤ most → GrewBy old due new → length new ≤ length old + most
 grew_few old due new most few grew = let counted : length new ≡ length old + length due = ap length grew ∙ length-append old due in omega (arith, counted, few)
 
-grew_part_few : (old due new : List ℕ) (most : ℕ) → length due ≤ most → GrewInPart old due new → length new ≤ length old + most
+pub grew_part_few : (old due new : List ℕ) (most : ℕ) → length due ≤ most → GrewInPart old due new → length new ≤ length old + most
 unfolding GrewInPart
 grew_part_few old due new most few (n, below, came) =
     let front : length (take n due) ≤ most = omega (arith, length-take-le n due (omega (arith, below)), below, few) in

@@ -5,18 +5,14 @@ use Rattle.std.proofs.lemmas.List.{length-reverse}
 use Rattle.std.proofs.Math.Nat.{le-max_left, le-max_right}
 use Rattle.er_trace.specs.declared.record.Record.{Record}
 use Rattle.er_trace.specs.declared.record.Record.TheVariants.{Parse, ParseFrame, Exec, Timer, Tick, Dcl, Load, Eload, Fire, Wfire, Reply, Inline, Run, Close, Back}
-use Rattle.er_history.specs.History.{Form, Kinded, Framing, Element, Timeout, What, TimeoutRun, FireAt, WindowFire, Event, History, told, first_to, makes_element, makes_timeout, maker_by, element_maker, declares_document, declares_handler, declares_interval, declares_request, running}
-use Rattle.er_history.specs.Rules.{recorded, is_blocking, is_deferred, is_dcl_of, same_target, timers_of_one_event_in_order}
+use Rattle.er_history.specs.History.{Form, Kinded, Framing, Element, Timeout, What, TimeoutRun, FireAt, WindowFire, Event, History, told, first_to, makes_element, makes_timeout, maker_by, element_maker, declares_document, declares_handler, declares_interval, declares_request, event_begun, running}
+use Rattle.er_history.specs.Rules.{Rule, rules, is_blocking, is_deferred, is_dcl_of, same_target, timers_in_order}
+use Rattle.er_history.specs.Edges.{up_to, path}
 use Rattle.er_history.specs.Latest.{newest, number_of, latest_piece, latest_of, latest_of_each, events_of_each, greatest_group}
 use Rattle.er_history.specs.Kinds.{is_step_of, is_run_of, is_static_async, runs_element, is_tick_of, closes, is_load_of, is_reply_of, is_static_load_of, is_begin_of, is_handler_of}
-use Rattle.er_history.specs.LookUps.{fired_with}
-use Rattle.er_history.proofs.HistoryLemmas.{and_left}
-use Rattle.er_history.proofs.EventLemmas.{event_with}
 use Rattle.er_pieces.specs.HandedPieces.{step_handed, parsed_handed, run_handed, inner_close, eload_handed, timeout_handed, runs_or_begin}
-use Rattle.er_pieces.specs.Counts.{fired_count, run_count, ParseHandsAtMost, ScriptHandsAtMost, LoadHandsAtMost, TimerHandsAtMost, RequestHandsAtMost, DispatchHandsAtMost}
-use Rattle.er_pieces.proofs.PathLemmas.{and_right}
-use Rattle.er_pieces.proofs.CountLemmas.{newest_short, latest_short, made_short, number_short, both_short, each_short, fewer}
-use Rattle.er_pieces.proofs.FiredLemmas.{is_callback_of, callbacks_are_fired}
+use Rattle.er_pieces.specs.Counts.{run_count, ParseHandsAtMost, ScriptHandsAtMost, LoadHandsAtMost, TimerHandsAtMost, RequestHandsAtMost, DispatchHandsAtMost}
+use Rattle.er_pieces.proofs.CountLemmas.{newest_short, latest_short, made_short, number_short, both_short, each_short}
 
 nothing : (n : ℕ) → 0 ≤ n
 nothing n = omega (arith)
@@ -86,30 +82,20 @@ load_hands_at_most h _ = nothing 0
 
 -- timers and requests
 
--- rule 19 leads from callbacks of timeouts that the same event set
-of_its_event : (joined : ℕ → ℕ → Bool) (n t : ℕ) (x : Timeout) (u : Event) → timers_of_one_event_in_order joined u (event_with n (TimeoutRun t (Some x))) ≡ true → is_callback_of x.maker u ≡ true
-of_its_event joined n t x u e = by u.what e
-  where
-    by : (w : What) → timers_of_one_event_in_order joined (event_with u.number w) (event_with n (TimeoutRun t (Some x))) ≡ true → is_callback_of x.maker (event_with u.number w) ≡ true
-    by (TimeoutRun s (Some y)) e = and_left (y.maker == x.maker) _ (and_right (recorded u (event_with n (TimeoutRun t (Some x)))) _ e)
-    by w e = absurd (let f : false ≡ true = and_right (recorded u (event_with n (TimeoutRun t (Some x)))) _ e in cc)
-
-timeout_short : (h : List Record) (n t : ℕ) (o : Option Timeout) → length (timeout_handed (told h) (event_with n (TimeoutRun t o)) o) ≤ 1 + fired_count h (option_map (λ (x : Timeout). x.maker) o)
-timeout_short h n t None = nothing 1
-timeout_short h n t (Some x) =
-    let acts = (told h).actions in
-    let test : Event → Bool = λ (u : Event). timers_of_one_event_in_order (λ i j. false) u (event_with n (TimeoutRun t (Some x))) in
-    let each = each_short test acts in
-    let wider = fewer test (is_callback_of x.maker) acts (λ u e. of_its_event (λ i j. false) n t x u e) in
-    let fired = callbacks_are_fired h x.maker in
-    both_short (latest_piece x.maker acts) (latest_of_each test acts) 1 (length (fired_with h x.maker)) (latest_short x.maker acts)
-    (omega (arith, each, length-reverse (events_of_each test acts), wider, fired))
+timeout_short : (rule : Rule) (joined : ℕ → ℕ → Bool) (t : History) (v : Event) (o : Option Timeout)
+    → length (timeout_handed rule joined t v o) ≤ 1 + length (events_of_each (λ (u : Event). rule (up_to v.number joined) u v) t.actions)
+timeout_short rule joined t v None = nothing _
+timeout_short rule joined t v (Some x) =
+    let test : Event → Bool = λ (u : Event). rule (up_to v.number joined) u v in
+    let each = each_short test t.actions in
+    both_short (latest_piece x.maker t.actions) (latest_of_each test t.actions) 1 (length (events_of_each test t.actions)) (latest_short x.maker t.actions)
+    (omega (arith, each, length-reverse (events_of_each test t.actions)))
 
 pub timer_hands_at_most : TimerHandsAtMost
-timer_hands_at_most h (Timer t) = timeout_short h (length (told h).actions) t (first_to (makes_timeout t) (told h).entries)
-timer_hands_at_most h (Tick i) = let m = maker_by (declares_interval i) (told h).entries in
+timer_hands_at_most v h (Timer t) = timeout_short (timers_in_order v) (path (rules v) h) (told h) (event_begun (told h) (Timer t)) (first_to (makes_timeout t) (told h).entries)
+timer_hands_at_most v h (Tick i) = let m = maker_by (declares_interval i) (told h).entries in
     both_short (latest_of m (told h).actions) (newest (is_tick_of i) (told h).actions) 1 1 (made_short m (told h).actions) (newest_short (is_tick_of i) (told h).actions)
-timer_hands_at_most h _ = nothing 0
+timer_hands_at_most v h _ = nothing 0
 
 pub request_hands_at_most : RequestHandsAtMost
 request_hands_at_most h (Reply p r) = let m = maker_by (declares_request r) (told h).entries in

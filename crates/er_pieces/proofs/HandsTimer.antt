@@ -1,4 +1,4 @@
--- Proof of what the rules of timers and of requests hand. Lists of records stand newest first.
+-- Proof of what the rules of requests hand, and that a callback of an interval leads to a later one. Lists of records stand newest first.
 use Rattle.std.proofs.Common.{◌≡◌, ℕ, ◌<◌, Bool, true, false, List, [], ◌++◌, length, Option, Some, None, refl, sym, arith}
 use Rattle.std.specs.Prelude.{◌==◌}
 use Rattle.std.proofs.lemmas.Bool.{eqb-true, eq-eqb}
@@ -17,29 +17,10 @@ use Rattle.er_pieces.specs.Hands.{HandsTimer, HandsRequest}
 use Rattle.er_history.proofs.HistoryLemmas.{told_before, event_below}
 use Rattle.er_pieces.proofs.PathLemmas.{both, less_is}
 use Rattle.er_pieces.proofs.ChainLemmas.{event_with, one_holds}
-use Rattle.er_pieces.proofs.EnoughTimer.{Holds, enough_timer}
 use Rattle.er_pieces.proofs.EnoughRequest.{enough_request}
 use Rattle.er_pieces.proofs.SourceLemmas.{Each, each_none, each_both, each_newest, each_latest, each_made, each_event}
 
 -- timers
-
-abbrev pub To : (ℕ → ℕ → Bool) → Event → Action → Type 0
-To joined v i = any_holds timer_rules joined i.event v ≡ true
-
-holds : (h : List Record) (joined : ℕ → ℕ → Bool) (w : What) (i : Action) → Among i (told h).actions → Holds joined i.event (event_with (length (told h).actions) w) → To joined (event_with (length (told h).actions) w) i
-holds h joined w i among e = one_holds timer_rules joined i.event (event_with (length (told h).actions) w) (λ same. let below = event_below (told h).actions i (told_before h) among in absurd (omega (arith, same, below))) e
-
-timeout_sources : (h : List Record) (joined : ℕ → ℕ → Bool) (t : ℕ) (o : Option Timeout)
-    → Each (To joined (event_with (length (told h).actions) (TimeoutRun t o))) (told h).actions (timeout_handed (told h) (event_with (length (told h).actions) (TimeoutRun t o)) o)
-timeout_sources h joined t None = each_none (To joined (event_with (length (told h).actions) (TimeoutRun t None))) (told h).actions
-timeout_sources h joined t (Some x) =
-    let acts = (told h).actions in
-    let w : What = TimeoutRun t (Some x) in
-    let v : Event = event_with (length acts) w in
-    let test : Event → Bool = λ u. timers_of_one_event_in_order (λ i j. false) u v in
-    each_both (To joined v) acts (latest_piece x.maker acts) (latest_of_each test acts)
-    (each_latest (To joined v) x.maker acts (λ i among same. holds h joined w i among (or_left (set_before_timer joined i.event v) _ (eq-eqb x.maker i.event.number (sym same)))))
-    (each_event (To joined v) test h (λ i among e. holds h joined w i among (or_right (set_before_timer joined i.event v) _ (or_left (timers_of_one_event_in_order joined i.event v) _ e))))
 
 pub tick_leads : (joined : ℕ → ℕ → Bool) (u : Event) (n k : ℕ) (m : Option ℕ) → u.number < n → is_tick_of k u ≡ true → ticks_in_order joined u (event_with n (TickRun k m)) ≡ true
 tick_leads joined u n k m below e = or_right (made_by m u) _ (by u.what e)
@@ -47,38 +28,6 @@ tick_leads joined u n k m below e = or_right (made_by m u) _ (by u.what e)
     by : (w : What) → is_tick_of k (event_with u.number w) ≡ true → ticks_in_order joined (event_with u.number w) (event_with n (TickRun k None)) ≡ true
     by (TickRun j l) e = both (recorded u (event_with n (TickRun k None))) (k == j) (less_is u.number n below) (eq-eqb k j (sym (eqb-true j k e)))
     by _ e = absurd (cc)
-
-tick_sources : (h : List Record) (joined : ℕ → ℕ → Bool) (k : ℕ) → Each (To joined (event_with (length (told h).actions) (TickRun k (maker_by (declares_interval k) (told h).entries)))) (told h).actions
-    (latest_of (maker_by (declares_interval k) (told h).entries) (told h).actions ++ newest (is_tick_of k) (told h).actions)
-tick_sources h joined k =
-    let acts = (told h).actions in
-    let m = maker_by (declares_interval k) (told h).entries in
-    let w : What = TickRun k m in
-    let v : Event = event_with (length acts) w in
-    let S : Action → Type 0 = To joined v in
-    each_both S acts (latest_of m acts) (newest (is_tick_of k) acts)
-    (each_made S m acts (λ i among e. holds h joined w i among (last joined i.event v (or_left (made_by m i.event) _ e))))
-    (each_newest S (is_tick_of k) acts (λ i among e. holds h joined w i among (last joined i.event v (tick_leads joined i.event (length acts) k m (event_below acts i (told_before h) among) e))))
-  where
-    last : (joined : ℕ → ℕ → Bool) (u v : Event) → ticks_in_order joined u v ≡ true → Holds joined u v
-    last joined u v e = or_right (set_before_timer joined u v) _ (or_right (timers_of_one_event_in_order joined u v) _ (or_left (ticks_in_order joined u v) false e))
-
-timer_sources : (h : List Record) (x : Record) (joined : ℕ → ℕ → Bool) → AreSources timer_rules joined (told h) x (timer_handed (told h) x)
-timer_sources h (Timer t) joined = timeout_sources h (up_to (length (told h).actions) joined) t (first_to (makes_timeout t) (told h).entries)
-timer_sources h (Tick k) joined = tick_sources h (up_to (length (told h).actions) joined) k
-timer_sources h x joined = each_none (λ i. is_ruled timer_rules joined i (action_begun (told h) x) ≡ true) (told h).actions
-
-timer_none : (h : List Record) (x : Record) → begins x ≡ false → timer_handed (told h) x ≡ []
-timer_none h (Timer t) b = absurd (cc)
-timer_none h (Tick k) b = absurd (cc)
-timer_none h _ b = refl
-
-pub hands_timer : HandsTimer
-hands_timer table has facts h x steady named ordered = record {
-  sources = timer_sources h x (path table h);
-  enough = enough_timer table has facts h x steady named ordered;
-  none = timer_none h x;
-}
 
 -- requests
 

@@ -5,7 +5,7 @@ use Rattle.std.specs.List.{list_any}
 use Rattle.std.proofs.lemmas.Bool.{eq-eqb}
 use Rattle.er_trace.specs.declared.record.Record.{Record}
 use Rattle.er_history.specs.History.{Event, Action, told, begins, event_begun}
-use Rattle.er_history.specs.Rules.{Rule, any_holds, parse_rules, script_rules, load_rules, dispatch_rules, request_rules, set_before_timer, ticks_in_order}
+use Rattle.er_history.specs.Rules.{Rule, any_holds}
 use Rattle.er_history.specs.Edges.{path}
 use Rattle.er_history.specs.Laws.{Among}
 use Rattle.er_history.specs.Handed.{HasGroup}
@@ -14,38 +14,14 @@ use Rattle.er_pieces.specs.Enough.{AreInOrder, IsSteady}
 use Rattle.er_history.proofs.HistoryLemmas.{told_before, event_before, event_below}
 use Rattle.er_history.proofs.NamedLemmas.{none_holds}
 use Rattle.er_history.proofs.OrderLemmas.{leads_nowhere}
+use Rattle.er_history.proofs.VersionLemmas.{AskNoPaths}
 use Rattle.er_pieces.proofs.CallerLemmas.{among_cases, event_is}
 use Rattle.er_pieces.proofs.StartsLemmas.{bound, is_clear, lt_or_le}
 use Rattle.er_pieces.proofs.PathLemmas.{ruled_path}
 
--- the rules of the group ask for no paths
-abbrev pub AskNoPaths : List (ℕ × Rule) → Type 0
-AskNoPaths group = (f g : ℕ → ℕ → Bool) (u v : Event) → any_holds group f u v ≡ any_holds group g u v
-
 -- whatever the paths, a rule of the group leads from u to v
 abbrev pub Leads : List (ℕ × Rule) → Event → Event → Type 0
 Leads group u v = (joined : ℕ → ℕ → Bool) → any_holds group joined u v ≡ true
-
-pub parse_asks_none : AskNoPaths parse_rules
-parse_asks_none f g u v = refl
-
-pub script_asks_none : AskNoPaths script_rules
-script_asks_none f g u v = refl
-
-pub load_asks_none : AskNoPaths load_rules
-load_asks_none f g u v = refl
-
-pub dispatch_asks_none : AskNoPaths dispatch_rules
-dispatch_asks_none f g u v = refl
-
-pub timeouts_ask_none : AskNoPaths ((18, set_before_timer) ∷ [])
-timeouts_ask_none f g u v = refl
-
-pub ticks_ask_none : AskNoPaths ((20, ticks_in_order) ∷ [])
-ticks_ask_none f g u v = refl
-
-pub requests_ask_none : AskNoPaths request_rules
-requests_ask_none f g u v = refl
 
 -- no rule leads from an event to itself
 pub not_itself : (group : List (ℕ × Rule)) (joined : ℕ → ℕ → Bool) (u v : Event) → u.number ≡ v.number → any_holds group joined u v ≡ true → ⊥

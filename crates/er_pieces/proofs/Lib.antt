@@ -42,7 +42,6 @@ pub mod NewestLemmas
 pub mod ContractLemmas
 pub mod LookUpLemmas
 pub mod CountLemmas
-pub mod FiredLemmas
 pub mod CountLaws
 pub mod BegunLemmas
 pub mod DeliveryLemmas

@@ -14,7 +14,8 @@ use Rattle.er_pieces.specs.Enough.{IsSteady}
 use Rattle.er_history.proofs.HistoryLemmas.{and_left, actions_are_numbered, same_action, events_have_first_pieces}
 use Rattle.er_history.proofs.UnfinishedLemmas.{clash}
 use Rattle.er_pieces.proofs.StartsLemmas.{bound}
-use Rattle.er_pieces.proofs.InOrderLemmas.{Leads, script_asks_none, not_late, rule_path}
+use Rattle.er_history.proofs.VersionLemmas.{script_asks_none}
+use Rattle.er_pieces.proofs.InOrderLemmas.{Leads, not_late, rule_path}
 use Rattle.er_pieces.proofs.PathLemmas.{both, less_is, path_on, Reaches, reach_newest}
 use Rattle.er_pieces.proofs.ChainLemmas.{event_with, one_holds, chain}
 use Rattle.er_pieces.proofs.OnceLemmas.{one_run}

@@ -12,7 +12,8 @@ use Rattle.er_pieces.specs.Enough.{IsSteady}
 use Rattle.er_history.proofs.HistoryLemmas.{told_before, event_before}
 use Rattle.er_pieces.proofs.StackLemmas.{Serves}
 use Rattle.er_pieces.proofs.StartsLemmas.{bound, bound_of}
-use Rattle.er_pieces.proofs.InOrderLemmas.{Leads, dispatch_asks_none, not_late, rule_path}
+use Rattle.er_history.proofs.VersionLemmas.{dispatch_asks_none}
+use Rattle.er_pieces.proofs.InOrderLemmas.{Leads, not_late, rule_path}
 use Rattle.er_pieces.proofs.PathLemmas.{both, less_is, ruled_path}
 use Rattle.er_pieces.proofs.ChainLemmas.{event_with, one_holds}
 use Rattle.er_pieces.proofs.RunLemmas.{same_event}

@@ -9,6 +9,7 @@ use Rattle.er_trace.specs.declared.record.Record.TheVariants.{Back}
 use Rattle.er_paths.specs.Paths.{is_among}
 use Rattle.er_paths.specs.Laws.{IsEnough}
 use Rattle.er_paths.proofs.Paths.{or_cases, or_left, or_right, any_from, any_some}
+use Rattle.er_trace.specs.declared.version.Version.{Version}
 use Rattle.er_history.specs.History.{Action, told, begins, action_begun, running}
 use Rattle.er_history.specs.Rules.{Rule, rules, parse_rules, script_rules, load_rules, dispatch_rules, timer_rules, request_rules}
 use Rattle.er_history.specs.Edges.{is_ruled, around_inline, of_one_event, up_to, edge, edges, sources, path}
@@ -37,7 +38,7 @@ use Rattle.er_pieces.proofs.SteadyLemmas.{has_first, has_second, has_itself, all
 -- a sound list is steady
 
 pub sound_lists_are_steady : SoundListsAreSteady
-sound_lists_are_steady h sound = record { has = all_rules_are_steady; named = sound_lists_are_named rules h sound; ordered = in_order rules h sound }
+sound_lists_are_steady v h sound = record { has = all_rules_are_steady v; named = sound_lists_are_named (rules v) h sound; ordered = in_order (rules v) h sound }
 
 -- what the rules of dispatches hand
 
@@ -64,22 +65,22 @@ hands_dispatches table h x steady named ordered = record {
 -- all six
 
 -- the sources of a group are sources of the table
-group_sources : (table group : List (ℕ × Rule)) (h : List Record) (x : Record) (handed : List ℕ) → HasGroup table group → AreSources group (path rules h) (told h) x handed → ArePieceSources table (path rules h) (told h) x handed
-group_sources table group h x handed has are = λ k among.
+group_sources : (v : Version) (table group : List (ℕ × Rule)) (h : List Record) (x : Record) (handed : List ℕ) → HasGroup table group → AreSources group (path (rules v) h) (told h) x handed → ArePieceSources table (path (rules v) h) (told h) x handed
+group_sources v table group h x handed has are = λ k among.
     let s = are k among in
     let new = action_begun (told h) x in
-    (s.0, s.1, s.2, or_left (is_ruled table (path rules h) s.0 new) _ (has (up_to new.event.number (path rules h)) s.0.event new.event s.3))
+    (s.0, s.1, s.2, or_left (is_ruled table (path (rules v) h) s.0 new) _ (has (up_to new.event.number (path (rules v) h)) s.0.event new.event s.3))
 
-piece_sources : (table group : List (ℕ × Rule)) (h : List Record) (x : Record) (handed : List ℕ) → HasGroup table group → ArePieceSources group (path rules h) (told h) x handed → ArePieceSources table (path rules h) (told h) x handed
-piece_sources table group h x handed has are = λ k among.
+piece_sources : (v : Version) (table group : List (ℕ × Rule)) (h : List Record) (x : Record) (handed : List ℕ) → HasGroup table group → ArePieceSources group (path (rules v) h) (told h) x handed → ArePieceSources table (path (rules v) h) (told h) x handed
+piece_sources v table group h x handed has are = λ k among.
     let s = are k among in
     let new = action_begun (told h) x in (
       s.0,
       s.1,
       s.2,
-      elim (or_cases (is_ruled group (path rules h) s.0 new) (around_inline s.0 new || of_one_event s.0 new) s.3) [
-        | inl ruled ↦ or_left (is_ruled table (path rules h) s.0 new) _ (has (up_to new.event.number (path rules h)) s.0.event new.event ruled)
-        | inr piece ↦ or_right (is_ruled table (path rules h) s.0 new) _ piece
+      elim (or_cases (is_ruled group (path (rules v) h) s.0 new) (around_inline s.0 new || of_one_event s.0 new) s.3) [
+        | inl ruled ↦ or_left (is_ruled table (path (rules v) h) s.0 new) _ (has (up_to new.event.number (path (rules v) h)) s.0.event new.event ruled)
+        | inr piece ↦ or_right (is_ruled table (path (rules v) h) s.0 new) _ piece
       ],
     )
 
@@ -92,24 +93,24 @@ either a b joined i j G first second e =
     ]
 
 -- what leads to the running action leads on to what the rules of dispatches hand behind it
-past_running : (h : List Record) (x : Record) (handed : List ℕ) (i : Action) → IsSteady rules h → naming h x ≡ None → ArePiecesHanded dispatch_rules (path rules h) (told h) x handed → begins x ≡ true
-    → (runs : Runs (told h).actions) → is_among runs.piece.number (dispatch_handed (told h) x) ≡ true → path rules h i.number runs.piece.number ≡ true → Reaches (path rules h) i.number handed
-past_running h x handed i steady named are begin runs last to =
-    let s = dispatch_hands_sources rules h x (path rules h) steady named runs.piece.number last in
-    let found = any_some (λ k. path rules h s.0.number k) handed (are.enough begin s.0 s.1 s.3) in
-    let whole = path_on rules h i.number runs.piece.number found.0 to (subst (λ n. path rules h n found.0 ≡ true) s.2 found.2) in
-    any_from (λ k. path rules h i.number k) found.0 handed found.1 whole
+past_running : (v : Version) (h : List Record) (x : Record) (handed : List ℕ) (i : Action) → IsSteady (rules v) h → naming h x ≡ None → ArePiecesHanded dispatch_rules (path (rules v) h) (told h) x handed → begins x ≡ true
+    → (runs : Runs (told h).actions) → is_among runs.piece.number (dispatch_handed (told h) x) ≡ true → path (rules v) h i.number runs.piece.number ≡ true → Reaches (path (rules v) h) i.number handed
+past_running v h x handed i steady named are begin runs last to =
+    let s = dispatch_hands_sources (rules v) h x (path (rules v) h) steady named runs.piece.number last in
+    let found = any_some (λ k. path (rules v) h s.0.number k) handed (are.enough begin s.0 s.1 s.3) in
+    let whole = path_on (rules v) h i.number runs.piece.number found.0 to (subst (λ n. path (rules v) h n found.0 ≡ true) s.2 found.2) in
+    any_from (λ k. path (rules v) h i.number k) found.0 handed found.1 whole
 
 -- the source of an edge of a group of rules between events leads to what that group hands, or to what the rules of dispatches do
-group_reaches : (group : List (ℕ × Rule)) (h : List Record) (x : Record) (own others : List ℕ) → IsSteady rules h → naming h x ≡ None → begins x ≡ true → AreEnough group (path rules h) (told h) x own
-    → ArePiecesHanded dispatch_rules (path rules h) (told h) x others → (i : Action) → Among i (told h).actions → is_ruled group (path rules h) i (action_begun (told h) x) ≡ true
-    → Reaches (path rules h) i.number own ⊎ Reaches (path rules h) i.number others
-group_reaches group h (Back p) own others steady named begin enough are i among ruled =
+group_reaches : (v : Version) (group : List (ℕ × Rule)) (h : List Record) (x : Record) (own others : List ℕ) → IsSteady (rules v) h → naming h x ≡ None → begins x ≡ true → AreEnough group (path (rules v) h) (told h) x own
+    → ArePiecesHanded dispatch_rules (path (rules v) h) (told h) x others → (i : Action) → Among i (told h).actions → is_ruled group (path (rules v) h) i (action_begun (told h) x) ≡ true
+    → Reaches (path (rules v) h) i.number own ⊎ Reaches (path (rules v) h) i.number others
+group_reaches v group h (Back p) own others steady named begin enough are i among ruled =
     let runs = runs_some (told h).actions i (actions_are_numbered h) among in
     let last : is_among runs.piece.number (number_of (running (told h).actions)) ≡ true =
     ap (λ o. is_among runs.piece.number (number_of o)) runs.is ∙ or_left (runs.piece.number == runs.piece.number) false (eq-eqb runs.piece.number runs.piece.number refl) in
-    inr (past_running h (Back p) others i steady named are begin runs last (enough i runs.piece among runs.is ruled))
-group_reaches group h x own others steady named begin enough are i among ruled = inl (enough i among ruled)
+    inr (past_running v h (Back p) others i steady named are begin runs last (enough i runs.piece among runs.is ruled))
+group_reaches v group h x own others steady named begin enough are i among ruled = inl (enough i among ruled)
 
 -- lists one behind the other
 
@@ -119,11 +120,11 @@ put_behind l old xs ys same = ap (λ z. z ++ ys) same ∙ append_assoc old xs ys
 no_numbers : (xs ys : List ℕ) → xs ≡ [] → ys ≡ [] → xs ++ ys ≡ []
 no_numbers xs ys e f = rw (e, f) refl
 
-has_timers : HasGroup rules timer_rules
-has_timers = has_first (parse_rules ++ script_rules ++ load_rules ++ dispatch_rules ++ timer_rules) request_rules timer_rules (has_second (parse_rules ++ script_rules ++ load_rules ++ dispatch_rules) timer_rules timer_rules (has_itself timer_rules))
+pub has_timers : (v : Version) → HasGroup (rules v) (timer_rules v)
+has_timers v = has_first (parse_rules ++ script_rules ++ load_rules ++ dispatch_rules ++ timer_rules v) request_rules (timer_rules v) (has_second (parse_rules ++ script_rules ++ load_rules ++ dispatch_rules) (timer_rules v) (timer_rules v) (has_itself (timer_rules v)))
 
 pub all_hand : AllHand
-all_hand h x old new steady named turns = record {
+all_hand v h x old new steady named turns = record {
   handed = all;
   grown = turns.request.grown ∙ put_behind turns.timers old (a ++ b ++ c ++ d ++ e) f
       (turns.timer.grown ∙ put_behind turns.dispatches old (a ++ b ++ c ++ d) e
@@ -132,13 +133,13 @@ all_hand h x old new steady named turns = record {
       (turns.script.grown ∙ put_behind turns.steps old a b turns.parse.grown))));
   are_handed = record {
     sources = each_both S acts (a ++ b ++ c ++ d ++ e) f (each_both S acts (a ++ b ++ c ++ d) e (each_both S acts (a ++ b ++ c) d (each_both S acts (a ++ b) c (each_both S acts a b
-        (group_sources rules parse_rules h x a steady.has.parse turns.parse.are_handed.sources)
-        (group_sources rules script_rules h x b steady.has.script turns.script.are_handed.sources))
-        (group_sources rules load_rules h x c steady.has.load turns.load.are_handed.sources))
-        (piece_sources rules dispatch_rules h x d steady.has.dispatch turns.dispatch.are_handed.sources))
-        (group_sources rules timer_rules h x e has_timers turns.timer.are_handed.sources))
-        (group_sources rules request_rules h x f steady.has.requests turns.request.are_handed.sources);
-    enough = λ begin i among led. elim (or_cases (is_ruled rules joined i n) (around_inline i n || of_one_event i n) led) [
+        (group_sources v (rules v) parse_rules h x a steady.has.parse turns.parse.are_handed.sources)
+        (group_sources v (rules v) script_rules h x b steady.has.script turns.script.are_handed.sources))
+        (group_sources v (rules v) load_rules h x c steady.has.load turns.load.are_handed.sources))
+        (piece_sources v (rules v) dispatch_rules h x d steady.has.dispatch turns.dispatch.are_handed.sources))
+        (group_sources v (rules v) (timer_rules v) h x e (has_timers v) turns.timer.are_handed.sources))
+        (group_sources v (rules v) request_rules h x f steady.has.requests turns.request.are_handed.sources);
+    enough = λ begin i among led. elim (or_cases (is_ruled (rules v) joined i n) (around_inline i n || of_one_event i n) led) [
       | inl ruled ↦ by_rules begin i among ruled
       | inr piece ↦ at_d i (turns.dispatch.are_handed.enough begin i among (or_right (is_ruled dispatch_rules joined i n) _ piece))
     ];
@@ -148,7 +149,7 @@ all_hand h x old new steady named turns = record {
 }
   where
     joined : ℕ → ℕ → Bool
-    joined = path rules h
+    joined = path (rules v) h
 
     acts : List Action
     acts = (told h).actions
@@ -157,7 +158,7 @@ all_hand h x old new steady named turns = record {
     n = action_begun (told h) x
 
     S : Action → Type 0
-    S = λ i. is_led rules joined i n ≡ true
+    S = λ i. is_led (rules v) joined i n ≡ true
 
     a : List ℕ
     a = turns.parse.handed
@@ -202,21 +203,21 @@ all_hand h x old new steady named turns = record {
     at_f : (i : Action) → Reaches joined i.number f → Reaches joined i.number all
     at_f i to = reach_right joined i.number (a ++ b ++ c ++ d ++ e) f to
 
-    by_rules : begins x ≡ true → (i : Action) → Among i acts → is_ruled rules joined i n ≡ true → Reaches joined i.number all
+    by_rules : begins x ≡ true → (i : Action) → Among i acts → is_ruled (rules v) joined i n ≡ true → Reaches joined i.number all
     by_rules begin i among ruled =
         let G : Type 0 = Reaches joined i.number all in
         let are = turns.dispatch.are_handed in
-        either (parse_rules ++ script_rules ++ load_rules ++ dispatch_rules ++ timer_rules) request_rules joined i n G
-        (either (parse_rules ++ script_rules ++ load_rules ++ dispatch_rules) timer_rules joined i n G
+        either (parse_rules ++ script_rules ++ load_rules ++ dispatch_rules ++ timer_rules v) request_rules joined i n G
+        (either (parse_rules ++ script_rules ++ load_rules ++ dispatch_rules) (timer_rules v) joined i n G
         (either (parse_rules ++ script_rules ++ load_rules) dispatch_rules joined i n G
         (either (parse_rules ++ script_rules) load_rules joined i n G
         (either parse_rules script_rules joined i n G
-        (λ r. or_at_d i a (at_a i) (group_reaches parse_rules h x a d steady named begin turns.parse.are_handed.enough are i among r))
-        (λ r. or_at_d i b (at_b i) (group_reaches script_rules h x b d steady named begin turns.script.are_handed.enough are i among r)))
-        (λ r. or_at_d i c (at_c i) (group_reaches load_rules h x c d steady named begin turns.load.are_handed.enough are i among r)))
+        (λ r. or_at_d i a (at_a i) (group_reaches v parse_rules h x a d steady named begin turns.parse.are_handed.enough are i among r))
+        (λ r. or_at_d i b (at_b i) (group_reaches v script_rules h x b d steady named begin turns.script.are_handed.enough are i among r)))
+        (λ r. or_at_d i c (at_c i) (group_reaches v load_rules h x c d steady named begin turns.load.are_handed.enough are i among r)))
         (λ r. at_d i (are.enough begin i among (or_left (is_ruled dispatch_rules joined i n) _ r))))
-        (λ r. or_at_d i e (at_e i) (group_reaches timer_rules h x e d steady named begin turns.timer.are_handed.enough are i among r)))
-        (λ r. or_at_d i f (at_f i) (group_reaches request_rules h x f d steady named begin turns.request.are_handed.enough are i among r)) ruled
+        (λ r. or_at_d i e (at_e i) (group_reaches v (timer_rules v) h x e d steady named begin turns.timer.are_handed.enough are i among r)))
+        (λ r. or_at_d i f (at_f i) (group_reaches v request_rules h x f d steady named begin turns.request.are_handed.enough are i among r)) ruled
 
 -- beside the lists of the earlier actions
 

@@ -2,8 +2,12 @@
 use Rattle.std.specs.Prelude.{ℕ, ◌+◌, ◌≤◌, List, length, max, Option, Some, None}
 use Rattle.er_trace.specs.declared.record.Record.{Record}
 use Rattle.er_trace.specs.declared.record.Record.TheVariants.{Parse, ParseFrame, Exec, Timer, Tick, Dcl, Load, Eload, Fire, Wfire, Reply, Inline, Run, Close, Back}
-use Rattle.er_history.specs.History.{History, told}
-use Rattle.er_history.specs.LookUps.{async_runs, static_closes, maker_of_timeout, fired_with, last_group, group_below, runs_in}
+use Rattle.er_trace.specs.declared.version.Version.{Version}
+use Rattle.er_history.specs.History.{History, Event, told, event_begun}
+use Rattle.er_history.specs.Rules.{rules, timers_in_order}
+use Rattle.er_history.specs.Edges.{up_to, path}
+use Rattle.er_history.specs.Latest.{events_of_each}
+use Rattle.er_history.specs.LookUps.{async_runs, static_closes, last_group, group_below, runs_in}
 use Rattle.er_pieces.specs.HandedPieces.{parse_handed, script_handed, load_handed, timer_handed, request_handed, dispatch_handed}
 
 -- the static async scripts of the document that have run
@@ -14,10 +18,12 @@ async_run_count h d = length (async_runs h d)
 abbrev pub static_close_count : List Record → ℕ → ℕ
 static_close_count h d = length (static_closes h d)
 
--- the timeouts set in the event, where there is one, that have fired
-abbrev pub fired_count : List Record → Option ℕ → ℕ
-fired_count h None = 0
-fired_count h (Some u) = length (fired_with h u)
+-- the callbacks that rule 19 leads from to that of the timeout
+abbrev pub fired_count : Version → List Record → ℕ → ℕ
+fired_count v h t = by (event_begun (told h) (Timer t))
+  where
+    by : Event → ℕ
+    by e = length (events_of_each (λ (u : Event). timers_in_order v (up_to e.number (path (rules v) h)) u e) (told h).actions)
 
 -- the handlers of the dispatch that ran in the group, where there is one
 abbrev pub run_count : List Record → ℕ → Option ℕ → ℕ
@@ -44,11 +50,11 @@ most_load h (Load p d) = 4 + async_run_count h d + static_close_count h d
 most_load h (Eload p e) = 3
 most_load h _ = 0
 
--- the event that set it, and the callbacks of timeouts set in that event; the event that set the interval, and its latest callback
-abbrev pub most_timer : List Record → Record → ℕ
-most_timer h (Timer t) = 1 + fired_count h (maker_of_timeout h t)
-most_timer h (Tick i) = 2
-most_timer h _ = 0
+-- the event that set it, and the callbacks that rule 19 leads from; the event that set the interval, and its latest callback
+abbrev pub most_timer : Version → List Record → Record → ℕ
+most_timer v h (Timer t) = 1 + fired_count v h t
+most_timer v h (Tick i) = 2
+most_timer v h _ = 0
 
 -- the event that sent the request, and its latest closed reply
 abbrev pub most_request : List Record → Record → ℕ
@@ -82,7 +88,7 @@ abbrev pub LoadHandsAtMost : Type 0
 LoadHandsAtMost = HandsAtMost load_handed most_load
 
 abbrev pub TimerHandsAtMost : Type 0
-TimerHandsAtMost = HandsAtMost timer_handed most_timer
+TimerHandsAtMost = (v : Version) (h : List Record) (x : Record) → length (timer_handed v (path (rules v) h) (told h) x) ≤ most_timer v h x
 
 abbrev pub RequestHandsAtMost : Type 0
 RequestHandsAtMost = HandsAtMost request_handed most_request

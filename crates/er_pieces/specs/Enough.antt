@@ -3,6 +3,7 @@ use Rattle.std.specs.Prelude.{◌≡◌, ℕ, ◌≤◌, true, false, ◌||◌, 
 use Rattle.std.specs.List.{list_any}
 use Rattle.er_trace.specs.declared.record.Record.{Record}
 use Rattle.er_trace.specs.declared.record.Record.TheVariants.{Back}
+use Rattle.er_trace.specs.declared.version.Version.{Version}
 use Rattle.er_history.specs.History.{History, Action, Dispatch, CloseOf, told, begins, running, action_begun}
 use Rattle.er_history.specs.Rules.{Rule, same_target, parse_rules, script_rules, load_rules, dispatch_rules, timer_rules, request_rules, set_before_timer, ticks_in_order}
 use Rattle.er_history.specs.Edges.{around_inline, of_one_event, is_ruled, path}
@@ -77,10 +78,12 @@ abbrev pub EnoughLoad : Type 0
 EnoughLoad = (table : List (ℕ × Rule)) → NestedFacts table
     → Suffices table load_rules load_handed
 
--- And for those of timers, where the table has them all.
+-- And for those of timers of a version, where the table has them all. What is handed by them may rest on the paths.
 abbrev pub EnoughTimer : Type 0
-EnoughTimer = (table : List (ℕ × Rule)) → HasGroup table timer_rules → NestedFacts table
-    → Suffices table timer_rules timer_handed
+EnoughTimer = (v : Version) (table : List (ℕ × Rule)) → HasGroup table (timer_rules v) → NestedFacts table
+    → (h : List Record) (x : Record)
+    → IsSteady table h → naming h x ≡ None → out_of_order table h x ≡ false
+    → AreEnough (timer_rules v) (path table h) (told h) x (timer_handed v (path table h) (told h) x)
 
 -- And for that of requests.
 abbrev pub EnoughRequest : Type 0

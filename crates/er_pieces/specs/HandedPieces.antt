@@ -2,8 +2,10 @@
 use Rattle.std.specs.Prelude.{ℕ, Bool, true, false, ◌==◌, nat_lt, if◌then◌else◌, List, [], ◌++◌, Option, Some, None}
 use Rattle.er_trace.specs.declared.record.Record.{Record}
 use Rattle.er_trace.specs.declared.record.Record.TheVariants.{Parse, ParseFrame, Exec, Timer, Tick, Dcl, Load, Eload, Fire, Wfire, Reply, Inline, Run, Close, Back}
+use Rattle.er_trace.specs.declared.version.Version.{Version}
 use Rattle.er_history.specs.History.{Form, Kinded, Framing, Element, Timeout, FireAt, WindowFire, Event, Action, History, first_to, makes_element, makes_timeout, maker_by, element_maker, declares_document, declares_handler, declares_interval, declares_request, event_begun, running}
-use Rattle.er_history.specs.Rules.{is_blocking, is_deferred, is_dcl_of, same_target, timers_of_one_event_in_order}
+use Rattle.er_history.specs.Rules.{is_blocking, is_deferred, is_dcl_of, same_target, Rule, timers_in_order}
+use Rattle.er_history.specs.Edges.{up_to}
 use Rattle.er_history.specs.Latest.{newest, number_of, latest_piece, latest_of, latest_of_each, greatest_group}
 use Rattle.er_history.specs.Kinds.{is_step_of, is_run_of, is_static_async, runs_element, is_tick_of, closes, is_load_of, is_reply_of, is_static_load_of, is_begin_of, is_handler_of}
 
@@ -62,21 +64,25 @@ load_handed h (Load p d) =
 load_handed h (Eload p e) = eload_handed h e (first_to (makes_element e) h.entries)
 load_handed h _ = []
 
--- the event that set the timeout, and the callbacks that rule 19 leads from
-abbrev pub timeout_handed : History → Event → Option Timeout → List ℕ
-timeout_handed h v None = []
-timeout_handed h v (Some x) =
+-- the event that set the timeout, and the callbacks that the rule leads from
+abbrev pub timeout_handed : Rule → (ℕ → ℕ → Bool) → History → Event → Option Timeout → List ℕ
+timeout_handed rule joined h v None = []
+timeout_handed rule joined h v (Some x) =
     latest_piece x.maker h.actions
-    ++ latest_of_each (λ (u : Event). timers_of_one_event_in_order (λ i j. false) u v) h.actions
+    ++ latest_of_each (λ (u : Event). rule (up_to v.number joined) u v) h.actions
 
 -- for an interval the event that set it, and its latest callback
-abbrev pub timer_handed : History → Record → List ℕ
-timer_handed h (Timer t) =
-    timeout_handed h (event_begun h (Timer t)) (first_to (makes_timeout t) h.entries)
-timer_handed h (Tick i) =
+abbrev pub timer_handed_by : Rule → (ℕ → ℕ → Bool) → History → Record → List ℕ
+timer_handed_by rule joined h (Timer t) =
+    timeout_handed rule joined h (event_begun h (Timer t)) (first_to (makes_timeout t) h.entries)
+timer_handed_by rule joined h (Tick i) =
     latest_of (maker_by (declares_interval i) h.entries) h.actions
     ++ newest (is_tick_of i) h.actions
-timer_handed h _ = []
+timer_handed_by rule joined h _ = []
+
+-- by rule 19 of a version, which may ask for the paths
+abbrev pub timer_handed : Version → (ℕ → ℕ → Bool) → History → Record → List ℕ
+timer_handed v = timer_handed_by (timers_in_order v)
 
 -- the event that sent the request, and its latest closed reply
 abbrev pub request_handed : History → Record → List ℕ

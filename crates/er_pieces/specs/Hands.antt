@@ -2,6 +2,7 @@
 use Rattle.std.specs.Prelude.{◌≡◌, ℕ, Bool, true, false, ◌||◌, List, [], None}
 use Rattle.er_trace.specs.declared.record.Record.{Record}
 use Rattle.er_paths.specs.Paths.{is_among}
+use Rattle.er_trace.specs.declared.version.Version.{Version}
 use Rattle.er_history.specs.History.{History, Action, told, begins, action_begun}
 use Rattle.er_history.specs.Rules.{Rule, parse_rules, script_rules, load_rules, dispatch_rules, timer_rules, request_rules}
 use Rattle.er_history.specs.Edges.{around_inline, of_one_event, is_ruled, path}
@@ -31,8 +32,10 @@ HandsLoad = (table : List (ℕ × Rule)) → NestedFacts table
     → Hands table load_rules load_handed
 
 abbrev pub HandsTimer : Type 0
-HandsTimer = (table : List (ℕ × Rule)) → HasGroup table timer_rules → NestedFacts table
-    → Hands table timer_rules timer_handed
+HandsTimer = (v : Version) (table : List (ℕ × Rule)) → HasGroup table (timer_rules v) → NestedFacts table
+    → (h : List Record) (x : Record)
+    → IsSteady table h → naming h x ≡ None → out_of_order table h x ≡ false
+    → AreHanded (timer_rules v) (path table h) (told h) x (timer_handed v (path table h) (told h) x)
 
 abbrev pub HandsRequest : Type 0
 HandsRequest = (table : List (ℕ × Rule)) → NestedFacts table

@@ -2,6 +2,7 @@
 use Rattle.std.specs.Prelude.{◌≡◌, ℕ, ◌<◌, Bool, true, false, List, ◌∷◌, length, None, All}
 use Rattle.er_trace.specs.declared.record.Record.{Record}
 use Rattle.er_paths.specs.Laws.{IsEnough}
+use Rattle.er_trace.specs.declared.version.Version.{Version}
 use Rattle.er_history.specs.History.{told, begins}
 use Rattle.er_history.specs.Rules.{Rule, rules, parse_rules, script_rules, load_rules, dispatch_rules, timer_rules, request_rules}
 use Rattle.er_history.specs.Edges.{edges, path}
@@ -14,10 +15,10 @@ use Rattle.er_pieces.specs.PiecesHanded.{ArePiecesHanded, HasHandedPieces}
 
 -- a sound list has what the latest pieces ask
 abbrev pub SoundListsAreSteady : Type 0
-SoundListsAreSteady = (h : List Record) → IsSound rules h → IsSteady rules h
+SoundListsAreSteady = (v : Version) (h : List Record) → IsSound (rules v) h → IsSteady (rules v) h
 
 -- each group has handed behind those before it
-pub record HandInTurn (joined : ℕ → ℕ → Bool) (h : List Record) (x : Record) (old new : List ℕ) : Type 0 where
+pub record HandInTurn (v : Version) (joined : ℕ → ℕ → Bool) (h : List Record) (x : Record) (old new : List ℕ) : Type 0 where
   pub steps : List ℕ
   pub runs : List ℕ
   pub loads : List ℕ
@@ -27,13 +28,13 @@ pub record HandInTurn (joined : ℕ → ℕ → Bool) (h : List Record) (x : Rec
   pub script : HasHanded script_rules joined (told h) x steps runs
   pub load : HasHanded load_rules joined (told h) x runs loads
   pub dispatch : HasHandedPieces dispatch_rules joined (told h) x loads dispatches
-  pub timer : HasHanded timer_rules joined (told h) x dispatches timers
+  pub timer : HasHanded (timer_rules v) joined (told h) x dispatches timers
   pub request : HasHanded request_rules joined (told h) x timers new
 
 -- Then all that is handed are sources of edges by all rules, and enough of them.
 abbrev pub AllHand : Type 0
-AllHand = (h : List Record) (x : Record) (old new : List ℕ) → IsSteady rules h → naming h x ≡ None
-    → HandInTurn (path rules h) h x old new → HasHandedPieces rules (path rules h) (told h) x old new
+AllHand = (v : Version) (h : List Record) (x : Record) (old new : List ℕ) → IsSteady (rules v) h → naming h x ≡ None
+    → HandInTurn v (path (rules v) h) h x old new → HasHandedPieces (rules v) (path (rules v) h) (told h) x old new
 
 -- Beside the lists of the actions before it, the handed numbers are enough for the list of the action that the record begins.
 abbrev pub HandedStayEnough : Type 0

@@ -4,6 +4,7 @@
 #![tactic(auto)]
 
 ghost use Rattle.er_history.specs.Rules.{rules};
+ghost use Rattle.er_trace.specs.declared.version.Version.{Version};
 ghost use Rattle.er_pieces.specs.AnyTimers.{HandsTimersBy};
 ghost use Rattle.er_pieces.specs.Counts.{ParseHandsAtMost, ScriptHandsAtMost, LoadHandsAtMost, TimerHandsAtMost, RequestHandsAtMost, DispatchHandsAtMost};
 ghost use Rattle.er_pieces.specs.Enough.{EnoughParse, EnoughScript, EnoughLoad, EnoughDispatch, EnoughTimer, EnoughRequest, EnoughPieces, HasSteady, NestedFactsHold};
@@ -19,7 +20,7 @@ pub fn latest_pieces_of_parsing_and_loading_suffice()
 {}
 
 /// The same for dispatches, timers and requests.
-#[tactic(auto, using(crate::proofs::EnoughDispatch::enough_dispatch, crate::proofs::EnoughTimer::enough_timer, crate::proofs::EnoughRequest::enough_request))]
+#[tactic(auto, using(crate::proofs::EnoughDispatch::enough_dispatch, crate::proofs::AnyTimersLemmas::enough_timer, crate::proofs::EnoughRequest::enough_request))]
 pub fn latest_pieces_of_events_suffice()
     ensures dispatches { EnoughDispatch }
     ensures timers { EnoughTimer }
@@ -32,10 +33,9 @@ pub fn handed_pieces_suffice_around_inline_dispatches()
     ensures { EnoughPieces }
 {}
 
-/// The table of all rules has those that are the same in every version.
-#[tactic(auto, using(crate::proofs::SteadyLemmas::all_rules_are_steady))]
+/// The table of all rules of a version has those that are the same in every version.
 pub fn all_rules_have_the_steady_ones()
-    ensures { HasSteady rules }
+    ensures { (v : Version) → HasSteady (rules v) }
 {}
 
 /// What is handed is sources too, and nothing for a record that begins no action.
@@ -86,7 +86,6 @@ pub fn latest_pieces_of_dispatches_are_handed()
 {}
 
 /// What the six groups of rules hand, one behind the other, are sources of edges by all rules, and enough of them: so the paths over the handed numbers are those over all edges.
-#[tactic(auto, using(crate::proofs::TogetherLemmas::all_hand))]
 pub fn six_groups_together_are_enough()
     ensures steady { SoundListsAreSteady }
     ensures handed { AllHand }

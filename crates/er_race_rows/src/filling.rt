@@ -85,7 +85,7 @@ pub(crate) fn clocks_of(alloc: Global, actions: u32, joined: u32) -> Result<Cloc
 
 fn push(clocks: &mut Clocks, is_joined: bool) -> Result<(), NoMemory> {
     let count = clocks.len();
-    if count >= 16_384 {
+    if count >= 32_768 {
         return Err(NoMemory);
     }
     if is_joined && count > 0 {

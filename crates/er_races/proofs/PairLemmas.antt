@@ -1,5 +1,5 @@
 -- Pairs of numbers, listed by their first.
-use Rattle.std.proofs.Common.{◌≡◌, ℕ, zero, suc, ◌+◌, ◌<◌, ◌≤◌, Bool, true, false, ◌&&◌, cond, List, [], ◌∷◌, ◌++◌, map, length, refl, sym, ap, ◌∙◌, arith}
+use Rattle.std.proofs.Common.{◌≡◌, ℕ, zero, suc, ◌+◌, ◌<◌, ◌≤◌, Bool, true, false, ◌&&◌, cond, List, [], ◌∷◌, ◌++◌, map, length, refl, sym, ap, ◌∙◌, arith, subst}
 use Rattle.std.specs.Prelude.{nat_lt, ◌==◌, ◌||◌}
 use Rattle.std.specs.List.{AllByRecursion, filter, range_with_len}
 use Rattle.std.specs.List.Sorted.{IsPermutation}
@@ -209,15 +209,60 @@ put_one x us vs ws false true false e f same = let no : false ≡ true = e in cc
 put_one x us vs ws false false true e f same = let no : true ≡ false = e in cc
 put_one x us vs ws false false false e f same = same
 
-pub one_more : {X : Type 0} (at : X → ℕ) (k : ℕ) (xs : List X) → IsPermutation (filter (λ x. nat_lt (at x) k) xs ++ filter (λ x. at x == k) xs) (filter (λ x. nat_lt (at x) (k + 1)) xs)
-one_more at k [] = IsPermutation-refl []
-one_more at k (x ∷ xs) = put_one x (filter (λ y. nat_lt (at y) k) xs) (filter (λ y. at y == k) xs) (filter (λ y. nat_lt (at y) (k + 1)) xs) (nat_lt (at x) k) (at x == k) (nat_lt (at x) (k + 1)) (either (at x) k) (not_both (at x) k) (one_more at k xs)
-  where
-    either : (a k : ℕ) → nat_lt a (k + 1) ≡ (nat_lt a k || (a == k))
-    either a k = grind (arith, nat_tests)
+-- what passes one of two tests, of which none passes both
+pub two_parts : {X : Type 0} (a b c : X → Bool) (xs : List X) → ((x : X) → c x ≡ (a x || b x)) → ((x : X) → (a x && b x) ≡ false) → IsPermutation (filter a xs ++ filter b xs) (filter c xs)
+two_parts a b c [] either not_both = IsPermutation-refl []
+two_parts a b c (x ∷ xs) either not_both = put_one x (filter a xs) (filter b xs) (filter c xs) (a x) (b x) (c x) (either x) (not_both x) (two_parts a b c xs either not_both)
 
-    not_both : (a k : ℕ) → (nat_lt a k && (a == k)) ≡ false
-    not_both a k = grind (arith, nat_tests)
+and_false : (b : Bool) → (b && false) ≡ false
+and_false true = refl
+and_false false = refl
+
+one_later : (a k : ℕ) → nat_lt a (k + 1) ≡ (nat_lt a k || (a == k))
+one_later a k = grind (arith, nat_tests)
+
+not_later : (a k : ℕ) → (nat_lt a k && (a == k)) ≡ false
+not_later a k = grind (arith, nat_tests)
+
+is_equal : (a k : ℕ) → (a == k) ≡ true → a ≡ k
+is_equal a k e = grind (arith, nat_tests)
+
+-- one location more, where it is asked for
+pub one_more : {X : Type 0} (at : X → ℕ) (own : ℕ → Bool) (k : ℕ) (xs : List X)
+    → IsPermutation (filter (λ x. nat_lt (at x) k && own (at x)) xs ++ cond (own k) (filter (λ x. at x == k) xs) []) (filter (λ x. nat_lt (at x) (k + 1) && own (at x)) xs)
+one_more {X = X} at own k xs = by (own k) refl
+  where
+    P : List X → Type 0
+    P l = IsPermutation l (filter (λ x. nat_lt (at x) (k + 1) && own (at x)) xs)
+
+    either : own k ≡ true → (a : ℕ) → (nat_lt a (k + 1) && own a) ≡ ((nat_lt a k && own a) || (a == k))
+    either e a = same (nat_lt a k) (a == k) (nat_lt a (k + 1)) (own a) (one_later a k) (λ at_k. ap own (is_equal a k at_k) ∙ e)
+      where
+        same : (l m n o : Bool) → n ≡ (l || m) → (m ≡ true → o ≡ true) → (n && o) ≡ ((l && o) || m)
+        same l true n o e f = let g = f refl in grind arith
+        same l false n o e f = grind arith
+
+    not_both : (a : ℕ) → ((nat_lt a k && own a) && (a == k)) ≡ false
+    not_both a = apart (nat_lt a k) (own a) (a == k) (not_later a k)
+      where
+        apart : (l o m : Bool) → (l && m) ≡ false → ((l && o) && m) ≡ false
+        apart l o m e = grind arith
+
+    fewer : own k ≡ false → (a : ℕ) → (nat_lt a (k + 1) && own a) ≡ ((nat_lt a k && own a) || false)
+    fewer e a = same (nat_lt a k) (a == k) (nat_lt a (k + 1)) (own a) (one_later a k) (λ at_k. ap own (is_equal a k at_k) ∙ e)
+      where
+        same : (l m n o : Bool) → n ≡ (l || m) → (m ≡ true → o ≡ false) → (n && o) ≡ ((l && o) || false)
+        same l true n o e f = let g = f refl in grind arith
+        same l false n o e f = grind arith
+
+    none : filter (λ (x : X). false) xs ≡ []
+    none = filter_none (λ (x : X). false) xs (all_of (λ (x : X). false ≡ false) xs (λ x. refl))
+
+    by : (b : Bool) → own k ≡ b → IsPermutation (filter (λ x. nat_lt (at x) k && own (at x)) xs ++ cond b (filter (λ x. at x == k) xs) []) (filter (λ x. nat_lt (at x) (k + 1) && own (at x)) xs)
+    by true e = two_parts (λ x. nat_lt (at x) k && own (at x)) (λ x. at x == k) (λ x. nat_lt (at x) (k + 1) && own (at x)) xs (λ x. either e (at x)) (λ x. not_both (at x))
+    by false e =
+        subst P (ap (λ l. filter (λ x. nat_lt (at x) k && own (at x)) xs ++ l) none)
+        (two_parts (λ x. nat_lt (at x) k && own (at x)) (λ (x : X). false) (λ x. nat_lt (at x) (k + 1) && own (at x)) xs (λ x. fewer e (at x)) (λ x. and_false (nat_lt (at x) k && own (at x))))
 
 -- the pairs are in order
 

@@ -1,5 +1,5 @@
 -- The sort leaves the races in the order of their pairs.
-use Rattle.std.proofs.Common.{Ordering, Less, Equal, Greater, ◌≡◌, ℕ, ◌≤◌, Bool, true, false, ◌&&◌, cond, List, length, get_or, refl, sym, ap, ◌∙◌, arith, subst}
+use Rattle.std.proofs.Common.{Ordering, Less, Equal, Greater, ◌≡◌, ℕ, Bool, true, false, ◌&&◌, cond, List, length, get_or, refl, sym, ap, ◌∙◌, arith}
 use Rattle.std.specs.Prelude.{nat_lt, ◌==◌, ◌||◌}
 use Rattle.std.specs.Cmp.{IsTotalOrder}
 use Rattle.std.specs.List.Sorted.{IsPermutation, IsSorted}
@@ -8,8 +8,7 @@ use Rattle.std.proofs.lemmas.Bool.Decides.{nat_tests}
 use Rattle.std.proofs.lemmas.Cmp.{then_total, on_total, nat_cmp_total}
 use Rattle.std.proofs.lemmas.List.Sorted.{ranks_by, sorted_far, sum_by-IsPermutation}
 use Rattle.er_access.specs.Kept.{Kept}
-use Rattle.er_access.specs.Numbers.{accesses_of, locations_of}
-use Rattle.er_access.proofs.LocatedLemmas.{numbers_known}
+use Rattle.er_access.specs.Numbers.{accesses_of}
 use Rattle.er_races.specs.declared.race.Race.{Race}
 use Rattle.er_races.specs.Races.{races_of}
 use Rattle.er_races.specs.Pairs.{all_pairs}
@@ -17,7 +16,6 @@ use Rattle.er_races.specs.Listing.{is_race_by_number, race}
 use Rattle.er_races.proofs.Order.{one_order, up_of_far}
 use Rattle.er_races.proofs.PairLemmas.{race_below, all_pairs_up, passing_is}
 use Rattle.er_races.proofs.RaceLemmas.{races_by_number}
-use Rattle.er_races.proofs.ListLemmas.{before, before_all}
 
 abbrev pub race_cmp : Race → Race → Ordering
 race_cmp = then_cmp (on (λ (r : Race). r.first) nat_cmp) (on (λ (r : Race). r.second) nat_cmp)
@@ -63,10 +61,9 @@ sorted_is_due found sorted t n moved in_order same =
     (all_pairs_up t n)
     (λ f. sum_by-IsPermutation f found sorted moved ∙ sym (sum_by-IsPermutation f found (all_pairs t n) same))
 
-pub listed_is_due : (joined : ℕ → ℕ → Bool) (kept : List Kept) (k n : ℕ) (found sorted : List Race) → n ≡ length (locations_of kept) → n ≤ k
-    → IsPermutation found (before (accesses_of kept) (race joined (accesses_of kept)) k) → IsPermutation found sorted → IsSorted race_cmp sorted → sorted ≡ races_of joined kept
-listed_is_due joined kept k n found sorted count le same moved in_order =
+pub listed_is_due : (joined : ℕ → ℕ → Bool) (kept : List Kept) (found sorted : List Race)
+    → IsPermutation found (all_pairs (race joined (accesses_of kept)) (length (accesses_of kept))) → IsPermutation found sorted → IsSorted race_cmp sorted → sorted ≡ races_of joined kept
+listed_is_due joined kept found sorted same moved in_order =
     let accesses = accesses_of kept in
-    let P : List Race → Type 0 = λ l. IsPermutation found l in
-    sorted_is_due found sorted (race joined accesses) (length accesses) moved in_order (subst P (before_all accesses (race joined accesses) k (length (locations_of kept)) (numbers_known kept) (omega (arith, count, le))) same)
+    sorted_is_due found sorted (race joined accesses) (length accesses) moved in_order same
     ∙ (sym (passing_is (is_race_by_number joined) accesses) ∙ races_by_number joined kept)

@@ -8,5 +8,5 @@ mod race;
 pub mod sharing;
 
 pub use fault::ListFault;
-pub use lister::list;
+pub use lister::{list, list_part};
 pub use race::Race;

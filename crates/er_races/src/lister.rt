@@ -1,11 +1,12 @@
 //! Which candidate pairs race.
 
-ghost use Rattle.std.specs.Prelude.{◌≡◌, ℕ, ◌+◌, ◌<◌, ◌≤◌, ◌^◌, ◌-◌, true, List, [], ◌∷◌, ◌++◌, All, length, filter, cond, OnOk, IfOk, IfErr, Err};
-ghost use Rattle.er_access.specs.Kept.{candidates_of};
+ghost use Rattle.std.specs.Prelude.{◌≡◌, ℕ, ◌+◌, ◌<◌, ◌≤◌, ◌^◌, ◌-◌, true, List, [], ◌∷◌, ◌++◌, All, length, filter, drop, cond, OnOk, IfOk, IfErr, Err};
+ghost use Rattle.std.specs.List.Sorted.{IsPermutation};
+ghost use Rattle.er_access.specs.Kept.{candidates_of, is_write};
 ghost use Rattle.er_access.specs.Numbers.{access_at, accesses_of, locations_of};
 ghost use Rattle.er_races.specs.Races.{races_of, races_by, most_pairs, most_races, AreTooMany};
 ghost use Rattle.er_races.specs.Pairs.{with_each};
-ghost use Rattle.er_races.specs.Listing.{candidate, race, at_location, partners_of, writes_among};
+ghost use Rattle.er_races.specs.Listing.{candidate, race, at_location, own_at, part, leaves, partners_of, writes_among};
 
 use crate::{ListFault, Race};
 use er_access::Table;
@@ -36,14 +37,74 @@ pub fn list<P: Paths>(
     ensures at_most { meter.new ≤ meter.old + length (candidates_of table.now) }
     ensures rises { meter.old ≤ meter.new }
 {
+    match list_part(alloc, table, 1, 0, paths, meter) {
+        Ok(mut found) => {
+            found.sort_unstable();
+            Ok(found)
+        }
+        Err(fault) => Err(fault),
+    }
+}
+
+/// Lists the races at the locations whose number leaves the rest `shard`, in no order.
+///
+/// Each candidate pair at these locations is compared once.
+pub fn list_part<P: Paths>(
+    alloc: Global,
+    table: &Table,
+    shards: u32,
+    shard: u32,
+    paths: &P,
+    meter: &mut Meter,
+) -> Result<Vec<Race>, ListFault>
+    requires split { 0 < shards }
+    requires few { length (candidates_of table.now) ≤ most_pairs }
+    requires known { All (λ x. x.action < P.actions paths.now) table.now }
+    requires room { meter.old < 2 ^ 61 }
+    ensures races { IfOk result (λ races. IsPermutation races.items (part (leaves shards shard) (race (P.joins paths.now) (accesses_of table.now)) (accesses_of table.now))) }
+    ensures once { OnOk result (meter.new ≡ meter.old + length (part (leaves shards shard) (candidate (accesses_of table.now)) (accesses_of table.now))) }
+    ensures few { IfOk result (λ races. length races.items ≤ most_races) }
+    ensures many { result ≡ Err ListFault.TooManyRaces → most_races < length (part (leaves shards shard) (race (P.joins paths.now) (accesses_of table.now)) (accesses_of table.now)) }
+    ensures at_most { meter.new ≤ meter.old + length (part (leaves shards shard) (candidate (accesses_of table.now)) (accesses_of table.now)) }
+    ensures rises { meter.old ≤ meter.new }
+{
     let mut found = Vec::new(alloc);
     for k in 0..table.locations() {
-        if let Err(fault) = list_location(alloc, table, k, paths, meter, &mut found) {
+        if let Err(fault) = list_own(alloc, table, k, shards, shard, paths, meter, &mut found) {
             return Err(fault);
         }
     }
-    found.sort_unstable();
     Ok(found)
+}
+
+/// Lists the races at one location, where its number leaves the rest.
+fn list_own<P: Paths>(
+    alloc: Global,
+    table: &Table,
+    k: u32,
+    shards: u32,
+    shard: u32,
+    paths: &P,
+    meter: &mut Meter,
+    found: &mut Vec<Race>,
+) -> Result<(), ListFault>
+    requires split { 0 < shards }
+    requires within { k < length (locations_of table.now) }
+    requires known { All (λ x. x.action < P.actions paths.now) (accesses_of table.now) }
+    requires room { meter.old + length (own_at (leaves shards shard) (candidate (accesses_of table.now)) (accesses_of table.now) k) < 2 ^ 61 + 2 ^ 25 }
+    requires few { length found.old.items ≤ most_races }
+    ensures found { OnOk result (found.new.items ≡ found.old.items ++ own_at (leaves shards shard) (race (P.joins paths.now) (accesses_of table.now)) (accesses_of table.now) k) }
+    ensures once { OnOk result (meter.new ≡ meter.old + length (own_at (leaves shards shard) (candidate (accesses_of table.now)) (accesses_of table.now) k)) }
+    ensures few { OnOk result (length found.new.items ≤ most_races) }
+    ensures many { IfErr result (λ fault. fault ≡ ListFault.TooManyRaces → most_races < length found.old.items + length (own_at (leaves shards shard) (race (P.joins paths.now) (accesses_of table.now)) (accesses_of table.now) k)) }
+    ensures at_most { meter.new ≤ meter.old + length (own_at (leaves shards shard) (candidate (accesses_of table.now)) (accesses_of table.now) k) }
+    ensures rises { meter.old ≤ meter.new }
+{
+    if k % shards == shard {
+        list_location(alloc, table, k, paths, meter, found)
+    } else {
+        Ok(())
+    }
 }
 
 /// Lists the races at one location.
@@ -67,25 +128,48 @@ fn list_location<P: Paths>(
     ensures rises { meter.old ≤ meter.new }
 {
     let rows = table.rows(k);
-    let writes = writes_of(alloc, table, rows)?;
-    for first in rows {
-        let others = partners(table, *first, rows, writes.as_slice());
-        if let Err(fault) = list_from(table, *first, others, paths, meter, found) {
+    let all_writes = writes_of(alloc, table, rows)?;
+    let mut writes = all_writes.as_slice();
+    for n in 0..rows.len() {
+        let first = rows[n];
+        writes = writes_after(table, first, writes);
+        let others = partners(table, first, rows, n, writes);
+        if let Err(fault) = list_from(table, first, others, paths, meter, found) {
             return Err(fault);
         }
     }
     Ok(())
 }
 
-/// The accesses with which one can race: all, or those that write.
-fn partners<'a>(table: &Table, first: u32, rows: &'a [u32], writes: &'a [u32]) -> &'a [u32]
-    requires { first < length table.now }
-    ensures { result.now ≡ partners_of (accesses_of table.now) first rows.now writes.now }
+/// The writes behind an access, of those that are not before it.
+fn writes_after<'a>(table: &Table, first: u32, writes: &'a [u32]) -> &'a [u32]
+    requires known { first < length table.now }
+    requires some { is_write (access_at (accesses_of table.now) first).mode ≡ true → 0 < length writes.now }
+    ensures { result.now ≡ cond (is_write (access_at (accesses_of table.now) first).mode) (drop 1 writes.now) writes.now }
 {
     if is_write(table.access(first).mode) {
-        rows
+        &writes[1..]
     } else {
         writes
+    }
+}
+
+/// The accesses behind number n of the rows with which `first` can race: all, or those that write.
+fn partners<'a>(
+    table: &Table,
+    first: u32,
+    rows: &'a [u32],
+    n: usize,
+    later_writes: &'a [u32],
+) -> &'a [u32]
+    requires known { first < length table.now }
+    requires within { n < length rows.now }
+    ensures { result.now ≡ partners_of (accesses_of table.now) first (drop (n + 1) rows.now) later_writes.now }
+{
+    if is_write(table.access(first).mode) {
+        &rows[n + 1..]
+    } else {
+        later_writes
     }
 }
 
@@ -105,7 +189,7 @@ fn writes_of(alloc: Global, table: &Table, rows: &[u32]) -> Result<Vec<u32>, NoM
     Ok(writes)
 }
 
-/// Lists the races of one access with each later one of these.
+/// Lists the races of one access with each of these later ones.
 fn list_from<P: Paths>(
     table: &Table,
     first: u32,
@@ -116,6 +200,7 @@ fn list_from<P: Paths>(
 ) -> Result<(), ListFault>
     requires first { first < length table.now }
     requires within { All (λ n. n < length table.now) others.now }
+    requires later { All (λ n. first < n) others.now }
     requires known { All (λ x. x.action < P.actions paths.now) (accesses_of table.now) }
     requires room { meter.old + length (filter (candidate (accesses_of table.now) first) others.now) < 2 ^ 62 - 1 }
     requires few { length found.old.items ≤ most_races }
@@ -134,7 +219,7 @@ fn list_from<P: Paths>(
     Ok(())
 }
 
-/// Asks for the pair where it is a candidate in order, and lists it where it races.
+/// Asks for the pair where it is a candidate, and lists it where it races.
 fn judge<P: Paths>(
     table: &Table,
     first: u32,
@@ -145,6 +230,7 @@ fn judge<P: Paths>(
 ) -> Result<(), ListFault>
     requires first { first < length table.now }
     requires second { second < length table.now }
+    requires order { first < second }
     requires known { All (λ x. x.action < P.actions paths.now) (accesses_of table.now) }
     requires room { meter.old + cond (candidate (accesses_of table.now) first second) 1 0 < 2 ^ 62 - 1 }
     requires few { length found.old.items ≤ most_races }
@@ -153,9 +239,6 @@ fn judge<P: Paths>(
     ensures few { OnOk result (length found.new.items ≤ most_races) }
     ensures many { IfErr result (λ fault. fault ≡ ListFault.TooManyRaces → (race (P.joins paths.now) (accesses_of table.now) first second ≡ true) × (length found.old.items ≡ most_races)) }
 {
-    if second <= first {
-        return Ok(());
-    }
     let a = table.access(first);
     let b = table.access(second);
     if !is_candidate(a, b) {

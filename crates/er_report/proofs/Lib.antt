@@ -1,4 +1,3 @@
-pub mod BufferedLemmas
 pub mod CountLemmas
 pub mod LineLemmas
 pub mod ReportLemmas

@@ -1,4 +1,3 @@
 pub mod Report
-pub mod Buffered
 pub mod Pieces
 pub mod Rows

@@ -1,13 +1,7 @@
--- What is written of a line at a time.
-use Rattle.std.specs.Prelude.{ℕ, List, [], ◌∷◌, ◌++◌}
-use Rattle.er_trace.specs.Items.{Item, item_spelling}
+-- The accesses of a race, as its line has them.
 use Rattle.er_trace.specs.declared.record.Loc.{Loc}
 use Rattle.er_access.specs.declared.access.Access.{Access}
 use Rattle.er_access.specs.Kept.{Kept, access_of}
-
--- an item and the space behind it
-unfoldable pub item_start : Item → List ℕ
-item_start item = item_spelling item ++ 32 ∷ []
 
 -- the access at this location
 abbrev pub placed : Access → Loc → Kept

@@ -4,7 +4,7 @@ use Rattle.std.specs.Prelude.{ℕ, ◌+◌, List, [], ◌∷◌, ◌++◌, lengt
 use Rattle.std.specs.List.{zip}
 use Rattle.er_text.specs.Cause.{cause_name}
 use Rattle.er_text.specs.declared.causes.Cause.{Cause}
-use Rattle.er_trace.specs.Items.{Item, Word, Number, items_spelling}
+use Rattle.er_trace.specs.Items.{Word, Number}
 use Rattle.er_trace.specs.Spelling.{mode_word, loc_items}
 use Rattle.er_trace.specs.Trace.{line}
 use Rattle.er_paths.specs.Paths.{joins}
@@ -13,16 +13,8 @@ use Rattle.er_links.specs.Links.{link_count}
 use Rattle.er_access.specs.Kept.{Kept, candidates_of}
 use Rattle.er_races.specs.Races.{races_by}
 use Rattle.er_cover.specs.Groups.{Grouping, grouping_of, groups_of}
+pub use Rattle.er_buffer.specs.Lines.{item_line, lines_from, count_line}
 use Rattle.er_report.specs.declared.counts.Counts.{Counts}
-
--- the line of some items
-unfoldable pub item_line : List Item → List ℕ
-item_line items = line (items_spelling items)
-
--- a line for each member, with the numbers from k on
-abbrev pub lines_from : {A : Type 0} → (ℕ → A → List ℕ) → ℕ → List A → List ℕ
-lines_from line_of k [] = []
-lines_from line_of k (x ∷ xs) = line_of k x ++ lines_from line_of (k + 1) xs
 
 -- `race K LINE LINE MODES ACTION ACTION LOC`
 abbrev pub race_line : ℕ → Kept × Kept → List ℕ
@@ -44,10 +36,6 @@ cover_lines groups = lines_from cover_line 1 groups.names
 
 abbrev pub group_lines : Grouping → List ℕ
 group_lines groups = lines_from group_line 1 (zip groups.representatives groups.sizes)
-
--- `actions N` and the like
-abbrev pub count_line : List ℕ → ℕ → List ℕ
-count_line name n = item_line (Word name ∷ Number n ∷ [])
 
 -- `report 1`
 abbrev pub opening_line : List ℕ

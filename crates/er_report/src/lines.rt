@@ -3,14 +3,15 @@
 ghost use Rattle.std.specs.Prelude.{ℕ, ◌+◌, List, [], ◌∷◌, ◌++◌, codes};
 ghost use Rattle.er_outside.specs.Ends.{Puts};
 ghost use Rattle.er_report.specs.Pieces.{both_at};
-ghost use Rattle.er_report.specs.Report.{count_line, opening_line, race_line, cover_line, group_line, closing_lines, refusal};
+ghost use Rattle.er_buffer.specs.Lines.{count_line};
+ghost use Rattle.er_report.specs.Report.{opening_line, race_line, cover_line, group_line, closing_lines, refusal};
 
-use crate::buffered::Text;
 use crate::counts::Counts;
-use crate::tokens::{
+use er_access::Access;
+use er_buffer::Text;
+use er_buffer::tokens::{
     end_with_loc, end_with_number, end_with_word, put_count, put_field, put_modes, put_word,
 };
-use er_access::Access;
 use er_outside::{Failed, Sink, put_all};
 use er_text::Cause;
 use er_trace::record::Loc;
@@ -43,11 +44,11 @@ impl Text for Generated {
 
 /// The line of a race of two accesses, by the number of the race.
 #[derive(Drop)]
-pub(crate) struct RaceLine<'a> {
-    pub(crate) number: u64,
-    pub(crate) first: Access,
-    pub(crate) second: Access,
-    pub(crate) loc: &'a Loc,
+pub struct RaceLine<'a> {
+    pub number: u64,
+    pub first: Access,
+    pub second: Access,
+    pub loc: &'a Loc,
 }
 
 impl<'a> Text for RaceLine<'a> {

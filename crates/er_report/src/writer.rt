@@ -7,14 +7,13 @@ ghost use Rattle.er_clocks.specs.Clock.{Tells};
 ghost use Rattle.er_access.specs.Kept.{Kept};
 ghost use Rattle.er_races.specs.Races.{races_of, most_races, ArePairs, IsWithin};
 ghost use Rattle.er_cover.specs.Groups.{grouping_of};
-ghost use Rattle.er_report.specs.Buffered.{CountsFaults, HoldsRest};
+ghost use Rattle.er_buffer.specs.Buffered.{CountsFaults, HoldsRest};
 ghost use Rattle.er_report.specs.Report.{race_lines, cover_lines, group_lines, report_of, report, refusal};
 
-use crate::buffer::Buffer;
-use crate::buffered::{flush, put_text};
 use crate::counts::{Counts, count_all};
 use crate::lines::{CoverLine, GroupLine, Opening, RaceLine, Refusal};
 use er_access::Table;
+use er_buffer::{Buffer, flush, put_text};
 use er_clocks::Clocks;
 use er_cover::Groups;
 use er_outside::{Failed, Sink, WriteFault};

@@ -1,10 +1,11 @@
 -- The worked rows, by computing.
 use Rattle.std.proofs.Common.{refl, [], ◌∷◌, codes, arith}
 use Rattle.std.specs.Fmt.{digits}
-use Rattle.er_report.specs.Report.{item_line}
+use Rattle.er_buffer.specs.Lines.{item_line}
 use Rattle.er_trace.specs.declared.record.Record.TheVariants.{Parse, Timer, Exec}
 use Rattle.er_trace.specs.declared.record.Kind.TheVariants as kinds
 use Rattle.er_run.specs.Answer.{OfRecord}
+use Rattle.er_trace.specs.declared.version.Version.TheVariants.{One}
 use Rattle.er_rows.specs.Rows.{Causes, Orders, UnknownTimeout, NotAScript, RunTooLate, step}
 
 pub causes_of_records : Causes
@@ -16,7 +17,7 @@ orders_of_records = record { step_after_deferred = refl; step_after_async = refl
 
 pub unknown_timeout : UnknownTimeout
 unfolding digits item_line
-unknown_timeout = OfRecord (step 1 ∷ []) refl (refl, tt) (record {
+unknown_timeout asked = OfRecord One (step 1 ∷ []) refl (refl, tt) (record {
   is_place = record { each = ((tt, (omega arith, (omega arith, (tt, tt)))), tt); few = omega arith };
   few = omega arith;
   read = Timer 9;
@@ -28,7 +29,7 @@ unknown_timeout = OfRecord (step 1 ∷ []) refl (refl, tt) (record {
 
 pub not_a_script : NotAScript
 unfolding digits item_line
-not_a_script = OfRecord (step 1 ∷ []) refl (refl, tt) (record {
+not_a_script asked = OfRecord One (step 1 ∷ []) refl (refl, tt) (record {
   is_place = record { each = ((tt, (omega arith, (omega arith, (tt, tt)))), tt); few = omega arith };
   few = omega arith;
   read = Exec 1;
@@ -40,7 +41,7 @@ not_a_script = OfRecord (step 1 ∷ []) refl (refl, tt) (record {
 
 pub run_too_late : RunTooLate
 unfolding digits item_line
-run_too_late = OfRecord (Parse 0 1 kinds.Sync ∷ step 2 ∷ []) refl (refl, (refl, tt)) (record {
+run_too_late asked = OfRecord One (Parse 0 1 kinds.Sync ∷ step 2 ∷ []) refl (refl, (refl, tt)) (record {
   is_place = record { each = ((tt, (omega arith, (omega arith, (tt, tt)))), ((tt, (omega arith, (omega arith, (tt, tt)))), tt)); few = omega arith };
   few = omega arith;
   read = Exec 1;

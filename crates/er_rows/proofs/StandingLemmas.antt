@@ -1,5 +1,5 @@
 -- What a caller of a graph knows of it.
-use Rattle.std.proofs.Common.{◌≡◌, ℕ, ◌<◌, false, List, ◌∷◌, length, None, arith}
+use Rattle.std.proofs.Common.{◌≡◌, ℕ, ◌<◌, false, List, ◌∷◌, length, None, arith, subst, sym}
 use Rattle.std.proofs.Math.Logic.{∥∥₁_elim, ∥∥₁_map}
 use Rattle.std.proofs.Props.{props}
 use Rattle.er_trace.specs.declared.record.Record.{Record}
@@ -7,7 +7,9 @@ use Rattle.er_history.specs.History.{told}
 use Rattle.er_page.specs.declared.page.Page.{Page}
 use Rattle.er_page.specs.Page.{IsPage, IsSomePage}
 use Rattle.er_graph.specs.declared.graph.Graph.{Graph}
-use Rattle.er_graph.specs.Accepted.{Accepted, records, cause_now}
+use Rattle.er_trace.specs.declared.version.Version.{Version}
+use Rattle.er_rules_timer.specs.Timed.{IsSomeTimed}
+use Rattle.er_graph.specs.Accepted.{Accepted, records, cause_now, AreTimed}
 use Rattle.er_graph.specs.Graph.{IsListed, IsGraph, HasBegun}
 
 pub some_page : (graph : Graph) (page : Page) → ((accepted : List Accepted) → IsListed graph accepted → IsPage page (records accepted)) → ∥ IsSomePage page ∥₁
@@ -22,5 +24,14 @@ has_begun graph page action count shown is below = ∥∥₁_map graph.stands (�
 })
 
 pub whole_after : (old new : Graph) (line : ℕ) (x : Record) → old.has_failed ≡ false
-    → ((accepted : List Accepted) → IsGraph old accepted → (cause_now accepted x ≡ None) × IsGraph new (record { line = line; read = x } ∷ accepted)) → new.has_failed ≡ false
+    → ((accepted : List Accepted) → IsGraph old accepted → (cause_now old.version accepted x ≡ None) × IsGraph new (record { line = line; read = x } ∷ accepted)) → new.has_failed ≡ false
 whole_after old new line x whole taken = ∥∥₁_elim old.stands (hlevel props) (λ one. (taken one.accepted (record { listed = one.told; timed = one.timed whole; whole = whole })).1.whole)
+
+pub some_timed : (graph : Graph) (page : Page) (links : List (List ℕ)) (v : Version) → graph.has_failed ≡ false → ((accepted : List Accepted) → IsListed graph accepted → IsPage page (records accepted))
+    → ((accepted : List Accepted) → IsGraph graph accepted → AreTimed graph.version links accepted) → v ≡ graph.version → ∥ IsSomeTimed v page links ∥₁
+some_timed graph page links v whole shown timed is =
+    let at : ∥ IsSomeTimed graph.version page links ∥₁ = ∥∥₁_map graph.stands (λ one. record {
+      list = records one.accepted;
+      stands = record { page = shown one.accepted one.told; clocks = timed one.accepted (record { listed = one.told; timed = one.timed whole; whole = whole }) };
+    }) in
+    subst (λ u. ∥ IsSomeTimed u page links ∥₁) (sym is) at

@@ -5,8 +5,10 @@ ghost use Rattle.er_outside.specs.Ends.{untold};
 use er_clocks::Meter;
 use er_outside::{Failed, MemorySink, Source};
 use er_run::run;
+use er_shard::FreeGate;
 use std::alloc::{AllocError, Global};
 use std::test::Fail;
+use std::thread::Threads;
 
 /// A source that gives a text, and then a line over and over.
 #[derive(Drop)]
@@ -72,13 +74,26 @@ impl Source for Endless {
 }
 
 /// What is written for the source, and with which status.
-fn told(alloc: Global, source: &mut Endless) -> Result<(Vec<u8>, u8), AllocError> {
+fn told(
+    rt: &(impl Threads + Sync),
+    alloc: Global,
+    source: &mut Endless,
+) -> Result<(Vec<u8>, u8), AllocError> {
     let Ok(mut sink) = MemorySink::new(alloc, 1000, 4096, Vec::new(alloc)) else {
         return Err(AllocError);
     };
     let mut compares = Meter::new();
     let mut tests = Meter::new();
-    let outcome = run(alloc, &[], source, &mut sink, &mut compares, &mut tests);
+    let outcome = run(
+        rt,
+        alloc,
+        &[],
+        source,
+        &mut sink,
+        &mut compares,
+        &mut tests,
+        &FreeGate,
+    );
     Ok((Vec::from_slice(alloc, sink.bytes())?, outcome.status()))
 }
 
@@ -87,7 +102,7 @@ fn a_line_without_an_end(rt: HostRuntime) -> Result<(), Fail> {
     let alloc = rt.alloc();
     for piece in [1, 7, 4096] {
         let mut source = Endless::letters(piece);
-        let (written, status) = told(alloc, &mut source)?;
+        let (written, status) = told(&rt, alloc, &mut source)?;
         assert_eq!(rt; written.as_slice(), b"refused 1 long-line\n".as_slice());
         assert_eq!(rt; status, 3);
         assert!(rt; source.given < 1025 + piece as u64, "{piece}");
@@ -101,7 +116,7 @@ fn lines_without_an_end(rt: HostRuntime) -> Result<(), Fail> {
     let alloc = rt.alloc();
     for piece in [10, 4096] {
         let mut source = Endless::accesses(piece);
-        let (written, status) = told(alloc, &mut source)?;
+        let (written, status) = told(&rt, alloc, &mut source)?;
         assert_eq!(rt;
             written.as_slice(),
             b"refused 2097153 too-many-lines\n".as_slice()

@@ -5,6 +5,7 @@ use crate::through::{Done, Ends, in_pieces, sound, through};
 use er_run::outcome::Outcome;
 use std::alloc::{AllocError, Global};
 use std::test::Fail;
+use std::thread::Threads;
 
 #[test]
 fn a_failing_read(rt: HostRuntime) -> Result<(), Fail> {
@@ -17,7 +18,7 @@ fn a_failing_read(rt: HostRuntime) -> Result<(), Fail> {
         failing_writes: Vec::new(alloc),
         room: 1000,
     };
-    let done = through(alloc, &[], row.trace.as_bytes(), ends)?;
+    let done = through(&rt, alloc, &[], row.trace.as_bytes(), ends)?;
     assert_eq!(rt; done.outcome, Outcome::ReadFault);
     assert_eq!(rt; done.read_faults, 1);
     assert_eq!(rt; done.written.len(), 0);
@@ -41,7 +42,7 @@ fn a_failing_last_read(rt: HostRuntime) -> Result<(), Fail> {
             failing_writes: Vec::new(alloc),
             room: 1000,
         };
-        let done = through(alloc, &[], input.as_bytes(), ends)?;
+        let done = through(&rt, alloc, &[], input.as_bytes(), ends)?;
         assert_eq!(rt; done.outcome, Outcome::ReadFault, "{input}");
         assert_eq!(rt; done.read_faults, 1, "{input}");
         assert_eq!(rt; done.written.len(), 0, "{input}");
@@ -62,7 +63,7 @@ fn no_read_after_the_end(rt: HostRuntime) -> Result<(), Fail> {
             failing_writes: Vec::new(alloc),
             room: 1000,
         };
-        let done = through(alloc, &[], input.as_bytes(), ends)?;
+        let done = through(&rt, alloc, &[], input.as_bytes(), ends)?;
         assert_eq!(rt; done.written.as_slice(), output.as_bytes(), "{input}");
         assert_eq!(rt; done.read_faults, 0, "{input}");
     }
@@ -81,7 +82,7 @@ fn no_read_after_a_refusal(rt: HostRuntime) -> Result<(), Fail> {
     ] {
         let mut ends = in_pieces(alloc, 1);
         ends.failing_reads = vec![in alloc; decides + 1, decides + 2, decides + 3]?;
-        let done = through(alloc, &[], input.as_bytes(), ends)?;
+        let done = through(&rt, alloc, &[], input.as_bytes(), ends)?;
         assert_eq!(rt; done.written.as_slice(), output.as_bytes(), "{input}");
         assert_eq!(rt; done.read_faults, 0, "{input}");
     }
@@ -98,7 +99,7 @@ fn a_failing_write(rt: HostRuntime) -> Result<(), Fail> {
         failing_writes: vec![in alloc; 1, 2, 3]?,
         room: 1000,
     };
-    let done = through(alloc, &[], b"webtrace 1\nend\n", ends)?;
+    let done = through(&rt, alloc, &[], b"webtrace 1\nend\n", ends)?;
     assert_eq!(rt; done.outcome, Outcome::WriteFault);
     assert_eq!(rt; done.write_faults, 1);
     assert_eq!(rt; done.written.len(), 0);
@@ -117,7 +118,7 @@ fn little_room(rt: HostRuntime) -> Result<(), Fail> {
     for input in [row.trace, "nonsense\n"] {
         let mut ends = sound(alloc);
         ends.room = 12;
-        let done = through(alloc, &[], input.as_bytes(), ends)?;
+        let done = through(&rt, alloc, &[], input.as_bytes(), ends)?;
         assert_eq!(rt; done.outcome, Outcome::WriteFault, "{input}");
         assert_eq!(rt; done.write_faults, 1, "{input}");
         assert_eq!(rt; done.written.len(), 12, "{input}");
@@ -131,15 +132,21 @@ fn pieces(rt: HostRuntime) -> Result<(), Fail> {
     let alloc = rt.alloc();
     let row = timeouts_that_race();
     for piece in [1, 2, 3, 7, 16, 85] {
-        let done = through(alloc, &[], row.trace.as_bytes(), in_pieces(alloc, piece))?;
+        let done = through(
+            &rt,
+            alloc,
+            &[],
+            row.trace.as_bytes(),
+            in_pieces(alloc, piece),
+        )?;
         assert_eq!(rt; done.written.as_slice(), row.report.as_bytes());
     }
     Ok(())
 }
 
-fn is_right(alloc: Global) -> Result<bool, AllocError> {
+fn is_right(rt: &(impl Threads + Sync), alloc: Global) -> Result<bool, AllocError> {
     let row = timeouts_that_race();
-    let done = through(alloc, &[], row.trace.as_bytes(), sound(alloc))?;
+    let done = through(rt, alloc, &[], row.trace.as_bytes(), sound(alloc))?;
     Ok(is_report_or_nothing(&done))
 }
 
@@ -155,7 +162,7 @@ fn is_report_or_nothing(done: &Done) -> bool {
 /// Whichever allocation fails, the answer is want of memory and nothing written, or the report.
 #[test]
 fn want_of_memory(rt: HostRuntime) {
-    if let Ok(right) = is_right(rt.alloc()) {
+    if let Ok(right) = is_right(&rt, rt.alloc()) {
         assert!(rt; right);
     }
 }

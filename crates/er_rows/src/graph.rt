@@ -9,6 +9,7 @@ use er_rules_script as script;
 use er_text::Cause;
 use er_trace::fault::LineFault;
 use er_trace::parse::parse_record;
+use er_trace::version::Version;
 use smallvec::SmallVec;
 use std::alloc::Global;
 use std::process::Abort;
@@ -22,7 +23,7 @@ struct Row {
     /// Whether a path leads from the first action to the second.
     paths: &'static [(u32, u32, Option<bool>)],
     /// Actions with their chains, their places there and the sources of their links.
-    clocks: &'static [(u32, u32, u32, &'static [u32])],
+    clocks: &'static [(u32, u32, u32, &'static [u16])],
     /// A next record, and the pieces that the rules of parsing hand.
     parse_handed: (&'static str, &'static [u32]),
     /// A next record, and the pieces that the rules of scripts hand.
@@ -126,7 +127,7 @@ fn path(graph: &Graph, i: u32, j: u32) -> Option<bool> {
 }
 
 /// Whether the action is at this place of the chain, with these links.
-fn has_clock(graph: &Graph, action: u32, chain: u32, place: u32, links: &[u32]) -> bool {
+fn has_clock(graph: &Graph, action: u32, chain: u32, place: u32, links: &[u16]) -> bool {
     let clocks = graph.clocks();
     if action >= clocks.len() {
         return false;
@@ -218,7 +219,7 @@ pub(crate) fn let_go(_graph: Graph) {}
 fn rows(rt: HostRuntime) -> Result<(), Fail> {
     let alloc = rt.alloc();
     for row in &ROWS {
-        let mut graph = Graph::new(alloc)?;
+        let mut graph = Graph::new(alloc, Version::One)?;
         let done = go_through(&rt, &mut graph, alloc, row);
         let_go(graph);
         done?;

@@ -16,13 +16,14 @@ use er_rules_timer as timer;
 use er_trace::fault::LineFault;
 use er_trace::parse::parse_record;
 use er_trace::record::Record;
+use er_trace::version::Version;
 use smallvec::SmallVec;
 use std::alloc::Global;
 use std::process::Abort;
 use std::test::Fail;
 
 /// The records of the realistic load, the most numbers that may be handed for each, and how many are: of parsing, scripts, loads, timers, requests and dispatches.
-static NUMBERS: [(&str, [usize; 6], [usize; 6]); 53] = [
+pub(crate) static NUMBERS: [(&str, [usize; 6], [usize; 6]); 53] = [
     ("parse 0 1 plain", [2, 1, 0, 0, 0, 0], [0, 0, 0, 0, 0, 0]),
     ("parse 0 2 sync", [2, 1, 0, 0, 0, 0], [1, 0, 0, 0, 0, 0]),
     ("exec 2", [0, 4, 0, 0, 0, 0], [0, 1, 0, 0, 0, 0]),
@@ -78,36 +79,83 @@ static NUMBERS: [(&str, [usize; 6], [usize; 6]); 53] = [
     ("r var 0 count", [0, 0, 0, 0, 0, 0], [0, 0, 0, 0, 0, 0]),
 ];
 
-/// How many numbers the six groups hand for the record.
-fn handed(page: &Page, rec: &Record, alloc: Global) -> Result<[usize; 6], NoMemory>
+/// How many numbers the rules of parsing hand for the record.
+fn steps(page: &Page, rec: &Record, alloc: Global) -> Result<usize, NoMemory>
     requires some { ∥ IsSomePage page.now ∥₁ }
 {
-    let mut steps = SmallVec::new(alloc);
-    parse::predecessors::predecessors(page, rec, &mut steps)?;
-    let mut runs = SmallVec::new(alloc);
-    script::predecessors::predecessors(page, rec, &mut runs)?;
-    let mut loads = SmallVec::new(alloc);
-    load::predecessors::predecessors(page, rec, &mut loads)?;
-    let mut timers = SmallVec::new(alloc);
-    timer::predecessors::predecessors(page, rec, &mut timers)?;
-    let mut replies = SmallVec::new(alloc);
-    request::predecessors::predecessors(page, rec, &mut replies)?;
-    let mut dispatches = SmallVec::new(alloc);
-    dispatch::predecessors::predecessors(page, rec, &mut dispatches)?;
+    let mut out = SmallVec::new(alloc);
+    parse::predecessors::predecessors(page, rec, &mut out)?;
+    Ok(out.len())
+}
+
+fn runs(page: &Page, rec: &Record, alloc: Global) -> Result<usize, NoMemory>
+    requires some { ∥ IsSomePage page.now ∥₁ }
+{
+    let mut out = SmallVec::new(alloc);
+    script::predecessors::predecessors(page, rec, &mut out)?;
+    Ok(out.len())
+}
+
+fn loads(page: &Page, rec: &Record, alloc: Global) -> Result<usize, NoMemory>
+    requires some { ∥ IsSomePage page.now ∥₁ }
+{
+    let mut out = SmallVec::new(alloc);
+    load::predecessors::predecessors(page, rec, &mut out)?;
+    Ok(out.len())
+}
+
+fn replies(page: &Page, rec: &Record, alloc: Global) -> Result<usize, NoMemory>
+    requires some { ∥ IsSomePage page.now ∥₁ }
+{
+    let mut out = SmallVec::new(alloc);
+    request::predecessors::predecessors(page, rec, &mut out)?;
+    Ok(out.len())
+}
+
+fn dispatches(page: &Page, rec: &Record, alloc: Global) -> Result<usize, NoMemory>
+    requires some { ∥ IsSomePage page.now ∥₁ }
+{
+    let mut out = SmallVec::new(alloc);
+    dispatch::predecessors::predecessors(page, rec, &mut out)?;
+    Ok(out.len())
+}
+
+/// How many numbers the rules of timers hand, which ask the clocks too.
+fn timers(graph: &Graph, rec: &Record, alloc: Global) -> Result<usize, NoMemory>
+    requires whole { graph.now.has_failed ≡ false }
+{
+    let mut out = SmallVec::new(alloc);
+    timer::predecessors::predecessors(
+        graph.page(),
+        graph.clocks(),
+        graph.version(),
+        rec,
+        &mut out,
+    )?;
+    Ok(out.len())
+}
+
+/// How many numbers the six groups hand for the record.
+fn handed(graph: &Graph, rec: &Record, alloc: Global) -> Result<[usize; 6], NoMemory>
+    requires whole { graph.now.has_failed ≡ false }
+{
+    let page = graph.page();
     Ok([
-        steps.len(),
-        runs.len(),
-        loads.len(),
-        timers.len(),
-        replies.len(),
-        dispatches.len(),
+        steps(page, rec, alloc)?,
+        runs(page, rec, alloc)?,
+        loads(page, rec, alloc)?,
+        timers(graph, rec, alloc)?,
+        replies(page, rec, alloc)?,
+        dispatches(page, rec, alloc)?,
     ])
 }
 
 /// How many numbers the six groups hand for the next line.
-fn handed_next(graph: &Graph, alloc: Global, text: &str) -> Result<[usize; 6], LineFault> {
+fn handed_next(graph: &Graph, alloc: Global, text: &str) -> Result<[usize; 6], LineFault>
+    requires whole { graph.now.has_failed ≡ false }
+{
     let rec = parse_record(alloc, text.as_bytes())?;
-    match handed(graph.page(), &rec, alloc) {
+    match handed(graph, &rec, alloc) {
         Ok(counts) => Ok(counts),
         Err(NoMemory) => Err(LineFault::NoMemory),
     }
@@ -135,7 +183,7 @@ fn add_up(rt: &impl Abort, graph: &mut Graph, alloc: Global) -> Result<usize, Li
 #[test]
 fn realistic_load(rt: HostRuntime) -> Result<(), Fail> {
     let alloc = rt.alloc();
-    let mut graph = Graph::new(alloc)?;
+    let mut graph = Graph::new(alloc, Version::One)?;
     let sum = add_up(&rt, &mut graph, alloc);
     let links = graph.clocks().link_count();
     let_go(graph);

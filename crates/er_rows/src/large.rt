@@ -8,7 +8,7 @@ use std::test::Fail;
 const MOST_LINES: u32 = 2_097_152;
 
 /// The most actions of a trace.
-const MOST_ACTIONS: u32 = 16_384;
+const MOST_ACTIONS: u32 = 32_768;
 
 /// The most kept accesses.
 const MOST_ACCESSES: u32 = 1_048_576;
@@ -31,7 +31,7 @@ fn as_many_lines_as_may_be(rt: HostRuntime) -> Result<(), Fail> {
     let mut input = reads(alloc, MOST_LINES - 3)?;
     input.extend_from_slice(b"end\n")?;
     for piece in [1, 4096] {
-        let done = through(alloc, &[], &input, in_pieces(alloc, piece))?;
+        let done = through(&rt, alloc, &[], &input, in_pieces(alloc, piece))?;
         assert_eq!(rt; done.outcome.status(), 0);
         assert_eq!(rt;
             done.written.as_slice(),
@@ -46,7 +46,7 @@ fn a_line_too_many(rt: HostRuntime) -> Result<(), Fail> {
     let alloc = rt.alloc();
     let input = reads(alloc, MOST_LINES - 1)?;
     for piece in [1, 4096] {
-        let done = through(alloc, &[], &input, in_pieces(alloc, piece))?;
+        let done = through(&rt, alloc, &[], &input, in_pieces(alloc, piece))?;
         assert_eq!(rt; done.outcome.status(), 3);
         assert_eq!(rt;
             done.written.as_slice(),
@@ -69,7 +69,7 @@ fn a_long_line(rt: HostRuntime) -> Result<(), Fail> {
         }
         input.extend_from_slice(b"\nend\n")?;
         for piece in [1, 4096] {
-            let done = through(alloc, &[], &input, in_pieces(alloc, piece))?;
+            let done = through(&rt, alloc, &[], &input, in_pieces(alloc, piece))?;
             assert_eq!(rt; done.written.as_slice(), output.as_bytes());
         }
     }
@@ -92,12 +92,12 @@ fn as_many_actions_as_may_be(rt: HostRuntime) -> Result<(), Fail> {
     for (count, output) in [
         (
             MOST_ACTIONS,
-            "report 1\nactions 16384\naccesses 0\npairs 0\nraces 0\ngroups 0\nchains 1\nlinks 16383\nend\n",
+            "report 1\nactions 32768\naccesses 0\npairs 0\nraces 0\ngroups 0\nchains 1\nlinks 32767\nend\n",
         ),
-        (MOST_ACTIONS + 1, "refused 16386 too-many-actions\n"),
+        (MOST_ACTIONS + 1, "refused 32770 too-many-actions\n"),
     ] {
         let input = parse_steps(alloc, count)?;
-        let done = through(alloc, &[], &input, sound(alloc))?;
+        let done = through(&rt, alloc, &[], &input, sound(alloc))?;
         assert_eq!(rt; done.written.as_slice(), output.as_bytes());
     }
     Ok(())
@@ -131,20 +131,20 @@ fn as_deep_as_may_be(rt: HostRuntime) -> Result<(), Fail> {
     let mut deeper = open.clone()?;
     let mut closed = open.clone()?;
     open.extend_from_slice(b"end\n")?;
-    let done = through(alloc, &[], &open, sound(alloc))?;
+    let done = through(&rt, alloc, &[], &open, sound(alloc))?;
     assert_eq!(rt;
         done.written.as_slice(),
         b"report 1\nactions 514\naccesses 0\npairs 0\nraces 0\ngroups 0\nchains 1\nlinks 513\nend\n".as_slice()
     );
     deeper.extend_from_slice(b"inline 257 1 a\nend\n")?;
-    let done = through(alloc, &[], &deeper, sound(alloc))?;
+    let done = through(&rt, alloc, &[], &deeper, sound(alloc))?;
     assert_eq!(rt;
         done.written.as_slice(),
         b"refused 517 too-deep\n".as_slice()
     );
     close_all(alloc, &mut closed, MOST_INLINE)?;
     closed.extend_from_slice(b"end\n")?;
-    let done = through(alloc, &[], &closed, sound(alloc))?;
+    let done = through(&rt, alloc, &[], &closed, sound(alloc))?;
     assert!(rt; done.written.starts_with(b"report 1\nactions 1026\n"));
     Ok(())
 }
@@ -164,13 +164,13 @@ fn as_many_accesses_as_may_be(rt: HostRuntime) -> Result<(), Fail> {
     let mut full = variables(alloc, MOST_ACCESSES)?;
     let mut more = full.clone()?;
     full.extend_from_slice(b"r var 0 x\nend\n")?;
-    let done = through(alloc, &[], &full, sound(alloc))?;
+    let done = through(&rt, alloc, &[], &full, sound(alloc))?;
     assert_eq!(rt;
         done.written.as_slice(),
         b"report 1\nactions 1\naccesses 1048576\npairs 0\nraces 0\ngroups 0\nchains 1\nlinks 0\nend\n".as_slice()
     );
     more.extend_from_slice(b"r var 1048576 x\n")?;
-    let done = through(alloc, &[], &more, sound(alloc))?;
+    let done = through(&rt, alloc, &[], &more, sound(alloc))?;
     assert_eq!(rt;
         done.written.as_slice(),
         b"refused 1048579 too-many-accesses\n".as_slice()

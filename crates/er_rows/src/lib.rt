@@ -14,7 +14,11 @@ mod faults;
 #[cfg(test)]
 mod first_path;
 #[cfg(test)]
+mod gates;
+#[cfg(test)]
 mod graph;
+#[cfg(test)]
+mod grouped;
 #[cfg(test)]
 mod handed;
 #[cfg(test)]
@@ -23,6 +27,8 @@ mod large;
 mod limits;
 #[cfg(test)]
 mod loads;
+#[cfg(test)]
+mod modes;
 #[cfg(test)]
 mod naming;
 #[cfg(test)]
@@ -38,6 +44,8 @@ mod row;
 pub mod rows;
 #[cfg(test)]
 mod scripts;
+#[cfg(test)]
+mod shards;
 #[cfg(test)]
 mod tables;
 #[cfg(test)]

@@ -26,7 +26,13 @@ fn however_it_is_cut(rt: HostRuntime) -> Result<(), Fail> {
     let alloc = rt.alloc();
     let due = LOAD.report(alloc)?;
     for piece in [1, 7, 4096] {
-        let done = through(alloc, &[], LOAD.trace.as_bytes(), in_pieces(alloc, piece))?;
+        let done = through(
+            &rt,
+            alloc,
+            &[],
+            LOAD.trace.as_bytes(),
+            in_pieces(alloc, piece),
+        )?;
         assert_eq!(rt; done.outcome, Outcome::Races);
         assert_eq!(rt; done.written.as_slice(), due.as_bytes());
     }
@@ -45,7 +51,7 @@ fn a_failing_third_write(rt: HostRuntime) -> Result<(), Fail> {
         failing_writes: vec![in alloc; 3]?,
         room: 65536,
     };
-    let done = through(alloc, &[], LOAD.trace.as_bytes(), ends)?;
+    let done = through(&rt, alloc, &[], LOAD.trace.as_bytes(), ends)?;
     assert_eq!(rt; done.outcome, Outcome::WriteFault);
     assert_eq!(rt; done.outcome.status(), 5);
     assert_eq!(rt; done.write_faults, 1);

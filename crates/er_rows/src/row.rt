@@ -13,6 +13,7 @@ pub(crate) struct Row {
 }
 
 /// The counts of a report, in its order.
+#[derive(Clone, Copy)]
 pub(crate) struct Counts {
     pub(crate) actions: u64,
     pub(crate) accesses: u64,

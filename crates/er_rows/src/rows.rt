@@ -1,6 +1,7 @@
 //! Worked rows: each function answers a small trace with its report, and its contract is that the definitions give this report for the trace's records.
 
-ghost use Rattle.er_rows.specs.Rows.{TimeoutsThatRace, TimeoutsInOrder, EqualDelays, DelaysThatDisagree, TwoSetters, Repeats, OneAction, TwoReads, ParseSteps, NothingAtAll, BlockingScripts, AsyncScripts, DeferredScripts, OtherDocuments, OneClass, LaterRepresentative};
+ghost use Rattle.er_rows.specs.Rows.{TimeoutsThatRace, TimeoutsInOrder, EqualDelays, DelaysThatDisagree, TwoSetters, Repeats, OneAction, TwoReads, ParseSteps, NothingAtAll, BlockingScripts, AsyncScripts, DeferredScripts, OtherDocuments, OneClass, LaterRepresentative, JoinedSetters, CallbacksThatSet};
+ghost use Rattle.er_trace.specs.declared.version.Version.TheVariants.{One, Two};
 
 /// A legal trace, and its report.
 #[derive(Drop)]
@@ -169,8 +170,58 @@ pub fn later_representative() -> Worked
     }
 }
 
+/// Set in two parse steps: in version 2 these are in order.
+pub fn joined_setters() -> Worked
+    ensures { JoinedSetters Two 5 result.trace.now result.report.now }
+{
+    Worked {
+        trace: "webtrace 2\nparse 0 1 plain\nset 1 5\nparse 0 2 plain\nset 2 5\ntimer 1\nw var 0 x\ntimer 2\nr var 0 x\nend\n",
+        report: "report 1\nactions 4\naccesses 2\npairs 1\nraces 0\ngroups 0\nchains 2\nlinks 4\nend\n",
+    }
+}
+
+/// The same in version 1.
+pub fn joined_setters_before() -> Worked
+    ensures { JoinedSetters One 5 result.trace.now result.report.now }
+{
+    Worked {
+        trace: "webtrace 1\nparse 0 1 plain\nset 1 5\nparse 0 2 plain\nset 2 5\ntimer 1\nw var 0 x\ntimer 2\nr var 0 x\nend\n",
+        report: "report 1\nrace 1 7 9 wr 2 3 var 0 x\ncover 1 1\ngroup 1 1 1\nactions 4\naccesses 2\npairs 1\nraces 1\ngroups 1\nchains 2\nlinks 3\nend\n",
+    }
+}
+
+/// The first has the longer delay.
+pub fn joined_setters_that_disagree() -> Worked
+    ensures { JoinedSetters Two 6 result.trace.now result.report.now }
+{
+    Worked {
+        trace: "webtrace 2\nparse 0 1 plain\nset 1 6\nparse 0 2 plain\nset 2 5\ntimer 1\nw var 0 x\ntimer 2\nr var 0 x\nend\n",
+        report: "report 1\nrace 1 7 9 wr 2 3 var 0 x\ncover 1 1\ngroup 1 1 1\nactions 4\naccesses 2\npairs 1\nraces 1\ngroups 1\nchains 2\nlinks 3\nend\n",
+    }
+}
+
+/// The order of two callbacks rests on that of the callbacks that set them.
+pub fn callbacks_that_set() -> Worked
+    ensures { CallbacksThatSet Two result.trace.now result.report.now }
+{
+    Worked {
+        trace: "webtrace 2\nparse 0 1 plain\nset 1 0\nset 2 0\ntimer 1\nset 3 4\ntimer 2\nset 4 4\ntimer 3\nw var 0 x\ntimer 4\nw var 0 x\nend\n",
+        report: "report 1\nactions 5\naccesses 2\npairs 1\nraces 0\ngroups 0\nchains 1\nlinks 4\nend\n",
+    }
+}
+
+/// The same in version 1.
+pub fn callbacks_that_set_before() -> Worked
+    ensures { CallbacksThatSet One result.trace.now result.report.now }
+{
+    Worked {
+        trace: "webtrace 1\nparse 0 1 plain\nset 1 0\nset 2 0\ntimer 1\nset 3 4\ntimer 2\nset 4 4\ntimer 3\nw var 0 x\ntimer 4\nw var 0 x\nend\n",
+        report: "report 1\nrace 1 10 12 ww 3 4 var 0 x\ncover 1 1\ngroup 1 1 1\nactions 5\naccesses 2\npairs 1\nraces 1\ngroups 1\nchains 2\nlinks 4\nend\n",
+    }
+}
+
 /// All of them.
-pub fn all() -> [Worked; 16] {
+pub fn all() -> [Worked; 21] {
     [
         timeouts_that_race(),
         timeouts_in_order(),
@@ -188,5 +239,10 @@ pub fn all() -> [Worked; 16] {
         other_documents(),
         one_class(),
         later_representative(),
+        joined_setters(),
+        joined_setters_before(),
+        joined_setters_that_disagree(),
+        callbacks_that_set(),
+        callbacks_that_set_before(),
     ]
 }

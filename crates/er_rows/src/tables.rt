@@ -1,7 +1,9 @@
 //! The worked rows through `run`, table by table.
 
+ghost use Rattle.std.specs.Prelude.{◌≤◌};
+
 use crate::row::{Refusal, Row};
-use crate::through::{in_pieces, sound, through};
+use crate::through::{in_pieces, sound, through, words_of};
 use crate::{
     coverage, dispatches, first_path, loads, naming, orders, pieces, requests, rows, scripts,
     timers,
@@ -9,29 +11,43 @@ use crate::{
 use std::alloc::{AllocError, Global};
 use std::process::Abort;
 use std::test::Fail;
+use std::thread::Threads;
 
-/// Each trace gives its report, whether it comes at once or byte by byte.
-fn reports(rt: &impl Abort, alloc: Global, rows: &[Row]) -> Result<(), AllocError> {
+/// Each trace gives its report, where a read gives at most so many bytes.
+fn reports(
+    rt: &(impl Abort + Threads + Sync),
+    alloc: Global,
+    words: &[String],
+    piece: u32,
+    rows: &[Row],
+) -> Result<(), AllocError>
+    requires { 1 ≤ piece }
+{
     for row in rows {
         let due = row.report(alloc)?;
-        for piece in [1, 4096] {
-            let done = through(alloc, &[], row.trace.as_bytes(), in_pieces(alloc, piece))?;
-            assert!(rt; done.outcome.status() == row.status(), "{}", row.trace);
-            assert!(rt; done.written.as_slice() == due.as_bytes(), "{}", row.trace);
-        }
+        let ends = in_pieces(alloc, piece);
+        let done = through(rt, alloc, words, row.trace.as_bytes(), ends)?;
+        assert!(rt; done.outcome.status() == row.status(), "{}", row.trace);
+        assert!(rt; done.written.as_slice() == due.as_bytes(), "{}", row.trace);
     }
     Ok(())
 }
 
-/// Each trace is refused with its line and cause, whether it comes at once or byte by byte.
-fn refusals(rt: &impl Abort, alloc: Global, rows: &[Refusal]) -> Result<(), AllocError> {
+/// Each trace is refused with its line and cause, where a read gives at most so many bytes.
+fn refusals(
+    rt: &(impl Abort + Threads + Sync),
+    alloc: Global,
+    piece: u32,
+    rows: &[Refusal],
+) -> Result<(), AllocError>
+    requires { 1 ≤ piece }
+{
     for row in rows {
         let due = row.text(alloc)?;
-        for piece in [1, 4096] {
-            let done = through(alloc, &[], row.trace.as_bytes(), in_pieces(alloc, piece))?;
-            assert!(rt; done.outcome.status() == 3, "{}", row.trace);
-            assert!(rt; done.written.as_slice() == due.as_bytes(), "{}", row.trace);
-        }
+        let ends = in_pieces(alloc, piece);
+        let done = through(rt, alloc, &[], row.trace.as_bytes(), ends)?;
+        assert!(rt; done.outcome.status() == 3, "{}", row.trace);
+        assert!(rt; done.written.as_slice() == due.as_bytes(), "{}", row.trace);
     }
     Ok(())
 }
@@ -41,7 +57,7 @@ fn refusals(rt: &impl Abort, alloc: Global, rows: &[Refusal]) -> Result<(), Allo
 fn worked_rows(rt: HostRuntime) -> Result<(), Fail> {
     let alloc = rt.alloc();
     for row in &rows::all() {
-        let done = through(alloc, &[], row.trace.as_bytes(), sound(alloc))?;
+        let done = through(&rt, alloc, &[], row.trace.as_bytes(), sound(alloc))?;
         assert_eq!(rt;
             done.written.as_slice(),
             row.report.as_bytes(),
@@ -52,27 +68,55 @@ fn worked_rows(rt: HostRuntime) -> Result<(), Fail> {
     Ok(())
 }
 
+/// The reports of all tables.
+fn all_reports(
+    rt: &(impl Abort + Threads + Sync),
+    alloc: Global,
+    line: &str,
+    piece: u32,
+) -> Result<(), AllocError>
+    requires { 1 ≤ piece }
+{
+    let words = words_of(alloc, line)?;
+    reports(rt, alloc, &words, piece, &first_path::REPORTS)?;
+    reports(rt, alloc, &words, piece, &scripts::REPORTS)?;
+    reports(rt, alloc, &words, piece, &loads::REPORTS)?;
+    reports(rt, alloc, &words, piece, &timers::REPORTS)?;
+    reports(rt, alloc, &words, piece, &requests::REPORTS)?;
+    reports(rt, alloc, &words, piece, &dispatches::REPORTS)?;
+    reports(rt, alloc, &words, piece, &pieces::REPORTS)?;
+    reports(rt, alloc, &words, piece, &orders::REPORTS)?;
+    reports(rt, alloc, &words, piece, &coverage::REPORTS)
+}
+
+/// The refusals of all tables.
+fn all_refusals(
+    rt: &(impl Abort + Threads + Sync),
+    alloc: Global,
+    piece: u32,
+) -> Result<(), AllocError>
+    requires { 1 ≤ piece }
+{
+    refusals(rt, alloc, piece, &first_path::REFUSALS)?;
+    refusals(rt, alloc, piece, &scripts::REFUSALS)?;
+    refusals(rt, alloc, piece, &orders::REFUSALS)?;
+    refusals(rt, alloc, piece, &naming::REFUSALS)
+}
+
+/// At once, byte by byte, and with words that ask for the same.
 #[test]
 fn legal_traces(rt: HostRuntime) -> Result<(), Fail> {
-    let alloc = rt.alloc();
-    reports(&rt, alloc, &first_path::REPORTS)?;
-    reports(&rt, alloc, &scripts::REPORTS)?;
-    reports(&rt, alloc, &loads::REPORTS)?;
-    reports(&rt, alloc, &timers::REPORTS)?;
-    reports(&rt, alloc, &requests::REPORTS)?;
-    reports(&rt, alloc, &dispatches::REPORTS)?;
-    reports(&rt, alloc, &pieces::REPORTS)?;
-    reports(&rt, alloc, &orders::REPORTS)?;
-    reports(&rt, alloc, &coverage::REPORTS)?;
+    all_reports(&rt, rt.alloc(), "", 4096)?;
+    all_reports(&rt, rt.alloc(), "", 1)?;
+    all_reports(&rt, rt.alloc(), "check", 4096)?;
+    all_reports(&rt, rt.alloc(), "--shards 64", 4096)?;
     Ok(())
 }
 
+/// At once and byte by byte.
 #[test]
 fn illegal_traces(rt: HostRuntime) -> Result<(), Fail> {
-    let alloc = rt.alloc();
-    refusals(&rt, alloc, &first_path::REFUSALS)?;
-    refusals(&rt, alloc, &scripts::REFUSALS)?;
-    refusals(&rt, alloc, &orders::REFUSALS)?;
-    refusals(&rt, alloc, &naming::REFUSALS)?;
+    all_refusals(&rt, rt.alloc(), 4096)?;
+    all_refusals(&rt, rt.alloc(), 1)?;
     Ok(())
 }

@@ -6,7 +6,9 @@ use er_clocks::Meter;
 use er_outside::{MemorySink, MemorySource};
 use er_run::outcome::Outcome;
 use er_run::run;
+use er_shard::{FreeGate, Gate};
 use std::alloc::{AllocError, Global};
+use std::thread::Threads;
 
 /// What came of a call.
 #[derive(Drop)]
@@ -56,11 +58,36 @@ pub(crate) fn in_pieces(alloc: Global, piece: u32) -> Ends
     }
 }
 
-pub(crate) fn through(
+/// Words that stand with a space between.
+pub(crate) fn words_of(alloc: Global, line: &str) -> Result<Vec<String>, AllocError> {
+    let mut words = Vec::new(alloc);
+    for word in line.split_whitespace() {
+        words.push(String::from_str(alloc, word)?)?;
+    }
+    Ok(words)
+}
+
+/// With a gate that holds no shard.
+pub(crate) fn through<R: Threads + Sync>(
+    rt: &R,
     alloc: Global,
     words: &[String],
     input: &[u8],
     ends: Ends,
+) -> Result<Done, AllocError>
+    requires piece { 1 ≤ ends.piece }
+    requires taken { 1 ≤ ends.taken }
+{
+    through_gate(rt, alloc, words, input, ends, &FreeGate)
+}
+
+pub(crate) fn through_gate<R: Threads + Sync, G: Gate + Sync>(
+    rt: &R,
+    alloc: Global,
+    words: &[String],
+    input: &[u8],
+    ends: Ends,
+    gate: &G,
 ) -> Result<Done, AllocError>
     requires piece { 1 ≤ ends.piece }
     requires taken { 1 ≤ ends.taken }
@@ -79,12 +106,14 @@ pub(crate) fn through(
     let mut compares = Meter::new();
     let mut tests = Meter::new();
     let outcome = run(
+        rt,
         alloc,
         words,
         &mut source,
         &mut sink,
         &mut compares,
         &mut tests,
+        gate,
     );
     Ok(Done {
         outcome,

@@ -3,10 +3,11 @@
 ghost use Rattle.std.specs.Prelude.{◌≤◌};
 
 use crate::realistic::LOAD;
-use crate::through::{Done, Ends, sound, through};
+use crate::through::{Done, Ends, sound, through, words_of};
 use er_run::outcome::Outcome;
 use std::alloc::{AllocError, Global};
 use std::test::Fail;
+use std::thread::Threads;
 
 /// The words of a command, an input, and what is written for it.
 struct Asked {
@@ -21,7 +22,7 @@ const TIMEOUTS: &str =
 
 const TOO_LATE: &str = "webtrace 1\nparse 0 1 sync\nparse 0 2 plain\nexec 1\nend\n";
 
-static ASKED: [Asked; 9] = [
+static ASKED: [Asked; 11] = [
     Asked {
         words: "check",
         input: "webtrace 1\nend\n",
@@ -71,6 +72,18 @@ static ASKED: [Asked; 9] = [
         status: 1,
     },
     Asked {
+        words: "check --shards 64",
+        input: "webtrace 1\nend\n",
+        written: "report 1\nactions 0\naccesses 0\npairs 0\nraces 0\ngroups 0\nchains 0\nlinks 0\nend\n",
+        status: 0,
+    },
+    Asked {
+        words: "gen --number 1 --shards 3",
+        input: "",
+        written: "generated 1\ngroup 1 1 1\ngroup 2 2 1\ngroup 3 3 1\nactions 12\naccesses 6\npairs 6\nraces 3\ngroups 3\nchains 4\nlinks 12\nend\n",
+        status: 1,
+    },
+    Asked {
         words: "gen --number 1500",
         input: "",
         written: "generated 1500\ngroup 1 2999 1500\ngroup 2 3000 1500\ngroup 3 3001 1\nactions 12004\naccesses 6002\npairs 10125751\nraces 3001\ngroups 3\nchains 4\nlinks 12004\nend\n",
@@ -90,28 +103,31 @@ static USAGE: [&str; 14] = [
     "gen --number 5 --json",
     "--json --json",
     "--shards 0",
-    "--shards 64",
+    "--shards 65",
     "--shards 08",
     "--help",
 ];
 
 /// What a command does, whose words stand with a space between.
-fn told(alloc: Global, line: &str, input: &str, ends: Ends) -> Result<Done, AllocError>
+fn told(
+    rt: &(impl Threads + Sync),
+    alloc: Global,
+    line: &str,
+    input: &str,
+    ends: Ends,
+) -> Result<Done, AllocError>
     requires piece { 1 ≤ ends.piece }
     requires taken { 1 ≤ ends.taken }
 {
-    let mut words = Vec::new(alloc);
-    for word in line.split_whitespace() {
-        words.push(String::from_str(alloc, word)?)?;
-    }
-    through(alloc, &words, input.as_bytes(), ends)
+    let words = words_of(alloc, line)?;
+    through(rt, alloc, &words, input.as_bytes(), ends)
 }
 
 #[test]
 fn commands(rt: HostRuntime) -> Result<(), Fail> {
     let alloc = rt.alloc();
     for asked in &ASKED {
-        let done = told(alloc, asked.words, asked.input, sound(alloc))?;
+        let done = told(&rt, alloc, asked.words, asked.input, sound(alloc))?;
         assert_eq!(rt;
             done.written.as_slice(),
             asked.written.as_bytes(),
@@ -127,12 +143,14 @@ fn commands(rt: HostRuntime) -> Result<(), Fail> {
 fn wrong_usage(rt: HostRuntime) -> Result<(), Fail> {
     let alloc = rt.alloc();
     for line in &USAGE {
-        let done = told(alloc, line, TIMEOUTS, sound(alloc))?;
+        let done = told(&rt, alloc, line, TIMEOUTS, sound(alloc))?;
         assert_eq!(rt; done.outcome, Outcome::Usage, "{line}");
         assert_eq!(rt; done.written.len(), 0, "{line}");
         assert_eq!(rt;
             done.outcome.line(),
-            Some("usage: er_cli [check|gen] [--json] [--number N]")
+            Some(
+                "usage: er_cli [check|gen|schedule|explain] [--shards N] [--json] [--number N] [--race N] [--from N] [--to N]"
+            )
         );
     }
     Ok(())
@@ -144,7 +162,7 @@ fn a_generated_trace_is_not_read(rt: HostRuntime) -> Result<(), Fail> {
     let alloc = rt.alloc();
     let mut ends = sound(alloc);
     ends.failing_reads = vec![in alloc; 1, 2, 3]?;
-    let done = told(alloc, "gen --number 2", "webtrace 1\n", ends)?;
+    let done = told(&rt, alloc, "gen --number 2", "webtrace 1\n", ends)?;
     assert_eq!(rt; done.outcome, Outcome::Races);
     assert_eq!(rt; done.read_faults, 0);
     assert_eq!(rt; done.compares, 20);
@@ -159,7 +177,7 @@ fn a_line_cut_short(rt: HostRuntime) -> Result<(), Fail> {
         let mut ends = sound(alloc);
         ends.taken = 16;
         ends.failing_writes = vec![in alloc; 3, 4, 5]?;
-        let done = told(alloc, line, LOAD.trace, ends)?;
+        let done = told(&rt, alloc, line, LOAD.trace, ends)?;
         assert_eq!(rt; done.outcome, Outcome::WriteFault, "{line}");
         assert_eq!(rt; done.write_faults, 1, "{line}");
         assert_eq!(rt; done.written.len(), 32, "{line}");

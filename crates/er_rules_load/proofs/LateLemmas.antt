@@ -20,7 +20,8 @@ use Rattle.er_history.proofs.OrderLemmas.{events_began, static_loads_never_back,
 use Rattle.er_pieces.specs.Enough.{AreInOrder}
 use Rattle.er_pieces.proofs.StackLemmas.{On, top_is, top_on}
 use Rattle.er_pieces.proofs.StartsLemmas.{bound, bound_of, is_clear}
-use Rattle.er_pieces.proofs.InOrderLemmas.{load_asks_none, not_late}
+use Rattle.er_history.proofs.VersionLemmas.{load_asks_none}
+use Rattle.er_pieces.proofs.InOrderLemmas.{not_late}
 use Rattle.er_pieces.proofs.ChainLemmas.{event_with, one_holds}
 use Rattle.er_pieces.proofs.RunLemmas.{same_event}
 use Rattle.er_pieces.proofs.DispatchLemmas.{begin_begun, open_begun}

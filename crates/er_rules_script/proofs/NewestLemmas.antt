@@ -16,7 +16,8 @@ use Rattle.er_history.specs.Naming.{IsNamed}
 use Rattle.er_history.proofs.HistoryLemmas.{and_left, same_test, actions_are_numbered, told_before, event_before}
 use Rattle.er_pieces.specs.Enough.{AreInOrder}
 use Rattle.er_pieces.proofs.PathLemmas.{both, and_right, newest_is}
-use Rattle.er_pieces.proofs.InOrderLemmas.{script_asks_none, not_late, pieces_before}
+use Rattle.er_history.proofs.VersionLemmas.{script_asks_none}
+use Rattle.er_pieces.proofs.InOrderLemmas.{not_late, pieces_before}
 use Rattle.er_pieces.proofs.RunLemmas.{same_event, run_bound, deferred_leads}
 use Rattle.er_pieces.proofs.StaticLemmas.{RunIs, run_is}
 use Rattle.er_pieces.proofs.NewestLemmas.{step_alone}

@@ -6,11 +6,14 @@ use Rattle.std.proofs.lemmas.Bool.{eqb-true, eq-eqb, ne_eqb}
 use Rattle.std.proofs.lemmas.List.{reverse-append}
 use Rattle.er_trace.specs.declared.record.Record.{Record}
 use Rattle.er_trace.specs.declared.record.Record.TheVariants.{Timer, Run, Close, Back}
+use Rattle.er_trace.specs.declared.version.Version.{Version}
+use Rattle.er_trace.specs.declared.version.Version.TheVariants.{One, Two}
 use Rattle.er_history.specs.History.{Timeout, Dispatch, What, TimeoutRun, HandlerOf, CloseOf, Unnamed, Event, Action, History, told, begins, maker_by, declares_handler, find_open, event_begun, action_begun, event_resumed}
-use Rattle.er_history.specs.Rules.{of_made, timers_of_one_event_in_order}
+use Rattle.er_history.specs.Rules.{of_made, rules, timers_in_order}
+use Rattle.er_history.specs.Edges.{path, up_to}
 use Rattle.er_history.specs.Laws.{Among}
 use Rattle.er_history.specs.Latest.{latest_of, latest_of_each, events_of_each}
-use Rattle.er_history.specs.LookUps.{timeout_made, before, timer_event, fires_of, fired_with}
+use Rattle.er_history.specs.LookUps.{timeout_made, before, setting_piece, timer_event, fires, fired, fires_of, fired_with}
 use Rattle.er_history.proofs.HistoryLemmas.{told_before, event_below}
 use Rattle.er_history.specs.Facts.{WhatIs}
 use Rattle.er_history.specs.Naming.{IsNamed, fires_timeout}
@@ -25,21 +28,60 @@ use Rattle.er_pieces.proofs.OnceLemmas.{IsOnce, begun_in, begun_once}
 use Rattle.er_pieces.proofs.BegunLemmas.{MadeBy, made_by_action}
 use Rattle.er_pieces.proofs.ChainLemmas.{event_with}
 use Rattle.er_pieces.proofs.LookUpLemmas.{each_is_all}
-use Rattle.er_rules_timer.specs.Fired.{is_no_longer, goes_off_first, handed_for_each, fired_handed}
+use Rattle.er_history.proofs.MakersLemmas.{timeout_below}
+use Rattle.er_rules_timer.specs.Fired.{is_no_longer, goes_off_first, is_joined, goes_before, fired_before, handed_for_each, fired_handed}
 
--- the callbacks of the timeouts that one event set
+-- the fired timeouts that were set so
+
+abbrev pub listed_if : (Timeout → Bool) → ℕ → Option Timeout → List ℕ
+listed_if pick t None = []
+listed_if pick t (Some y) = if pick y then t ∷ [] else []
+
+abbrev pub fires_by : (Timeout → Bool) → List Record → Record → List ℕ
+fires_by pick h (Timer t) = listed_if pick t (timeout_made h t)
+fires_by pick h _ = []
+
+abbrev pub fired_by : (Timeout → Bool) → List Record → List ℕ
+fired_by pick [] = []
+fired_by pick (x ∷ h) = fired_by pick h ++ fires_by pick h x
+
+-- by one event, or at all
+abbrev pub picks : Version → ℕ → Timeout → Bool
+picks One u y = y.maker == u
+picks Two u y = true
+
+fires_are : (v : Version) (u : ℕ) (h : List Record) (x : Record) → (fired_before v (x ∷ h) u ≡ fired_before v h u ++ fires_by (picks v u) h x)
+fires_are One u h (Timer t) = of (timeout_made h t) refl
+  where
+    of : (o : Option Timeout) → timeout_made h t ≡ o → fired_with h u ++ fires_of h u (Timer t) ≡ fired_with h u ++ listed_if (picks One u) t (timeout_made h t)
+    of None e = rw e refl
+    of (Some y) e = rw e refl
+fires_are Two u h (Timer t) = of (timeout_made h t) refl
+  where
+    of : (o : Option Timeout) → timeout_made h t ≡ o → fired h ++ fires h (Timer t) ≡ fired h ++ listed_if (picks Two u) t (timeout_made h t)
+    of None e = rw e refl
+    of (Some y) e = rw e refl
+fires_are One u h _ = refl
+fires_are Two u h _ = refl
+
+fired_are : (v : Version) (u : ℕ) (h : List Record) → fired_before v h u ≡ fired_by (picks v u) h
+fired_are One u [] = refl
+fired_are Two u [] = refl
+fired_are v u (x ∷ h) = fires_are v u h x ∙ ap (λ l. l ++ fires_by (picks v u) h x) (fired_are v u h)
+
+-- the callbacks of timeouts that were set so
 
 -- the callback of a timeout that passes
 abbrev pub of_timeout : (ℕ → Option Timeout → Bool) → What → Bool
 of_timeout test (TimeoutRun s made) = test s made
 of_timeout test _ = false
 
--- that of a timeout that event m set and that passes
-abbrev pub is_callback : ℕ → (Timeout → Bool) → What → Bool
-is_callback m test w = of_timeout (λ s made. of_made (λ (y : Timeout). (y.maker == m) && test y) made) w
+-- that of a timeout that was set so and passes
+abbrev pub is_callback : (Timeout → Bool) → (Timeout → Bool) → What → Bool
+is_callback pick test w = of_timeout (λ s made. of_made (λ (y : Timeout). pick y && test y) made) w
 
-abbrev pub callback_of : ℕ → (Timeout → Bool) → Event → Bool
-callback_of m test e = is_callback m test e.what
+abbrev pub callback_of : (Timeout → Bool) → (Timeout → Bool) → Event → Bool
+callback_of pick test e = is_callback pick test e.what
 
 -- by functions that tell of each timeout how it was set and which event is its callback: those events, of the timeouts that pass
 abbrev pub events_of : (ℕ → Option Timeout) → (ℕ → Option ℕ) → (Timeout → Bool) → List ℕ → List ℕ
@@ -86,39 +128,39 @@ no_callback t (Close p) test is below = not_both (length t.actions == length t.a
     of_close (Some d) = refl
 no_callback t x test is below = not_both (length t.actions == length t.actions) (of_timeout test (event_begun t x).what) refl
 
-other_more : (made : ℕ → Option Timeout) (fired : ℕ → Option ℕ) (m : ℕ) (test : Timeout → Bool) (x : Record) (h : List Record) → IsOther x → fires_of h m x ≡ [] → Tell made fired (told (x ∷ h)).actions
-    → (Tell made fired (told h).actions → events_of_each (callback_of m test) (told h).actions ≡ events_of made fired test (reverse (fired_with h m)))
-    → events_of_each (callback_of m test) (told (x ∷ h)).actions ≡ events_of made fired test (reverse (fired_with h m ++ fires_of h m x))
-other_more made fired m test x h is none tell rest =
-    by (begins x) tell ∙ ap (λ l. events_of made fired test (reverse l)) (sym (append-nil (fired_with h m)) ∙ ap (λ l. fired_with h m ++ l) (sym none))
+other_more : (made : ℕ → Option Timeout) (fired : ℕ → Option ℕ) (pick : Timeout → Bool) (test : Timeout → Bool) (x : Record) (h : List Record) → IsOther x → fires_by pick h x ≡ [] → Tell made fired (told (x ∷ h)).actions
+    → (Tell made fired (told h).actions → events_of_each (callback_of pick test) (told h).actions ≡ events_of made fired test (reverse (fired_by pick h)))
+    → events_of_each (callback_of pick test) (told (x ∷ h)).actions ≡ events_of made fired test (reverse (fired_by pick h ++ fires_by pick h x))
+other_more made fired pick test x h is none tell rest =
+    by (begins x) tell ∙ ap (λ l. events_of made fired test (reverse l)) (sym (append-nil (fired_by pick h)) ∙ ap (λ l. fired_by pick h ++ l) (sym none))
   where
     new : Action
     new = action_begun (told h) x
 
-    fails : ((new.number == new.event.number) && callback_of m test new.event) ≡ false
-    fails = no_callback (told h) x (λ s made. of_made (λ (y : Timeout). (y.maker == m) && test y) made) is (λ a among. event_below (told h).actions a (told_before h) among)
+    fails : ((new.number == new.event.number) && callback_of pick test new.event) ≡ false
+    fails = no_callback (told h) x (λ s made. of_made (λ (y : Timeout). pick y && test y) made) is (λ a among. event_below (told h).actions a (told_before h) among)
 
-    by : (b : Bool) → Tell made fired (if b then new ∷ (told h).actions else (told h).actions) → events_of_each (callback_of m test) (if b then new ∷ (told h).actions else (told h).actions) ≡ events_of made fired test (reverse (fired_with h m))
-    by true tell = ap (λ c. if c then new.event.number ∷ events_of_each (callback_of m test) (told h).actions else events_of_each (callback_of m test) (told h).actions) fails
+    by : (b : Bool) → Tell made fired (if b then new ∷ (told h).actions else (told h).actions) → events_of_each (callback_of pick test) (if b then new ∷ (told h).actions else (told h).actions) ≡ events_of made fired test (reverse (fired_by pick h))
+    by true tell = ap (λ c. if c then new.event.number ∷ events_of_each (callback_of pick test) (told h).actions else events_of_each (callback_of pick test) (told h).actions) fails
         ∙ rest (λ a s o among own what. tell a s o (inr among) own what)
     by false tell = rest tell
 
 -- So the events of callbacks that pass are those of the fired timeouts.
-fired_events : (made : ℕ → Option Timeout) (fired : ℕ → Option ℕ) (m : ℕ) (test : Timeout → Bool) (h : List Record) → Tell made fired (told h).actions
-    → events_of_each (callback_of m test) (told h).actions ≡ events_of made fired test (reverse (fired_with h m))
-fired_events made fired m test [] tell = refl
-fired_events made fired m test (Timer t ∷ h) tell =
+fired_events : (made : ℕ → Option Timeout) (fired : ℕ → Option ℕ) (pick : Timeout → Bool) (test : Timeout → Bool) (h : List Record) → Tell made fired (told h).actions
+    → events_of_each (callback_of pick test) (told h).actions ≡ events_of made fired test (reverse (fired_by pick h))
+fired_events made fired pick test [] tell = refl
+fired_events made fired pick test (Timer t ∷ h) tell =
     let is = tell (action_begun (told h) (Timer t)) t (timeout_made h t) (inl refl) refl refl in
-    by (timeout_made h t) is.0 (fired_events made fired m test h (λ a s o among own what. tell a s o (inr among) own what))
+    by (timeout_made h t) is.0 (fired_events made fired pick test h (λ a s o among own what. tell a s o (inr among) own what))
   where
     n : ℕ
     n = length (told h).actions
 
     rest : List ℕ
-    rest = events_of_each (callback_of m test) (told h).actions
+    rest = events_of_each (callback_of pick test) (told h).actions
 
     older : List ℕ
-    older = fired_with h m
+    older = fired_by pick h
 
     at : fired t ≡ Some n
     at = (tell (action_begun (told h) (Timer t)) t (timeout_made h t) (inl refl) refl refl).1
@@ -126,18 +168,14 @@ fired_events made fired m test (Timer t ∷ h) tell =
     own : (n == n) ≡ true
     own = eq-eqb n n refl
 
-    fires : Option Timeout → List ℕ
-    fires None = []
-    fires (Some y) = if y.maker == m then t ∷ [] else []
-
     nothing_more : rest ≡ events_of made fired test (reverse older) → rest ≡ events_of made fired test (reverse (older ++ []))
     nothing_more same = same ∙ ap (λ l. events_of made fired test (reverse l)) (sym (append-nil older))
 
     one_more : (y : Timeout) → made t ≡ Some y → rest ≡ events_of made fired test (reverse older) → (if (n == n) && (true && test y) then n ∷ rest else rest) ≡ events_of made fired test (reverse (older ++ t ∷ []))
-    one_more y is same = ap (λ b. if b && (true && test y) then n ∷ rest else rest) own ∙ pick (test y) refl ∙ sym (ap (events_of made fired test) (reverse-append older (t ∷ [])))
+    one_more y is same = ap (λ b. if b && (true && test y) then n ∷ rest else rest) own ∙ choose (test y) refl ∙ sym (ap (events_of made fired test) (reverse-append older (t ∷ [])))
       where
-        pick : (b : Bool) → test y ≡ b → (if test y then n ∷ rest else rest) ≡ events_of made fired test (t ∷ reverse older)
-        pick b e =
+        choose : (b : Bool) → test y ≡ b → (if test y then n ∷ rest else rest) ≡ events_of made fired test (t ∷ reverse older)
+        choose b e =
             ap (λ c. if c then n ∷ rest else rest) e ∙ (step b ∙ sym (ap (λ o. (if of_made test o then listed (fired t) else []) ++ events_of made fired test (reverse older)) is ∙ (λ i. (if e i then listed (at i) else []) ++ events_of made fired test (reverse older))))
           where
             step : (c : Bool) → (if c then n ∷ rest else rest) ≡ (if c then n ∷ [] else []) ++ events_of made fired test (reverse older)
@@ -150,21 +188,40 @@ fired_events made fired m test (Timer t ∷ h) tell =
     set_there y false is same = ap (λ c. if c then n ∷ rest else rest) (not_both (n == n) false refl) ∙ nothing_more same
 
     by : (o : Option Timeout) → made t ≡ o → rest ≡ events_of made fired test (reverse older)
-        → (if (n == n) && of_made (λ (y : Timeout). (y.maker == m) && test y) o then n ∷ rest else rest) ≡ events_of made fired test (reverse (older ++ fires o))
+        → (if (n == n) && of_made (λ (y : Timeout). pick y && test y) o then n ∷ rest else rest) ≡ events_of made fired test (reverse (older ++ listed_if pick t o))
     by None is same = ap (λ c. if c then n ∷ rest else rest) (not_both (n == n) false refl) ∙ nothing_more same
-    by (Some y) is same = set_there y (y.maker == m) is same
-fired_events made fired m test (x ∷ h) tell = other_more made fired m test x h tt refl tell (fired_events made fired m test h)
+    by (Some y) is same = set_there y (pick y) is same
+fired_events made fired pick test (x ∷ h) tell = other_more made fired pick test x h tt refl tell (fired_events made fired pick test h)
 
 -- rule 19 from an earlier event, to the callback of a timeout
 
 abbrev pub set_first : Timeout → Timeout → Bool
 set_first x y = nat_lt y.place x.place && nat_le y.delay x.delay
 
-rule_is : (u : Event) (n t : ℕ) (x : Timeout) → nat_lt u.number n ≡ true → timers_of_one_event_in_order (λ i j. false) u (event_with n (TimeoutRun t (Some x))) ≡ callback_of x.maker (set_first x) u
-rule_is u n t x earlier = by u.what
+-- as the version asks
+abbrev pub set_so : Version → (ℕ → ℕ → Bool) → Timeout → Timeout → Bool
+set_so One joined x y = set_first x y
+set_so Two joined x y = set_first x y && joined y.piece x.piece
+
+and_again : (a b c d : Bool) → c ≡ true → (a && (b && (c && d))) ≡ ((a && b) && d)
+and_again true true c d e = ap (λ f. f && d) e
+and_again true false c d e = refl
+and_again false b c d e = refl
+
+rule_is : (v : Version) (joined : ℕ → ℕ → Bool) (u : Event) (n t : ℕ) (x : Timeout) → nat_lt u.number n ≡ true → x.piece < n
+    → timers_in_order v (up_to n joined) u (event_with n (TimeoutRun t (Some x))) ≡ callback_of (picks v x.maker) (set_so v joined x) u
+rule_is One joined u n t x earlier set = by u.what
   where
-    by : (w : What) → timers_of_one_event_in_order (λ i j. false) (event_with u.number w) (event_with n (TimeoutRun t (Some x))) ≡ is_callback x.maker (set_first x) w
+    by : (w : What) → timers_in_order One (up_to n joined) (event_with u.number w) (event_with n (TimeoutRun t (Some x))) ≡ is_callback (picks One x.maker) (set_first x) w
     by (TimeoutRun s (Some y)) = ap (λ b. b && ((y.maker == x.maker) && set_first x y)) earlier
+    by (TimeoutRun s None) = not_both (nat_lt u.number n) false refl
+    by _ = not_both (nat_lt u.number n) false refl
+rule_is Two joined u n t x earlier set = by u.what
+  where
+    by : (w : What) → timers_in_order Two (up_to n joined) (event_with u.number w) (event_with n (TimeoutRun t (Some x))) ≡ is_callback (picks Two x.maker) (set_so Two joined x) w
+    by (TimeoutRun s (Some y)) =
+        ap (λ b. b && (nat_lt y.place x.place && (nat_le y.delay x.delay && (nat_lt x.piece n && joined y.piece x.piece)))) earlier
+        ∙ and_again (nat_lt y.place x.place) (nat_le y.delay x.delay) (nat_lt x.piece n) (joined y.piece x.piece) (less_is x.piece n set)
     by (TimeoutRun s None) = not_both (nat_lt u.number n) false refl
     by _ = not_both (nat_lt u.number n) false refl
 
@@ -188,25 +245,46 @@ listed_first : (o : Option ℕ) (us : List ℕ) (actions : List Action) → late
 listed_first None us actions = refl
 listed_first (Some u) us actions = refl
 
-handed_is : (h : List Record) (t : ℕ) (x : Timeout) (ss : List ℕ) → timeout_made h t ≡ Some x
-    → latest_of_all (events_of (timeout_made h) (timer_event h) (set_first x) ss) (told h).actions ≡ handed_for_each h t ss
-handed_is h t x [] is = refl
-handed_is h t x (s ∷ ss) is = step (of_made (set_first x) (timeout_made h s)) (handed_is h t x ss is) ∙ ap (λ b. (if b then latest_of (timer_event h s) (told h).actions else []) ++ handed_for_each h t ss) (sym (first_is h s t x is))
+before_is : (v : Version) (h : List Record) (s t : ℕ) (x : Timeout) → timeout_made h t ≡ Some x → goes_before v h s t ≡ of_made (set_so v (path (rules v) h) x) (timeout_made h s)
+before_is One h s t x is = first_is h s t x is
+before_is Two h s t x is =
+    ap (λ b. b && is_joined (path (rules Two) h) (setting_piece h s) (setting_piece h t)) (first_is h s t x is)
+    ∙ (ap (λ o. of_made (set_first x) (timeout_made h s) && is_joined (path (rules Two) h) (setting_piece h s) (option_map (λ (z : Timeout). z.piece) o)) is
+    ∙ by (timeout_made h s))
   where
-    step : (b : Bool) → latest_of_all (events_of (timeout_made h) (timer_event h) (set_first x) ss) (told h).actions ≡ handed_for_each h t ss
-        → latest_of_all ((if b then listed (timer_event h s) else []) ++ events_of (timeout_made h) (timer_event h) (set_first x) ss) (told h).actions ≡ (if b then latest_of (timer_event h s) (told h).actions else []) ++ handed_for_each h t ss
+    by : (o : Option Timeout) → (of_made (set_first x) o && is_joined (path (rules Two) h) (option_map (λ (z : Timeout). z.piece) o) (Some x.piece)) ≡ of_made (set_so Two (path (rules Two) h) x) o
+    by None = refl
+    by (Some y) = refl
+
+handed_is : (v : Version) (h : List Record) (t : ℕ) (x : Timeout) (ss : List ℕ) → timeout_made h t ≡ Some x
+    → latest_of_all (events_of (timeout_made h) (timer_event h) (set_so v (path (rules v) h) x) ss) (told h).actions ≡ handed_for_each v h t ss
+handed_is v h t x [] is = refl
+handed_is v h t x (s ∷ ss) is =
+    step (of_made (set_so v (path (rules v) h) x) (timeout_made h s)) (handed_is v h t x ss is)
+    ∙ ap (λ b. (if b then latest_of (timer_event h s) (told h).actions else []) ++ handed_for_each v h t ss) (sym (before_is v h s t x is))
+  where
+    test : Timeout → Bool
+    test = set_so v (path (rules v) h) x
+
+    step : (b : Bool) → latest_of_all (events_of (timeout_made h) (timer_event h) test ss) (told h).actions ≡ handed_for_each v h t ss
+        → latest_of_all ((if b then listed (timer_event h s) else []) ++ events_of (timeout_made h) (timer_event h) test ss) (told h).actions ≡ (if b then latest_of (timer_event h s) (told h).actions else []) ++ handed_for_each v h t ss
     step true rest = listed_first (timer_event h s) _ (told h).actions ∙ ap (λ l. latest_of (timer_event h s) (told h).actions ++ l) rest
     step false rest = rest
 
-rule_handed : (h : List Record) (t : ℕ) (x : Timeout) → Tell (timeout_made h) (timer_event h) (told h).actions → timeout_made h t ≡ Some x
-    → latest_of_each (λ (u : Event). timers_of_one_event_in_order (λ i j. false) u (event_with (length (told h).actions) (TimeoutRun t (Some x)))) (told h).actions ≡ fired_handed h t x.maker
-rule_handed h t x tell is =
+rule_handed : (v : Version) (h : List Record) (t : ℕ) (x : Timeout) → Tell (timeout_made h) (timer_event h) (told h).actions → timeout_made h t ≡ Some x
+    → latest_of_each (λ (u : Event). timers_in_order v (up_to (length (told h).actions) (path (rules v) h)) u (event_with (length (told h).actions) (TimeoutRun t (Some x)))) (told h).actions ≡ fired_handed v h t x.maker
+rule_handed v h t x tell is =
     let acts = (told h).actions in
-    let rule : Event → Bool = λ u. timers_of_one_event_in_order (λ i j. false) u (event_with (length acts) (TimeoutRun t (Some x))) in
+    let joined = path (rules v) h in
+    let rule : Event → Bool = λ u. timers_in_order v (up_to (length acts) joined) u (event_with (length acts) (TimeoutRun t (Some x))) in
+    let pick : Timeout → Bool = picks v x.maker in
+    let test : Timeout → Bool = set_so v joined x in
     each_is_all rule acts acts
-    ∙ (ap (λ us. latest_of_all us acts) (events_same rule (callback_of x.maker (set_first x)) acts (λ a among. rule_is a.event (length acts) t x (less_is a.event.number (length acts) (event_below acts a (told_before h) among)))
-    ∙ fired_events (timeout_made h) (timer_event h) x.maker (set_first x) h tell)
-    ∙ handed_is h t x (reverse (fired_with h x.maker)) is)
+    ∙ (ap (λ us. latest_of_all us acts) (events_same rule (callback_of pick test) acts
+    (λ a among. rule_is v joined a.event (length acts) t x (less_is a.event.number (length acts) (event_below acts a (told_before h) among)) (timeout_below h t x is).1)
+    ∙ fired_events (timeout_made h) (timer_event h) pick test h tell)
+    ∙ (ap (λ l. latest_of_all (events_of (timeout_made h) (timer_event h) test (reverse l)) acts) (sym (fired_are v x.maker h))
+    ∙ handed_is v h t x (reverse (fired_before v h x.maker)) is))
 
 -- the look-ups tell so
 
@@ -255,7 +333,7 @@ look_ups_tell h named a s o among own what = (
     same : made.action ≡ a
     same = begun_once (fires_timeout s) (timer_once s) h named made.action a made.among among (ap (fires_timeout s) (made.begun (timer_begins s made.read made.passes)) ∙ made.passes) passes
 
--- What rule 19 hands is what the fired timeouts of the event that set it give.
-pub fired_are_handed : (h : List Record) (t : ℕ) (x : Timeout) → IsNamed h → timeout_made h t ≡ Some x
-    → latest_of_each (λ (u : Event). timers_of_one_event_in_order (λ i j. false) u (event_with (length (told h).actions) (TimeoutRun t (Some x)))) (told h).actions ≡ fired_handed h t x.maker
-fired_are_handed h t x named is = rule_handed h t x (look_ups_tell h named) is
+-- What rule 19 hands is what the fired timeouts give that may come before.
+pub fired_are_handed : (v : Version) (h : List Record) (t : ℕ) (x : Timeout) → IsNamed h → timeout_made h t ≡ Some x
+    → latest_of_each (λ (u : Event). timers_in_order v (up_to (length (told h).actions) (path (rules v) h)) u (event_with (length (told h).actions) (TimeoutRun t (Some x)))) (told h).actions ≡ fired_handed v h t x.maker
+fired_are_handed v h t x named is = rule_handed v h t x (look_ups_tell h named) is

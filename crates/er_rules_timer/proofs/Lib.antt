@@ -1,2 +1,3 @@
 pub mod FiredLemmas
 pub mod TimersLemmas
+pub mod SetLemmas

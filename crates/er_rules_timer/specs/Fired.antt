@@ -1,11 +1,14 @@
--- The timeouts of one event whose callbacks have begun, by the look-ups. Lists of records stand newest first.
+-- The timeouts whose callbacks have begun and come before another, by the look-ups. Lists of records stand newest first.
 use Rattle.std.specs.Prelude.{ℕ, Bool, ◌&&◌, nat_le, if◌then◌else◌, List, [], ◌∷◌, ◌++◌, reverse, Option, Some, None}
 use Rattle.er_trace.specs.declared.record.Record.{Record}
+use Rattle.er_trace.specs.declared.version.Version.{Version}
+use Rattle.er_trace.specs.declared.version.Version.TheVariants.{One, Two}
 use Rattle.er_history.specs.History.{told}
-use Rattle.er_history.specs.Rules.{both_made}
+use Rattle.er_history.specs.Rules.{rules, both_made}
+use Rattle.er_history.specs.Edges.{path}
 use Rattle.er_history.specs.Latest.{newest, latest_piece, latest_of}
 use Rattle.er_history.specs.Kinds.{is_tick_of}
-use Rattle.er_history.specs.LookUps.{maker_of_timeout, maker_of_interval, set_before, delay_of, fired_with, timer_event}
+use Rattle.er_history.specs.LookUps.{maker_of_timeout, maker_of_interval, set_before, delay_of, setting_piece, fired, fired_with, timer_event}
 
 abbrev pub is_no_longer : Option ℕ → Option ℕ → Bool
 is_no_longer delay other = both_made (λ (m : ℕ) (n : ℕ). nat_le m n) delay other
@@ -14,26 +17,40 @@ is_no_longer delay other = both_made (λ (m : ℕ) (n : ℕ). nat_le m n) delay 
 abbrev pub goes_off_first : List Record → ℕ → ℕ → Bool
 goes_off_first h s t = set_before h s t && is_no_longer (delay_of h s) (delay_of h t)
 
+-- a path leads from the piece that set the first to the piece that set the second
+abbrev pub is_joined : (ℕ → ℕ → Bool) → Option ℕ → Option ℕ → Bool
+is_joined joined first second = both_made joined first second
+
+-- in version 2 a path must lead to it besides; in version 1 one event set both
+abbrev pub goes_before : Version → List Record → ℕ → ℕ → Bool
+goes_before One h s t = goes_off_first h s t
+goes_before Two h s t = goes_off_first h s t && is_joined (path (rules Two) h) (setting_piece h s) (setting_piece h t)
+
+-- the timeouts that have fired and that may come before one that this event set
+abbrev pub fired_before : Version → List Record → ℕ → List ℕ
+fired_before One h u = fired_with h u
+fired_before Two h u = fired h
+
 -- the latest piece of the callback of s, if it is to come before that of t
-abbrev pub handed_for : List Record → ℕ → ℕ → List ℕ
-handed_for h t s = if goes_off_first h s t then latest_of (timer_event h s) (told h).actions else []
+abbrev pub handed_for : Version → List Record → ℕ → ℕ → List ℕ
+handed_for v h t s = if goes_before v h s t then latest_of (timer_event h s) (told h).actions else []
 
 -- and those of each of these timeouts
-abbrev pub handed_for_each : List Record → ℕ → List ℕ → List ℕ
-handed_for_each h t [] = []
-handed_for_each h t (s ∷ ss) = handed_for h t s ++ handed_for_each h t ss
+abbrev pub handed_for_each : Version → List Record → ℕ → List ℕ → List ℕ
+handed_for_each v h t [] = []
+handed_for_each v h t (s ∷ ss) = handed_for v h t s ++ handed_for_each v h t ss
 
--- of the timeouts that the event set, from the last that fired to the first
-abbrev pub fired_handed : List Record → ℕ → ℕ → List ℕ
-fired_handed h t u = handed_for_each h t (reverse (fired_with h u))
+-- of the timeouts that may come before it, from the last that fired to the first
+abbrev pub fired_handed : Version → List Record → ℕ → ℕ → List ℕ
+fired_handed v h t u = handed_for_each v h t (reverse (fired_before v h u))
 
 -- what comes before the callback of a timeout, by the event that set it
-abbrev pub set_by : List Record → ℕ → Option ℕ → List ℕ
-set_by h t None = []
-set_by h t (Some u) = latest_piece u (told h).actions ++ fired_handed h t u
+abbrev pub set_by : Version → List Record → ℕ → Option ℕ → List ℕ
+set_by v h t None = []
+set_by v h t (Some u) = latest_piece u (told h).actions ++ fired_handed v h t u
 
-abbrev pub due_for : List Record → ℕ → List ℕ
-due_for h t = set_by h t (maker_of_timeout h t)
+abbrev pub due_for : Version → List Record → ℕ → List ℕ
+due_for v h t = set_by v h t (maker_of_timeout h t)
 
 -- what comes before a callback of an interval
 abbrev pub tick_handed : List Record → ℕ → List ℕ

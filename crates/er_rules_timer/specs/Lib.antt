@@ -1,3 +1,4 @@
 pub mod Against
 pub mod Enough
 pub mod Fired
+pub mod Timed

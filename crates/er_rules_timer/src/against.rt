@@ -2,6 +2,7 @@
 
 ghost use Rattle.std.specs.Prelude.{◌≡◌, ℕ, List, None};
 ghost use Rattle.er_trace.specs.declared.record.Record.{Record};
+ghost use Rattle.er_trace.specs.declared.version.Version.{Version};
 ghost use Rattle.er_history.specs.History.{told};
 ghost use Rattle.er_history.specs.Rules.{Rule, timer_rules};
 ghost use Rattle.er_history.specs.Edges.{path};
@@ -18,9 +19,9 @@ use er_trace::record::Record;
 /// It never does: the event that set a timeout or an interval has begun, and callbacks are ordered as they are recorded.
 #[tactic(auto, using(er_history::proofs::OrderLemmas::timer_rules_never_lead_back))]
 pub fn against(page: &Page, rec: &Record) -> bool
-    ensures { (table : List (ℕ × Rule)) (h : List Record) → IsPage page.now h → HasSteady table
-        → IsSound table h → naming h rec.now ≡ None
-        → result ≡ leads_back timer_rules (path table h) (told h) rec.now }
+    ensures { (v : Version) (table : List (ℕ × Rule)) (h : List Record) → IsPage page.now h
+        → HasSteady table → IsSound table h → naming h rec.now ≡ None
+        → result ≡ leads_back (timer_rules v) (path table h) (told h) rec.now }
 {
     false
 }

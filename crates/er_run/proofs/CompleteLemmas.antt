@@ -19,39 +19,39 @@ begins_more bytes more before there rest is = ap (λ b. b ++ more) is ∙ append
 
 -- a refusal other than for a missing end is that of every longer input
 
-pub longer : (bytes more : List ℕ) (n : ℕ) (c : Cause) → FirstIllegal bytes n c → c ≢ NoEnd → FirstIllegal (bytes ++ more) n c
-longer bytes more n c (OfLine place number legal h) other = OfLine place number legal (longer_refusal bytes more place c h other)
-longer bytes more n c (OfRecord earlier number legal h) other = OfRecord earlier number legal (record {
+pub longer : (asked : Command) (bytes more : List ℕ) (n : ℕ) (c : Cause) → FirstIllegal asked bytes n c → c ≢ NoEnd → FirstIllegal asked (bytes ++ more) n c
+longer asked bytes more n c (OfLine place number legal h) other = OfLine place number legal (longer_refusal bytes more place c h other)
+longer asked bytes more n c (OfRecord v earlier number legal h) other = OfRecord v earlier number legal (record {
   is_place = h.is_place;
   few = h.few;
   read = h.read;
   is_record = h.is_record;
   rest = h.rest ++ more;
-  begins = begins_more bytes more (bytes_before (After earlier)) (line (spelling h.read)) h.rest h.begins;
+  begins = begins_more bytes more (bytes_before (After v earlier)) (line (spelling h.read)) h.rest h.begins;
   cause = h.cause;
 })
-longer bytes more n c (OfEnd earlier number legal h) other = OfEnd earlier number legal (record {
+longer asked bytes more n c (OfEnd v earlier number legal h) other = OfEnd v earlier number legal (record {
   is_place = h.is_place;
   few = h.few;
   rest = h.rest ++ more;
-  begins = begins_more bytes more (bytes_before (After earlier)) (line end_word) h.rest h.begins;
+  begins = begins_more bytes more (bytes_before (After v earlier)) (line end_word) h.rest h.begins;
   cause = h.cause;
 })
 
 -- so what was taken answers as all that was there
 
-answers_final : (asked : Command) (taken rest : List ℕ) (outcome : Outcome) (due : List ℕ) → IsFinal taken → Answers asked taken outcome due → Answers asked (taken ++ rest) outcome due
-answers_final asked taken rest Clean due final a = absurd (not_refused taken a.0 final.0 final.1 a.1 final.2)
-answers_final asked taken rest Races due final a = absurd (not_refused taken a.0 final.0 final.1 a.1 final.2)
+answers_final : (asked : Command) (taken rest : List ℕ) (outcome : Outcome) (due : List ℕ) → IsFinal asked taken → Answers asked taken outcome due → Answers asked (taken ++ rest) outcome due
+answers_final asked taken rest Clean due final a = absurd (not_refused asked a.0 taken a.1 final.0 final.1 a.2 final.2)
+answers_final asked taken rest Races due final a = absurd (not_refused asked a.0 taken a.1 final.0 final.1 a.2 final.2)
 answers_final asked taken rest (Refused n c) due final a =
-    let same : c ≡ final.1 = (refused_once taken n final.0 c final.1 a.0 final.2).1 in
-    (longer taken rest n c a.0 (λ is. final.3 (sym same ∙ is)), a.1)
+    let same : c ≡ final.1 = (refused_once asked taken n final.0 c final.1 a.0 final.2).1 in
+    (longer asked taken rest n c a.0 (λ is. final.3 (sym same ∙ is)), a.1)
 answers_final asked taken rest Usage due final a = a
 answers_final asked taken rest ReadFault due final a = a
 answers_final asked taken rest WriteFault due final a = a
 answers_final asked taken rest NoMemory due final a = a
 
-answers_all : (asked : Command) (bytes taken : List ℕ) (left : Option (List ℕ)) (outcome : Outcome) (due : List ℕ) → Some bytes ≡ option_map (λ rest. taken ++ rest) left → IsDecided taken left → Answers asked taken outcome due
+answers_all : (asked : Command) (bytes taken : List ℕ) (left : Option (List ℕ)) (outcome : Outcome) (due : List ℕ) → Some bytes ≡ option_map (λ rest. taken ++ rest) left → IsDecided asked taken left → Answers asked taken outcome due
     → Answers asked bytes outcome due
 answers_all asked bytes taken None outcome due held decided a = absurd (cc)
 answers_all asked bytes taken (Some rest) outcome due held decided a =
@@ -81,7 +81,7 @@ only_memory WriteFault silent no_usage no_read = absurd silent
 only_memory NoMemory silent no_usage no_read = refl
 
 -- and the answer is that of all bytes, where those that were taken are all, or too many
-pub complete : (asked : Command) (bytes taken : List ℕ) (left got_old got_new : Option (List ℕ)) (outcome : Outcome) → Some bytes ≡ option_map (λ rest. taken ++ rest) left → IsDecided taken left
+pub complete : (asked : Command) (bytes taken : List ℕ) (left got_old got_new : Option (List ℕ)) (outcome : Outcome) → Some bytes ≡ option_map (λ rest. taken ++ rest) left → IsDecided asked taken left
     → (IsAnswer outcome → IsGiven asked taken outcome got_old got_new) → (outcome ≡ WriteFault → ⊥) → outcome ≢ Usage → outcome ≢ ReadFault → (outcome ≡ NoMemory) ⊎ ((due : List ℕ) × Answers asked bytes outcome due)
 complete asked bytes taken left got_old got_new outcome held decided given no_write no_usage no_read = elim (answered_or_none asked taken got_old got_new outcome given no_write no_usage no_read) [
   | inl none ↦ inl none

@@ -5,7 +5,7 @@ use Rattle.er_text.specs.declared.causes.Cause.{Cause}
 use Rattle.er_text.specs.declared.causes.Cause.TheVariants.{BadHeader, BadRecord, TooManyLines, AfterEnd}
 use Rattle.er_trace.specs.declared.record.Record.{Record}
 use Rattle.er_trace.specs.Spelling.{spelling}
-use Rattle.er_trace.specs.Trace.{most_lines, header, end_word, line, whole_line, SpellsNone, Start, RecordCause, LineCause, ReadsUntil}
+use Rattle.er_trace.specs.Trace.{most_lines, header, end_word, line, whole_line, IsNoHeader, SpellsNone, Start, RecordCause, LineCause, ReadsUntil}
 use Rattle.er_trace.proofs.LineLaws.{whole_line_parts, whole_line_is, number_within}
 use Rattle.er_trace.proofs.ReadLaws.{IsAt, ReadsWhole, at_start, at_more, at_end, at_refusal, after_end, refused_at_start}
 
@@ -59,12 +59,12 @@ reads_on (suc n) bytes refute = λ new number rest below at.
 
 reads_first : (bytes : List ℕ) (whole : Line) → whole ≡ whole_line bytes → IsRead bytes
 reads_first bytes (Err why) is_whole = λ refute.
-    let cause : LineCause Start bytes why = subst (λ w. MatchResult w (λ l. (l.0 ≢ header) × (why ≡ BadHeader)) (λ c. why ≡ c)) is_whole refl in
+    let cause : LineCause Start bytes why = subst (λ w. MatchResult w (λ l. IsNoHeader l.0 × (why ≡ BadHeader)) (λ c. why ≡ c)) is_whole refl in
     refute (Until 1 why [] (refused_at_start bytes [] why cause))
 reads_first bytes (Ok (l, later)) is_whole = λ refute.
     let h : whole_line bytes ≡ Ok (l, later) = sym is_whole in
-    let not_header : l ≢ header = λ is. reads_on (suc (length later)) bytes refute [] 2 later (omega arith) (at_start bytes [] later (whole_line_is header bytes l later h is)) in
-    let cause : LineCause Start bytes BadHeader = subst (λ w. MatchResult w (λ m. (m.0 ≢ header) × (BadHeader ≡ BadHeader)) (λ c. BadHeader ≡ c)) is_whole (not_header, refl) in
+    let not_header : IsNoHeader l = λ v is. reads_on (suc (length later)) bytes refute [] 2 later (omega arith) (at_start bytes v [] later (whole_line_is (header v) bytes l later h is)) in
+    let cause : LineCause Start bytes BadHeader = subst (λ w. MatchResult w (λ m. IsNoHeader m.0 × (BadHeader ≡ BadHeader)) (λ c. BadHeader ≡ c)) is_whole (not_header, refl) in
     refute (Until 1 BadHeader [] (refused_at_start bytes [] BadHeader cause))
 
 pub every_text : (bytes : List ℕ) → IsRead bytes

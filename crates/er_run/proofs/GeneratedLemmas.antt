@@ -2,6 +2,7 @@
 use Rattle.std.proofs.Common.{◌≡◌, ℕ, ◌≤◌, List, [], ◌∷◌, ◌++◌, length, drop, Some, None, slice_get, refl, ap, ◌∙◌, arith, append_assoc}
 use Rattle.std.proofs.lemmas.Grind.{common_steps}
 use Rattle.er_trace.specs.declared.record.Record.{Record}
+use Rattle.er_trace.specs.declared.version.Version.TheVariants.{One}
 use Rattle.er_trace.specs.Trace.{text, most_lines}
 use Rattle.er_gen.specs.Generated.{generated, most_rounds}
 use Rattle.er_gen.proofs.GeneratedLemmas.{generated_length, generated_fits}
@@ -10,7 +11,7 @@ use Rattle.er_run.specs.Reading.{IsReading}
 pub few_generated : (n : ℕ) → n ≤ most_rounds → length (generated n) ≤ most_lines
 few_generated n most = omega (arith, generated_length n)
 
-pub generated_read : (n : ℕ) → n ≤ most_rounds → IsReading (text (generated n)) (generated n) None
+pub generated_read : (n : ℕ) → n ≤ most_rounds → IsReading One (text One (generated n)) (generated n) None
 generated_read n most = (generated_fits n most, refl)
 
 -- what the generator gave, and what it has still to give

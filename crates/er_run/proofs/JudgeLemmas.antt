@@ -49,6 +49,6 @@ fault_by table earlier records at line x why below e legal number refused =
     (length earlier + at, omega (arith, number, taken_count earlier records at below), subst (λ l. IsLegal table (reverse l)) front legal, (x, there, subst (λ l. legality.cause table (reverse l) x ≡ Some why) front refused))
 
 pub fault_at : (s : Session) (earlier records : List Record) (at : ℕ) (x : Record) (fault : GraphFault) → at < length records → x ≡ get_or records at x → StandsFor s (reverse (earlier ++ take at records))
-    → IsFaultAfter (reverse (earlier ++ take at records)) x fault → IsFaultOf (earlier ++ records) fault
-fault_at s earlier records at x (Refused line why) below e stands after = fault_by rules earlier records at line x why below e stands.legal after.0 after.1
+    → IsFaultAfter s.graph.version (reverse (earlier ++ take at records)) x fault → IsFaultOf s.graph.version (earlier ++ records) fault
+fault_at s earlier records at x (Refused line why) below e stands after = fault_by (rules s.graph.version) earlier records at line x why below e stands.legal after.0 after.1
 fault_at s earlier records at x NoMemory below e stands after = tt

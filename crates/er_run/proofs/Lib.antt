@@ -3,6 +3,8 @@ pub mod AnswerLemmas
 pub mod SessionLemmas
 pub mod AccessLemmas
 pub mod JudgeLemmas
+pub mod OrderLemmas
+pub mod RaceOrders
 pub mod JudgedLemmas
 pub mod CompleteLemmas
 pub mod OneAnswer

@@ -1,10 +1,11 @@
 -- How a session comes to stand for one record more.
-use Rattle.std.proofs.Common.{◌≡◌, ℕ, ◌+◌, ◌<◌, Bool, true, false, List, [], ◌∷◌, length, get_or, Option, Some, None, refl, sym, ap, subst, ◌∙◌, arith}
+use Rattle.std.proofs.Common.{◌≡◌, ℕ, ◌+◌, ◌<◌, Bool, true, false, List, [], ◌∷◌, length, get_or, Option, Some, None, refl, sym, ap, subst, ◌∙◌, arith, inl, inr}
 use Rattle.std.specs.Prelude.{◌≢◌, ◌&&◌, ◌==◌, nat_lt, if◌then◌else◌}
 use Rattle.std.proofs.lemmas.Bool.Decides.{nat_tests}
 use Rattle.er_text.specs.declared.causes.Cause.{Cause}
 use Rattle.er_text.specs.declared.causes.Cause.TheVariants.{TooManyAccesses}
 use Rattle.er_trace.specs.declared.record.Record.{Record}
+use Rattle.er_trace.specs.declared.version.Version.{Version}
 use Rattle.er_trace.specs.declared.record.Record.TheVariants.{Access}
 use Rattle.er_trace.specs.declared.record.Mode.{Mode}
 use Rattle.er_trace.specs.declared.record.Loc.{Loc}
@@ -23,7 +24,7 @@ use Rattle.er_access.specs.Kept.{Kept, most_accesses}
 use Rattle.er_run.specs.declared.session.Session.{Session}
 use Rattle.er_run.specs.Legal as legality
 use Rattle.er_run.specs.Races.{kept, accesses_of, without_repeats}
-use Rattle.er_run.specs.Session.{numbered, StandsFor, IsFaultAfter, AreEarlier, AreKept, IsPastRoom, kept_with, is_access}
+use Rattle.er_run.specs.Session.{numbered, StandsFor, IsBegun, IsFaultAfter, AreEarlier, AreKept, IsPastRoom, kept_with, is_access}
 use Rattle.er_run.proofs.AccessLemmas.{same_kept, kept_begun, kept_lines}
 
 -- records keep what they are when they are numbered
@@ -36,19 +37,19 @@ page_of page graph h is stands = subst (IsPage page) (records_numbered h) (is (n
 
 -- what a graph says that accepted a record
 abbrev pub Accepts : Graph → Graph → ℕ → Record → Type 0
-Accepts old new line x = (accepted : List Accepted) → IsGraph old accepted → (cause_now accepted x ≡ None) × IsGraph new (record { line = line; read = x } ∷ accepted)
+Accepts old new line x = (accepted : List Accepted) → IsGraph old accepted → (cause_now old.version accepted x ≡ None) × IsGraph new (record { line = line; read = x } ∷ accepted)
 
-pub record IsAfter (graph : Graph) (h : List Record) (x : Record) (line : ℕ) : Type 0 where
-  pub sound : sound.cause rules h x ≡ None
+pub record IsAfter (v : Version) (graph : Graph) (h : List Record) (x : Record) (line : ℕ) : Type 0 where
+  pub sound : sound.cause (rules v) h x ≡ None
   pub stands : IsGraph graph (numbered (x ∷ h))
   pub line_is : line ≡ length (told h).entries + 2
 
-pub after : (old : Session) (graph : Graph) (h : List Record) (x : Record) (line : ℕ) → StandsFor old h → line ≡ old.records + 2 → Accepts old.graph graph line x → IsAfter graph h x line
+pub after : (old : Session) (graph : Graph) (h : List Record) (x : Record) (line : ℕ) → StandsFor old h → line ≡ old.records + 2 → Accepts old.graph graph line x → IsAfter old.graph.version graph h x line
 after old graph h x line stands e accepts =
     let p = accepts (numbered h) stands.graph in
     let at : line ≡ length h + 2 = omega (arith, e, stands.count) in
     record {
-      sound = ap (λ l. sound.cause rules l x) (sym (records_numbered h)) ∙ p.0;
+      sound = ap (λ l. sound.cause (rules old.graph.version) l x) (sym (records_numbered h)) ∙ p.0;
       stands = subst (λ n. IsGraph graph (record { line = n; read = x } ∷ numbered h)) at p.1;
       line_is = omega (arith, at, entries_length h);
     }
@@ -90,9 +91,9 @@ first_cause : (table : List (ℕ × Rule)) (h : List Record) (x : Record) (c : C
 first_cause table h x c e = by_cause (sound.cause table h x) (if legality.is_past_room h x then Some TooManyAccesses else None) c e
 
 -- a record is refused with its line, for the first cause against it
-pub fault_after : (old : Session) (new : Graph) (h : List Record) (x : Record) (line : ℕ) (fault : GraphFault) → StandsFor old h → line ≡ old.records + 2 → IsFault fault line x old.graph new → IsFaultAfter h x fault
+pub fault_after : (old : Session) (new : Graph) (h : List Record) (x : Record) (line : ℕ) (fault : GraphFault) → StandsFor old h → line ≡ old.records + 2 → IsFault fault line x old.graph new → IsFaultAfter old.graph.version h x fault
 fault_after old new h x line (Refused l c) stands e is =
-    (omega (arith, is.0, e, stands.count), first_cause rules h x c (ap (λ k. sound.cause rules k x) (sym (records_numbered h)) ∙ is.2 (numbered h) stands.graph.listed))
+    (omega (arith, is.0, e, stands.count), first_cause (rules old.graph.version) h x c (ap (λ k. sound.cause (rules old.graph.version) k x) (sym (records_numbered h)) ∙ is.2 (numbered h) stands.graph.listed))
 fault_after old new h x line NoMemory stands e is = tt
 
 -- what the access asks of the accesses before it
@@ -114,18 +115,32 @@ earlier old graph page h x line stands e accepts is =
           subst (λ (xs : List Kept). (get_or xs k d).action < length (told (x ∷ h)).actions) (sym stands.accesses) (omega arith);
     }
 
+-- in one version the same is legal
+same_rules : (v w : Version) (h : List Record) → w ≡ v → legality.IsLegal (rules v) h → legality.IsLegal (rules w) h
+same_rules v w h same legal = subst (λ u. legality.IsLegal (rules u) h) (sym same) legal
+
+-- in another version it begins before the first record
+pub begun_first : (old new : Session) (v : Version) (h : List Record) → StandsFor old h → IsBegun old.graph.version (Some v) h → (old.graph.version ≡ v → ⊥) → IsGraph new.graph [] → new.kept ≡ old.kept → new.records ≡ old.records → StandsFor new h
+begun_first old new v h stands begins other graph accesses count = elim begins [
+  | inl same ↦ absurd (other (sym same))
+  | inr none ↦
+      let first : StandsFor old [] = subst (StandsFor old) none stands in
+      let now : StandsFor new [] = record { graph = graph; accesses = accesses ∙ first.accesses; count = count ∙ first.count; legal = tt } in
+      subst (StandsFor new) (sym none) now
+]
+
 -- one record more
 
 pub noted : (old new : Session) (h : List Record) (x : Record) (line : ℕ) → StandsFor old h → line ≡ old.records + 2 → Accepts old.graph new.graph line x → is_access x ≡ false
-    → new.kept ≡ old.kept → new.records ≡ old.records + 1 → StandsFor new (x ∷ h)
-noted old new h x line stands e accepts access accesses count =
+    → new.graph.version ≡ old.graph.version → new.kept ≡ old.kept → new.records ≡ old.records + 1 → StandsFor new (x ∷ h)
+noted old new h x line stands e accepts access version accesses count =
     let a = after old new.graph h x line stands e accepts in
     let same : kept (x ∷ h) ≡ kept h = same_kept h x access in
     record {
       graph = a.stands;
       accesses = accesses ∙ (stands.accesses ∙ sym same);
       count = omega (arith, count, stands.count);
-      legal = (legal_next rules h x a.sound (λ more. absurd (omega (arith, more, ap length same))), stands.legal);
+      legal = same_rules old.graph.version new.graph.version (x ∷ h) version (legal_next (rules old.graph.version) h x a.sound (λ more. absurd (omega (arith, more, ap length same))), stands.legal);
     }
 
 -- what the table has with an access is what the records keep
@@ -142,8 +157,8 @@ abbrev pub IsRefusedRoom : Page → ℕ → Mode → Loc → List Kept → Type 
 IsRefusedRoom page line m l old = (h : List Record) (place : ℕ) → IsPage page h → line ≡ place + 2 → IsPastRoom old (kept_with h place m l old)
 
 pub accessed : (old new : Session) (page : Page) (h : List Record) (x : Record) (m : Mode) (l : Loc) (line : ℕ) → StandsFor old h → x ≡ Access m l → line ≡ old.records + 2 → Accepts old.graph new.graph line x
-    → ((accepted : List Accepted) → IsListed new.graph accepted → IsPage page (records accepted)) → Keeps page line m l old.kept new.kept → new.records ≡ old.records + 1 → StandsFor new (x ∷ h)
-accessed old new page h x m l line stands is e accepts shows keeps count =
+    → ((accepted : List Accepted) → IsListed new.graph accepted → IsPage page (records accepted)) → Keeps page line m l old.kept new.kept → new.graph.version ≡ old.graph.version → new.records ≡ old.records + 1 → StandsFor new (x ∷ h)
+accessed old new page h x m l line stands is e accepts shows keeps version count =
     let a = after old new.graph h x line stands e accepts in
     let k = keeps (x ∷ h) (length (told h).entries) (page_of page new.graph (x ∷ h) shows a.stands) a.line_is in
     let due = due_is old.kept h x m l is stands.accesses in
@@ -153,12 +168,12 @@ accessed old new page h x m l line stands is e accepts shows keeps count =
       graph = a.stands;
       accesses = k.same ∙ due;
       count = omega (arith, count, stands.count);
-      legal = (legal_next rules h x a.sound (λ more most. k.room (omega arith) (omega arith)), stands.legal);
+      legal = same_rules old.graph.version new.graph.version (x ∷ h) version (legal_next (rules old.graph.version) h x a.sound (λ more most. k.room (omega arith) (omega arith)), stands.legal);
     }
 
 -- an access for which there is no room
 pub refused_room : (old : Session) (graph : Graph) (page : Page) (h : List Record) (x : Record) (m : Mode) (l : Loc) (line : ℕ) → StandsFor old h → x ≡ Access m l → line ≡ old.records + 2 → Accepts old.graph graph line x
-    → ((accepted : List Accepted) → IsListed graph accepted → IsPage page (records accepted)) → IsRefusedRoom page line m l old.kept → IsFaultAfter h x (Refused line TooManyAccesses)
+    → ((accepted : List Accepted) → IsListed graph accepted → IsPage page (records accepted)) → IsRefusedRoom page line m l old.kept → IsFaultAfter old.graph.version h x (Refused line TooManyAccesses)
 refused_room old graph page h x m l line stands is e accepts shows past =
     let a = after old graph h x line stands e accepts in
     let p = past (x ∷ h) (length (told h).entries) (page_of page graph (x ∷ h) shows a.stands) a.line_is in
@@ -167,4 +182,4 @@ refused_room old graph page h x m l line stands is e accepts shows past =
     let now = ap length due in
     let more = p.more in
     let most = p.most in
-    (omega (arith, e, stands.count), full_next rules h x a.sound (record { more = omega arith; most = omega arith }))
+    (omega (arith, e, stands.count), full_next (rules old.graph.version) h x a.sound (record { more = omega arith; most = omega arith }))

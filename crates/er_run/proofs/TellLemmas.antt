@@ -1,29 +1,48 @@
 -- From what was put to how the run ends.
-use Rattle.std.proofs.Common.{◌≡◌, ◌≢◌, ℕ, Bool, true, false, ap, ◌∙◌, List, Option, Result, Ok, Err, refl, sym, subst, length, zero, suc, inl, inr, ◌⊎◌, arith}
+use Rattle.std.proofs.Common.{◌≡◌, ◌≢◌, ℕ, ◌≤◌, ◌∙◌, List, [], ◌∷◌, Option, Result, Ok, Err, refl, sym, subst, length, inl, inr, ◌⊎◌, arith}
 use Rattle.std.specs.Prelude.{OnOk, OnErr}
 use Rattle.er_outside.specs.Ends.{Gets, GetsPart, Rose}
 use Rattle.er_text.specs.declared.causes.Cause.{Cause}
 use Rattle.er_trace.specs.declared.record.Record.{Record}
+use Rattle.er_trace.specs.declared.version.Version.{Version}
 use Rattle.er_races.specs.declared.race.Race.{Race}
 use Rattle.er_run.specs.declared.outcome.Outcome.{Outcome}
-use Rattle.er_run.specs.declared.outcome.Outcome.TheVariants.{Clean, Races, WriteFault, NoMemory}
+use Rattle.er_run.specs.declared.outcome.Outcome.TheVariants.{Clean, Races, Refused, WriteFault, NoMemory}
 use Rattle.er_words.specs.declared.commands.Command.{Command}
-use Rattle.er_words.specs.declared.commands.Command.TheVariants.{Check, Gen}
-use Rattle.er_run.specs.Report.{report, json_report, summary, text_for}
+use Rattle.er_run.specs.Answer.{outcome_for, outcome_of}
+use Rattle.er_run.specs.Races.{races}
+use Rattle.er_run.specs.Report.{text_for}
 use Rattle.er_run.specs.Promise.{IsAnswer}
-use Rattle.er_run.specs.Accepted.{AreListed, EndsAs, EndsRefused, ReportsOf, RefusedAs}
-use Rattle.er_run.proofs.JudgedLemmas.{none_found}
+use Rattle.er_run.specs.Accepted.{AreListed, EndsAs, ReportsOf, RefusedAs}
+use Rattle.er_run.proofs.AnswerLemmas.{ends_so}
+use Rattle.er_run.proofs.JudgedLemmas.{as_many_found}
 
--- the text that is due, by what is asked
+-- the outcome of a trace, by the races that were found
 
-pub text_of_report : (asked : Command) (json : Bool) (h : List Record) → asked ≡ Check json → json ≡ false → text_for asked h ≡ report h
-text_of_report asked json h is at = ap (λ a. text_for a h) is ∙ ap (λ j. text_for (Check j) h) at
+same_outcome : {X Y : Type 0} (xs : List X) (ys : List Y) → length xs ≡ length ys → outcome_of xs ≡ outcome_of ys
+same_outcome [] [] e = refl
+same_outcome (x ∷ xs) (y ∷ ys) e = refl
+same_outcome [] (y ∷ ys) e = absurd (omega (arith, e))
+same_outcome (x ∷ xs) [] e = absurd (omega (arith, e))
 
-pub text_of_line : (asked : Command) (json : Bool) (h : List Record) → asked ≡ Check json → json ≡ true → text_for asked h ≡ json_report h
-text_of_line asked json h is at = ap (λ a. text_for a h) is ∙ ap (λ j. text_for (Check j) h) at
+pub outcome_found : (v : Version) (h : List Record) (found : List Race) → AreListed v found h → outcome_of (races v h) ≡ outcome_of found
+outcome_found v h found l = sym (same_outcome found (races v h) (as_many_found v found h l))
 
-pub text_of_summary : (asked : Command) (n : ℕ) (h : List Record) → asked ≡ Gen n → text_for asked h ≡ summary n h
-text_of_summary asked n h is = ap (λ a. text_for a h) is
+some_outcome : {X : Type 0} (xs : List X) → 1 ≤ length xs → outcome_of xs ≡ Races
+some_outcome [] some = absurd (omega (arith, some))
+some_outcome (x ∷ xs) some = refl
+
+pub outcome_some : (v : Version) (h : List Record) (found : List Race) (k : ℕ) → AreListed v found h → 1 ≤ k → k ≤ length found → outcome_of (races v h) ≡ Races
+outcome_some v h found k l least within = outcome_found v h found l ∙ some_outcome found (omega (arith, least, within))
+
+-- one of the two outcomes of a legal trace
+
+abbrev pub IsReport : Outcome → Type 0
+IsReport o = (o ≡ Clean) ⊎ (o ≡ Races)
+
+pub of_found : {X : Type 0} (xs : List X) (o : Outcome) → o ≡ outcome_of xs → IsReport o
+of_found [] o is = inl is
+of_found (x ∷ xs) o is = inr is
 
 -- what came of a text that was put
 pub record Ends (old new : ℕ) (result : Outcome) : Type 0 where
@@ -34,34 +53,36 @@ pub record Ends (old new : ℕ) (result : Outcome) : Type 0 where
 no_answer : (result : Outcome) (P : Type 0) → result ≡ WriteFault → IsAnswer result → P
 no_answer result P is answer = absurd (subst IsAnswer is answer)
 
-some_or_none : (n : ℕ) → (n ≡ 0) ⊎ (n ≡ 0 → ⊥)
-some_or_none zero = inl refl
-some_or_none (suc n) = inr (λ e. omega arith)
-
 -- a report
 
-pub ends_report : {E : Type 0} (count old new : ℕ) (written : Result Unit E) (result : Outcome) → EndsAs count written result → OnOk written (new ≡ old) → OnErr written (Rose old new) → Ends old new result
-ends_report {E} count old new (Ok done) result ends stands cause = elim (some_or_none count) [
-  | inl none ↦ let is : result ≡ Clean = ends.0 none in record { write_fault = λ e. absurd (cc); no_memory = λ e. cc; stands = λ _. stands }
-  | inr some ↦ let is : result ≡ Races = ends.1 some in record { write_fault = λ e. absurd (cc); no_memory = λ e. cc; stands = λ _. stands }
+pub ends_report : {E : Type 0} (due : Outcome) (old new : ℕ) (written : Result Unit E) (result : Outcome) → IsReport due → EndsAs due written result → OnOk written (new ≡ old) → OnErr written (Rose old new) → Ends old new result
+ends_report {E} due old new (Ok done) result which ends stands cause = elim which [
+  | inl clean ↦ let is : result ≡ Clean = ends ∙ clean in record { write_fault = λ e. absurd (cc); no_memory = λ e. cc; stands = λ _. stands }
+  | inr some ↦ let is : result ≡ Races = ends ∙ some in record { write_fault = λ e. absurd (cc); no_memory = λ e. cc; stands = λ _. stands }
 ]
-ends_report {E} count old new (Err fault) result ends stands cause = record { write_fault = λ _. cause; no_memory = λ e. cc; stands = no_answer result (new ≡ old) ends }
+ends_report {E} due old new (Err fault) result which ends stands cause = record { write_fault = λ _. cause; no_memory = λ e. cc; stands = no_answer result (new ≡ old) ends }
 
-pub reports : {E : Type 0} (h : List Record) (found : List Race) (due : List ℕ) (written : Result Unit E) (result : Outcome) (old new : Option (List ℕ)) → AreListed found h → EndsAs (length found) written result
-    → OnOk written (Gets old due new) → OnErr written (GetsPart old due new) → ReportsOf h due result old new
-reports {E} h found due (Ok done) result old new listed ends whole part = elim (some_or_none (length found)) [
-  | inl none ↦ subst (λ r. ReportsOf h due r old new) (sym (ends.0 none)) ((none_found found h listed).0 none, whole)
-  | inr some ↦ subst (λ r. ReportsOf h due r old new) (sym (ends.1 some)) (λ none. some ((none_found found h listed).1 none), whole)
+pub reports : {E : Type 0} (asked : Command) (v : Version) (h : List Record) (text : List ℕ) (due : Outcome) (written : Result Unit E) (result : Outcome) (old new : Option (List ℕ)) → outcome_for asked v h ≡ due → EndsAs due written result
+    → OnOk written (Gets old text new) → OnErr written (GetsPart old text new) → ReportsOf asked v h text result old new
+reports {E} asked v h text due (Ok done) result old new same ends whole part = elim (ends_so asked v h) [
+  | inl clean ↦ subst (λ r. ReportsOf asked v h text r old new) (sym (ends ∙ (sym same ∙ clean))) (clean, whole)
+  | inr some ↦ subst (λ r. ReportsOf asked v h text r old new) (sym (ends ∙ (sym same ∙ some))) (some, whole)
 ]
-reports {E} h found due (Err fault) result old new listed ends whole part = subst (λ r. ReportsOf h due r old new) (sym ends) part
+reports {E} asked v h text due (Err fault) result old new same ends whole part = subst (λ r. ReportsOf asked v h text r old new) (sym ends) part
+
+-- what was found says what was asked
+pub told : {E : Type 0} (asked c : Command) (v : Version) (h : List Record) (due : Outcome) (written : Result Unit E) (result : Outcome) (old new : Option (List ℕ)) → asked ≡ c → outcome_for c v h ≡ due → EndsAs due written result
+    → OnOk written (Gets old (text_for v c h) new) → OnErr written (GetsPart old (text_for v c h) new) → ReportsOf asked v h (text_for v asked h) result old new
+told {E} asked c v h due written result old new is same ends whole part =
+    subst (λ a. ReportsOf a v h (text_for v a h) result old new) (sym is) (reports c v h (text_for v c h) due written result old new same ends whole part)
 
 -- a refusal
 
-pub ends_refusal : {E : Type 0} (n : ℕ) (c : Cause) (old new : ℕ) (written : Result Unit E) (result : Outcome) → EndsRefused n c written result → OnOk written (new ≡ old) → OnErr written (Rose old new) → Ends old new result
+pub ends_refusal : {E : Type 0} (n : ℕ) (c : Cause) (old new : ℕ) (written : Result Unit E) (result : Outcome) → EndsAs (Refused n c) written result → OnOk written (new ≡ old) → OnErr written (Rose old new) → Ends old new result
 ends_refusal {E} n c old new (Ok done) result ends stands cause = record { write_fault = λ e. absurd (cc); no_memory = λ e. cc; stands = λ _. stands }
 ends_refusal {E} n c old new (Err fault) result ends stands cause = record { write_fault = λ _. cause; no_memory = λ e. cc; stands = no_answer result (new ≡ old) ends }
 
-pub refuses : {E : Type 0} (n : ℕ) (c : Cause) (due : List ℕ) (written : Result Unit E) (result : Outcome) (old new : Option (List ℕ)) → EndsRefused n c written result
+pub refuses : {E : Type 0} (n : ℕ) (c : Cause) (due : List ℕ) (written : Result Unit E) (result : Outcome) (old new : Option (List ℕ)) → EndsAs (Refused n c) written result
     → OnOk written (Gets old due new) → OnErr written (GetsPart old due new) → RefusedAs n c due result old new
 refuses {E} n c due (Ok done) result old new ends whole part = subst (λ r. RefusedAs n c due r old new) (sym ends) (refl, refl, whole)
 refuses {E} n c due (Err fault) result old new ends whole part = subst (λ r. RefusedAs n c due r old new) (sym ends) part

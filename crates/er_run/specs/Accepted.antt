@@ -1,56 +1,92 @@
 -- What the steps of an answer leave.
-use Rattle.std.specs.Prelude.{◌≡◌, ◌≢◌, ℕ, ◌+◌, ◌*◌, ◌≤◌, List, [], Option, Some, None, Result, Ok, Err, MatchResult, reverse, length}
+use Rattle.std.specs.Prelude.{◌≡◌, true, false, ℕ, ◌+◌, ◌*◌, ◌<◌, ◌≤◌, List, Option, Some, None, Result, Ok, Err, MatchResult, reverse, length}
 use Rattle.er_outside.specs.Ends.{Gets, GetsPart}
 use Rattle.er_text.specs.declared.causes.Cause.{Cause}
 use Rattle.er_trace.specs.declared.record.Record.{Record}
+use Rattle.er_trace.specs.declared.version.Version.{Version}
 use Rattle.er_trace.specs.Trace.{most_lines}
 use Rattle.er_trace.specs.declared.fault.FeedFault.{FeedFault}
 use Rattle.er_trace.specs.declared.fault.FeedFault.TheVariants as faults
 use Rattle.er_run.specs.declared.outcome.Outcome.{Outcome}
 use Rattle.er_run.specs.declared.outcome.Outcome.TheVariants.{Clean, Races, Refused, WriteFault, NoMemory}
 use Rattle.er_run.specs.declared.session.Session.{Session}
-use Rattle.er_run.specs.declared.end.Found.{Found}
-use Rattle.er_run.specs.declared.end.Judged.{Judged}
+use Rattle.er_run.specs.declared.findings.Listing.{Listing}
+use Rattle.er_run.specs.declared.findings.Found.{Found}
+use Rattle.er_run.specs.declared.findings.Found.TheVariants as findings
+use Rattle.er_run.specs.declared.findings.Judged.{Judged}
 use Rattle.er_words.specs.declared.commands.Command.{Command}
+use Rattle.er_words.specs.declared.commands.Command.TheVariants.{Check, Gen, Schedule, Explain}
+use Rattle.er_words.specs.declared.commands.Asked.{Asked}
+use Rattle.er_words.specs.Words.{most_shards}
 use Rattle.er_run.specs.Report.{refusal_for}
-use Rattle.er_run.specs.Answer.{IsLegalTrace, FirstIllegal}
-use Rattle.er_run.specs.Legal.{end_cause}
+use Rattle.er_run.specs.Answer.{IsLegalTrace, FirstIllegal, outcome_for}
+use Rattle.er_run.specs.Promise.{compared_for, tested_for}
+use Rattle.er_run.specs.Legal.{end_cause_for, listing_cause}
 use Rattle.er_run.specs.Session.{StandsFor}
 use Rattle.er_history.specs.Rules.{rules}
-use Rattle.er_history.specs.Edges.{path}
+use Rattle.er_history.specs.Edges.{edges, path}
+use Rattle.er_history.specs.History.{told}
+use Rattle.er_schedule.specs.Schedules.{Orders}
+use Rattle.er_schedule.specs.Text.{AreOrders}
+use Rattle.er_steps.specs.Steps.{Step, explanation}
 use Rattle.er_races.specs.declared.race.Race.{Race}
 use Rattle.er_races.specs.Races.{races_of, most_pairs, most_races}
 use Rattle.er_cover.specs.Groups.{Grouping, grouping_of, most_classes}
 use Rattle.er_run.specs.Races.{kept, candidates, races, classes, groups}
 
 -- these are the numbers of the races of these records, newest first, and neither they nor the pairs are over a limit
-pub record AreListed (found : List Race) (h : List Record) : Type 0 where
+pub record AreListed (v : Version) (found : List Race) (h : List Record) : Type 0 where
   pub few_pairs : length (candidates h) ≤ most_pairs
-  pub few_races : length (races h) ≤ most_races
-  pub are_races : found ≡ races_of (path rules h) (kept h)
+  pub few_races : length (races v h) ≤ most_races
+  pub are_races : found ≡ races_of (path (rules v) h) (kept h)
 
 -- these are the groups of the races of these records, newest first, and the classes are not over their limit
-pub record AreGrouped (found : Grouping) (h : List Record) : Type 0 where
-  pub few_classes : length (classes h) ≤ most_classes
-  pub are_groups : found ≡ grouping_of (path rules h) (kept h)
+pub record AreGrouped (v : Version) (found : Grouping) (h : List Record) : Type 0 where
+  pub few_classes : length (classes v h) ≤ most_classes
+  pub are_groups : found ≡ grouping_of (path (rules v) h) (kept h)
 
--- the session stands for these records, newest first, no limit is passed at their end, and these are the numbers of their races, and their groups
-pub record IsJudged (session : Session) (found : Found) (h : List Record) : Type 0 where
+-- these are the races of these records, and their groups
+pub record IsListing (v : Version) (listing : Listing) (h : List Record) : Type 0 where
+  pub listed : AreListed v listing.races.items h
+  pub grouped : AreGrouped v listing.groups h
+
+-- these are the races of these records, and the orders of race number k
+pub record AreOrdersOf (v : Version) (k : ℕ) (found : List Race) (orders : Orders) (h : List Record) : Type 0 where
+  pub listed : AreListed v found h
+  pub has_race : (1 ≤ k) × (k ≤ length found)
+  pub are : AreOrders (edges (rules v) (told h).actions) (kept h) found k orders
+
+-- this is why a path leads from action i to action j, which have begun
+pub record IsExplanation (v : Version) (i j : ℕ) (steps : Option (List Step)) (h : List Record) : Type 0 where
+  pub first : i < length (told h).actions
+  pub second : j < length (told h).actions
+  pub is : steps ≡ explanation (rules v) h i j
+
+-- this was found of these records, newest first, by what is asked
+abbrev pub IsFound : Command → Version → Found → List Record → Type 0
+IsFound asked v (findings.Line listing) h = (asked ≡ Check true) × IsListing v listing h
+IsFound asked v (findings.Report listing) h = (asked ≡ Check false) × IsListing v listing h
+IsFound asked v (findings.Summary n listing) h = (asked ≡ Gen n) × IsListing v listing h
+IsFound asked v (findings.Orders k races orders) h = (asked ≡ Schedule k) × AreOrdersOf v k races.items orders h
+IsFound asked v (findings.Steps i j steps) h = (asked ≡ Explain i j) × IsExplanation v i j steps h
+
+-- the session stands for these records, newest first, their `end` line has no cause, and this was found of them
+pub record IsJudged (asked : Command) (session : Session) (found : Found) (h : List Record) : Type 0 where
   pub stands : StandsFor session h
-  pub within : end_cause h ≡ None
-  pub listed : AreListed found.races.items h
-  pub grouped : AreGrouped found.groups h
+  pub within : end_cause_for asked session.graph.version h ≡ None
+  pub is_found : IsFound asked session.graph.version found h
 
--- it came of judging some records
+-- it came of judging some records, for what was asked
 pub record IsJudgement (judged : Judged) : Type 0 where
+  pub asked : Command
   pub list : List Record
-  pub is_judged : IsJudged judged.session judged.found list
+  pub is_judged : IsJudged asked judged.session judged.found list
 
 -- the bytes are a legal trace, and this is what came of judging its records
-pub record IsAccepted (bytes : List ℕ) (judged : Judged) : Type 0 where
+pub record IsAccepted (asked : Command) (bytes : List ℕ) (judged : Judged) : Type 0 where
   pub records : List Record
-  pub legal : IsLegalTrace bytes records
-  pub is_judged : IsJudged judged.session judged.found (reverse records)
+  pub legal : IsLegalTrace asked judged.session.graph.version bytes records
+  pub is_judged : IsJudged asked judged.session judged.found (reverse records)
 
 -- the count of comparisons rose by one for each candidate pair of the records for which the session stands
 abbrev pub IsCompared : Session → ℕ → ℕ → Type 0
@@ -58,20 +94,37 @@ IsCompared session old new = (h : List Record) → StandsFor session h → new �
 
 -- the count of tests rose by four at most for each class and each group of these records
 abbrev pub IsTested : Session → ℕ → ℕ → Type 0
-IsTested session old new = (h : List Record) → StandsFor session h → (old ≤ new) × (new ≤ old + 4 * (length (classes h) * length (groups h)))
+IsTested session old new = (h : List Record) → StandsFor session h → (old ≤ new) × (new ≤ old + 4 * (length (classes session.graph.version h) * length (groups session.graph.version h)))
 
--- the line behind these records, newest first, is refused for the first limit that they are over; or memory ran out
-abbrev pub IsEndFault : List Record → FeedFault → Type 0
-IsEndFault h (faults.Refused n c) = (n ≡ length h + 2) × (end_cause h ≡ Some c)
-IsEndFault h faults.NoMemory = Unit {0}
+-- the same by what is asked
+abbrev pub IsComparedFor : Command → Session → ℕ → ℕ → Type 0
+IsComparedFor asked session old new = (h : List Record) → StandsFor session h → new ≡ old + compared_for asked h
+
+abbrev pub IsTestedFor : Command → Session → ℕ → ℕ → Type 0
+IsTestedFor asked session old new = (h : List Record) → StandsFor session h → (old ≤ new) × (new ≤ old + 4 * tested_for asked session.graph.version h)
+
+-- the line behind these records, newest first, is refused for this cause; or memory ran out
+abbrev pub IsEndFault : Option Cause → List Record → FeedFault → Type 0
+IsEndFault cause h (faults.Refused n c) = (n ≡ length h + 2) × (cause ≡ Some c)
+IsEndFault cause h faults.NoMemory = Unit {0}
+
+-- it is refused for the pairs or the races, whatever the other cause is
+abbrev pub IsListFault : Version → List Record → FeedFault → Type 0
+IsListFault v h fault = (other : Option Cause) → IsEndFault (listing_cause v h other) h fault
+
+-- what the words can ask for: 1 to 64 shards, and races from number 1
+pub record IsAskable (asked : Asked) : Type 0 where
+  pub least : 1 ≤ asked.shards
+  pub most : asked.shards ≤ most_shards
+  pub race : (k : ℕ) → asked.command ≡ Schedule k → 1 ≤ k
 
 -- what came of writing the text that is due for these records, newest first, or of want of memory before it
-abbrev pub ReportsOf : List Record → List ℕ → Outcome → Option (List ℕ) → Option (List ℕ) → Type 0
-ReportsOf h due Clean old new = (races h ≡ []) × Gets old due new
-ReportsOf h due Races old new = (races h ≢ []) × Gets old due new
-ReportsOf h due WriteFault old new = GetsPart old due new
-ReportsOf h due NoMemory old new = Unit {0}
-ReportsOf h due _ old new = ⊥
+abbrev pub ReportsOf : Command → Version → List Record → List ℕ → Outcome → Option (List ℕ) → Option (List ℕ) → Type 0
+ReportsOf asked v h due Clean old new = (outcome_for asked v h ≡ Clean) × Gets old due new
+ReportsOf asked v h due Races old new = (outcome_for asked v h ≡ Races) × Gets old due new
+ReportsOf asked v h due WriteFault old new = GetsPart old due new
+ReportsOf asked v h due NoMemory old new = Unit {0}
+ReportsOf asked v h due _ old new = ⊥
 
 -- and of writing that of a refusal
 abbrev pub RefusedAs : ℕ → Cause → List ℕ → Outcome → Option (List ℕ) → Option (List ℕ) → Type 0
@@ -85,15 +138,21 @@ abbrev pub FailedAs : Command → FeedFault → Outcome → Option (List ℕ) �
 FailedAs asked (faults.Refused n c) outcome old new = RefusedAs n c (refusal_for asked n c) outcome old new
 FailedAs asked faults.NoMemory outcome old new = outcome ≡ NoMemory
 
--- how a run ends that wrote a report with so many races, or failed to
-abbrev pub EndsAs : {E : Type 0} → ℕ → Result Unit E → Outcome → Type 0
-EndsAs count (Ok done) outcome = (count ≡ 0 → outcome ≡ Clean) × ((count ≡ 0 → ⊥) → outcome ≡ Races)
-EndsAs count (Err fault) outcome = outcome ≡ WriteFault
+-- how a run ends that wrote the text for this outcome, or failed to
+abbrev pub EndsAs : {E : Type 0} → Outcome → Result Unit E → Outcome → Type 0
+EndsAs due (Ok done) outcome = outcome ≡ due
+EndsAs due (Err fault) outcome = outcome ≡ WriteFault
 
--- and one that wrote a refusal
-abbrev pub EndsRefused : {E : Type 0} → ℕ → Cause → Result Unit E → Outcome → Type 0
-EndsRefused n c (Ok done) outcome = outcome ≡ Refused n c
-EndsRefused n c (Err fault) outcome = outcome ≡ WriteFault
+-- it stands for some records, and this was found of them
+pub record IsListed (session : Session) (listing : Listing) : Type 0 where
+  pub list : List Record
+  pub stands : StandsFor session list
+  pub is : IsListing session.graph.version listing list
+
+pub record IsOrdered (session : Session) (k : ℕ) (found : List Race) (orders : Orders) : Type 0 where
+  pub list : List Record
+  pub stands : StandsFor session list
+  pub are : AreOrdersOf session.graph.version k found orders list
 
 -- it stands for the records of some trace
 pub record IsReportable (session : Session) : Type 0 where
@@ -102,10 +161,10 @@ pub record IsReportable (session : Session) : Type 0 where
   pub few : length list ≤ most_lines
 
 -- the fault is the refusal of the bytes, or want of memory
-abbrev pub IsRefusal : List ℕ → FeedFault → Type 0
-IsRefusal bytes (faults.Refused n c) = FirstIllegal bytes n c
-IsRefusal bytes faults.NoMemory = Unit {0}
+abbrev pub IsRefusal : Command → List ℕ → FeedFault → Type 0
+IsRefusal asked bytes (faults.Refused n c) = FirstIllegal asked bytes n c
+IsRefusal asked bytes faults.NoMemory = Unit {0}
 
 -- the bytes are accepted, or refused
-abbrev pub IsVerdict : List ℕ → Result Judged FeedFault → Type 0
-IsVerdict bytes verdict = MatchResult verdict (IsAccepted bytes) (IsRefusal bytes)
+abbrev pub IsVerdict : Command → List ℕ → Result Judged FeedFault → Type 0
+IsVerdict asked bytes verdict = MatchResult verdict (IsAccepted asked bytes) (IsRefusal asked bytes)

@@ -1,10 +1,20 @@
 -- What holds of the definitions.
-use Rattle.std.specs.Prelude.{◌≡◌, ◌≢◌, ℕ, List, ◌++◌}
+use Rattle.std.specs.Prelude.{◌≡◌, ◌≢◌, ℕ, true, List, ◌++◌, length, Some}
+use Rattle.std.specs.List.{slice_get}
+use Rattle.er_paths.specs.Paths.{joins}
 use Rattle.er_text.specs.declared.causes.Cause.{Cause}
 use Rattle.er_text.specs.declared.causes.Cause.TheVariants.{NoEnd}
 use Rattle.er_run.specs.declared.outcome.Outcome.{Outcome}
 use Rattle.er_words.specs.declared.commands.Command.{Command}
+use Rattle.er_trace.specs.declared.record.Record.{Record}
+use Rattle.er_trace.specs.declared.version.Version.{Version}
+use Rattle.er_history.specs.History.{told}
+use Rattle.er_history.specs.Rules.{rules}
+use Rattle.er_history.specs.Edges.{edges}
+use Rattle.er_access.specs.Kept.{Kept}
+use Rattle.er_orders.specs.Orders.{is_lawful, is_next, before_order, after_order}
 use Rattle.er_run.specs.Answer.{FirstIllegal, Answers}
+use Rattle.er_run.specs.Races.{races}
 
 -- to each command a byte string has one outcome, and one text is due for it
 abbrev pub OneAnswer : Type 0
@@ -16,4 +26,16 @@ EveryAnswer = (asked : Command) (bytes : List ℕ) → ¬ ¬ ((o : Outcome) × (
 
 -- a refusal other than `no-end` is that of every longer input
 abbrev pub LongerInput : Type 0
-LongerInput = (bytes more : List ℕ) (n : ℕ) (c : Cause) → FirstIllegal bytes n c → c ≢ NoEnd → FirstIllegal (bytes ++ more) n c
+LongerInput = (asked : Command) (bytes more : List ℕ) (n : ℕ) (c : Cause) → FirstIllegal asked bytes n c → c ≢ NoEnd → FirstIllegal asked (bytes ++ more) n c
+
+-- by these lists no edge leads back in either order of the two actions, and each order shows them side by side
+pub record AreBothLawful (lists : List (List ℕ)) (i j : ℕ) : Type 0 where
+  pub first : is_lawful lists (before_order (joins lists) (length lists) i j) ≡ true
+  pub second : is_lawful lists (after_order (joins lists) (length lists) i j) ≡ true
+  pub shows_first : is_next i j (before_order (joins lists) (length lists) i j) ≡ true
+  pub shows_second : is_next j i (after_order (joins lists) (length lists) i j) ≡ true
+
+-- so it is of the actions of each race
+abbrev pub OrdersKeepRules : Type 0
+OrdersKeepRules = (v : Version) (h : List Record) (k : ℕ) (race : Kept × Kept) → slice_get (races v h) k ≡ Some race
+    → AreBothLawful (edges (rules v) (told h).actions) race.0.action race.1.action

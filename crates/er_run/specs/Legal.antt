@@ -1,14 +1,17 @@
--- Which lists are legal, and when the records before the `end` line are over a limit. Lists of records stand newest first.
-use Rattle.std.specs.Prelude.{◌≡◌, ℕ, Bool, ◌&&◌, ◌==◌, nat_lt, if◌then◌else◌, List, [], ◌∷◌, length, Option, Some, None}
+-- Which lists are legal, and when the `end` line behind them is refused. Lists of records stand newest first.
+use Rattle.std.specs.Prelude.{◌≡◌, ℕ, Bool, ◌&&◌, ◌==◌, ◌||◌, nat_lt, nat_le, if◌then◌else◌, List, [], ◌∷◌, length, Option, Some, None}
 use Rattle.er_text.specs.declared.causes.Cause.{Cause}
-use Rattle.er_text.specs.declared.causes.Cause.TheVariants.{TooManyAccesses, TooManyPairs, TooManyRaces, TooManyClasses}
+use Rattle.er_text.specs.declared.causes.Cause.TheVariants.{TooManyAccesses, TooManyPairs, TooManyRaces, TooManyClasses, NoRace, NoAction}
 use Rattle.er_trace.specs.declared.record.Record.{Record}
-use Rattle.er_history.specs.History.{or_else}
+use Rattle.er_trace.specs.declared.version.Version.{Version}
+use Rattle.er_history.specs.History.{or_else, told}
 use Rattle.er_history.specs.Rules.{Rule}
 use Rattle.er_history.specs.Sound as sound
 use Rattle.er_access.specs.Kept.{most_accesses}
 use Rattle.er_races.specs.Races.{most_pairs, most_races}
 use Rattle.er_cover.specs.Groups.{most_classes}
+use Rattle.er_words.specs.declared.commands.Command.{Command}
+use Rattle.er_words.specs.declared.commands.Command.TheVariants.{Check, Gen, Schedule, Explain}
 use Rattle.er_run.specs.Races.{kept, candidates, races, classes}
 
 -- the record is an access that repeats none of those before it
@@ -28,6 +31,33 @@ abbrev pub IsLegal : List (ℕ × Rule) → List Record → Type 0
 IsLegal table [] = Unit {0}
 IsLegal table (x ∷ h) = (cause table h x ≡ None) × IsLegal table h
 
--- the first limit that the records before the `end` line are over
-abbrev pub end_cause : List Record → Option Cause
-end_cause h = if nat_lt most_pairs (length (candidates h)) then Some TooManyPairs else if nat_lt most_races (length (races h)) then Some TooManyRaces else if nat_lt most_classes (length (classes h)) then Some TooManyClasses else None
+-- the limit of the pairs or of the races that the records before the `end` line are over; where they are over none, another cause
+abbrev pub listing_cause : Version → List Record → Option Cause → Option Cause
+listing_cause v h other = if nat_lt most_pairs (length (candidates h)) then Some TooManyPairs else if nat_lt most_races (length (races v h)) then Some TooManyRaces else other
+
+-- the limit of the classes
+abbrev pub class_cause : Version → List Record → Option Cause
+class_cause v h = if nat_lt most_classes (length (classes v h)) then Some TooManyClasses else None
+
+-- there is no race of this number
+abbrev pub race_cause : ℕ → Version → List Record → Option Cause
+race_cause k v h = if nat_lt (length (races v h)) k then Some NoRace else None
+
+-- of a report: the first limit that they are over
+abbrev pub end_cause : Version → List Record → Option Cause
+end_cause v h = listing_cause v h (class_cause v h)
+
+-- of the orders for race number k
+abbrev pub schedule_cause : ℕ → Version → List Record → Option Cause
+schedule_cause k v h = listing_cause v h (race_cause k v h)
+
+-- of an explanation: i or j is no action
+abbrev pub explain_cause : ℕ → ℕ → List Record → Option Cause
+explain_cause i j h = if nat_le (length (told h).actions) i || nat_le (length (told h).actions) j then Some NoAction else None
+
+-- the first cause for which the `end` line behind the records is refused, by what is asked
+abbrev pub end_cause_for : Command → Version → List Record → Option Cause
+end_cause_for (Check json) v h = end_cause v h
+end_cause_for (Gen n) v h = end_cause v h
+end_cause_for (Schedule k) v h = schedule_cause k v h
+end_cause_for (Explain i j) v h = explain_cause i j h

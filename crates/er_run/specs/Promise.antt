@@ -4,10 +4,12 @@ use Rattle.er_outside.specs.Ends.{Gives, Gets, GetsPart, IsSpent, Rose}
 use Rattle.er_run.specs.declared.outcome.Outcome.{Outcome}
 use Rattle.er_run.specs.declared.outcome.Outcome.TheVariants.{Clean, Races, Refused, Usage, ReadFault, NoMemory}
 use Rattle.er_trace.specs.declared.record.Record.{Record}
+use Rattle.er_trace.specs.declared.version.Version.{Version}
+use Rattle.er_trace.specs.declared.version.Version.TheVariants.{One}
 use Rattle.er_trace.specs.Trace.{text}
 use Rattle.er_gen.specs.Generated.{generated}
 use Rattle.er_words.specs.declared.commands.Command.{Command}
-use Rattle.er_words.specs.declared.commands.Command.TheVariants.{Check, Gen}
+use Rattle.er_words.specs.declared.commands.Command.TheVariants.{Check, Gen, Explain}
 use Rattle.er_text.specs.declared.causes.Cause.{Cause}
 use Rattle.er_text.specs.declared.causes.Cause.TheVariants.{NoEnd}
 use Rattle.er_run.specs.Answer.{IsLegalTrace, FirstIllegal, Answers}
@@ -21,25 +23,25 @@ IsAnswer (Refused n c) = Unit {0}
 IsAnswer _ = ⊥
 
 -- the bytes are refused for another cause than `no-end`
-abbrev pub IsFinal : List ℕ → Type 0
-IsFinal bytes = (n : ℕ) × (c : Cause) × FirstIllegal bytes n c × (c ≢ NoEnd)
+abbrev pub IsFinal : Command → List ℕ → Type 0
+IsFinal asked bytes = (n : ℕ) × (c : Cause) × FirstIllegal asked bytes n c × (c ≢ NoEnd)
 
 -- the most bytes of a piece of the input
 abbrev pub piece_bytes : ℕ
 piece_bytes = 4096
 
 -- without their last piece the bytes are not refused, but for `no-end`, and with it they are
-pub record IsJustRefused (bytes : List ℕ) : Type 0 where
+pub record IsJustRefused (asked : Command) (bytes : List ℕ) : Type 0 where
   pub before : List ℕ
   pub last : List ℕ
   pub is : bytes ≡ before ++ last
   pub few : length last ≤ piece_bytes
-  pub fresh : IsFinal before → ⊥
-  pub refused : IsFinal bytes
+  pub fresh : IsFinal asked before → ⊥
+  pub refused : IsFinal asked bytes
 
 -- nothing is left, or the piece that was taken last brought the refusal
-abbrev pub IsDecided : List ℕ → Option (List ℕ) → Type 0
-IsDecided taken left = IsSpent left ⊎ IsJustRefused taken
+abbrev pub IsDecided : Command → List ℕ → Option (List ℕ) → Type 0
+IsDecided asked taken left = IsSpent left ⊎ IsJustRefused asked taken
 
 -- an outcome that leaves the sink as it was
 abbrev pub IsSilent : Outcome → Type 0
@@ -61,30 +63,41 @@ pub record IsPartGiven (asked : Command) (bytes : List ℕ) (got_old got_new : O
   pub answers : Answers asked bytes outcome due
   pub gave : GetsPart got_old due got_new
 
--- with a report the count of comparisons rose by one for each candidate pair of the trace
-abbrev pub Compares : List ℕ → Outcome → ℕ → ℕ → Type 0
-Compares bytes Clean old new = (records : List Record) → IsLegalTrace bytes records → new ≡ old + length (candidates (reverse records))
-Compares bytes Races old new = (records : List Record) → IsLegalTrace bytes records → new ≡ old + length (candidates (reverse records))
-Compares bytes _ old new = Unit {0}
+-- each candidate pair is compared where the races are asked for
+abbrev pub compared_for : Command → List Record → ℕ
+compared_for (Explain i j) h = 0
+compared_for _ h = length (candidates h)
 
--- with a report the count of tests rose by four at most for each class and each group of the trace
-abbrev pub Tests : List ℕ → Outcome → ℕ → ℕ → Type 0
-Tests bytes Clean old new = (records : List Record) → IsLegalTrace bytes records → (old ≤ new) × (new ≤ old + 4 * (length (classes (reverse records)) * length (groups (reverse records))))
-Tests bytes Races old new = (records : List Record) → IsLegalTrace bytes records → (old ≤ new) × (new ≤ old + 4 * (length (classes (reverse records)) * length (groups (reverse records))))
-Tests bytes _ old new = Unit {0}
+-- each class is tested against each group where the races are grouped
+abbrev pub tested_for : Command → Version → List Record → ℕ
+tested_for (Check json) v h = length (classes v h) * length (groups v h)
+tested_for (Gen n) v h = length (classes v h) * length (groups v h)
+tested_for _ v h = 0
 
--- What a command judges: the bytes that the call took of the source, or a generated trace, for which it took none.
+-- where the trace is legal, the count of comparisons rose by one for each candidate pair that is compared
+abbrev pub Compares : Command → List ℕ → Outcome → ℕ → ℕ → Type 0
+Compares asked bytes Clean old new = (v : Version) (records : List Record) → IsLegalTrace asked v bytes records → new ≡ old + compared_for asked (reverse records)
+Compares asked bytes Races old new = (v : Version) (records : List Record) → IsLegalTrace asked v bytes records → new ≡ old + compared_for asked (reverse records)
+Compares asked bytes _ old new = Unit {0}
+
+-- and the count of tests by four at most for each class and each group
+abbrev pub Tests : Command → List ℕ → Outcome → ℕ → ℕ → Type 0
+Tests asked bytes Clean old new = (v : Version) (records : List Record) → IsLegalTrace asked v bytes records → (old ≤ new) × (new ≤ old + 4 * tested_for asked v (reverse records))
+Tests asked bytes Races old new = (v : Version) (records : List Record) → IsLegalTrace asked v bytes records → (old ≤ new) × (new ≤ old + 4 * tested_for asked v (reverse records))
+Tests asked bytes _ old new = Unit {0}
+
+-- What a command judges: a generated trace, for which it takes nothing of the source, or the bytes that the call took of it.
 abbrev pub IsInput : Command → List ℕ → Option (List ℕ) → Option (List ℕ) → Type 0
-IsInput (Check json) bytes left_old left_new = Gives left_old bytes left_new × IsDecided bytes left_new
-IsInput (Gen n) bytes left_old left_new = (bytes ≡ text (generated n)) × (left_new ≡ left_old)
+IsInput (Gen n) bytes left_old left_new = (bytes ≡ text One (generated n)) × (left_new ≡ left_old)
+IsInput asked bytes left_old left_new = Gives left_old bytes left_new × IsDecided asked bytes left_new
 
--- The input of the command answers this outcome, exactly the text that is due came to the sink, and the comparisons and the tests of a report were made.
+-- The input of the command answers this outcome, exactly the text that is due came to the sink, and the comparisons and the tests that it needs were made.
 pub record IsAnswered (asked : Command) (left_old left_new got_old got_new : Option (List ℕ)) (compared_old compared_new tested_old tested_new : ℕ) (outcome : Outcome) : Type 0 where
   pub input : List ℕ
   pub taken : IsInput asked input left_old left_new
   pub given : IsGiven asked input outcome got_old got_new
-  pub compared : Compares input outcome compared_old compared_new
-  pub tested : Tests input outcome tested_old tested_new
+  pub compared : Compares asked input outcome compared_old compared_new
+  pub tested : Tests asked input outcome tested_old tested_new
 
 -- The input of the command answers some outcome, and a proper front of the text that is due came to the sink.
 pub record IsCutShort (asked : Command) (left_old left_new got_old got_new : Option (List ℕ)) : Type 0 where
@@ -92,12 +105,12 @@ pub record IsCutShort (asked : Command) (left_old left_new got_old got_new : Opt
   pub taken : IsInput asked input left_old left_new
   pub given : IsPartGiven asked input got_old got_new
 
--- what a command has to judge: all bytes that the source holds, or a generated trace
+-- what a command has to judge: a generated trace, or all bytes that the source holds
 abbrev pub Holds : Command → Option (List ℕ) → List ℕ → Type 0
-Holds (Check json) left bytes = left ≡ Some bytes
-Holds (Gen n) left bytes = bytes ≡ text (generated n)
+Holds (Gen n) left bytes = bytes ≡ text One (generated n)
+Holds _ left bytes = left ≡ Some bytes
 
 -- the count of a source's faults did not rise, where the command reads it
 abbrev pub ReadsWithout : Command → ℕ → ℕ → Type 0
-ReadsWithout (Check json) old new = Rose old new → ⊥
 ReadsWithout (Gen n) old new = Unit {0}
+ReadsWithout _ old new = Rose old new → ⊥

@@ -1,6 +1,7 @@
 -- Kept accesses, candidates, races, classes and groups. Lists of records stand newest first, all others oldest first.
 use Rattle.std.specs.Prelude.{◌+◌, List, [], ◌∷◌, Option, Some}
 use Rattle.er_trace.specs.declared.record.Record.{Record}
+use Rattle.er_trace.specs.declared.version.Version.{Version}
 use Rattle.er_trace.specs.declared.record.Record.TheVariants.{Access}
 use Rattle.er_history.specs.History.{Action, Entry, told}
 use Rattle.er_history.specs.Rules.{rules}
@@ -36,13 +37,13 @@ abbrev pub candidates : List Record → List (Kept × Kept)
 candidates h = candidates_of (kept h)
 
 -- the candidates whose first action has no path to the second
-abbrev pub races : List Record → List (Kept × Kept)
-races h = races_by (path rules h) (kept h)
+abbrev pub races : Version → List Record → List (Kept × Kept)
+races v h = races_by (path (rules v) h) (kept h)
 
 -- the classes of the races
-abbrev pub classes : List Record → List Class
-classes h = classes_of (path rules h) (kept h)
+abbrev pub classes : Version → List Record → List Class
+classes v h = classes_of (path (rules v) h) (kept h)
 
 -- the classes that no other covers, in the order of their representatives
-abbrev pub groups : List Record → List Class
-groups h = groups_of (path rules h) (kept h)
+abbrev pub groups : Version → List Record → List Class
+groups v h = groups_of (path (rules v) h) (kept h)

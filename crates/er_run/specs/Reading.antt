@@ -4,29 +4,36 @@ use Rattle.er_outside.specs.Ends.{Gives, IsSpent}
 use Rattle.er_text.specs.declared.causes.Cause.{Cause}
 use Rattle.er_text.specs.declared.causes.Cause.TheVariants.{NoEnd}
 use Rattle.er_trace.specs.declared.record.Record.{Record}
+use Rattle.er_trace.specs.declared.version.Version.{Version}
 use Rattle.er_trace.specs.declared.fault.FeedFault.{FeedFault}
 use Rattle.er_trace.specs.declared.fault.FeedFault.TheVariants as faults
 use Rattle.er_trace.specs.declared.feed.Feed.{Feed}
 use Rattle.er_trace.specs.Feed as feeds
-use Rattle.er_trace.specs.Trace.{Place, line_number, records_before, text, IsTrace, Refuses}
+use Rattle.er_trace.specs.Trace.{Place, line_number, records_before, text, IsTrace, IsTextOf, BeginsWith, Refuses}
+use Rattle.er_words.specs.declared.commands.Command.{Command}
 use Rattle.er_run.specs.declared.input.LineRefusal.{LineRefusal}
 use Rattle.er_run.specs.declared.session.Session.{Session}
 use Rattle.er_run.specs.Answer.{FirstIllegal}
 use Rattle.er_graph.specs.declared.fault.GraphFault.TheVariants as graph_faults
-use Rattle.er_run.specs.declared.end.Judged.{Judged}
+use Rattle.er_run.specs.declared.findings.Judged.{Judged}
 use Rattle.er_run.specs.Accepted.{IsAccepted}
 use Rattle.er_run.specs.Promise.{piece_bytes, IsFinal, IsDecided}
 use Rattle.er_run.specs.Session.{StandsFor, IsFaultOf}
 
+-- the first line gives no other version
+abbrev pub IsBy : Version → List ℕ → Type 0
+IsBy v bytes = (w : Version) → BeginsWith w bytes → v ≡ w
+
 -- the records before the first line that has a cause, with that line; or those of the whole trace
-abbrev pub IsReading : List ℕ → List Record → Option LineRefusal → Type 0
-IsReading bytes records None = IsTrace records × (bytes ≡ text records)
-IsReading bytes records (Some refused) = (place : Place) × Refuses bytes place refused.cause × (refused.line ≡ line_number place) × (records ≡ records_before place)
+abbrev pub IsReading : Version → List ℕ → List Record → Option LineRefusal → Type 0
+IsReading v bytes records None = IsTrace records × (bytes ≡ text v records)
+IsReading v bytes records (Some refused) = (place : Place) × Refuses bytes place refused.cause × (refused.line ≡ line_number place) × (records ≡ records_before place) × IsBy v bytes
 
 -- the feed and the session stand for these bytes and for the records of their whole lines
 pub record IsAt (feed : Feed) (session : Session) (bytes : List ℕ) (records : List Record) : Type 0 where
   pub fed : feeds.StandsFor feed bytes records
   pub stands : StandsFor session (reverse records)
+  pub by : IsBy session.graph.version bytes
 
 -- they stand for some bytes, and for the records of their whole lines
 pub record IsSomewhere (feed : Feed) (session : Session) : Type 0 where
@@ -44,13 +51,13 @@ fault_of None = None
 fault_of (Some refused) = Some (faults.Refused refused.line refused.cause)
 
 -- The fault is the first illegal record, with its line; or memory ran out. (`IsFaultOf`, of a feed's fault.)
-abbrev pub IsRecordFault : List Record → FeedFault → Type 0
-IsRecordFault records (faults.Refused n c) = IsFaultOf records (graph_faults.Refused n c)
-IsRecordFault records faults.NoMemory = Unit {0}
+abbrev pub IsRecordFault : Version → List Record → FeedFault → Type 0
+IsRecordFault v records (faults.Refused n c) = IsFaultOf v records (graph_faults.Refused n c)
+IsRecordFault v records faults.NoMemory = Unit {0}
 
--- a line of the bytes is refused, which no further byte changes; or memory ran out
+-- a line of the bytes is refused, whatever is asked, which no further byte changes; or memory ran out
 abbrev pub IsFinalFault : List ℕ → FeedFault → Type 0
-IsFinalFault bytes (faults.Refused n c) = FirstIllegal bytes n c × (c ≢ NoEnd)
+IsFinalFault bytes (faults.Refused n c) = ((asked : Command) → FirstIllegal asked bytes n c) × (c ≢ NoEnd)
 IsFinalFault bytes faults.NoMemory = Unit {0}
 
 -- The `end` line was read and nothing behind it; or a line is refused, where the source is at its end or which no further byte changes.
@@ -67,7 +74,7 @@ pub record Advances (left_old left_new : Option (List ℕ)) (feed : Feed) (sessi
 
 -- the bytes are not the trace of these records: its `end` line is still to come
 abbrev pub IsOpen : List ℕ → List Record → Type 0
-IsOpen bytes records = IsTrace records → bytes ≡ text records → ⊥
+IsOpen bytes records = IsTrace records → IsTextOf bytes records → ⊥
 
 -- With the piece that was read behind these bytes the reading is at its end, and the session stands for its records.
 pub record Ends (left_old left_new : Option (List ℕ)) (session : Session) (refused : Option LineRefusal) (bytes : List ℕ) : Type 0 where
@@ -76,7 +83,7 @@ pub record Ends (left_old left_new : Option (List ℕ)) (session : Session) (ref
   pub gave : Gives left_old piece left_new
   pub few : length piece ≤ piece_bytes
   pub stands : StandsFor session (reverse records)
-  pub reading : IsReading (bytes ++ piece) records refused
+  pub reading : IsReading session.graph.version (bytes ++ piece) records refused
   pub end : IsEnd left_new refused
 
 -- With the piece that was read behind these bytes a record is refused.
@@ -89,7 +96,7 @@ pub record IsRefusedBehind (left_old left_new : Option (List ℕ)) (n : ℕ) (c 
 -- the pieces before the last one do not decide
 pub record IsUndecided (left_old left_new : Option (List ℕ)) (bytes : List ℕ) : Type 0 where
   pub gave : Gives left_old bytes left_new
-  pub fresh : IsFinal bytes → ⊥
+  pub fresh : (asked : Command) → IsFinal asked bytes → ⊥
 
 -- A trace was read to its end, or to the piece that decides.
 pub record IsRead (left_old left_new : Option (List ℕ)) (session : Session) (refused : Option LineRefusal) : Type 0 where
@@ -106,15 +113,15 @@ pub record IsReadTo (left_old left_new : Option (List ℕ)) (n : ℕ) (c : Cause
   pub refused : IsRefusedBehind left left_new n c bytes
 
 -- The bytes that were taken are a legal trace, which was judged, and nothing stands behind it.
-pub record IsAcceptedInput (left_old left_new : Option (List ℕ)) (judged : Judged) : Type 0 where
+pub record IsAcceptedInput (asked : Command) (left_old left_new : Option (List ℕ)) (judged : Judged) : Type 0 where
   pub taken : List ℕ
   pub gave : Gives left_old taken left_new
   pub spent : IsSpent left_new
-  pub accepted : IsAccepted taken judged
+  pub accepted : IsAccepted asked taken judged
 
 -- The bytes that were taken are refused.
-pub record IsRefusedInput (left_old left_new : Option (List ℕ)) (n : ℕ) (c : Cause) : Type 0 where
+pub record IsRefusedInput (asked : Command) (left_old left_new : Option (List ℕ)) (n : ℕ) (c : Cause) : Type 0 where
   pub taken : List ℕ
   pub gave : Gives left_old taken left_new
-  pub decided : IsDecided taken left_new
-  pub refused : FirstIllegal taken n c
+  pub decided : IsDecided asked taken left_new
+  pub refused : FirstIllegal asked taken n c

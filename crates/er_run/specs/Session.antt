@@ -1,6 +1,7 @@
 -- What a session stands for, and what a judgement promises. Lists of records stand newest first.
-use Rattle.std.specs.Prelude.{[], ℕ, ◌+◌, Bool, true, false, ◌∷◌, ◌≡◌, ◌≢◌, ◌<◌, All, List, reverse, length, take, slice_get, Some}
+use Rattle.std.specs.Prelude.{[], ℕ, ◌+◌, Bool, true, false, ◌∷◌, ◌≡◌, ◌≢◌, ◌<◌, All, List, reverse, length, take, slice_get, Option, Some, None, ◌⊎◌}
 use Rattle.er_trace.specs.declared.record.Record.{Record}
+use Rattle.er_trace.specs.declared.version.Version.{Version}
 use Rattle.er_trace.specs.declared.record.Record.TheVariants.{Access}
 use Rattle.er_trace.specs.declared.record.Mode.{Mode}
 use Rattle.er_trace.specs.declared.record.Loc.{Loc}
@@ -28,22 +29,37 @@ pub record StandsFor (session : Session) (h : List Record) : Type 0 where
   pub graph : IsGraph session.graph (numbered h)
   pub accesses : session.kept ≡ kept h
   pub count : session.records ≡ length h
-  pub legal : IsLegal rules h
+  pub legal : IsLegal (rules session.graph.version) h
 
 -- it stands for some list
 pub record IsSession (session : Session) : Type 0 where
   pub list : List Record
   pub stands : StandsFor session list
 
+-- the version that it has once the first line was read
+abbrev pub begun : Version → Option Version → Version
+begun v None = v
+begun v (Some w) = w
+
+-- it is the version that it had, or no record came before
+abbrev pub IsBegun : Version → Option Version → List Record → Type 0
+IsBegun old given h = (begun old given ≡ old) ⊎ (h ≡ [])
+
+-- it stands for some list, and may begin in the version that was given
+pub record IsReady (session : Session) (given : Option Version) : Type 0 where
+  pub list : List Record
+  pub stands : StandsFor session list
+  pub begins : IsBegun session.graph.version given list
+
 -- A record after the list is refused for the first cause against it, with its line; or memory ran out.
-abbrev pub IsFaultAfter : List Record → Record → GraphFault → Type 0
-IsFaultAfter h x (Refused line cause) = (line ≡ length h + 2) × (legality.cause rules h x ≡ Some cause)
-IsFaultAfter h x NoMemory = Unit {0}
+abbrev pub IsFaultAfter : Version → List Record → Record → GraphFault → Type 0
+IsFaultAfter v h x (Refused line cause) = (line ≡ length h + 2) × (legality.cause (rules v) h x ≡ Some cause)
+IsFaultAfter v h x NoMemory = Unit {0}
 
 -- The record of the line is the first that has a cause after those before it, which is the one answered; or memory ran out.
-abbrev pub IsFaultOf : List Record → GraphFault → Type 0
-IsFaultOf records (Refused line cause) = (at : ℕ) × (line ≡ at + 2) × IsLegal rules (reverse (take at records)) × ((x : Record) × (slice_get records at ≡ Some x) × (legality.cause rules (reverse (take at records)) x ≡ Some cause))
-IsFaultOf records NoMemory = Unit {0}
+abbrev pub IsFaultOf : Version → List Record → GraphFault → Type 0
+IsFaultOf v records (Refused line cause) = (at : ℕ) × (line ≡ at + 2) × IsLegal (rules v) (reverse (take at records)) × ((x : Record) × (slice_get records at ≡ Some x) × (legality.cause (rules v) (reverse (take at records)) x ≡ Some cause))
+IsFaultOf v records NoMemory = Unit {0}
 
 -- the page stands for some list, and the accesses are of earlier lines and of actions that have begun
 pub record AreEarlier (page : Page) (line : ℕ) (accesses : List Kept) : Type 0 where

@@ -4,40 +4,53 @@ ghost use Rattle.std.specs.Prelude.{◌≡◌, ◌≢◌, ℕ, ◌<◌, ◌≤�
 ghost use Rattle.er_outside.specs.Ends.{Rose};
 ghost use Rattle.er_text.specs.declared.causes.Cause.{Cause};
 ghost use Rattle.er_trace.specs.declared.record.Record.{Record};
+ghost use Rattle.er_trace.specs.declared.version.Version.TheVariants.{One};
 ghost use Rattle.er_trace.specs.Trace.{text};
 ghost use Rattle.er_gen.specs.Generated.{generated, most_rounds};
 ghost use Rattle.er_run.specs.Session.{StandsFor};
 ghost use Rattle.er_run.specs.Answer.{FirstIllegal};
+ghost use Rattle.er_run.specs.Legal.{end_cause_for};
 ghost use Rattle.er_run.specs.Reading.{IsRead, IsReading, IsAcceptedInput, IsRefusedInput};
-ghost use Rattle.er_run.specs.Accepted.{IsCompared, IsTested, IsJudged, IsJudgement, IsEndFault, IsReportable, IsVerdict};
+ghost use Rattle.er_run.specs.Accepted.{IsAskable, IsComparedFor, IsTestedFor, IsJudged, IsJudgement, IsEndFault, IsReportable, IsVerdict};
 
-use crate::end::{Judged, found_within};
+use crate::end::found_within;
+use crate::findings::Judged;
 use crate::input::{InputFault, LineRefusal, read};
 use crate::session::{Session, judge};
 use er_clocks::Meter;
 use er_gen::Generator;
 use er_graph::GraphFault;
 use er_outside::{Failed, NoMemory, Source};
+use er_shard::Gate;
 use er_text::Cause;
 use er_trace::fault::FeedFault;
 use er_trace::record::Record;
+use er_words::Asked;
 use std::alloc::Global;
+use std::thread::Threads;
 
 /// What the trace comes to that the source gives. No more is read of it than decides.
-pub(crate) fn accept_input<S: Source>(
+pub(crate) fn accept_input<R: Threads + Sync, S: Source, G: Gate + Sync>(
+    rt: &R,
     alloc: Global,
+    asked: Asked,
     source: &mut S,
     compares: &mut Meter,
     tests: &mut Meter,
+    gate: &G,
 ) -> Result<Judged, InputFault>
+    requires asked { IsAskable asked }
     requires compares { compares.old < 2 ^ 60 }
     requires tests { tests.old < 2 ^ 60 }
-    ensures accepted { IfOk result (λ judged. IsAcceptedInput (S.left source.old) (S.left source.new) judged) }
+    ensures accepted { IfOk result (λ judged.
+        IsAcceptedInput asked.command (S.left source.old) (S.left source.new) judged) }
     ensures refused { (n : ℕ) (c : Cause) → result ≡ Err (InputFault.Refused n c)
-        → IsRefusedInput (S.left source.old) (S.left source.new) n c }
+        → IsRefusedInput asked.command (S.left source.old) (S.left source.new) n c }
     ensures judged { IfOk result IsJudgement }
-    ensures compared { IfOk result (λ judged. IsCompared judged.session compares.old compares.new) }
-    ensures tested { IfOk result (λ judged. IsTested judged.session tests.old tests.new) }
+    ensures compared { IfOk result (λ judged.
+        IsComparedFor asked.command judged.session compares.old compares.new) }
+    ensures tested { IfOk result (λ judged.
+        IsTestedFor asked.command judged.session tests.old tests.new) }
     ensures failed { IsErrOf result InputFault.Failed
         → Rose (S.faults source.old) (S.faults source.new) }
     ensures stands { result ≢ Err InputFault.Failed → S.faults source.new ≡ S.faults source.old }
@@ -45,39 +58,48 @@ pub(crate) fn accept_input<S: Source>(
 {
     match read(alloc, source) {
         Ok((session, refused)) => match refused {
-            None => accept_end(alloc, source, session, compares, tests),
-            Some(refusal) => Err(first_refusal(alloc, &session, refusal, compares, tests)),
+            None => accept_end(rt, alloc, asked, source, session, compares, tests, gate),
+            Some(refusal) => Err(first_refusal(
+                rt, alloc, asked, &session, refusal, compares, tests, gate,
+            )),
         },
         Err(fault) => Err(fault),
     }
 }
 
 /// Judges the `end` line, and sees whether a byte stands behind it.
-fn accept_end<S: Source>(
+fn accept_end<R: Threads + Sync, S: Source, G: Gate + Sync>(
+    rt: &R,
     alloc: Global,
+    asked: Asked,
     source: &mut S,
     session: Session,
     compares: &mut Meter,
     tests: &mut Meter,
+    gate: &G,
 ) -> Result<Judged, InputFault>
+    requires asked { IsAskable asked }
     requires some { IsReportable session }
     requires compares { compares.old < 2 ^ 60 }
     requires tests { tests.old < 2 ^ 60 }
-    ensures accepted { IfOk result (λ judged. (first : Option (List ℕ)) → IsRead first (S.left source.old) session None
-        → IsAcceptedInput first (S.left source.new) judged) }
+    ensures accepted { IfOk result (λ judged. (first : Option (List ℕ))
+        → IsRead first (S.left source.old) session None
+        → IsAcceptedInput asked.command first (S.left source.new) judged) }
     ensures refused { (n : ℕ) (c : Cause) → result ≡ Err (InputFault.Refused n c)
         → (first : Option (List ℕ)) → IsRead first (S.left source.old) session None
-        → IsRefusedInput first (S.left source.new) n c }
+        → IsRefusedInput asked.command first (S.left source.new) n c }
     ensures judged { IfOk result IsJudgement }
-    ensures compared { IfOk result (λ judged. IsCompared judged.session compares.old compares.new) }
-    ensures tested { IfOk result (λ judged. IsTested judged.session tests.old tests.new) }
+    ensures compared { IfOk result (λ judged.
+        IsComparedFor asked.command judged.session compares.old compares.new) }
+    ensures tested { IfOk result (λ judged.
+        IsTestedFor asked.command judged.session tests.old tests.new) }
     ensures failed { IsErrOf result InputFault.Failed
         → Rose (S.faults source.old) (S.faults source.new) }
     ensures stands { result ≢ Err InputFault.Failed → S.faults source.new ≡ S.faults source.old }
     ensures count { S.faults source.old ≤ S.faults source.new }
 {
     let line = session.records + 3;
-    let judged = match judge_end(alloc, session, compares, tests) {
+    let judged = match judge_end(rt, alloc, asked, session, compares, tests, gate) {
         Ok(judged) => judged,
         Err(fault) => return Err(of_end(fault)),
     };
@@ -92,26 +114,32 @@ fn accept_end<S: Source>(
     }
 }
 
-/// The refusal of the line that is none; or that of the `end` line before it, where that one is over a limit.
-fn first_refusal(
+/// The refusal of the line that is none; or that of the `end` line before it, where that one has a cause.
+fn first_refusal<R: Threads + Sync, G: Gate + Sync>(
+    rt: &R,
     alloc: Global,
+    asked: Asked,
     session: &Session,
     refusal: LineRefusal,
     compares: &mut Meter,
     tests: &mut Meter,
+    gate: &G,
 ) -> InputFault
+    requires asked { IsAskable asked }
     requires some { IsReportable session.now }
     requires compares { compares.old < 2 ^ 60 }
     requires tests { tests.old < 2 ^ 60 }
-    ensures refused { (n : ℕ) (c : Cause) → result ≡ InputFault.Refused n c → (bytes : List ℕ) (records : List Record)
-        → StandsFor session.now (reverse records) → IsReading bytes records (Some refusal)
-        → FirstIllegal bytes n c }
+    ensures refused { (n : ℕ) (c : Cause) → result ≡ InputFault.Refused n c
+        → (bytes : List ℕ) (records : List Record)
+        → StandsFor session.now (reverse records)
+        → IsReading session.now.graph.version bytes records (Some refusal)
+        → FirstIllegal asked.command bytes n c }
     ensures no_failure { result ≢ InputFault.Failed }
 {
     if refusal.line <= session.records + 2 {
         return of_line(refusal);
     }
-    if let Err(fault) = found_within(alloc, session, compares, tests) {
+    if let Err(fault) = found_within(rt, alloc, asked, session, compares, tests, gate) {
         return of_end(fault);
     }
     of_line(refusal)
@@ -137,26 +165,32 @@ fn of_end(fault: FeedFault) -> InputFault
 }
 
 /// What a generated trace comes to, of so many rounds.
-pub(crate) fn accept_generated(
+pub(crate) fn accept_generated<R: Threads + Sync, G: Gate + Sync>(
+    rt: &R,
     alloc: Global,
+    asked: Asked,
     number: u32,
     compares: &mut Meter,
     tests: &mut Meter,
+    gate: &G,
 ) -> Result<Judged, FeedFault>
+    requires asked { IsAskable asked }
     requires least { 1 ≤ number }
     requires most { number ≤ most_rounds }
     requires compares { compares.old < 2 ^ 60 }
     requires tests { tests.old < 2 ^ 60 }
-    ensures verdict { IsVerdict (text (generated number)) result }
+    ensures verdict { IsVerdict asked.command (text One (generated number)) result }
     ensures judged { IfOk result IsJudgement }
-    ensures compared { IfOk result (λ judged. IsCompared judged.session compares.old compares.new) }
-    ensures tested { IfOk result (λ judged. IsTested judged.session tests.old tests.new) }
+    ensures compared { IfOk result (λ judged.
+        IsComparedFor asked.command judged.session compares.old compares.new) }
+    ensures tested { IfOk result (λ judged.
+        IsTestedFor asked.command judged.session tests.old tests.new) }
 {
     let Ok(records) = generated_records(alloc, number) else {
         return Err(FeedFault::NoMemory);
     };
     match judge(alloc, records.as_slice()) {
-        Ok(session) => judge_end(alloc, session, compares, tests),
+        Ok(session) => judge_end(rt, alloc, asked, session, compares, tests, gate),
         Err(GraphFault::Refused { line, cause }) => Err(FeedFault::Refused { line, cause }),
         Err(GraphFault::NoMemory) => Err(FeedFault::NoMemory),
     }
@@ -177,23 +211,31 @@ fn generated_records(alloc: Global, number: u32) -> Result<Vec<Record>, NoMemory
 }
 
 /// Judges the `end` line behind the records for which the session stands.
-fn judge_end(
+fn judge_end<R: Threads + Sync, G: Gate + Sync>(
+    rt: &R,
     alloc: Global,
+    asked: Asked,
     session: Session,
     compares: &mut Meter,
     tests: &mut Meter,
+    gate: &G,
 ) -> Result<Judged, FeedFault>
+    requires asked { IsAskable asked }
     requires some { IsReportable session }
     requires compares { compares.old < 2 ^ 60 }
     requires tests { tests.old < 2 ^ 60 }
     ensures accepted { IfOk result (λ judged. (h : List Record) → StandsFor session h
-        → IsJudged judged.session judged.found h) }
-    ensures refused { IfErr result (λ fault. (h : List Record) → StandsFor session h → IsEndFault h fault) }
+        → IsJudged asked.command judged.session judged.found h) }
+    ensures refused { IfErr result (λ fault. (h : List Record) → StandsFor session h
+        → IsEndFault (end_cause_for asked.command session.graph.version h) h fault) }
+    ensures version { IfOk result (λ judged. judged.session.graph.version ≡ session.graph.version) }
     ensures judged { IfOk result IsJudgement }
-    ensures compared { IfOk result (λ judged. IsCompared judged.session compares.old compares.new) }
-    ensures tested { IfOk result (λ judged. IsTested judged.session tests.old tests.new) }
+    ensures compared { IfOk result (λ judged.
+        IsComparedFor asked.command judged.session compares.old compares.new) }
+    ensures tested { IfOk result (λ judged.
+        IsTestedFor asked.command judged.session tests.old tests.new) }
 {
-    match found_within(alloc, &session, compares, tests) {
+    match found_within(rt, alloc, asked, &session, compares, tests, gate) {
         Ok(found) => Ok(Judged { session, found }),
         Err(fault) => Err(fault),
     }

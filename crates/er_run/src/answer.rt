@@ -3,9 +3,9 @@
 ghost use Rattle.std.specs.Prelude.{◌≡◌, ◌≢◌, ◌≤◌, ℕ, List, IfOk};
 ghost use Rattle.er_outside.specs.Ends.{Rose};
 ghost use Rattle.er_run.specs.Promise.{IsAnswer, IsGiven, IsPartGiven, Compares, Tests};
-ghost use Rattle.er_run.specs.Accepted.{IsCompared, IsTested, IsJudgement, IsVerdict};
+ghost use Rattle.er_run.specs.Accepted.{IsComparedFor, IsTestedFor, IsJudgement, IsVerdict};
 
-use crate::end::Judged;
+use crate::findings::Judged;
 use crate::outcome::Outcome;
 use crate::tell::{tell, tell_fault};
 use er_outside::Sink;
@@ -21,18 +21,18 @@ pub(crate) fn answer<K: Sink>(
     sink: &mut K,
 ) -> Outcome
     requires { IfOk verdict IsJudgement }
-    ensures answered { (bytes : List ℕ) → IsVerdict bytes verdict → IsAnswer result
+    ensures answered { (bytes : List ℕ) → IsVerdict asked bytes verdict → IsAnswer result
         → IsGiven asked bytes result (K.got sink.old) (K.got sink.new) }
-    ensures compared { (bytes : List ℕ) (old new : ℕ) → IsVerdict bytes verdict
-        → IfOk verdict (λ judged. IsCompared judged.session old new)
-        → Compares bytes result old new }
-    ensures tested { (bytes : List ℕ) (old new : ℕ) → IsVerdict bytes verdict
-        → IfOk verdict (λ judged. IsTested judged.session old new)
-        → Tests bytes result old new }
+    ensures compared { (bytes : List ℕ) (old new : ℕ) → IsVerdict asked bytes verdict
+        → IfOk verdict (λ judged. IsComparedFor asked judged.session old new)
+        → Compares asked bytes result old new }
+    ensures tested { (bytes : List ℕ) (old new : ℕ) → IsVerdict asked bytes verdict
+        → IfOk verdict (λ judged. IsTestedFor asked judged.session old new)
+        → Tests asked bytes result old new }
     ensures write_fault { result ≡ Outcome.WriteFault
         → Rose (K.faults sink.old) (K.faults sink.new) }
-    ensures cut_short { (bytes : List ℕ) → IsVerdict bytes verdict → result ≡ Outcome.WriteFault
-        → IsPartGiven asked bytes (K.got sink.old) (K.got sink.new) }
+    ensures cut_short { (bytes : List ℕ) → IsVerdict asked bytes verdict
+        → result ≡ Outcome.WriteFault → IsPartGiven asked bytes (K.got sink.old) (K.got sink.new) }
     ensures kept { result ≡ Outcome.NoMemory → sink.new ≡ sink.old }
     ensures stands { IsAnswer result → K.faults sink.new ≡ K.faults sink.old }
     ensures no_usage { result ≢ Outcome.Usage }
@@ -40,7 +40,7 @@ pub(crate) fn answer<K: Sink>(
     ensures writes { K.faults sink.old ≤ K.faults sink.new }
 {
     match verdict {
-        Ok(judged) => tell(alloc, asked, &judged, sink),
+        Ok(judged) => tell(alloc, &judged, sink),
         Err(fault) => tell_fault(alloc, asked, fault, sink),
     }
 }

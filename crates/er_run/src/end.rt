@@ -1,80 +1,218 @@
-//! The end of a trace: its limits, its races and their groups.
+//! The end of a trace: its limits, and what is asked for of its records.
 
-ghost use Rattle.std.specs.Prelude.{◌<◌, ◌^◌, List, OnOk, IfOk, IfErr};
+ghost use Rattle.std.specs.Prelude.{◌≡◌, ◌<◌, ◌≤◌, ◌^◌, List, OnOk, IfOk, IfErr, length};
 ghost use Rattle.er_trace.specs.declared.record.Record.{Record};
+ghost use Rattle.er_trace.specs.declared.version.Version.{Version};
+ghost use Rattle.er_words.specs.Words.{most_shards};
+ghost use Rattle.er_run.specs.Legal.{end_cause_for, end_cause, schedule_cause, explain_cause};
 ghost use Rattle.er_run.specs.Session.{StandsFor};
-ghost use Rattle.er_run.specs.Accepted.{IsReportable, AreListed, AreGrouped, IsJudged, IsCompared, IsTested, IsEndFault};
+ghost use Rattle.er_run.specs.Accepted.{IsAskable, IsReportable, AreListed, AreGrouped, AreOrdersOf, IsListing, IsFound, IsJudged};
+ghost use Rattle.er_run.specs.Accepted.{IsCompared, IsTested, IsComparedFor, IsTestedFor, IsEndFault, IsListFault};
 
+use crate::findings::{Found, Listing};
 use crate::session::Session;
 use er_clocks::Meter;
-use er_cover::{CoverFault, Groups, group};
-use er_races::{ListFault, Race, list};
+use er_cover::{CoverFault, Groups};
+use er_explain::explain;
+use er_outside::NoMemory;
+use er_races::{ListFault, Race};
+use er_schedule::{Schedules, make_schedules};
+use er_shard::{Gate, group_shards, list_shards};
 use er_text::Cause;
 use er_trace::fault::FeedFault;
+use er_words::{Asked, Command};
 use std::alloc::Global;
+use std::thread::Threads;
 
 /// The most candidate pairs of a trace.
 const MOST_PAIRS: u64 = 16_777_216;
 
-/// The races of a trace, and their groups.
-#[derive(Drop)]
-pub(crate) struct Found {
-    pub(crate) races: Vec<Race>,
-    pub(crate) groups: Groups,
-}
-
-/// What the records of a trace come to, and what was found.
-pub(crate) struct Judged {
-    pub(crate) session: Session,
-    pub(crate) found: Found,
-}
-
-impl Drop for Judged {
-    fn drop(self) {
-        let Judged {
-            session: _,
-            found: _,
-        } = self;
+/// Finds what is asked for, unless there is a cause against the `end` line behind the records.
+pub(crate) fn found_within<R: Threads + Sync, G: Gate + Sync>(
+    rt: &R,
+    alloc: Global,
+    asked: Asked,
+    session: &Session,
+    compares: &mut Meter,
+    tests: &mut Meter,
+    gate: &G,
+) -> Result<Found, FeedFault>
+    requires asked { IsAskable asked }
+    requires some { IsReportable session.now }
+    requires compares { compares.old < 2 ^ 60 }
+    requires tests { tests.old < 2 ^ 60 }
+    ensures found { IfOk result (λ found. (h : List Record) → StandsFor session.now h
+        → IsJudged asked.command session.now found h) }
+    ensures compared { OnOk result
+        (IsComparedFor asked.command session.now compares.old compares.new) }
+    ensures tested { OnOk result (IsTestedFor asked.command session.now tests.old tests.new) }
+    ensures refused { IfErr result (λ fault. (h : List Record) → StandsFor session.now h
+        → IsEndFault (end_cause_for asked.command session.now.graph.version h) h fault) }
+{
+    let shards = asked.shards;
+    match asked.command {
+        Command::Check { json } => {
+            match listing_within(rt, alloc, session, compares, tests, shards, gate) {
+                Ok(listing) => Ok(for_text(json, listing)),
+                Err(fault) => Err(fault),
+            }
+        }
+        Command::Gen { number } => {
+            match listing_within(rt, alloc, session, compares, tests, shards, gate) {
+                Ok(listing) => Ok(Found::Summary { number, listing }),
+                Err(fault) => Err(fault),
+            }
+        }
+        Command::Schedule { race } => {
+            orders_within(rt, alloc, session, race, compares, shards, gate)
+        }
+        Command::Explain { from, to } => steps_within(alloc, session, from, to),
     }
 }
 
-/// Lists the races and groups them, unless the records are over a limit: the `end` line behind them is
-/// then refused.
-pub(crate) fn found_within(
+/// The races for a line of JSON, or for a report.
+fn for_text(json: bool, listing: Listing) -> Found
+    ensures { (v : Version) (h : List Record) → IsListing v listing h
+        → IsFound (Command.Check json) v result h }
+{
+    if json {
+        Found::Line(listing)
+    } else {
+        Found::Report(listing)
+    }
+}
+
+/// Lists the races and groups them, unless they or the pairs or the classes are over their limit.
+fn listing_within<R: Threads + Sync, G: Gate + Sync>(
+    rt: &R,
     alloc: Global,
     session: &Session,
     compares: &mut Meter,
     tests: &mut Meter,
-) -> Result<Found, FeedFault>
+    shards: u32,
+    gate: &G,
+) -> Result<Listing, FeedFault>
+    requires split { (1 ≤ shards) × (shards ≤ most_shards) }
     requires some { IsReportable session.now }
     requires compares { compares.old < 2 ^ 60 }
     requires tests { tests.old < 2 ^ 60 }
-    ensures judged { IfOk result (λ found. (h : List Record) → StandsFor session.now h → IsJudged session.now found h) }
+    ensures listed { IfOk result (λ listing. (h : List Record) → StandsFor session.now h
+        → IsListing session.now.graph.version listing h) }
     ensures compared { OnOk result (IsCompared session.now compares.old compares.new) }
     ensures tested { OnOk result (IsTested session.now tests.old tests.new) }
-    ensures refused { IfErr result (λ fault. (h : List Record) → StandsFor session.now h → IsEndFault h fault) }
+    ensures refused { IfErr result (λ fault. (h : List Record) → StandsFor session.now h
+        → IsEndFault (end_cause session.now.graph.version h) h fault) }
 {
-    let races = match races_within(alloc, session, compares) {
+    let races = match races_within(rt, alloc, session, compares, shards, gate) {
         Ok(races) => races,
         Err(fault) => return Err(fault),
     };
-    match groups_within(alloc, session, races.as_slice(), tests) {
-        Ok(groups) => Ok(Found { races, groups }),
+    match groups_within(rt, alloc, session, races.as_slice(), tests, shards, gate) {
+        Ok(groups) => Ok(Listing { races, groups }),
         Err(fault) => Err(fault),
     }
 }
 
+/// The two orders for the race of this number, unless there is none, or the races or the pairs are over
+/// their limit.
+fn orders_within<R: Threads + Sync, G: Gate + Sync>(
+    rt: &R,
+    alloc: Global,
+    session: &Session,
+    race: u32,
+    compares: &mut Meter,
+    shards: u32,
+    gate: &G,
+) -> Result<Found, FeedFault>
+    requires split { (1 ≤ shards) × (shards ≤ most_shards) }
+    requires first { 1 ≤ race }
+    requires some { IsReportable session.now }
+    requires room { compares.old < 2 ^ 60 }
+    ensures found { IfOk result (λ found. (h : List Record) → StandsFor session.now h
+        → IsJudged (Command.Schedule race) session.now found h) }
+    ensures compared { OnOk result (IsCompared session.now compares.old compares.new) }
+    ensures refused { IfErr result (λ fault. (h : List Record) → StandsFor session.now h
+        → IsEndFault (schedule_cause race session.now.graph.version h) h fault) }
+{
+    let races = match races_within(rt, alloc, session, compares, shards, gate) {
+        Ok(races) => races,
+        Err(fault) => return Err(fault),
+    };
+    if race as usize > races.len() {
+        return Err(FeedFault::Refused {
+            line: session.records + 2,
+            cause: Cause::NoRace,
+        });
+    }
+    match orders_of(alloc, session, races.as_slice(), race) {
+        Ok(orders) => Ok(Found::Orders {
+            race,
+            races,
+            orders,
+        }),
+        Err(NoMemory) => Err(FeedFault::NoMemory),
+    }
+}
+
+/// The two orders for the race of this number.
+fn orders_of(
+    alloc: Global,
+    session: &Session,
+    races: &[Race],
+    race: u32,
+) -> Result<Schedules, NoMemory>
+    requires first { 1 ≤ race }
+    requires within { race ≤ length races.now }
+    requires some { IsReportable session.now }
+    requires listed { (h : List Record) → StandsFor session.now h
+        → AreListed session.now.graph.version races.now h }
+    ensures { IfOk result (λ orders. (h : List Record) → StandsFor session.now h
+        → AreOrdersOf session.now.graph.version race races.now orders h) }
+{
+    let found = races[race as usize - 1];
+    let first = session.kept.access(found.first);
+    let second = session.kept.access(found.second);
+    make_schedules(alloc, session.graph.clocks(), first.action, second.action)
+}
+
+/// The steps from one action to another, unless one of the two is no action.
+fn steps_within(alloc: Global, session: &Session, from: u32, to: u32) -> Result<Found, FeedFault>
+    requires some { IsReportable session.now }
+    ensures found { IfOk result (λ found. (h : List Record) → StandsFor session.now h
+        → IsJudged (Command.Explain from to) session.now found h) }
+    ensures refused { IfErr result (λ fault. (h : List Record) → StandsFor session.now h
+        → IsEndFault (explain_cause from to h) h fault) }
+{
+    let actions = session.graph.page().actions();
+    if from >= actions || to >= actions {
+        return Err(FeedFault::Refused {
+            line: session.records + 2,
+            cause: Cause::NoAction,
+        });
+    }
+    match explain(alloc, &session.graph, from, to) {
+        Ok(steps) => Ok(Found::Steps { from, to, steps }),
+        Err(NoMemory) => Err(FeedFault::NoMemory),
+    }
+}
+
 /// Lists the races, unless the pairs or the races are over their limit.
-fn races_within(
+fn races_within<R: Threads + Sync, G: Gate + Sync>(
+    rt: &R,
     alloc: Global,
     session: &Session,
     compares: &mut Meter,
+    shards: u32,
+    gate: &G,
 ) -> Result<Vec<Race>, FeedFault>
+    requires split { (1 ≤ shards) × (shards ≤ most_shards) }
     requires some { IsReportable session.now }
     requires room { compares.old < 2 ^ 60 }
-    ensures listed { IfOk result (λ races. (h : List Record) → StandsFor session.now h → AreListed races.items h) }
+    ensures listed { IfOk result (λ races. (h : List Record) → StandsFor session.now h
+        → AreListed session.now.graph.version races.items h) }
     ensures compared { OnOk result (IsCompared session.now compares.old compares.new) }
-    ensures refused { IfErr result (λ fault. (h : List Record) → StandsFor session.now h → IsEndFault h fault) }
+    ensures refused { IfErr result (λ fault. (h : List Record) → StandsFor session.now h
+        → IsListFault session.now.graph.version h fault) }
 {
     let line = session.records + 2;
     if session.kept.pairs() > MOST_PAIRS {
@@ -83,7 +221,15 @@ fn races_within(
             cause: Cause::TooManyPairs,
         });
     }
-    match list(alloc, &session.kept, session.graph.clocks(), compares) {
+    match list_shards(
+        rt,
+        alloc,
+        &session.kept,
+        session.graph.clocks(),
+        shards,
+        gate,
+        compares,
+    ) {
         Ok(races) => Ok(races),
         Err(ListFault::TooManyRaces) => Err(FeedFault::Refused {
             line,
@@ -94,20 +240,36 @@ fn races_within(
 }
 
 /// Groups the races, unless the classes are over their limit.
-fn groups_within(
+fn groups_within<R: Threads + Sync, G: Gate + Sync>(
+    rt: &R,
     alloc: Global,
     session: &Session,
     races: &[Race],
     tests: &mut Meter,
+    shards: u32,
+    gate: &G,
 ) -> Result<Groups, FeedFault>
+    requires split { (1 ≤ shards) × (shards ≤ most_shards) }
     requires some { IsReportable session.now }
-    requires listed { (h : List Record) → StandsFor session.now h → AreListed races.now h }
+    requires listed { (h : List Record) → StandsFor session.now h
+        → AreListed session.now.graph.version races.now h }
     requires room { tests.old < 2 ^ 60 }
-    ensures grouped { IfOk result (λ groups. (h : List Record) → StandsFor session.now h → AreGrouped groups h) }
+    ensures grouped { IfOk result (λ groups. (h : List Record) → StandsFor session.now h
+        → AreGrouped session.now.graph.version groups h) }
     ensures tested { OnOk result (IsTested session.now tests.old tests.new) }
-    ensures refused { IfErr result (λ fault. (h : List Record) → StandsFor session.now h → IsEndFault h fault) }
+    ensures refused { IfErr result (λ fault. (h : List Record) → StandsFor session.now h
+        → IsEndFault (end_cause session.now.graph.version h) h fault) }
 {
-    match group(alloc, races, &session.kept, session.graph.clocks(), tests) {
+    match group_shards(
+        rt,
+        alloc,
+        races,
+        &session.kept,
+        session.graph.clocks(),
+        shards,
+        gate,
+        tests,
+    ) {
         Ok(groups) => Ok(groups),
         Err(CoverFault::TooManyClasses) => Err(FeedFault::Refused {
             line: session.records + 2,

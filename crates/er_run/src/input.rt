@@ -2,11 +2,12 @@
 
 ghost use Rattle.std.specs.Prelude.{◌≡◌, ◌≢◌, ℕ, ◌+◌, ◌<◌, ◌≤◌, List, [], ◌++◌, length, reverse, Option, Ok, Err, Some, None, IfOk, OnOk, IfErr, IsErrOf};
 ghost use Rattle.er_outside.specs.Ends.{Rose};
-ghost use Rattle.er_trace.specs.Trace.{most_lines};
+ghost use Rattle.er_trace.specs.Trace.{IsTrace, IsTextOf, most_lines};
 ghost use Rattle.er_trace.specs.Feed.{IsGoing};
 ghost use Rattle.er_trace.specs.Feed as feeds;
-ghost use Rattle.er_run.specs.Session.{StandsFor, IsSession};
-ghost use Rattle.er_run.specs.Reading.{IsAt, IsSomewhere, IsOpen, IsRead, IsReadTo, IsReading, GoesOn, Advances, Ends, IsRefusedBehind, IsFinalFault, IsRecordFault, fault_of};
+ghost use Rattle.er_trace.specs.declared.version.Version.{Version};
+ghost use Rattle.er_run.specs.Session.{StandsFor, IsReady, IsBegun, begun};
+ghost use Rattle.er_run.specs.Reading.{IsAt, IsBy, IsSomewhere, IsOpen, IsRead, IsReadTo, IsReading, GoesOn, Advances, Ends, IsRefusedBehind, IsFinalFault, IsRecordFault, fault_of};
 
 use crate::session::Session;
 use er_graph::GraphFault;
@@ -15,6 +16,7 @@ use er_text::Cause;
 use er_trace::fault::FeedFault;
 use er_trace::feed::Feed;
 use er_trace::record::Record;
+use er_trace::version::Version;
 use std::alloc::Global;
 
 /// How many bytes are read at a time.
@@ -59,14 +61,14 @@ pub(crate) fn read<S: Source>(
     ensures stands { result ≢ Err InputFault.Failed → S.faults source.new ≡ S.faults source.old }
     ensures count { S.faults source.old ≤ S.faults source.new }
 {
-    let Ok(mut session) = Session::new(alloc) else {
+    let Ok(mut session) = Session::new(alloc, Version::One) else {
         return Err(InputFault::NoMemory);
     };
     let mut feed = Feed::new(alloc);
     let mut came = Vec::new(alloc);
     // Each turn reads a byte at least, and as long as no line is refused fewer bytes come than turns may.
     for turn in 0..u64::MAX {
-        match read_piece(source, &mut feed, &mut session, &mut came) {
+        match read_piece(alloc, source, &mut feed, &mut session, &mut came) {
             Ok(Step::GoesOn) => {}
             Ok(Step::Ended(refused)) => return Ok((session, refused)),
             Err(fault) => return Err(fault),
@@ -77,6 +79,7 @@ pub(crate) fn read<S: Source>(
 
 /// Reads the next piece and judges the records of the lines that end in it. What the list holds goes.
 fn read_piece<S: Source>(
+    alloc: Global,
     source: &mut S,
     feed: &mut Feed,
     session: &mut Session,
@@ -108,7 +111,7 @@ fn read_piece<S: Source>(
     if n == 0 {
         return Ok(Step::Ended(line_at_end(feed)));
     }
-    match take_piece(feed, session, came, &buffer[..n]) {
+    match take_piece(alloc, feed, session, came, &buffer[..n]) {
         Ok(None) => Ok(step_of(feed)),
         Ok(Some(refusal)) => Ok(Step::Ended(Some(refusal))),
         Err(FeedFault::Refused { line, cause }) => Err(InputFault::Refused { line, cause }),
@@ -123,7 +126,7 @@ fn step_of(feed: &Feed) -> Step
         → feeds.StandsFor feed.now bytes records → IsOpen bytes records }
     ensures ended { (refused : Option LineRefusal) → result ≡ Step.Ended refused
         → (bytes : List ℕ) (records : List Record) → feeds.StandsFor feed.now bytes records
-        → (refused ≡ None) × IsReading bytes records None }
+        → (refused ≡ None) × IsTrace records × IsTextOf bytes records }
 {
     if feed.ended() {
         Step::Ended(None)
@@ -136,7 +139,7 @@ fn step_of(feed: &Feed) -> Step
 fn line_at_end(feed: &Feed) -> Option<LineRefusal>
     requires { IsGoing feed.now }
     ensures { (bytes : List ℕ) (records : List Record) → feeds.StandsFor feed.now bytes records
-        → IsReading bytes records result }
+        → (v : Version) → IsBy v bytes → IsReading v bytes records result }
 {
     match feed.finish() {
         Ok(()) => None,
@@ -149,6 +152,7 @@ fn line_at_end(feed: &Feed) -> Option<LineRefusal>
 /// Feeds a piece and judges the records of the lines that end in it, which take the place of what the list
 /// holds. Answers the line that is refused, where one is.
 fn take_piece(
+    alloc: Global,
     feed: &mut Feed,
     session: &mut Session,
     came: &mut Vec<Record>,
@@ -165,13 +169,13 @@ fn take_piece(
     came.clear();
     match feed.feed(piece, came) {
         Ok(()) => {
-            if let Err(fault) = judge_all(session, came.as_slice()) {
+            if let Err(fault) = judge_all(alloc, session, feed.version(), came.as_slice()) {
                 return Err(fault);
             }
             Ok(None)
         }
         Err(FeedFault::Refused { line, cause }) => {
-            if let Err(fault) = judge_all(session, came.as_slice()) {
+            if let Err(fault) = judge_all(alloc, session, feed.version(), came.as_slice()) {
                 return Err(fault);
             }
             Ok(Some(LineRefusal { line, cause }))
@@ -180,15 +184,28 @@ fn take_piece(
     }
 }
 
-/// Takes the records one after the other, to the first that is refused.
-fn judge_all(session: &mut Session, records: &[Record]) -> Result<(), FeedFault>
-    requires some { IsSession session.old }
+/// Takes the records one after the other, to the first that is refused, in the version that the first line
+/// gave.
+fn judge_all(
+    alloc: Global,
+    session: &mut Session,
+    given: Option<Version>,
+    records: &[Record],
+) -> Result<(), FeedFault>
+    requires some { IsReady session.old given }
     requires room { session.old.records + length records.now ≤ most_lines }
     ensures taken { OnOk result ((earlier : List Record) → StandsFor session.old (reverse earlier)
+        → IsBegun session.old.graph.version given (reverse earlier)
         → StandsFor session.new (reverse (earlier ++ records.now))) }
+    ensures version { OnOk result (session.new.graph.version ≡ begun session.old.graph.version given) }
     ensures refused { IfErr result (λ fault. (earlier : List Record)
-        → StandsFor session.old (reverse earlier) → IsRecordFault (earlier ++ records.now) fault) }
+        → StandsFor session.old (reverse earlier)
+        → IsBegun session.old.graph.version given (reverse earlier)
+        → IsRecordFault (begun session.old.graph.version given) (earlier ++ records.now) fault) }
 {
+    let Ok(()) = session.begin(alloc, given) else {
+        return Err(FeedFault::NoMemory);
+    };
     match session.take_all(records) {
         Ok(()) => Ok(()),
         Err(GraphFault::Refused { line, cause }) => Err(FeedFault::Refused { line, cause }),

@@ -1,4 +1,4 @@
-//! The top call: from the words of the command and the bytes of a trace to the report of its races.
+//! The top call: from the words of the command and the bytes of a trace to the text that is due.
 #![tactic(auto)]
 
 ghost use Rattle.std.specs.Prelude.{◌≡◌, ◌≢◌, ◌⊎◌, ℕ, ◌<◌, ◌≤◌, ◌^◌, List, map, string_bytes};
@@ -7,16 +7,19 @@ ghost use Rattle.er_words.specs.Words.{Asks};
 ghost use Rattle.er_run.specs.Answer.{Answers};
 ghost use Rattle.er_run.specs.Promise.{IsAnswer, IsAnswered, IsCutShort, IsSilent, Holds, ReadsWithout};
 
-use crate::modes::{check, generate};
+use crate::modes::{judge_generated, judge_input};
 use crate::outcome::Outcome;
 use er_clocks::Meter;
 use er_outside::{Sink, Source};
-use er_words::{Command, WordsFault, read_words};
+use er_shard::Gate;
+use er_words::{Asked, Command, WordsFault, read_words};
 use std::alloc::Global;
+use std::thread::Threads;
 
 mod accept;
 mod answer;
 mod end;
+mod findings;
 mod input;
 pub mod laws;
 mod modes;
@@ -25,62 +28,78 @@ mod session;
 mod tell;
 
 /// Does what the words ask for: reads the trace that the source gives, at most 4,096 bytes at a time, to its
-/// end or to the piece that decides a refusal, and writes the report of its races, or the refusal, to the
-/// sink; or writes the summary of a generated trace.
+/// end or to the piece that decides a refusal. It writes the report of its races, two orders for one of
+/// them, why two of its actions are ordered, or the refusal, to the sink; or the summary of a generated
+/// trace.
 ///
 /// The words are those of the command, without the program's own name. Each candidate pair of accesses is
 /// compared once, and `compares` counts these comparisons; `tests` counts those that group the races.
-pub fn run<S: Source, K: Sink>(
+/// The races are listed and grouped by as many shards as the words ask for, each in a thread where one can
+/// be made; each passes the gate before its first comparison. The answer is the same for any number of them.
+pub fn run<R: Threads + Sync, S: Source, K: Sink, G: Gate + Sync>(
+    rt: &R,
     alloc: Global,
     words: &[String],
     source: &mut S,
     sink: &mut K,
     compares: &mut Meter,
     tests: &mut Meter,
+    gate: &G,
 ) -> Outcome
     requires compares { compares.old < 2 ^ 60 }
     requires tests { tests.old < 2 ^ 60 }
     // The input of the command answers the outcome, the text that is due was written, and with a report
     // `compares` rose by exactly the number of candidate pairs, `tests` by at most four for each class and
     // each group.
-    ensures answered { (asked : Command) → Asks (map string_bytes words.now) asked → IsAnswer result
-        → IsAnswered asked (S.left source.old) (S.left source.new) (K.got sink.old) (K.got sink.new)
+    ensures answered { (asked : Asked) → Asks (map string_bytes words.now) asked → IsAnswer result
+        → IsAnswered asked.command (S.left source.old) (S.left source.new) (K.got sink.old) (K.got sink.new)
         compares.old compares.new tests.old tests.new result }
     // Words that ask for a command are no wrong usage; others give that, or want of memory.
     ensures usage { result ≡ Outcome.Usage
-        → (asked : Command) → ¬ Asks (map string_bytes words.now) asked }
-    ensures refused { ((asked : Command) → ¬ Asks (map string_bytes words.now) asked)
+        → (asked : Asked) → ¬ Asks (map string_bytes words.now) asked }
+    ensures refused { ((asked : Asked) → ¬ Asks (map string_bytes words.now) asked)
         → (result ≡ Outcome.Usage) ⊎ (result ≡ Outcome.NoMemory) }
     ensures read_fault { result ≡ Outcome.ReadFault
         → Rose (S.faults source.old) (S.faults source.new) }
     ensures write_fault { result ≡ Outcome.WriteFault
         → Rose (K.faults sink.old) (K.faults sink.new) }
     // At a failed write a proper front of the text that is due was written.
-    ensures cut_short { (asked : Command) → Asks (map string_bytes words.now) asked
+    ensures cut_short { (asked : Asked) → Asks (map string_bytes words.now) asked
         → result ≡ Outcome.WriteFault
-        → IsCutShort asked (S.left source.old) (S.left source.new) (K.got sink.old) (K.got sink.new) }
+        → IsCutShort asked.command (S.left source.old) (S.left source.new) (K.got sink.old) (K.got sink.new) }
     // No answer comes over a fault.
     ensures no_fault { IsAnswer result
         → (S.faults source.new ≡ S.faults source.old) × (K.faults sink.new ≡ K.faults sink.old) }
     // A refused command leaves the source as it was, and so does a generated trace, for which no read fails.
     ensures unread { result ≡ Outcome.Usage → source.new ≡ source.old }
-    ensures generated { (n : ℕ) → Asks (map string_bytes words.now) (Command.Gen n)
-        → (source.new ≡ source.old) × (result ≢ Outcome.ReadFault) }
+    ensures generated { (asked : Asked) (n : ℕ) → Asks (map string_bytes words.now) asked
+        → asked.command ≡ Command.Gen n → (source.new ≡ source.old) × (result ≢ Outcome.ReadFault) }
     // A refused command, a failed read and want of memory leave the sink as it was.
     ensures unwritten { IsSilent result → sink.new ≡ sink.old }
     // Where no fault came, the outcome is the answer of all that the command has to judge, unless memory
     // ran out.
-    ensures complete { (asked : Command) → Asks (map string_bytes words.now) asked
-        → ReadsWithout asked (S.faults source.old) (S.faults source.new)
+    ensures complete { (asked : Asked) → Asks (map string_bytes words.now) asked
+        → ReadsWithout asked.command (S.faults source.old) (S.faults source.new)
         → ¬ Rose (K.faults sink.old) (K.faults sink.new)
-        → (bytes : List ℕ) → Holds asked (S.left source.old) bytes
-        → (result ≡ Outcome.NoMemory) ⊎ ((due : List ℕ) × Answers asked bytes result due) }
+        → (bytes : List ℕ) → Holds asked.command (S.left source.old) bytes
+        → (result ≡ Outcome.NoMemory) ⊎ ((due : List ℕ) × Answers asked.command bytes result due) }
     ensures reads { S.faults source.old ≤ S.faults source.new }
     ensures writes { K.faults sink.old ≤ K.faults sink.new }
 {
     match read_words(alloc, words) {
-        Ok(Command::Check { json }) => check(alloc, json, source, sink, compares, tests),
-        Ok(Command::Gen { number }) => generate(alloc, number, sink, compares, tests),
+        Ok(asked) => match asked.command {
+            Command::Gen { number } => judge_generated(
+                rt,
+                alloc,
+                number,
+                sink,
+                compares,
+                tests,
+                asked.shards,
+                gate,
+            ),
+            _ => judge_input(rt, alloc, asked, source, sink, compares, tests, gate),
+        },
         Err(WordsFault::Usage) => Outcome::Usage,
         Err(WordsFault::NoMemory) => Outcome::NoMemory,
     }

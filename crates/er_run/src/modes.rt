@@ -1,11 +1,14 @@
-//! The two modes: a trace that is read, and a generated one.
+//! What a mode judges: the trace that is read, or a generated one.
 
 ghost use Rattle.std.specs.Prelude.{◌≡◌, ◌≢◌, ◌⊎◌, ℕ, ◌<◌, ◌≤◌, ◌^◌, List, Some};
 ghost use Rattle.er_outside.specs.Ends.{Rose};
 ghost use Rattle.er_trace.specs.Trace.{text};
+ghost use Rattle.er_trace.specs.declared.version.Version.TheVariants.{One};
 ghost use Rattle.er_gen.specs.Generated.{generated, most_rounds};
+ghost use Rattle.er_words.specs.Words.{most_shards};
 ghost use Rattle.er_run.specs.Answer.{Answers};
 ghost use Rattle.er_run.specs.Promise.{IsAnswer, IsAnswered, IsCutShort, IsGiven, IsPartGiven, IsSilent, Compares, Tests};
+ghost use Rattle.er_run.specs.Accepted.{IsAskable};
 
 use crate::accept::{accept_generated, accept_input};
 use crate::answer::answer;
@@ -13,23 +16,29 @@ use crate::input::InputFault;
 use crate::outcome::Outcome;
 use er_clocks::Meter;
 use er_outside::{Sink, Source};
+use er_shard::Gate;
 use er_trace::fault::FeedFault;
-use er_words::Command;
+use er_words::{Asked, Command};
 use std::alloc::Global;
+use std::thread::Threads;
 
-/// Judges the trace that the source gives.
-pub(crate) fn check<S: Source, K: Sink>(
+/// Judges the trace that the source gives, and writes what is asked for.
+pub(crate) fn judge_input<R: Threads + Sync, S: Source, K: Sink, G: Gate + Sync>(
+    rt: &R,
     alloc: Global,
-    json: bool,
+    asked: Asked,
     source: &mut S,
     sink: &mut K,
     compares: &mut Meter,
     tests: &mut Meter,
+    gate: &G,
 ) -> Outcome
+    requires asked { IsAskable asked }
+    requires reads { (n : ℕ) → asked.command ≢ Command.Gen n }
     requires compares { compares.old < 2 ^ 60 }
     requires tests { tests.old < 2 ^ 60 }
     ensures answered { IsAnswer result
-        → IsAnswered (Command.Check json) (S.left source.old) (S.left source.new) (K.got sink.old)
+        → IsAnswered asked.command (S.left source.old) (S.left source.new) (K.got sink.old)
         (K.got sink.new) compares.old compares.new tests.old tests.new result }
     ensures no_usage { result ≢ Outcome.Usage }
     ensures read_fault { result ≡ Outcome.ReadFault
@@ -37,7 +46,7 @@ pub(crate) fn check<S: Source, K: Sink>(
     ensures write_fault { result ≡ Outcome.WriteFault
         → Rose (K.faults sink.old) (K.faults sink.new) }
     ensures cut_short { result ≡ Outcome.WriteFault
-        → IsCutShort (Command.Check json) (S.left source.old) (S.left source.new) (K.got sink.old)
+        → IsCutShort asked.command (S.left source.old) (S.left source.new) (K.got sink.old)
         (K.got sink.new) }
     ensures no_fault { IsAnswer result
         → (S.faults source.new ≡ S.faults source.old) × (K.faults sink.new ≡ K.faults sink.old) }
@@ -46,15 +55,20 @@ pub(crate) fn check<S: Source, K: Sink>(
         → ¬ Rose (K.faults sink.old) (K.faults sink.new)
         → (bytes : List ℕ) → S.left source.old ≡ Some bytes
         → (result ≡ Outcome.NoMemory)
-        ⊎ ((due : List ℕ) × Answers (Command.Check json) bytes result due) }
+        ⊎ ((due : List ℕ) × Answers asked.command bytes result due) }
     ensures reads { S.faults source.old ≤ S.faults source.new }
     ensures writes { K.faults sink.old ≤ K.faults sink.new }
 {
-    let asked = Command::Check { json };
-    match accept_input(alloc, source, compares, tests) {
-        Ok(judged) => answer(alloc, asked, Ok(judged), sink),
+    let command = asked.command;
+    match accept_input(rt, alloc, asked, source, compares, tests, gate) {
+        Ok(judged) => answer(alloc, command, Ok(judged), sink),
         Err(InputFault::Refused { line, cause }) => {
-            answer(alloc, asked, Err(FeedFault::Refused { line, cause }), sink)
+            answer(
+                alloc,
+                command,
+                Err(FeedFault::Refused { line, cause }),
+                sink,
+            )
         }
         Err(InputFault::Failed) => Outcome::ReadFault,
         Err(InputFault::NoMemory) => Outcome::NoMemory,
@@ -62,33 +76,41 @@ pub(crate) fn check<S: Source, K: Sink>(
 }
 
 /// Judges the generated trace of so many rounds.
-pub(crate) fn generate<K: Sink>(
+pub(crate) fn judge_generated<R: Threads + Sync, K: Sink, G: Gate + Sync>(
+    rt: &R,
     alloc: Global,
     number: u32,
     sink: &mut K,
     compares: &mut Meter,
     tests: &mut Meter,
+    shards: u32,
+    gate: &G,
 ) -> Outcome
+    requires split { (1 ≤ shards) × (shards ≤ most_shards) }
     requires least { 1 ≤ number }
     requires most { number ≤ most_rounds }
     requires compares { compares.old < 2 ^ 60 }
     requires tests { tests.old < 2 ^ 60 }
     ensures answered { IsAnswer result
-        → IsGiven (Command.Gen number) (text (generated number)) result (K.got sink.old)
+        → IsGiven (Command.Gen number) (text One (generated number)) result (K.got sink.old)
         (K.got sink.new) }
-    ensures compared { Compares (text (generated number)) result compares.old compares.new }
-    ensures tested { Tests (text (generated number)) result tests.old tests.new }
+    ensures compared { Compares (Command.Gen number) (text One (generated number)) result
+        compares.old compares.new }
+    ensures tested { Tests (Command.Gen number) (text One (generated number)) result
+        tests.old tests.new }
     ensures no_usage { result ≢ Outcome.Usage }
     ensures no_read_fault { result ≢ Outcome.ReadFault }
     ensures write_fault { result ≡ Outcome.WriteFault
         → Rose (K.faults sink.old) (K.faults sink.new) }
     ensures cut_short { result ≡ Outcome.WriteFault
-        → IsPartGiven (Command.Gen number) (text (generated number)) (K.got sink.old)
+        → IsPartGiven (Command.Gen number) (text One (generated number)) (K.got sink.old)
         (K.got sink.new) }
     ensures stands { IsAnswer result → K.faults sink.new ≡ K.faults sink.old }
     ensures kept { result ≡ Outcome.NoMemory → sink.new ≡ sink.old }
     ensures writes { K.faults sink.old ≤ K.faults sink.new }
 {
-    let verdict = accept_generated(alloc, number, compares, tests);
-    answer(alloc, Command::Gen { number }, verdict, sink)
+    let command = Command::Gen { number };
+    let asked = Asked { command, shards };
+    let verdict = accept_generated(rt, alloc, asked, number, compares, tests, gate);
+    answer(alloc, command, verdict, sink)
 }

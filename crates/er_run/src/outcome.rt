@@ -45,7 +45,9 @@ impl Outcome {
         ensures { option_map (λ text. text.now) result ≡ line_of self.now }
     {
         match self {
-            Outcome::Usage => Some("usage: er_cli [check|gen] [--json] [--number N]"),
+            Outcome::Usage => Some(
+                "usage: er_cli [check|gen|schedule|explain] [--shards N] [--json] [--number N] [--race N] [--from N] [--to N]",
+            ),
             Outcome::ReadFault => Some("er_cli: input could not be read"),
             Outcome::WriteFault => Some("er_cli: output could not be written"),
             Outcome::NoMemory => Some("er_cli: out of memory"),

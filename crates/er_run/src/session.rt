@@ -1,10 +1,10 @@
 //! What the accepted records say and access, and which record comes next.
 
-ghost use Rattle.std.specs.Prelude.{◌≡◌, ℕ, ◌+◌, ◌<◌, ◌≤◌, List, [], ◌∷◌, ◌++◌, reverse, length, Err, OnOk, IfOk, IfErr};
+ghost use Rattle.std.specs.Prelude.{◌≡◌, ◌≢◌, true, false, ℕ, ◌+◌, ◌<◌, ◌≤◌, List, [], ◌∷◌, ◌++◌, reverse, length, Err, OnOk, IfOk, IfErr};
 ghost use Rattle.er_trace.specs.declared.record.Record.{Record};
 ghost use Rattle.er_trace.specs.Trace.{most_lines};
 ghost use Rattle.er_page.specs.Page.{IsPage};
-ghost use Rattle.er_run.specs.Session.{StandsFor, IsSession, IsFaultAfter, IsFaultOf, AreEarlier, AreKept, IsPastRoom, kept_with};
+ghost use Rattle.er_run.specs.Session.{StandsFor, IsSession, IsFaultAfter, IsFaultOf, IsBegun, begun, AreEarlier, AreKept, IsPastRoom, kept_with};
 
 use er_access::{AddFault, Table};
 use er_graph::{Graph, GraphFault};
@@ -12,6 +12,7 @@ use er_outside::NoMemory;
 use er_page::page::Page;
 use er_text::Cause;
 use er_trace::record::{Loc, Mode, Record};
+use er_trace::version::Version;
 use std::alloc::Global;
 
 /// What the accepted records say, which of their accesses are kept, and how many records they are.
@@ -31,13 +32,14 @@ impl Drop for Session {
     }
 }
 
-/// What the records come to, or the first that is refused.
+/// What the records of a trace in version 1 come to, or the first that is refused.
 pub(crate) fn judge(alloc: Global, records: &[Record]) -> Result<Session, GraphFault>
     requires { length records.now ≤ most_lines }
     ensures stands { IfOk result (λ session. StandsFor session (reverse records.now)) }
-    ensures refused { IfErr result (λ fault. IsFaultOf records.now fault) }
+    ensures version { IfOk result (λ session. session.graph.version ≡ Version.One) }
+    ensures refused { IfErr result (λ fault. IsFaultOf Version.One records.now fault) }
 {
-    let Ok(mut session) = Session::new(alloc) else {
+    let Ok(mut session) = Session::new(alloc, Version::One) else {
         return Err(GraphFault::NoMemory);
     };
     match session.take_all(records) {
@@ -47,15 +49,33 @@ pub(crate) fn judge(alloc: Global, records: &[Record]) -> Result<Session, GraphF
 }
 
 impl Session {
-    /// No record yet.
-    pub(crate) fn new(alloc: Global) -> Result<Self, NoMemory>
-        ensures { IfOk result (λ session. StandsFor session []) }
+    /// No record yet, in this version.
+    pub(crate) fn new(alloc: Global, version: Version) -> Result<Self, NoMemory>
+        ensures stands { IfOk result (λ session. StandsFor session []) }
+        ensures version { IfOk result (λ session. session.graph.version ≡ version) }
     {
         Ok(Session {
-            graph: Graph::new(alloc)?,
+            graph: Graph::new(alloc, version)?,
             kept: Table::new(alloc),
             records: 0,
         })
+    }
+
+    /// Is of the version that the first line gave, where it was read. No record came before it.
+    pub(crate) fn begin(&mut self, alloc: Global, given: Option<Version>) -> Result<(), NoMemory>
+        ensures begun { OnOk result ((h : List Record) → StandsFor self.old h
+            → IsBegun self.old.graph.version given h → StandsFor self.new h) }
+        ensures version { OnOk result (self.new.graph.version ≡ begun self.old.graph.version given) }
+        ensures count { self.new.records ≡ self.old.records }
+    {
+        let Some(version) = given else {
+            return Ok(());
+        };
+        if is_same(self.graph.version(), version) {
+            return Ok(());
+        }
+        self.graph = Graph::new(alloc, version)?;
+        Ok(())
     }
 
     /// Takes the records one after the other, to the first that is refused.
@@ -65,7 +85,9 @@ impl Session {
         ensures taken { OnOk result ((earlier : List Record) → StandsFor self.old (reverse earlier)
             → StandsFor self.new (reverse (earlier ++ records.now))) }
         ensures refused { IfErr result (λ fault. (earlier : List Record)
-            → StandsFor self.old (reverse earlier) → IsFaultOf (earlier ++ records.now) fault) }
+            → StandsFor self.old (reverse earlier)
+            → IsFaultOf self.old.graph.version (earlier ++ records.now) fault) }
+        ensures version { self.new.graph.version ≡ self.old.graph.version }
     {
         for at in 0..records.len() {
             if let Err(fault) = self.take(&records[at]) {
@@ -79,8 +101,11 @@ impl Session {
     pub(crate) fn take(&mut self, rec: &Record) -> Result<(), GraphFault>
         requires some { IsSession self.old }
         requires room { self.old.records < most_lines }
-        ensures taken { OnOk result ((h : List Record) → StandsFor self.old h → StandsFor self.new (rec.now ∷ h)) }
-        ensures refused { IfErr result (λ fault. (h : List Record) → StandsFor self.old h → IsFaultAfter h rec.now fault) }
+        ensures taken { OnOk result ((h : List Record) → StandsFor self.old h
+            → StandsFor self.new (rec.now ∷ h)) }
+        ensures refused { IfErr result (λ fault. (h : List Record) → StandsFor self.old h
+            → IsFaultAfter self.old.graph.version h rec.now fault) }
+        ensures version { self.new.graph.version ≡ self.old.graph.version }
     {
         let line = self.records + 2;
         if let Err(fault) = self.graph.accept(line, rec) {
@@ -98,6 +123,23 @@ impl Session {
             }),
             Err(AddFault::NoMemory) => Err(GraphFault::NoMemory),
         }
+    }
+}
+
+/// Whether they are one version.
+fn is_same(one: Version, other: Version) -> bool
+    ensures same { result ≡ true → one ≡ other }
+    ensures other { result ≡ false → one ≢ other }
+{
+    match one {
+        Version::One => match other {
+            Version::One => true,
+            Version::Two => false,
+        },
+        Version::Two => match other {
+            Version::One => false,
+            Version::Two => true,
+        },
     }
 }
 

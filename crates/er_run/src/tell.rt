@@ -1,128 +1,178 @@
-//! The text that is due: the report of a legal trace, or a refusal, as the command asks for it.
+//! The text that is due: that of what was found of a legal trace, or a refusal, as the command asks for it.
 //! A line of JSON is made before the first write.
 
-ghost use Rattle.std.specs.Prelude.{◌≡◌, ◌≤◌, ℕ, List, length, IfOk, OnOk, OnErr};
+ghost use Rattle.std.specs.Prelude.{◌≡◌, ◌≤◌, true, List, IfOk};
 ghost use Rattle.er_outside.specs.Ends.{Puts, Rose};
 ghost use Rattle.er_trace.specs.declared.record.Record.{Record};
-ghost use Rattle.er_report.specs.Report.{refusal};
 ghost use Rattle.er_json.specs.Json as lines;
+ghost use Rattle.er_run.specs.Answer.{outcome_of};
 ghost use Rattle.er_run.specs.Promise.{IsAnswer};
-ghost use Rattle.er_run.specs.Report.{report, json_report, summary, text_for, refusal_for};
-ghost use Rattle.er_run.specs.Accepted.{EndsAs, EndsRefused, IsJudged, IsJudgement, FailedAs, RefusedAs, ReportsOf};
+ghost use Rattle.er_run.specs.Report.{report, json_report, summary, schedule, is_json, text_for, refusal_for};
+ghost use Rattle.er_run.specs.Session.{StandsFor};
+ghost use Rattle.er_run.specs.Accepted.{EndsAs, IsJudged, IsJudgement, IsListed, IsListing, IsOrdered, AreOrdersOf};
+ghost use Rattle.er_run.specs.Accepted.{FailedAs, RefusedAs, ReportsOf};
 
-use crate::end::Judged;
+use crate::findings::{Found, Judged, Listing};
 use crate::outcome::Outcome;
+use crate::session::Session;
+use er_explain::write_steps;
 use er_json::{json_refusal, json_report};
 use er_outside::{NoMemory, Sink, WriteFault, put_all};
+use er_races::Race;
 use er_report::{write_refusal, write_report, write_summary};
+use er_schedule::{Schedules, write_schedules};
 use er_text::Cause;
 use er_trace::fault::FeedFault;
 use er_words::Command;
 use std::alloc::Global;
 
-/// Writes what the command asks for of an accepted trace.
-pub(crate) fn tell<K: Sink>(alloc: Global, asked: Command, judged: &Judged, sink: &mut K) -> Outcome
+/// Writes the text that is due for an accepted trace.
+pub(crate) fn tell<K: Sink>(alloc: Global, judged: &Judged, sink: &mut K) -> Outcome
     requires { IsJudgement judged.now }
-    ensures reported { (h : List Record) → IsJudged judged.now.session judged.now.found h
-        → ReportsOf h (text_for asked h) result (K.got sink.old) (K.got sink.new) }
+    ensures reported { (asked : Command) (h : List Record)
+        → IsJudged asked judged.now.session judged.now.found h
+        → ReportsOf asked judged.now.session.graph.version h
+        (text_for judged.now.session.graph.version asked h) result
+        (K.got sink.old) (K.got sink.new) }
     ensures write_fault { result ≡ Outcome.WriteFault
         → Rose (K.faults sink.old) (K.faults sink.new) }
     ensures kept { result ≡ Outcome.NoMemory → sink.new ≡ sink.old }
     ensures stands { IsAnswer result → K.faults sink.new ≡ K.faults sink.old }
     ensures writes { K.faults sink.old ≤ K.faults sink.new }
 {
-    match asked {
-        Command::Check { json } => {
-            if json {
-                tell_json(alloc, judged, sink)
-            } else {
-                ends_as(judged, put_report(judged, sink))
-            }
+    let session = &judged.session;
+    match &judged.found {
+        Found::Line(listing) => tell_line(alloc, session, listing, sink),
+        Found::Report(listing) => {
+            let written = put_report(session, listing, sink);
+            ends_as(outcome_of(&listing.races), written)
         }
-        Command::Gen { number } => ends_as(judged, put_summary(number, judged, sink)),
+        Found::Summary { number, listing } => {
+            let written = put_summary(*number, session, listing, sink);
+            ends_as(outcome_of(&listing.races), written)
+        }
+        Found::Orders {
+            race,
+            races,
+            orders,
+        } => {
+            let written = put_orders(*race, session, races, orders, sink);
+            ends_as(Outcome::Races, written)
+        }
+        Found::Steps { from, to, steps } => {
+            let written = write_steps(sink, *from, *to, steps);
+            ends_as(Outcome::Clean, written)
+        }
     }
 }
 
 /// Writes the report as a line of JSON.
-fn tell_json<K: Sink>(alloc: Global, judged: &Judged, sink: &mut K) -> Outcome
-    requires { IsJudgement judged.now }
-    ensures reported { (h : List Record) → IsJudged judged.now.session judged.now.found h
-        → ReportsOf h (json_report h) result (K.got sink.old) (K.got sink.new) }
+fn tell_line<K: Sink>(alloc: Global, session: &Session, listing: &Listing, sink: &mut K) -> Outcome
+    requires { IsListed session.now listing.now }
+    ensures reported { (h : List Record) → StandsFor session.now h
+        → IsListing session.now.graph.version listing.now h
+        → ReportsOf (Command.Check true) session.now.graph.version h
+        (json_report session.now.graph.version h) result (K.got sink.old) (K.got sink.new) }
     ensures write_fault { result ≡ Outcome.WriteFault
         → Rose (K.faults sink.old) (K.faults sink.new) }
     ensures kept { result ≡ Outcome.NoMemory → sink.new ≡ sink.old }
     ensures stands { IsAnswer result → K.faults sink.new ≡ K.faults sink.old }
     ensures writes { K.faults sink.old ≤ K.faults sink.new }
 {
-    match json_of(alloc, judged) {
-        Ok(line) => ends_as(judged, put_line(line.as_slice(), sink)),
+    match line_of(alloc, session, listing) {
+        Ok(line) => {
+            let written = put_line(line.as_slice(), sink);
+            ends_as(outcome_of(&listing.races), written)
+        }
         Err(NoMemory) => Outcome::NoMemory,
     }
 }
 
-/// How a run ends that wrote the report, or failed to.
-fn ends_as(judged: &Judged, written: Result<(), WriteFault>) -> Outcome
-    ensures { EndsAs (length judged.now.found.races.items) written result }
+/// How a run ends that wrote the text of this outcome, or failed to.
+fn ends_as(due: Outcome, written: Result<(), WriteFault>) -> Outcome
+    ensures { EndsAs due written result }
 {
-    if let Err(WriteFault) = written {
-        return Outcome::WriteFault;
+    match written {
+        Ok(()) => due,
+        Err(WriteFault) => Outcome::WriteFault,
     }
-    if judged.found.races.is_empty() {
-        Outcome::Clean
-    } else {
-        Outcome::Races
+}
+
+/// How a run ends on a trace with these races.
+fn outcome_of(races: &[Race]) -> Outcome
+    ensures { result ≡ outcome_of races.now }
+{
+    match races {
+        [] => Outcome::Clean,
+        [_, ..] => Outcome::Races,
     }
 }
 
 /// Writes the report.
-fn put_report<K: Sink>(judged: &Judged, sink: &mut K) -> Result<(), WriteFault>
-    requires { IsJudgement judged.now }
-    ensures { (h : List Record) → IsJudged judged.now.session judged.now.found h
-        → Puts K.got K.faults sink.old (report h) sink.new result }
+fn put_report<K: Sink>(session: &Session, listing: &Listing, sink: &mut K) -> Result<(), WriteFault>
+    requires { IsListed session.now listing.now }
+    ensures { (h : List Record) → StandsFor session.now h
+        → Puts K.got K.faults sink.old (report session.now.graph.version h) sink.new result }
 {
-    let session = &judged.session;
-    let found = &judged.found;
     write_report(
         sink,
         &session.kept,
         session.graph.clocks(),
-        &found.races,
-        &found.groups,
+        &listing.races,
+        &listing.groups,
     )
 }
 
 /// Writes the summary of a trace of so many rounds.
-fn put_summary<K: Sink>(number: u32, judged: &Judged, sink: &mut K) -> Result<(), WriteFault>
-    requires { IsJudgement judged.now }
-    ensures { (h : List Record) → IsJudged judged.now.session judged.now.found h
-        → Puts K.got K.faults sink.old (summary number h) sink.new result }
+fn put_summary<K: Sink>(
+    number: u32,
+    session: &Session,
+    listing: &Listing,
+    sink: &mut K,
+) -> Result<(), WriteFault>
+    requires { IsListed session.now listing.now }
+    ensures { (h : List Record) → StandsFor session.now h
+        → Puts K.got K.faults sink.old (summary session.now.graph.version number h)
+        sink.new result }
 {
-    let session = &judged.session;
-    let found = &judged.found;
     write_summary(
         sink,
         number,
         &session.kept,
         session.graph.clocks(),
-        &found.races,
-        &found.groups,
+        &listing.races,
+        &listing.groups,
     )
 }
 
-/// The report as a line of JSON.
-fn json_of(alloc: Global, judged: &Judged) -> Result<Vec<u8>, NoMemory>
-    requires { IsJudgement judged.now }
-    ensures { IfOk result (λ line. (h : List Record) → IsJudged judged.now.session judged.now.found h
-        → line.items ≡ json_report h) }
+/// Writes the two orders for the race of this number.
+fn put_orders<K: Sink>(
+    race: u32,
+    session: &Session,
+    races: &[Race],
+    orders: &Schedules,
+    sink: &mut K,
+) -> Result<(), WriteFault>
+    requires { IsOrdered session.now race races.now orders.now }
+    ensures { (h : List Record) → StandsFor session.now h
+        → AreOrdersOf session.now.graph.version race races.now orders.now h
+        → Puts K.got K.faults sink.old (schedule session.now.graph.version race h) sink.new result }
 {
-    let session = &judged.session;
-    let found = &judged.found;
+    write_schedules(sink, &session.kept, races, race, orders)
+}
+
+/// The report as a line of JSON.
+fn line_of(alloc: Global, session: &Session, listing: &Listing) -> Result<Vec<u8>, NoMemory>
+    requires { IsListed session.now listing.now }
+    ensures { IfOk result (λ line. (h : List Record) → StandsFor session.now h
+        → line.items ≡ json_report session.now.graph.version h) }
+{
     json_report(
         alloc,
         &session.kept,
         session.graph.clocks(),
-        &found.races,
-        &found.groups,
+        &listing.races,
+        &listing.groups,
     )
 }
 
@@ -164,15 +214,23 @@ fn refuse<K: Sink>(alloc: Global, asked: Command, line: u32, cause: Cause, sink:
     ensures stands { IsAnswer result → K.faults sink.new ≡ K.faults sink.old }
     ensures writes { K.faults sink.old ≤ K.faults sink.new }
 {
+    if is_json(asked) {
+        refuse_as_json(alloc, line, cause, sink)
+    } else {
+        let written = write_refusal(sink, line, cause);
+        ends_as(Outcome::Refused { line, cause }, written)
+    }
+}
+
+/// Whether it is asked for a line of JSON.
+fn is_json(asked: Command) -> bool
+    ensures { result ≡ is_json asked }
+{
     match asked {
-        Command::Check { json } => {
-            if json {
-                refuse_as_json(alloc, line, cause, sink)
-            } else {
-                ends_refused(line, cause, write_refusal(sink, line, cause))
-            }
-        }
-        Command::Gen { .. } => ends_refused(line, cause, write_refusal(sink, line, cause)),
+        Command::Check { json } => json,
+        Command::Gen { .. } => false,
+        Command::Schedule { .. } => false,
+        Command::Explain { .. } => false,
     }
 }
 
@@ -187,17 +245,10 @@ fn refuse_as_json<K: Sink>(alloc: Global, line: u32, cause: Cause, sink: &mut K)
     ensures writes { K.faults sink.old ≤ K.faults sink.new }
 {
     match json_refusal(alloc, line, cause) {
-        Ok(text) => ends_refused(line, cause, put_line(text.as_slice(), sink)),
+        Ok(text) => {
+            let written = put_line(text.as_slice(), sink);
+            ends_as(Outcome::Refused { line, cause }, written)
+        }
         Err(NoMemory) => Outcome::NoMemory,
-    }
-}
-
-/// How a run ends that wrote a refusal, or failed to.
-fn ends_refused(line: u32, cause: Cause, written: Result<(), WriteFault>) -> Outcome
-    ensures { EndsRefused line cause written result }
-{
-    match written {
-        Ok(()) => Outcome::Refused { line, cause },
-        Err(WriteFault) => Outcome::WriteFault,
     }
 }

@@ -1,7 +1,7 @@
 -- The name and the number of each cause of a refusal.
 use Rattle.std.specs.Prelude.{ℕ, List, codes}
 use Rattle.er_text.specs.declared.causes.Cause.{Cause}
-use Rattle.er_text.specs.declared.causes.Cause.TheVariants.{BadHeader, LongLine, BadRecord, NoEnd, AfterEnd, TooManyLines, Unknown, Again, NotScript, Misplaced, OutOfOrder, TooManyActions, TooDeep, TooManyAccesses, TooManyPairs, TooManyRaces, TooManyClasses}
+use Rattle.er_text.specs.declared.causes.Cause.TheVariants.{BadHeader, LongLine, BadRecord, NoEnd, AfterEnd, TooManyLines, Unknown, Again, NotScript, Misplaced, OutOfOrder, TooManyActions, TooDeep, TooManyAccesses, TooManyPairs, TooManyRaces, TooManyClasses, NoRace, NoAction}
 
 abbrev pub cause_name : Cause → List ℕ
 cause_name BadHeader = codes "bad-header"
@@ -21,6 +21,8 @@ cause_name TooManyAccesses = codes "too-many-accesses"
 cause_name TooManyPairs = codes "too-many-pairs"
 cause_name TooManyRaces = codes "too-many-races"
 cause_name TooManyClasses = codes "too-many-classes"
+cause_name NoRace = codes "no-race"
+cause_name NoAction = codes "no-action"
 
 abbrev pub cause_number : Cause → ℕ
 cause_number BadHeader = 1
@@ -40,3 +42,5 @@ cause_number TooManyAccesses = 14
 cause_number TooManyPairs = 15
 cause_number TooManyRaces = 16
 cause_number TooManyClasses = 17
+cause_number NoRace = 18
+cause_number NoAction = 19

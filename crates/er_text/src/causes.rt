@@ -23,6 +23,8 @@ pub enum Cause {
     TooManyPairs,
     TooManyRaces,
     TooManyClasses,
+    NoRace,
+    NoAction,
 }
 
 impl Cause {
@@ -47,6 +49,8 @@ impl Cause {
             Cause::TooManyPairs => "too-many-pairs",
             Cause::TooManyRaces => "too-many-races",
             Cause::TooManyClasses => "too-many-classes",
+            Cause::NoRace => "no-race",
+            Cause::NoAction => "no-action",
         }
     }
 
@@ -71,6 +75,8 @@ impl Cause {
             Cause::TooManyPairs => 15,
             Cause::TooManyRaces => 16,
             Cause::TooManyClasses => 17,
+            Cause::NoRace => 18,
+            Cause::NoAction => 19,
         }
     }
 }

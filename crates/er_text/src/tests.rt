@@ -29,8 +29,8 @@ impl<'a> Sink for Due<'a> {
 
 #[test]
 fn causes(rt: HostRuntime) {
-    assert_eq!(rt; Cause::TooManyClasses.name(), "too-many-classes");
-    assert_eq!(rt; Cause::TooManyClasses.number(), 17);
+    assert_eq!(rt; Cause::NoAction.name(), "no-action");
+    assert_eq!(rt; Cause::NoAction.number(), 19);
 }
 
 #[test]

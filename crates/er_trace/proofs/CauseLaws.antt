@@ -12,7 +12,7 @@ use Rattle.er_text.specs.declared.causes.Cause.{Cause}
 use Rattle.er_text.specs.declared.causes.Cause.TheVariants.{BadHeader, LongLine, BadRecord, NoEnd, TooManyLines}
 use Rattle.er_text.proofs.ByteLaws.{lacks-append}
 use Rattle.er_text.proofs.LineLaws.{first_line_none, first_line_some, first_line_parts}
-use Rattle.er_trace.specs.Trace.{most_lines, most_line_bytes, header, end_word, is_long, whole_line, SpellsNone, Place, Start, After, Ended, LineCause}
+use Rattle.er_trace.specs.Trace.{most_lines, most_line_bytes, end_word, is_long, whole_line, IsNoHeader, SpellsNone, Place, Start, After, Ended, LineCause}
 use Rattle.er_trace.proofs.LineLaws.{whole_line-at, whole_line_short, whole_line_parts}
 
 abbrev pub Line : Type 0
@@ -50,7 +50,7 @@ short_whole bytes h = short_by bytes (is_long bytes) (first_line bytes) refl ref
 -- the causes of a line, by whether it is one too many, and by its bytes
 
 abbrev pub StartBy : Line → Cause → Type 0
-StartBy whole c = MatchResult whole (λ l. (l.0 ≢ header) × (c ≡ BadHeader)) (λ why. c ≡ why)
+StartBy whole c = MatchResult whole (λ l. IsNoHeader l.0 × (c ≡ BadHeader)) (λ why. c ≡ why)
 
 abbrev pub CauseBy : Bool → Line → Cause → Type 0
 CauseBy many whole c = MatchBool many (c ≡ TooManyLines) (MatchResult whole (λ l. (l.0 ≢ end_word) × SpellsNone l.0 × (c ≡ BadRecord)) (λ why. c ≡ why))
@@ -59,7 +59,7 @@ pub start_err : (whole : Line) (c : Cause) → whole ≡ Err c → StartBy whole
 start_err (Ok l) c h = absurd (cc)
 start_err (Err why) c h = cc
 
-pub start_bad : (whole : Line) (l rest : List ℕ) (c : Cause) → whole ≡ Ok (l, rest) → (l ≢ header) × (c ≡ BadHeader) → StartBy whole c
+pub start_bad : (whole : Line) (l rest : List ℕ) (c : Cause) → whole ≡ Ok (l, rest) → IsNoHeader l × (c ≡ BadHeader) → StartBy whole c
 start_bad (Err why) l rest c h is = absurd (cc)
 start_bad (Ok found) l rest c h is = let same : l ≡ found.0 = cc in rw same at is
 
@@ -199,10 +199,10 @@ cause_more false false (Err why) longer more c same is h other = cause_err false
 -- a refusal other than for a missing end stays, whatever comes behind
 pub line_cause_more : (place : Place) (rest more : List ℕ) (c : Cause) → LineCause place rest c → c ≢ NoEnd → LineCause place (rest ++ more) c
 line_cause_more Start rest more c h other = start_more (whole_line rest) (whole_line (rest ++ more)) more c (more_bytes rest more) h other
-line_cause_more (After records) [] more c h other = absurd (other (no_end_alone (nat_lt most_lines (length records + 2) && nat_lt 0 0) c (no_bytes_many (length records + 2)) h))
-line_cause_more (After records) (b ∷ rest) more c h other =
+line_cause_more (After v records) [] more c h other = absurd (other (no_end_alone (nat_lt most_lines (length records + 2) && nat_lt 0 0) c (no_bytes_many (length records + 2)) h))
+line_cause_more (After v records) (b ∷ rest) more c h other =
     cause_more (nat_lt most_lines (length records + 2) && nat_lt 0 (length (b ∷ rest))) (nat_lt most_lines (length records + 2) && nat_lt 0 (length ((b ∷ rest) ++ more))) (whole_line (b ∷ rest)) (whole_line ((b ∷ rest) ++ more)) more c
     (same_many (nat_lt most_lines (length records + 2)) (length (b ∷ rest)) (length ((b ∷ rest) ++ more)) (omega arith) (omega arith))
     (more_bytes (b ∷ rest) more) h other
-line_cause_more (Ended records) [] more c h other = absurd (h.0 refl)
-line_cause_more (Ended records) (b ∷ rest) more c h other = ((λ e. absurd (cc)), h.1)
+line_cause_more (Ended v records) [] more c h other = absurd (h.0 refl)
+line_cause_more (Ended v records) (b ∷ rest) more c h other = ((λ e. absurd (cc)), h.1)

@@ -9,6 +9,7 @@ use Rattle.er_trace.specs.declared.fault.FeedFault.{FeedFault}
 use Rattle.er_trace.specs.declared.fault.FeedFault.TheVariants.{Refused}
 use Rattle.er_trace.specs.declared.mark.Mark.{Mark}
 use Rattle.er_trace.specs.declared.mark.Mark.TheVariants as marks
+use Rattle.er_trace.specs.declared.version.Version.{Version}
 use Rattle.er_trace.specs.Spelling.{spelling}
 use Rattle.er_trace.specs.Trace.{most_lines, most_line_bytes, header, end_word, line as with_end, lines, whole_line, Place, Start, After, Ended, line_number, records_before, bytes_before, IsPlace, LineCause}
 use Rattle.er_trace.specs.Marks.{mark_of, number_at, IsOpen, IsClosed}
@@ -20,26 +21,26 @@ use Rattle.er_trace.proofs.CauseLaws.{IsShort, whole_short, short_whole, start_e
 -- a line that is not at its end yet is short
 pub unfinished_short : (place : Place) (line : List ℕ) → IsUnfinished place line → IsShort line
 unfinished_short Start line h = short_whole line (start_no_end (whole_line line) h)
-unfinished_short (After records) line h = short_whole line (cause_no_end (nat_lt most_lines (length records + 2) && nat_lt 0 (length line)) (whole_line line) h)
-unfinished_short (Ended records) line h = rw h record { clear = refl; few = omega arith }
+unfinished_short (After v records) line h = short_whole line (cause_no_end (nat_lt most_lines (length records + 2) && nat_lt 0 (length line)) (whole_line line) h)
+unfinished_short (Ended v records) line h = rw h record { clear = refl; few = omega arith }
 
 -- where a line may stand, a short one is not at its end yet
 pub short_unfinished : (place : Place) (line : List ℕ) → IsOpen (mark_of place) → IsShort line → IsUnfinished place line
 short_unfinished Start line free h = start_err (whole_line line) NoEnd (whole_short line h)
-short_unfinished (After records) line free h =
+short_unfinished (After v records) line free h =
     cause_err (nat_lt most_lines (length records + 2) && nat_lt 0 (length line)) (whole_line line) NoEnd (few_many (length records + 2) line free) (whole_short line h)
-short_unfinished (Ended records) line free h = elim free [ ]
+short_unfinished (Ended v records) line free h = elim free [ ]
 
 -- no byte of a line has come
 pub none_unfinished : (place : Place) → IsUnfinished place []
 none_unfinished Start = refl
-none_unfinished (After records) = cause_err (nat_lt most_lines (length records + 2) && nat_lt 0 0) (whole_line []) NoEnd (no_bytes_many (length records + 2)) refl
-none_unfinished (Ended records) = refl
+none_unfinished (After v records) = cause_err (nat_lt most_lines (length records + 2) && nat_lt 0 0) (whole_line []) NoEnd (no_bytes_many (length records + 2)) refl
+none_unfinished (Ended v records) = refl
 
 pub number_of_place : (place : Place) → number_at (mark_of place) ≡ line_number place
 number_of_place Start = refl
-number_of_place (After records) = refl
-number_of_place (Ended records) = refl
+number_of_place (After v records) = refl
+number_of_place (Ended v records) = refl
 
 -- the bytes with a whole line more
 line_behind : (before kept front bytes l : List ℕ) → bytes ≡ before ++ kept → kept ++ front ≡ l → bytes ++ with_end front ≡ before ++ with_end l
@@ -47,43 +48,45 @@ line_behind before kept front bytes l begins is =
     (ap (λ b. b ++ with_end front) begins ∙ append_assoc before kept (with_end front))
     ∙ ap (λ b. before ++ b) (sym (append_assoc kept front (10 ∷ [])) ∙ ap with_end is)
 
-lines_with : (records : List Record) (x : Record) → (with_end header ++ lines records) ++ with_end (spelling x) ≡ with_end header ++ lines (records ++ x ∷ [])
-lines_with records x =
-    append_assoc (with_end header) (lines records) (with_end (spelling x))
-    ∙ ap (λ l. with_end header ++ l) (sym (lines-append records (x ∷ []) ∙ ap (λ l. lines records ++ l) (append-nil (with_end (spelling x)))))
+lines_with : (v : Version) (records : List Record) (x : Record) → (with_end (header v) ++ lines records) ++ with_end (spelling x) ≡ with_end (header v) ++ lines (records ++ x ∷ [])
+lines_with v records x =
+    append_assoc (with_end (header v)) (lines records) (with_end (spelling x))
+    ∙ ap (λ l. with_end (header v) ++ l) (sym (lines-append records (x ∷ []) ∙ ap (λ l. lines records ++ l) (append-nil (with_end (spelling x)))))
 
 pub stands_line : (place : Place) (next : Mark) (kept front bytes : List ℕ) (came earlier : List Record) → IsPlace place → IsOpen (mark_of place) → bytes ≡ bytes_before place ++ kept → earlier ≡ records_before place → IsLine (mark_of place) (kept ++ front) next came
     → Stands next [] None (bytes ++ with_end front) (earlier ++ came)
-stands_line Start (marks.After m) kept front bytes came earlier is free begins before leads = record {
-  place = After [];
+stands_line Start (marks.After w m) kept front bytes came earlier is free begins before leads = record {
+  place = After w [];
   rest = [];
   is_place = record { each = tt; few = omega arith };
-  begins = line_behind [] kept front bytes header begins leads.0;
-  marked = ap marks.After leads.1;
+  begins =
+      (line_behind [] kept front bytes (header w) begins leads.0 ∙ sym (append-nil (with_end (header w))))
+      ∙ sym (append-nil (with_end (header w) ++ []));
+  marked = ap (marks.After w) leads.1;
   before = cc;
-  kept = (none_unfinished (After []), refl);
+  kept = (none_unfinished (After w []), refl);
 }
 stands_line Start marks.Start kept front bytes came earlier is free begins before leads = elim leads [ ]
-stands_line Start (marks.Ended m) kept front bytes came earlier is free begins before leads = elim leads [ ]
-stands_line (After records) marks.Start kept front bytes came earlier is free begins before leads = elim leads [ ]
-stands_line (Ended records) next kept front bytes came earlier is free begins before leads = elim free [ ]
-stands_line (After records) (marks.After m) kept front bytes came earlier is free begins before leads = record {
-  place = After (records ++ leads.0 ∷ []);
+stands_line Start (marks.Ended w m) kept front bytes came earlier is free begins before leads = elim leads [ ]
+stands_line (After v records) marks.Start kept front bytes came earlier is free begins before leads = elim leads [ ]
+stands_line (Ended v records) next kept front bytes came earlier is free begins before leads = elim free [ ]
+stands_line (After v records) (marks.After w m) kept front bytes came earlier is free begins before leads = record {
+  place = After v (records ++ leads.0 ∷ []);
   rest = [];
   is_place = record { each = each-append records (leads.0 ∷ []) is.each (leads.1, tt); few = omega (arith, length-append records (leads.0 ∷ [])) };
   begins =
-      (line_behind (with_end header ++ lines records) kept front bytes (spelling leads.0) begins leads.2 ∙ lines_with records leads.0)
-      ∙ sym (append-nil (with_end header ++ lines (records ++ leads.0 ∷ [])));
-  marked = ap marks.After (leads.3 ∙ sym (length-append records (leads.0 ∷ [])));
+      (line_behind (with_end (header v) ++ lines records) kept front bytes (spelling leads.0) begins leads.2 ∙ lines_with v records leads.0)
+      ∙ sym (append-nil (with_end (header v) ++ lines (records ++ leads.0 ∷ [])));
+  marked = leads.3 ∙ ap (marks.After v) (sym (length-append records (leads.0 ∷ [])));
   before = cc;
-  kept = (none_unfinished (After (records ++ leads.0 ∷ [])), refl);
+  kept = (none_unfinished (After v (records ++ leads.0 ∷ [])), refl);
 }
-stands_line (After records) (marks.Ended m) kept front bytes came earlier is free begins before leads = record {
-  place = Ended records;
+stands_line (After v records) (marks.Ended w m) kept front bytes came earlier is free begins before leads = record {
+  place = Ended v records;
   rest = [];
   is_place = record { each = is.each; few = omega arith };
-  begins = line_behind (with_end header ++ lines records) kept front bytes end_word begins leads.0 ∙ sym (append-nil ((with_end header ++ lines records) ++ with_end end_word));
-  marked = ap marks.Ended leads.1;
+  begins = line_behind (with_end (header v) ++ lines records) kept front bytes end_word begins leads.0 ∙ sym (append-nil ((with_end (header v) ++ lines records) ++ with_end end_word));
+  marked = leads.1;
   before = (ap (λ l. earlier ++ l) leads.2 ∙ append-nil earlier) ∙ before;
   kept = (refl, refl);
 }
@@ -158,14 +161,14 @@ refused mark kept piece later n c old new why other numbered same = record {
 
 bad_cause : (place : Place) (l rest bytes : List ℕ) (c : Cause) → IsOpen (mark_of place) → IsBadLine (mark_of place) l c → whole_line bytes ≡ Ok (l, rest) → LineCause place bytes c
 bad_cause Start l rest bytes c free is whole = start_bad (whole_line bytes) l rest c whole is
-bad_cause (After records) l rest bytes c free is whole =
+bad_cause (After v records) l rest bytes c free is whole =
     cause_bad (nat_lt most_lines (length records + 2) && nat_lt 0 (length bytes)) (whole_line bytes) l rest c (few_many (length records + 2) bytes free) whole is
-bad_cause (Ended records) l rest bytes c free is whole = elim free [ ]
+bad_cause (Ended v records) l rest bytes c free is whole = elim free [ ]
 
 bad_is_no_end : (mark : Mark) (l : List ℕ) (c : Cause) → IsBadLine mark l c → c ≢ NoEnd
 bad_is_no_end marks.Start l c is e = let same = is.1 in absurd (cc)
-bad_is_no_end (marks.After n) l c is e = let same = is.2 in absurd (cc)
-bad_is_no_end (marks.Ended n) l c is e = elim is [ ]
+bad_is_no_end (marks.After v n) l c is e = let same = is.2 in absurd (cc)
+bad_is_no_end (marks.Ended v n) l c is e = elim is [ ]
 
 -- a whole line is refused
 pub refused_line : (mark next : Mark) (kept piece front later left : List ℕ) (n : ℕ) (c : Cause) (old new : List Record) → IsOpen mark → IsBadLine mark (kept ++ front) c → piece ≡ front ++ 10 ∷ later → has_no_lf front ≡ true → length kept + length front ≤ most_line_bytes
@@ -179,9 +182,9 @@ refused_line mark next kept piece front later left n c old new free is e clear f
 
 long_cause : (place : Place) (bytes : List ℕ) → IsOpen (mark_of place) → whole_line bytes ≡ Err LongLine → LineCause place bytes LongLine
 long_cause Start bytes free long = start_err (whole_line bytes) LongLine long
-long_cause (After records) bytes free long =
+long_cause (After v records) bytes free long =
     cause_err (nat_lt most_lines (length records + 2) && nat_lt 0 (length bytes)) (whole_line bytes) LongLine (few_many (length records + 2) bytes free) long
-long_cause (Ended records) bytes free long = elim free [ ]
+long_cause (Ended v records) bytes free long = elim free [ ]
 
 -- a line is too long
 pub refused_long : (mark : Mark) (kept piece left : List ℕ) (n : ℕ) (c : Cause) (old : List Record) → IsOpen mark → has_no_lf (take (most_line_bytes + 1 - length kept) piece) ≡ true → most_line_bytes < length kept + length piece
@@ -192,15 +195,15 @@ refused_long mark kept piece left n c old free clear many numbered is =
     refused mark kept piece left n c old old why_c (λ e. absurd (cc)) numbered refl
 
 closed_cause : (place : Place) (kept piece : List ℕ) (c : Cause) → IsClosed (mark_of place) c → 0 < length piece → LineCause place (kept ++ piece) c
-closed_cause (After records) kept piece c is some =
+closed_cause (After v records) kept piece c is some =
     let many : (nat_lt most_lines (length records + 2) && nat_lt 0 (length (kept ++ piece))) ≡ true = some_many (length records + 2) (kept ++ piece) is.0 (omega (arith, length-append kept piece)) in
     cause_many (nat_lt most_lines (length records + 2) && nat_lt 0 (length (kept ++ piece))) (whole_line (kept ++ piece)) c many is.1
-closed_cause (Ended records) kept piece c is some = ((λ e. absurd (omega (arith, ap length e, length-append kept piece))), is)
+closed_cause (Ended v records) kept piece c is some = ((λ e. absurd (omega (arith, ap length e, length-append kept piece))), is)
 closed_cause Start kept piece c is some = elim is [ ]
 
 closed_is_no_end : (mark : Mark) (c : Cause) → IsClosed mark c → c ≢ NoEnd
-closed_is_no_end (marks.After n) c is e = let same = is.1 in absurd (cc)
-closed_is_no_end (marks.Ended n) c is e = absurd (cc)
+closed_is_no_end (marks.After v n) c is e = let same = is.1 in absurd (cc)
+closed_is_no_end (marks.Ended v n) c is e = absurd (cc)
 closed_is_no_end marks.Start c is e = elim is [ ]
 
 -- no byte may stand there

@@ -5,6 +5,8 @@ use Rattle.std.proofs.lemmas.Grind.{common_steps}
 use Rattle.er_text.specs.Bytes.{count_of_lf, has_no_lf}
 use Rattle.er_text.specs.declared.causes.Cause.TheVariants.{NoEnd, AfterEnd}
 use Rattle.er_trace.specs.declared.record.Record.{Record}
+use Rattle.er_trace.specs.declared.version.Version.{Version}
+use Rattle.er_trace.specs.declared.version.Version.TheVariants.{One, Two}
 use Rattle.er_trace.specs.Spelling.{spelling, IsRecord}
 use Rattle.er_trace.specs.Trace.{Place, Start, After, Ended, IsPlace, line, lines, header, end_word, line_number, bytes_before, Refuses, LineCause}
 use Rattle.er_trace.proofs.RecordLaws.{spelling_has_no_lf}
@@ -34,26 +36,30 @@ count_of_lines (x ∷ records) each =
     let later : count_of_lf (lines records) ≡ length records = count_of_lines records each.1 in
     omega (arith, e, one, later)
 
-count_of_header : (records : List Record) → AllByRecursion IsRecord records → count_of_lf (line header ++ lines records) ≡ length records + 1
-count_of_header records each =
-    let e : count_of_lf (line header ++ lines records) ≡ 1 + count_of_lf (lines records) = count_of_both (line header) (lines records) in
+count_of_first : (v : Version) → count_of_lf (line (header v)) ≡ 1
+count_of_first One = refl
+count_of_first Two = refl
+
+count_of_header : (v : Version) (records : List Record) → AllByRecursion IsRecord records → count_of_lf (line (header v) ++ lines records) ≡ length records + 1
+count_of_header v records each =
+    let e : count_of_lf (line (header v) ++ lines records) ≡ count_of_lf (line (header v)) + count_of_lf (lines records) = count_of_both (line (header v)) (lines records) in
     let later : count_of_lf (lines records) ≡ length records = count_of_lines records each in
-    omega (arith, e, later)
+    omega (arith, e, count_of_first v, later)
 
 pub line_of_a_place : (p : Place) → IsPlace p → line_number p ≡ count_of_lf (bytes_before p) + 1
 line_of_a_place Start is = refl
-line_of_a_place (After records) is =
-    let e : count_of_lf (line header ++ lines records) ≡ length records + 1 = count_of_header records is.each in
+line_of_a_place (After v records) is =
+    let e : count_of_lf (line (header v) ++ lines records) ≡ length records + 1 = count_of_header v records is.each in
     omega (arith, e)
-line_of_a_place (Ended records) is =
-    let e : count_of_lf ((line header ++ lines records) ++ line end_word) ≡ count_of_lf (line header ++ lines records) + 1 = count_of_both (line header ++ lines records) (line end_word) in
-    let before : count_of_lf (line header ++ lines records) ≡ length records + 1 = count_of_header records is.each in
+line_of_a_place (Ended v records) is =
+    let e : count_of_lf ((line (header v) ++ lines records) ++ line end_word) ≡ count_of_lf (line (header v) ++ lines records) + 1 = count_of_both (line (header v) ++ lines records) (line end_word) in
+    let before : count_of_lf (line (header v) ++ lines records) ≡ length records + 1 = count_of_header v records is.each in
     omega (arith, e, before)
 
 short_of : (place : Place) (rest : List ℕ) → LineCause place rest NoEnd → IsShort rest
 short_of Start rest h = unfinished_short Start rest h
-short_of (After records) rest h = unfinished_short (After records) rest h
-short_of (Ended records) rest h = let no : NoEnd ≡ AfterEnd = h.1 in absurd (cc)
+short_of (After v records) rest h = unfinished_short (After v records) rest h
+short_of (Ended v records) rest h = let no : NoEnd ≡ AfterEnd = h.1 in absurd (cc)
 
 pub line_of_no_end : (bytes : List ℕ) (place : Place) → Refuses bytes place NoEnd → line_number place ≡ count_of_lf bytes + 1
 line_of_no_end bytes place h =

@@ -1,5 +1,5 @@
 -- The bytes of a trace have one reading.
-use Rattle.std.proofs.Common.{◌≡◌, ℕ, ◌+◌, ◌≤◌, suc, List, [], ◌∷◌, ◌++◌, length, Bool, true, false, ◌&&◌, Ok, Err, refl, ap, sym, ◌∙◌, subst, arith, append_assoc, append-nil}
+use Rattle.std.proofs.Common.{◌≡◌, ℕ, ◌+◌, ◌≤◌, suc, List, [], ◌∷◌, ◌++◌, length, Bool, true, false, ◌&&◌, Option, Some, None, Ok, Err, get_or, refl, ap, sym, ◌∙◌, subst, arith, append_assoc, append-nil}
 use Rattle.std.specs.Prelude.{◌≢◌, nat_lt, Result, MatchResult, MatchBool}
 use Rattle.std.specs.List.{AllByRecursion}
 use Rattle.std.proofs.lemmas.List.{append_cancel_left}
@@ -7,8 +7,10 @@ use Rattle.std.proofs.lemmas.Bool.Decides.{nat_tests}
 use Rattle.er_text.specs.declared.causes.Cause.{Cause}
 use Rattle.er_text.specs.declared.causes.Cause.TheVariants.{BadHeader, BadRecord, AfterEnd, TooManyLines}
 use Rattle.er_trace.specs.declared.record.Record.{Record}
+use Rattle.er_trace.specs.declared.version.Version.{Version}
+use Rattle.er_trace.specs.declared.version.Version.TheVariants.{One, Two}
 use Rattle.er_trace.specs.Spelling.{spelling, IsRecord}
-use Rattle.er_trace.specs.Trace.{most_lines, header, end_word, line, lines, text, whole_line, SpellsNone, Place, Start, After, Ended, records_before, line_number, IsTrace, Refuses, LineCause, RecordCause}
+use Rattle.er_trace.specs.Trace.{most_lines, header, end_word, line, lines, text, whole_line, IsNoHeader, SpellsNone, Place, Start, After, Ended, version_before, records_before, line_number, IsTrace, Refuses, LineCause, RecordCause}
 use Rattle.er_trace.proofs.LineLaws.{whole_line-at}
 use Rattle.er_trace.proofs.RecordLaws.{spelling_is_short, spelling_has_no_lf, spelling_is_no_end}
 use Rattle.er_trace.proofs.OneRecord.{one_record}
@@ -33,8 +35,21 @@ abbrev pub rest_of : Result (List ℕ × List ℕ) Cause → List ℕ
 rest_of (Ok l) = l.1
 rest_of (Err why) = []
 
-pub whole_header : (rest : List ℕ) → whole_line (line header ++ rest) ≡ Ok (header, rest)
-whole_header rest = whole_line-at header rest refl (omega arith)
+pub whole_header : (v : Version) (rest : List ℕ) → whole_line (line (header v) ++ rest) ≡ Ok (header v, rest)
+whole_header One rest = whole_line-at (header One) rest refl (omega arith)
+whole_header Two rest = whole_line-at (header Two) rest refl (omega arith)
+
+-- one header has one version
+same_header : (v w : Version) → header v ≡ header w → v ≡ w
+same_header One One e = refl
+same_header Two Two e = refl
+same_header One Two e = let no : 49 ≡ 50 = ap (λ (l : List ℕ). get_or l 9 0) e in absurd (omega (arith, no))
+same_header Two One e = let no : 50 ≡ 49 = ap (λ (l : List ℕ). get_or l 9 0) e in absurd (omega (arith, no))
+
+pub header_once : (bytes r s : List ℕ) (v w : Version) → bytes ≡ line (header v) ++ r → bytes ≡ line (header w) ++ s → (v ≡ w) × (r ≡ s)
+header_once bytes r s v w first second =
+    let same : a_line (header v) r ≡ a_line (header w) s = (sym (whole_header v r) ∙ ap whole_line (sym first ∙ second)) ∙ whole_header w s in
+    (same_header v w (ap bytes_of same), ap rest_of same)
 
 pub whole_end : (rest : List ℕ) → whole_line (line end_word ++ rest) ≡ Ok (end_word, rest)
 whole_end rest = whole_line-at end_word rest refl (omega arith)
@@ -106,107 +121,112 @@ lines_once (x ∷ a) (y ∷ b) number r s p q first second e few_a few_b stops_a
     (cc, later.1)
 
 -- behind the header these records stand, and stop so
-pub record Behind (bytes : List ℕ) (records : List Record) (stop : Stop) : Type 0 where
+pub record Behind (bytes : List ℕ) (v : Version) (records : List Record) (stop : Stop) : Type 0 where
   pub each : AllByRecursion IsRecord records
   pub few : 2 + length records ≤ most_lines + 1
   pub rest : List ℕ
-  pub begins : bytes ≡ line header ++ (lines records ++ rest)
+  pub begins : bytes ≡ line (header v) ++ (lines records ++ rest)
   pub stops : StopsAt (2 + length records) rest stop
 
-behind_once : (bytes : List ℕ) (a b : List Record) (p q : Stop) → Behind bytes a p → Behind bytes b q → (a ≡ b) × (p ≡ q)
-behind_once bytes a b p q first second =
-    lines_once a b 2 first.rest second.rest p q first.each second.each
-    (append_cancel_left (line header) (lines a ++ first.rest) (lines b ++ second.rest) (sym first.begins ∙ second.begins))
-    first.few second.few first.stops second.stops
+behind_once : (bytes : List ℕ) (v w : Version) (a b : List Record) (p q : Stop) → Behind bytes v a p → Behind bytes w b q → (v ≡ w) × (a ≡ b) × (p ≡ q)
+behind_once bytes v w a b p q first second =
+    let front = header_once bytes (lines a ++ first.rest) (lines b ++ second.rest) v w first.begins second.begins in
+    let later = lines_once a b 2 first.rest second.rest p q first.each second.each front.1 first.few second.few first.stops second.stops in
+    (front.0, later.0, later.1)
 
 -- a refusal is at the header, at a line behind it, or after the end
 pub data Refusal (bytes : List ℕ) (place : Place) (c : Cause) : Type 0 where
-  AtHeader : LineCause Start bytes c → line_number place ≡ 1 → records_before place ≡ [] → Refusal bytes place c
-  AtLine : Behind bytes (records_before place) (Faulty c) → line_number place ≡ length (records_before place) + 2 → Refusal bytes place c
-  PastEnd : (later : List ℕ) → later ≢ [] → Behind bytes (records_before place) (AtEnd later) → line_number place ≡ length (records_before place) + 3 → c ≡ AfterEnd → Refusal bytes place c
+  AtHeader : LineCause Start bytes c → line_number place ≡ 1 → records_before place ≡ [] → version_before place ≡ None → Refusal bytes place c
+  AtLine : (v : Version) → Behind bytes v (records_before place) (Faulty c) → line_number place ≡ length (records_before place) + 2 → version_before place ≡ Some v → Refusal bytes place c
+  PastEnd : (v : Version) (later : List ℕ) → later ≢ [] → Behind bytes v (records_before place) (AtEnd later) → line_number place ≡ length (records_before place) + 3 → c ≡ AfterEnd → version_before place ≡ Some v → Refusal bytes place c
 
 refusal : (bytes : List ℕ) (place : Place) (c : Cause) → Refuses bytes place c → Refusal bytes place c
-refusal bytes Start c h = AtHeader (rw h.begins h.cause) refl refl
-refusal bytes (After records) c h =
+refusal bytes Start c h = AtHeader (rw h.begins h.cause) refl refl refl
+refusal bytes (After v records) c h =
     let up : length records + 2 ≡ 2 + length records = omega arith in
-    AtLine (record {
+    AtLine v (record {
       each = h.is_place.each;
       few = omega (arith, h.is_place.few);
       rest = h.rest;
-      begins = h.begins ∙ append_assoc (line header) (lines records) h.rest;
+      begins = h.begins ∙ append_assoc (line (header v)) (lines records) h.rest;
       stops = rw up at h.cause;
-    }) refl
-refusal bytes (Ended records) c h =
-    PastEnd h.rest h.cause.0 (record {
+    }) refl refl
+refusal bytes (Ended v records) c h =
+    PastEnd v h.rest h.cause.0 (record {
       each = h.is_place.each;
       few = omega (arith, h.is_place.few);
       rest = line end_word ++ h.rest;
-      begins = (h.begins ∙ append_assoc (line header ++ lines records) (line end_word) h.rest) ∙ append_assoc (line header) (lines records) (line end_word ++ h.rest);
+      begins = (h.begins ∙ append_assoc (line (header v) ++ lines records) (line end_word) h.rest) ∙ append_assoc (line (header v)) (lines records) (line end_word ++ h.rest);
       stops = (omega (arith, h.is_place.few), refl);
-    }) refl h.cause.1
+    }) refl h.cause.1 refl
 
-trace_behind : (bytes : List ℕ) (records : List Record) → IsTrace records → bytes ≡ text records → Behind bytes records (AtEnd [])
-trace_behind bytes records is e = record {
+trace_behind : (bytes : List ℕ) (v : Version) (records : List Record) → IsTrace records → bytes ≡ text v records → Behind bytes v records (AtEnd [])
+trace_behind bytes v records is e = record {
   each = is.each;
   few = omega (arith, is.few);
   rest = line end_word ++ [];
-  begins = (e ∙ append_assoc (line header) (lines records) (line end_word)) ∙ ap (λ l. line header ++ (lines records ++ l)) (sym (append-nil (line end_word)));
+  begins = (e ∙ append_assoc (line (header v)) (lines records) (line end_word)) ∙ ap (λ l. line (header v) ++ (lines records ++ l)) (sym (append-nil (line end_word)));
   stops = (omega (arith, is.few), refl);
 }
 
+one_number : (a b : List Record) (k : ℕ) {n m : ℕ} → n ≡ length a + k → m ≡ length b + k → a ≡ b → n ≡ m
+one_number a b k first second same = (first ∙ ap (λ (l : List Record). length l + k) same) ∙ sym second
+
 start_cause_by : (whole : Result (List ℕ × List ℕ) Cause) (c d : Cause)
-    → MatchResult whole (λ l. (l.0 ≢ header) × (c ≡ BadHeader)) (λ why. c ≡ why) → MatchResult whole (λ l. (l.0 ≢ header) × (d ≡ BadHeader)) (λ why. d ≡ why) → c ≡ d
+    → MatchResult whole (λ l. IsNoHeader l.0 × (c ≡ BadHeader)) (λ why. c ≡ why) → MatchResult whole (λ l. IsNoHeader l.0 × (d ≡ BadHeader)) (λ why. d ≡ why) → c ≡ d
 start_cause_by (Ok l) c d first second = first.1 ∙ sym second.1
 start_cause_by (Err why) c d first second = cc
 
-no_header_by : (whole : Result (List ℕ × List ℕ) Cause) (c : Cause) (rest : List ℕ)
-    → MatchResult whole (λ l. (l.0 ≢ header) × (c ≡ BadHeader)) (λ why. c ≡ why) → whole ≡ Ok (header, rest) → ⊥
-no_header_by (Ok l) c rest h e = h.0 cc
-no_header_by (Err why) c rest h e = let no : a_line header rest ≡ Err why = sym e in absurd (grind arith)
+no_header_by : (whole : Result (List ℕ × List ℕ) Cause) (c : Cause) (v : Version) (rest : List ℕ)
+    → MatchResult whole (λ l. IsNoHeader l.0 × (c ≡ BadHeader)) (λ why. c ≡ why) → whole ≡ Ok (header v, rest) → ⊥
+no_header_by (Ok l) c v rest h e = h.0 v cc
+no_header_by (Err why) c v rest h e = let no : a_line (header v) rest ≡ Err why = sym e in absurd (grind arith)
 
-not_behind : (bytes : List ℕ) (c : Cause) (records : List Record) (stop : Stop) → LineCause Start bytes c → Behind bytes records stop → ⊥
-not_behind bytes c records stop h behind =
-    no_header_by (whole_line bytes) c (lines records ++ behind.rest) h (ap whole_line behind.begins ∙ whole_header (lines records ++ behind.rest))
+not_behind : (bytes : List ℕ) (c : Cause) (v : Version) (records : List Record) (stop : Stop) → LineCause Start bytes c → Behind bytes v records stop → ⊥
+not_behind bytes c v records stop h behind =
+    no_header_by (whole_line bytes) c v (lines records ++ behind.rest) h (ap whole_line behind.begins ∙ whole_header v (lines records ++ behind.rest))
 
--- the same line, the same records before it, the same cause
+-- the same line, the same version and records before it, the same cause
 pub record SameRefusal (p q : Place) (c d : Cause) : Type 0 where
   pub number : line_number p ≡ line_number q
+  pub version : version_before p ≡ version_before q
   pub before : records_before p ≡ records_before q
   pub cause : c ≡ d
 
 same_refusal : (bytes : List ℕ) (p q : Place) (c d : Cause) → Refusal bytes p c → Refusal bytes q d → SameRefusal p q c d
-same_refusal bytes p q c d (AtHeader first n none) (AtHeader second m also) = record { number = cc; before = cc; cause = start_cause_by (whole_line bytes) c d first second }
-same_refusal bytes p q c d (AtHeader first n none) (AtLine behind m) = absurd (not_behind bytes c (records_before q) (Faulty d) first behind)
-same_refusal bytes p q c d (AtHeader first n none) (PastEnd later some behind m is) = absurd (not_behind bytes c (records_before q) (AtEnd later) first behind)
-same_refusal bytes p q c d (AtLine behind n) (AtHeader second m none) = absurd (not_behind bytes d (records_before p) (Faulty c) second behind)
-same_refusal bytes p q c d (AtLine behind n) (AtLine other m) =
-    let same : (records_before p ≡ records_before q) × (Faulty c ≡ Faulty d) = behind_once bytes (records_before p) (records_before q) (Faulty c) (Faulty d) behind other in
-    record { number = cc; before = same.0; cause = cc }
-same_refusal bytes p q c d (AtLine behind n) (PastEnd later some other m is) =
-    let same : (records_before p ≡ records_before q) × (Faulty c ≡ AtEnd later) = behind_once bytes (records_before p) (records_before q) (Faulty c) (AtEnd later) behind other in
-    let no : Faulty c ≡ AtEnd later = same.1 in absurd (grind arith)
-same_refusal bytes p q c d (PastEnd later some behind n is) (AtHeader second m none) = absurd (not_behind bytes d (records_before p) (AtEnd later) second behind)
-same_refusal bytes p q c d (PastEnd later some behind n is) (AtLine other m) =
-    let same : (records_before p ≡ records_before q) × (AtEnd later ≡ Faulty d) = behind_once bytes (records_before p) (records_before q) (AtEnd later) (Faulty d) behind other in
-    let no : AtEnd later ≡ Faulty d = same.1 in absurd (grind arith)
-same_refusal bytes p q c d (PastEnd later some behind n is) (PastEnd more also other m too) =
-    let same : (records_before p ≡ records_before q) × (AtEnd later ≡ AtEnd more) = behind_once bytes (records_before p) (records_before q) (AtEnd later) (AtEnd more) behind other in
-    record { number = cc; before = same.0; cause = is ∙ sym too }
+same_refusal bytes p q c d (AtHeader first n none given) (AtHeader second m also gave) = record { number = cc; version = cc; before = cc; cause = start_cause_by (whole_line bytes) c d first second }
+same_refusal bytes p q c d (AtHeader first n none given) (AtLine w behind m gave) = absurd (not_behind bytes c w (records_before q) (Faulty d) first behind)
+same_refusal bytes p q c d (AtHeader first n none given) (PastEnd w later some behind m is gave) = absurd (not_behind bytes c w (records_before q) (AtEnd later) first behind)
+same_refusal bytes p q c d (AtLine v behind n given) (AtHeader second m none gave) = absurd (not_behind bytes d v (records_before p) (Faulty c) second behind)
+same_refusal bytes p q c d (AtLine v behind n given) (AtLine w other m gave) =
+    let same = behind_once bytes v w (records_before p) (records_before q) (Faulty c) (Faulty d) behind other in
+    let versions : v ≡ w = same.0 in
+    let stops : Faulty c ≡ Faulty d = same.2 in
+    record { number = one_number (records_before p) (records_before q) 2 n m same.1; version = (given ∙ ap Some versions) ∙ sym gave; before = same.1; cause = cc }
+same_refusal bytes p q c d (AtLine v behind n given) (PastEnd w later some other m is gave) =
+    let no : Faulty c ≡ AtEnd later = (behind_once bytes v w (records_before p) (records_before q) (Faulty c) (AtEnd later) behind other).2 in absurd (grind arith)
+same_refusal bytes p q c d (PastEnd v later some behind n is given) (AtHeader second m none gave) = absurd (not_behind bytes d v (records_before p) (AtEnd later) second behind)
+same_refusal bytes p q c d (PastEnd v later some behind n is given) (AtLine w other m gave) =
+    let no : AtEnd later ≡ Faulty d = (behind_once bytes v w (records_before p) (records_before q) (AtEnd later) (Faulty d) behind other).2 in absurd (grind arith)
+same_refusal bytes p q c d (PastEnd v later some behind n is given) (PastEnd w more also other m too gave) =
+    let same = behind_once bytes v w (records_before p) (records_before q) (AtEnd later) (AtEnd more) behind other in
+    let versions : v ≡ w = same.0 in
+    record { number = one_number (records_before p) (records_before q) 3 n m same.1; version = (given ∙ ap Some versions) ∙ sym gave; before = same.1; cause = is ∙ sym too }
 
 pub one_refusal : (bytes : List ℕ) (p q : Place) (c d : Cause) → Refuses bytes p c → Refuses bytes q d → SameRefusal p q c d
 one_refusal bytes p q c d first second = same_refusal bytes p q c d (refusal bytes p c first) (refusal bytes q d second)
 
-not_refused_by : (bytes : List ℕ) (records : List Record) (place : Place) (c : Cause) → Behind bytes records (AtEnd []) → Refusal bytes place c → ⊥
-not_refused_by bytes records place c behind (AtHeader first n none) = not_behind bytes c records (AtEnd []) first behind
-not_refused_by bytes records place c behind (AtLine other n) =
-    let no : AtEnd [] ≡ Faulty c = (behind_once bytes records (records_before place) (AtEnd []) (Faulty c) behind other).1 in absurd (grind arith)
-not_refused_by bytes records place c behind (PastEnd later some other n is) =
-    let same : AtEnd [] ≡ AtEnd later = (behind_once bytes records (records_before place) (AtEnd []) (AtEnd later) behind other).1 in
+not_refused_by : (bytes : List ℕ) (v : Version) (records : List Record) (place : Place) (c : Cause) → Behind bytes v records (AtEnd []) → Refusal bytes place c → ⊥
+not_refused_by bytes v records place c behind (AtHeader first n none given) = not_behind bytes c v records (AtEnd []) first behind
+not_refused_by bytes v records place c behind (AtLine w other n given) =
+    let no : AtEnd [] ≡ Faulty c = (behind_once bytes v w records (records_before place) (AtEnd []) (Faulty c) behind other).2 in absurd (grind arith)
+not_refused_by bytes v records place c behind (PastEnd w later some other n is given) =
+    let same : AtEnd [] ≡ AtEnd later = (behind_once bytes v w records (records_before place) (AtEnd []) (AtEnd later) behind other).2 in
     some cc
 
 -- the text of a trace is not refused
-pub trace_not_refused : (bytes : List ℕ) (records : List Record) (place : Place) (c : Cause) → IsTrace records → bytes ≡ text records → Refuses bytes place c → ⊥
-trace_not_refused bytes records place c is e h = not_refused_by bytes records place c (trace_behind bytes records is e) (refusal bytes place c h)
+pub trace_not_refused : (bytes : List ℕ) (v : Version) (records : List Record) (place : Place) (c : Cause) → IsTrace records → bytes ≡ text v records → Refuses bytes place c → ⊥
+trace_not_refused bytes v records place c is e h = not_refused_by bytes v records place c (trace_behind bytes v records is e) (refusal bytes place c h)
 
 -- no record is spelled as the end, so both lists end at once
 one_lines : (a b : List Record) → AllByRecursion IsRecord a → AllByRecursion IsRecord b → lines a ++ line end_word ≡ lines b ++ line end_word → a ≡ b
@@ -221,12 +241,12 @@ one_lines (x ∷ a) (y ∷ b) first second e =
     let later : a ≡ b = one_lines a b first.1 second.1 same.1 in
     cc
 
--- one text has one list of records
-pub one_text : (a b : List Record) → AllByRecursion IsRecord a → AllByRecursion IsRecord b → text a ≡ text b → a ≡ b
-one_text a b first second e =
-    one_lines a b first second
-    (append_cancel_left (line header) (lines a ++ line end_word) (lines b ++ line end_word)
-    ((sym (append_assoc (line header) (lines a) (line end_word)) ∙ e) ∙ append_assoc (line header) (lines b) (line end_word)))
+-- one text has one version and one list of records
+pub one_text : (v w : Version) (a b : List Record) → AllByRecursion IsRecord a → AllByRecursion IsRecord b → text v a ≡ text w b → (v ≡ w) × (a ≡ b)
+one_text v w a b first second e =
+    let front = header_once (text v a) (lines a ++ line end_word) (lines b ++ line end_word) v w
+    (append_assoc (line (header v)) (lines a) (line end_word)) (e ∙ append_assoc (line (header w)) (lines b) (line end_word)) in
+    (front.0, one_lines a b first second front.1)
 
-pub one_trace : (a b : List Record) → IsTrace a → IsTrace b → text a ≡ text b → a ≡ b
-one_trace a b first second e = one_text a b first.each second.each e
+pub one_trace : (v w : Version) (a b : List Record) → IsTrace a → IsTrace b → text v a ≡ text w b → (v ≡ w) × (a ≡ b)
+one_trace v w a b first second e = one_text v w a b first.each second.each e

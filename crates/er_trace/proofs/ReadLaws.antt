@@ -6,24 +6,26 @@ use Rattle.std.proofs.lemmas.Grind.{common_steps}
 use Rattle.er_text.specs.declared.causes.Cause.{Cause}
 use Rattle.er_text.specs.declared.causes.Cause.TheVariants.{AfterEnd}
 use Rattle.er_trace.specs.declared.record.Record.{Record}
+use Rattle.er_trace.specs.declared.version.Version.{Version}
 use Rattle.er_trace.specs.Spelling.{spelling, IsRecord}
 use Rattle.er_trace.specs.Trace.{most_lines, header, end_word, line, lines, Start, After, Ended, text, IsPlace, IsTrace, LineCause, RecordCause, ReadsUntil}
 
 -- a whole trace was read, and its records came to the list
 abbrev pub ReadsWhole : List ℕ → List Record → List Record → Type 0
-ReadsWhole bytes old new = (records : List Record) × IsTrace records × (bytes ≡ text records) × (new ≡ old ++ records)
+ReadsWhole bytes old new = (v : Version) × (records : List Record) × IsTrace records × (bytes ≡ text v records) × (new ≡ old ++ records)
 
 -- the line of that number is next, the records before it came to the list, and these bytes are left
 pub record IsAt (bytes : List ℕ) (old new : List Record) (number : ℕ) (rest : List ℕ) : Type 0 where
+  pub version : Version
   pub records : List Record
   pub each : AllByRecursion IsRecord records
   pub numbered : number ≡ length records + 2
   pub few : number ≤ most_lines + 1
-  pub begins : bytes ≡ line header ++ lines records ++ rest
+  pub begins : bytes ≡ line (header version) ++ lines records ++ rest
   pub listed : new ≡ old ++ records
 
-pub at_start : (bytes : List ℕ) (old : List Record) (rest : List ℕ) → bytes ≡ line header ++ rest → IsAt bytes old old 2 rest
-at_start bytes old rest e = record { records = []; each = tt; numbered = refl; few = omega arith; begins = e; listed = sym (append-nil old) }
+pub at_start : (bytes : List ℕ) (v : Version) (old : List Record) (rest : List ℕ) → bytes ≡ line (header v) ++ rest → IsAt bytes old old 2 rest
+at_start bytes v old rest e = record { version = v; records = []; each = tt; numbered = refl; few = omega arith; begins = e ∙ ap (λ l. l ++ rest) (sym (append-nil (line (header v)))); listed = sym (append-nil old) }
 
 pub lines-append : (a b : List Record) → lines (a ++ b) ≡ lines a ++ lines b
 lines-append [] b = refl
@@ -36,6 +38,7 @@ each-append (x ∷ a) b first second = (first.0, each-append a b first.1 second)
 pub at_more : (bytes : List ℕ) (old new : List Record) (number : ℕ) (rest : List ℕ) (x : Record) (later : List ℕ)
     → IsAt bytes old new number rest → number ≤ most_lines → IsRecord x → rest ≡ line (spelling x) ++ later → IsAt bytes old (new ++ x ∷ []) (number + 1) later
 at_more bytes old new number rest x later h few is e = record {
+  version = h.version;
   records = h.records ++ x ∷ [];
   each = each-append h.records (x ∷ []) h.each (is, tt);
   numbered = omega (arith, length-append h.records (x ∷ []), h.numbered);
@@ -46,22 +49,23 @@ at_more bytes old new number rest x later h few is e = record {
   listed = ap (λ l. l ++ x ∷ []) h.listed ∙ append_assoc old h.records (x ∷ []);
 }
 
-is_place : (bytes : List ℕ) (old new : List Record) (number : ℕ) (rest : List ℕ) → (h : IsAt bytes old new number rest) → IsPlace (After h.records)
+is_place : (bytes : List ℕ) (old new : List Record) (number : ℕ) (rest : List ℕ) → (h : IsAt bytes old new number rest) → IsPlace (After h.version h.records)
 is_place bytes old new number rest h = record { each = h.each; few = omega (arith, h.few, h.numbered) }
 
 pub at_end : (bytes : List ℕ) (old new : List Record) (number : ℕ) (rest later : List ℕ)
     → IsAt bytes old new number rest → number ≤ most_lines → rest ≡ line end_word ++ later → later ≡ [] → ReadsWhole bytes old new
 at_end bytes old new number rest later h few e none =
     let all : rest ≡ line end_word = (e ∙ ap (λ l. line end_word ++ l) none) ∙ append-nil (line end_word) in (
+      h.version,
       h.records,
       record { each = h.each; few = omega (arith, h.numbered) },
-      h.begins ∙ ap (λ r. line header ++ lines h.records ++ r) all,
+      h.begins ∙ ap (λ r. line (header h.version) ++ lines h.records ++ r) all,
       h.listed,
     )
 
 pub at_refusal : (bytes : List ℕ) (old new : List Record) (number : ℕ) (rest : List ℕ) (c : Cause) → IsAt bytes old new number rest → RecordCause number rest c → ReadsUntil bytes number c old new
 at_refusal bytes old new number rest c h cause = (
-  After h.records,
+  After h.version h.records,
   record { is_place = is_place bytes old new number rest h; rest = rest; begins = h.begins; cause = rw h.numbered at cause },
   h.numbered,
   h.listed,
@@ -70,11 +74,11 @@ at_refusal bytes old new number rest c h cause = (
 pub after_end : (bytes : List ℕ) (old new : List Record) (number : ℕ) (rest later : List ℕ)
     → IsAt bytes old new number rest → number ≤ most_lines → rest ≡ line end_word ++ later → later ≢ [] → ReadsUntil bytes (number + 1) AfterEnd old new
 after_end bytes old new number rest later h few e some = (
-  Ended h.records,
+  Ended h.version h.records,
   record {
     is_place = record { each = h.each; few = omega (arith, h.numbered) };
     rest = later;
-    begins = (h.begins ∙ ap (λ r. line header ++ lines h.records ++ r) e) ∙ sym (append_assoc (line header ++ lines h.records) (line end_word) later);
+    begins = (h.begins ∙ ap (λ r. line (header h.version) ++ lines h.records ++ r) e) ∙ sym (append_assoc (line (header h.version) ++ lines h.records) (line end_word) later);
     cause = (some, refl);
   },
   omega (arith, h.numbered),

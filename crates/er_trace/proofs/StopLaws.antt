@@ -10,7 +10,8 @@ use Rattle.er_trace.specs.declared.fault.FeedFault.{FeedFault}
 use Rattle.er_trace.specs.declared.fault.FeedFault.TheVariants.{Refused, NoMemory}
 use Rattle.er_trace.specs.declared.mark.Mark.{Mark}
 use Rattle.er_trace.specs.declared.mark.Mark.TheVariants as marks
-use Rattle.er_trace.specs.Trace.{Place, Start, After, Ended, line_number, records_before, bytes_before, text, IsPlace, IsTrace, Refuses, LineCause, ReadsUntil}
+use Rattle.er_trace.specs.declared.version.Version.{Version}
+use Rattle.er_trace.specs.Trace.{Place, Start, After, Ended, line_number, version_before, records_before, bytes_before, text, IsPlace, IsTrace, Refuses, LineCause, ReadsUntil}
 use Rattle.er_trace.specs.Marks.{mark_of, number_at}
 use Rattle.er_trace.specs.Feed.{IsUnfinished, Stands, IsFedUntil}
 use Rattle.er_trace.specs.Steps.{Leads}
@@ -18,27 +19,27 @@ use Rattle.er_trace.proofs.OneTrace.{one_refusal, one_trace, trace_not_refused, 
 use Rattle.er_trace.proofs.CauseLaws.{line_cause_more}
 use Rattle.er_trace.proofs.FeedLaws.{number_of_place}
 
-one_place : (p q : Place) → line_number p ≡ line_number q → records_before p ≡ records_before q → p ≡ q
-one_place Start Start number same = refl
-one_place Start (After b) number same = absurd (omega arith)
-one_place Start (Ended b) number same = absurd (omega arith)
-one_place (After a) Start number same = absurd (omega arith)
-one_place (After a) (After b) number same = ap After same
-one_place (After a) (Ended b) number same = absurd (omega (arith, ap length same))
-one_place (Ended a) Start number same = absurd (omega arith)
-one_place (Ended a) (After b) number same = absurd (omega (arith, ap length same))
-one_place (Ended a) (Ended b) number same = ap Ended same
+one_place : (p q : Place) → line_number p ≡ line_number q → version_before p ≡ version_before q → records_before p ≡ records_before q → p ≡ q
+one_place Start Start number version same = refl
+one_place Start (After w b) number version same = absurd (omega arith)
+one_place Start (Ended w b) number version same = absurd (omega arith)
+one_place (After v a) Start number version same = absurd (omega arith)
+one_place (After v a) (After w b) number version same = cc
+one_place (After v a) (Ended w b) number version same = absurd (omega (arith, ap length same))
+one_place (Ended v a) Start number version same = absurd (omega arith)
+one_place (Ended v a) (After w b) number version same = absurd (omega (arith, ap length same))
+one_place (Ended v a) (Ended w b) number version same = cc
 
 -- no `end` line stands before the line
 abbrev pub IsBeforeEnd : Mark → Type 0
 IsBeforeEnd marks.Start = Unit {0}
-IsBeforeEnd (marks.After n) = Unit {0}
-IsBeforeEnd (marks.Ended n) = ⊥
+IsBeforeEnd (marks.After v n) = Unit {0}
+IsBeforeEnd (marks.Ended v n) = ⊥
 
 -- what bytes come to for which no cause but `no-end` applies: a line is not at its end yet, or the trace is whole
 pub data Unfinished (mark : Mark) (line bytes : List ℕ) (records : List Record) : Type 0 where
   Waits : (place : Place) → Refuses bytes place NoEnd → bytes ≡ bytes_before place ++ line → mark ≡ mark_of place → records ≡ records_before place → IsBeforeEnd mark → Unfinished mark line bytes records
-  Whole : IsTrace records → bytes ≡ text records → mark ≡ marks.Ended (length records) → line ≡ [] → Unfinished mark line bytes records
+  Whole : (v : Version) → IsTrace records → bytes ≡ text v records → mark ≡ marks.Ended v (length records) → line ≡ [] → Unfinished mark line bytes records
 
 refusal_at : (place : Place) (rest bytes : List ℕ) (c : Cause) → IsPlace place → bytes ≡ bytes_before place ++ rest → LineCause place rest c → Refuses bytes place c
 refusal_at place rest bytes c is begins cause = record { is_place = is; rest = rest; begins = begins; cause = cause }
@@ -46,12 +47,12 @@ refusal_at place rest bytes c is begins cause = record { is_place = is; rest = r
 unfinished_by : (place : Place) (mark : Mark) (line rest bytes : List ℕ) (records : List Record) → IsPlace place → bytes ≡ bytes_before place ++ rest → mark ≡ mark_of place → records ≡ records_before place → IsUnfinished place rest → line ≡ rest → Unfinished mark line bytes records
 unfinished_by Start mark line rest bytes records is begins marked before h same =
     Waits Start (refusal_at Start rest bytes NoEnd is begins h) (begins ∙ sym same) marked before (subst IsBeforeEnd (sym marked) tt)
-unfinished_by (After list) mark line rest bytes records is begins marked before h same =
-    Waits (After list) (refusal_at (After list) rest bytes NoEnd is begins h) (begins ∙ ap (λ r. bytes_before (After list) ++ r) (sym same)) marked before (subst IsBeforeEnd (sym marked) tt)
-unfinished_by (Ended list) mark line rest bytes records is begins marked before h same =
-    Whole (subst IsTrace (sym before) record { each = is.each; few = omega (arith, is.few) })
-    (((begins ∙ ap (λ r. text list ++ r) h) ∙ append-nil (text list)) ∙ ap text (sym before))
-    (marked ∙ ap (λ (l : List Record). marks.Ended (length l)) (sym before))
+unfinished_by (After v list) mark line rest bytes records is begins marked before h same =
+    Waits (After v list) (refusal_at (After v list) rest bytes NoEnd is begins h) (begins ∙ ap (λ r. bytes_before (After v list) ++ r) (sym same)) marked before (subst IsBeforeEnd (sym marked) tt)
+unfinished_by (Ended v list) mark line rest bytes records is begins marked before h same =
+    Whole v (subst IsTrace (sym before) record { each = is.each; few = omega (arith, is.few) })
+    (((begins ∙ ap (λ r. text v list ++ r) h) ∙ append-nil (text v list)) ∙ ap (text v) (sym before))
+    (marked ∙ ap (λ (l : List Record). marks.Ended v (length l)) (sym before))
     (same ∙ h)
 
 pub unfinished : (mark : Mark) (line bytes : List ℕ) (records : List Record) → Stands mark line None bytes records → Unfinished mark line bytes records
@@ -87,7 +88,7 @@ until mark line bytes records n c h = (h.kept.2, (h.place, refusal_of mark line 
 
 not_unfinished : (mark : Mark) (line bytes : List ℕ) (records : List Record) (place : Place) (c : Cause) → Unfinished mark line bytes records → Refuses bytes place c → c ≢ NoEnd → ⊥
 not_unfinished mark line bytes records place c (Waits at is begins marked before early) h other = other (sym (one_refusal bytes at place NoEnd c is h).cause)
-not_unfinished mark line bytes records place c (Whole is e marked none) h other = trace_not_refused bytes records place c is e h
+not_unfinished mark line bytes records place c (Whole v is e marked none) h other = trace_not_refused bytes v records place c is e h
 
 -- the fault is the refusal of the bytes
 pub the_fault : (mark : Mark) (line bytes : List ℕ) (fault : Option FeedFault) (records : List Record) (place : Place) (c : Cause) → Stands mark line fault bytes records → Refuses bytes place c → c ≢ NoEnd → fault ≡ Some (Refused (line_number place) c)
@@ -125,24 +126,24 @@ refuses_by (Err NoMemory) mark next line later piece bytes old new earlier place
 
 -- at the end of the input
 
-no_fault : (mark : Mark) (line bytes : List ℕ) (records : List Record) (fault : FeedFault) → IsTrace records → bytes ≡ text records → Stands mark line (Some fault) bytes records → ⊥
-no_fault mark line bytes records (Refused n c) is e h = trace_not_refused bytes records h.place c is e (refusal_of mark line bytes records n c h)
-no_fault mark line bytes records NoMemory is e h = h.kept
+no_fault : (mark : Mark) (line bytes : List ℕ) (v : Version) (records : List Record) (fault : FeedFault) → IsTrace records → bytes ≡ text v records → Stands mark line (Some fault) bytes records → ⊥
+no_fault mark line bytes v records (Refused n c) is e h = trace_not_refused bytes v records h.place c is e (refusal_of mark line bytes records n c h)
+no_fault mark line bytes v records NoMemory is e h = h.kept
 
-no_wait : (mark : Mark) (line bytes : List ℕ) (records : List Record) → IsTrace records → bytes ≡ text records → Unfinished mark line bytes records → mark ≡ marks.Ended (length records)
-no_wait mark line bytes records is e (Waits at refused begins marked before early) = absurd (trace_not_refused bytes records at NoEnd is e refused)
-no_wait mark line bytes records is e (Whole trace same marked none) = marked
+no_wait : (mark : Mark) (line bytes : List ℕ) (v : Version) (records : List Record) → IsTrace records → bytes ≡ text v records → Unfinished mark line bytes records → mark ≡ marks.Ended v (length records)
+no_wait mark line bytes v records is e (Waits at refused begins marked before early) = absurd (trace_not_refused bytes v records at NoEnd is e refused)
+no_wait mark line bytes v records is e (Whole w trace same marked none) = marked ∙ ap (λ u. marks.Ended u (length records)) (one_trace w v records records trace is (sym same ∙ e)).0
 
 -- a whole trace was fed
-pub accepted : (mark : Mark) (line bytes : List ℕ) (records : List Record) (fault : Option FeedFault) → IsTrace records → bytes ≡ text records → Stands mark line fault bytes records → (fault ≡ None) × (mark ≡ marks.Ended (length records))
-accepted mark line bytes records None is e h = (refl, no_wait mark line bytes records is e (unfinished mark line bytes records h))
-accepted mark line bytes records (Some fault) is e h = absurd (no_fault mark line bytes records fault is e h)
+pub accepted : (mark : Mark) (line bytes : List ℕ) (v : Version) (records : List Record) (fault : Option FeedFault) → IsTrace records → bytes ≡ text v records → Stands mark line fault bytes records → (fault ≡ None) × (mark ≡ marks.Ended v (length records))
+accepted mark line bytes v records None is e h = (refl, no_wait mark line bytes v records is e (unfinished mark line bytes records h))
+accepted mark line bytes v records (Some fault) is e h = absurd (no_fault mark line bytes v records fault is e h)
 
 wait_refused : (mark : Mark) (line bytes : List ℕ) (records : List Record) (place : Place) (c : Cause) → Unfinished mark line bytes records → Refuses bytes place c → (number_at mark ≡ line_number place) × (c ≡ NoEnd) × IsBeforeEnd mark
 wait_refused mark line bytes records place c (Waits at refused begins marked before early) is =
     let same : SameRefusal at place NoEnd c = one_refusal bytes at place NoEnd c refused is in
     ((ap number_at marked ∙ number_of_place at) ∙ same.number, sym same.cause, early)
-wait_refused mark line bytes records place c (Whole trace e marked none) is = absurd (trace_not_refused bytes records place c trace e is)
+wait_refused mark line bytes records place c (Whole v trace e marked none) is = absurd (trace_not_refused bytes v records place c trace e is)
 
 refused_by_fault : (mark : Mark) (line bytes : List ℕ) (records : List Record) (fault : FeedFault) (place : Place) (c : Cause) → Stands mark line (Some fault) bytes records → Refuses bytes place c → fault ≡ Refused (line_number place) c
 refused_by_fault mark line bytes records NoMemory place c h is = elim h.kept [ ]
@@ -202,22 +203,22 @@ refuses_again mark line piece bytes fault kept earlier place c is h refused =
 same_unfinished : (mark also : Mark) (line more bytes : List ℕ) (a b : List Record) → Unfinished mark line bytes a → Unfinished also more bytes b → (a ≡ b) × (mark ≡ also) × (line ≡ more)
 same_unfinished mark also line more bytes a b (Waits p is begins marked before early) (Waits q too starts noted listed soon) =
     let same : SameRefusal p q NoEnd NoEnd = one_refusal bytes p q NoEnd NoEnd is too in
-    let place : p ≡ q = one_place p q same.number same.before in
+    let place : p ≡ q = one_place p q same.number same.version same.before in
     let there : bytes_before p ≡ bytes_before q = ap bytes_before place in (
       (before ∙ same.before) ∙ sym listed,
       (marked ∙ ap mark_of place) ∙ sym noted,
       append_cancel_left (bytes_before p) line more ((sym begins ∙ starts) ∙ ap (λ b. b ++ more) (sym there)),
     )
-same_unfinished mark also line more bytes a b (Waits p is begins marked before early) (Whole trace e noted none) = absurd (trace_not_refused bytes b p NoEnd trace e is)
-same_unfinished mark also line more bytes a b (Whole trace e noted none) (Waits p is begins marked before early) = absurd (trace_not_refused bytes a p NoEnd trace e is)
-same_unfinished mark also line more bytes a b (Whole trace e marked none) (Whole other is noted empty) =
-    let same : a ≡ b = one_trace a b trace other (sym e ∙ is) in
-    (same, (marked ∙ ap (λ (l : List Record). marks.Ended (length l)) same) ∙ sym noted, none ∙ sym empty)
+same_unfinished mark also line more bytes a b (Waits p is begins marked before early) (Whole w trace e noted none) = absurd (trace_not_refused bytes w b p NoEnd trace e is)
+same_unfinished mark also line more bytes a b (Whole v trace e noted none) (Waits p is begins marked before early) = absurd (trace_not_refused bytes v a p NoEnd trace e is)
+same_unfinished mark also line more bytes a b (Whole v trace e marked none) (Whole w other is noted empty) =
+    let same = one_trace v w a b trace other (sym e ∙ is) in
+    (same.1, (marked ∙ (λ i. marks.Ended (same.0 i) (length (same.1 i)))) ∙ sym noted, none ∙ sym empty)
 
 same_refused : (mark also : Mark) (line more bytes : List ℕ) (n m : ℕ) (c d : Cause) (a b : List Record) → Stands mark line (Some (Refused n c)) bytes a → Stands also more (Some (Refused m d)) bytes b → (a ≡ b) × (mark ≡ also) × (Refused n c ≡ Refused m d)
 same_refused mark also line more bytes n m c d a b h k =
     let same : SameRefusal h.place k.place c d = one_refusal bytes h.place k.place c d (refusal_of mark line bytes a n c h) (refusal_of also more bytes b m d k) in
-    let place : h.place ≡ k.place = one_place h.place k.place same.number same.before in
+    let place : h.place ≡ k.place = one_place h.place k.place same.number same.version same.before in
     let number : n ≡ m = (h.kept.0 ∙ same.number) ∙ sym k.kept.0 in
     let cause : c ≡ d = same.cause in
     ((h.before ∙ same.before) ∙ sym k.before, (h.marked ∙ ap mark_of place) ∙ sym k.marked, cc)
@@ -242,18 +243,18 @@ one_feed mark also line more bytes (Some (Refused n c)) (Some NoMemory) a b h k 
 
 -- the end is missing
 
-missing_by : (mark : Mark) (line bytes : List ℕ) (records : List Record) (n : ℕ) (c : Cause) → ((k : ℕ) → mark ≡ marks.Ended k → ⊥) → Unfinished mark line bytes records → n ≡ number_at mark → c ≡ NoEnd → ReadsUntil bytes n c [] records
+missing_by : (mark : Mark) (line bytes : List ℕ) (records : List Record) (n : ℕ) (c : Cause) → ((w : Version) (k : ℕ) → mark ≡ marks.Ended w k → ⊥) → Unfinished mark line bytes records → n ≡ number_at mark → c ≡ NoEnd → ReadsUntil bytes n c [] records
 missing_by mark line bytes records n c not_ended (Waits at is begins marked before early) numbered cause =
     (at, subst (Refuses bytes at) (sym cause) is, (numbered ∙ ap number_at marked) ∙ number_of_place at, before)
-missing_by mark line bytes records n c not_ended (Whole trace e marked none) numbered cause = absurd (not_ended (length records) marked)
+missing_by mark line bytes records n c not_ended (Whole v trace e marked none) numbered cause = absurd (not_ended v (length records) marked)
 
-pub missing : (mark : Mark) (line bytes : List ℕ) (records : List Record) (fault : Option FeedFault) (n : ℕ) (c : Cause) → fault ≡ None → ((k : ℕ) → mark ≡ marks.Ended k → ⊥) → Stands mark line fault bytes records → n ≡ number_at mark → c ≡ NoEnd → ReadsUntil bytes n c [] records
+pub missing : (mark : Mark) (line bytes : List ℕ) (records : List Record) (fault : Option FeedFault) (n : ℕ) (c : Cause) → fault ≡ None → ((w : Version) (k : ℕ) → mark ≡ marks.Ended w k → ⊥) → Stands mark line fault bytes records → n ≡ number_at mark → c ≡ NoEnd → ReadsUntil bytes n c [] records
 missing mark line bytes records fault n c none not_ended h numbered cause =
     missing_by mark line bytes records n c not_ended (unfinished mark line bytes records (subst (λ (f : Option FeedFault). Stands mark line f bytes records) none h)) numbered cause
 
 -- the end was read, so nothing is refused
-pub not_missing : (mark : Mark) (line bytes : List ℕ) (records : List Record) (fault : Option FeedFault) (place : Place) (c : Cause) (k : ℕ) → fault ≡ None → mark ≡ marks.Ended k → Stands mark line fault bytes records → Refuses bytes place c → ⊥
-not_missing mark line bytes records fault place c k none ended h is = elim (refused_end mark line bytes records fault place c h is) [
+pub not_missing : (mark : Mark) (line bytes : List ℕ) (records : List Record) (fault : Option FeedFault) (place : Place) (c : Cause) (w : Version) (k : ℕ) → fault ≡ None → mark ≡ marks.Ended w k → Stands mark line fault bytes records → Refuses bytes place c → ⊥
+not_missing mark line bytes records fault place c w k none ended h is = elim (refused_end mark line bytes records fault place c h is) [
   | Kept same ↦ absurd (cc)
   | Missing none_too numbered cause early ↦ subst IsBeforeEnd ended early
 ]

@@ -13,8 +13,8 @@ use Rattle.er_trace.specs.Marks.{mark_of}
 -- The line that begins there is not at its end yet: no byte stands behind the `end` line, and a line elsewhere has no cause but `no-end`.
 abbrev pub IsUnfinished : Place → List ℕ → Type 0
 IsUnfinished Start line = LineCause Start line NoEnd
-IsUnfinished (After records) line = LineCause (After records) line NoEnd
-IsUnfinished (Ended records) line = line ≡ []
+IsUnfinished (After v records) line = LineCause (After v records) line NoEnd
+IsUnfinished (Ended v records) line = line ≡ []
 
 -- the line that begins there is refused, and for another cause than `no-end`
 abbrev pub IsRefusedAt : Place → List ℕ → FeedFault → Type 0

@@ -10,7 +10,7 @@ use Rattle.er_trace.specs.declared.lines.Next.{Next}
 use Rattle.er_trace.specs.declared.lines.Next.TheVariants as nexts
 use Rattle.er_trace.specs.declared.fault.FeedFault.{FeedFault}
 use Rattle.er_trace.specs.Spelling.{spelling, IsRecord}
-use Rattle.er_trace.specs.Trace.{most_line_bytes, header, end_word, SpellsNone, ReadsPart}
+use Rattle.er_trace.specs.Trace.{most_line_bytes, header, end_word, IsNoHeader, SpellsNone, ReadsPart}
 use Rattle.er_trace.specs.Marks.{IsOpen}
 use Rattle.er_trace.specs.Feed.{Stands}
 
@@ -22,9 +22,9 @@ GoesOnAs kept piece nexts.TooLong = (has_no_lf (take (most_line_bytes + 1 - kept
 
 -- the whole line at the mark leads to the next mark, and these are its records
 abbrev pub IsLine : Mark → List ℕ → Mark → List Record → Type 0
-IsLine marks.Start bytes (marks.After m) came = (bytes ≡ header) × (m ≡ 0) × (came ≡ [])
-IsLine (marks.After n) bytes (marks.After m) came = (x : Record) × IsRecord x × (bytes ≡ spelling x) × (m ≡ n + 1) × (came ≡ x ∷ [])
-IsLine (marks.After n) bytes (marks.Ended m) came = (bytes ≡ end_word) × (m ≡ n) × (came ≡ [])
+IsLine marks.Start bytes (marks.After w m) came = (bytes ≡ header w) × (m ≡ 0) × (came ≡ [])
+IsLine (marks.After v n) bytes (marks.After w m) came = (x : Record) × IsRecord x × (bytes ≡ spelling x) × (marks.After w m ≡ marks.After v (n + 1)) × (came ≡ x ∷ [])
+IsLine (marks.After v n) bytes (marks.Ended w m) came = (bytes ≡ end_word) × (marks.Ended w m ≡ marks.Ended v n) × (came ≡ [])
 IsLine _ bytes _ came = ⊥
 
 -- the line of a record stands at the front, where a line may stand and nothing of it came before
@@ -36,9 +36,9 @@ pub record IsPlainFront (mark : Mark) (kept piece : List ℕ) (next : Mark) (x :
 
 -- the whole line at the mark has that cause
 abbrev pub IsBadLine : Mark → List ℕ → Cause → Type 0
-IsBadLine marks.Start bytes c = (bytes ≢ header) × (c ≡ BadHeader)
-IsBadLine (marks.After n) bytes c = (bytes ≢ end_word) × SpellsNone bytes × (c ≡ BadRecord)
-IsBadLine (marks.Ended n) bytes c = ⊥
+IsBadLine marks.Start bytes c = IsNoHeader bytes × (c ≡ BadHeader)
+IsBadLine (marks.After v n) bytes c = (bytes ≢ end_word) × SpellsNone bytes × (c ≡ BadRecord)
+IsBadLine (marks.Ended v n) bytes c = ⊥
 
 -- What is kept leads, with more bytes, to what is kept then, and more records came to the list.
 pub record Leads (mark : Mark) (line : List ℕ) (bytes : List ℕ) (next : Mark) (later : List ℕ) (fault : Option FeedFault) (old new : List Record) : Type 0 where

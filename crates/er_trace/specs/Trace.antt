@@ -1,5 +1,5 @@
 -- A whole trace, and the causes for which a line is no line of one. Records stand oldest first.
-use Rattle.std.specs.Prelude.{◌≡◌, ◌≢◌, ℕ, ◌+◌, ◌≤◌, Bool, ◌&&◌, nat_lt, List, [], ◌∷◌, ◌++◌, length, take, codes, if◌then◌else◌, Result, Err, MatchResult, MatchBool}
+use Rattle.std.specs.Prelude.{◌≡◌, ◌≢◌, ℕ, ◌+◌, ◌≤◌, Bool, ◌&&◌, nat_lt, List, [], ◌∷◌, ◌++◌, length, take, codes, if◌then◌else◌, Option, Some, None, Result, Err, MatchResult, MatchBool}
 use Rattle.std.specs.List.{AllByRecursion, flat_map}
 use Rattle.std.specs.Option.{ok_or}
 use Rattle.er_text.specs.Bytes.{line_end, has_no_lf}
@@ -7,6 +7,8 @@ use Rattle.er_text.specs.Lines.{first_line}
 use Rattle.er_text.specs.declared.causes.Cause.{Cause}
 use Rattle.er_text.specs.declared.causes.Cause.TheVariants.{BadHeader, LongLine, BadRecord, NoEnd, AfterEnd, TooManyLines}
 use Rattle.er_trace.specs.declared.record.Record.{Record}
+use Rattle.er_trace.specs.declared.version.Version.{Version}
+use Rattle.er_trace.specs.declared.version.Version.TheVariants.{One, Two}
 use Rattle.er_trace.specs.Spelling.{spelling, IsRecord}
 
 -- the most lines of a trace, and the most bytes of a line without its LF
@@ -16,8 +18,10 @@ most_lines = 2097152
 abbrev pub most_line_bytes : ℕ
 most_line_bytes = 1024
 
-abbrev pub header : List ℕ
-header = codes "webtrace 1"
+-- the first line, which gives the version
+abbrev pub header : Version → List ℕ
+header One = codes "webtrace 1"
+header Two = codes "webtrace 2"
 
 abbrev pub end_word : List ℕ
 end_word = codes "end"
@@ -29,33 +33,47 @@ line bytes = bytes ++ line_end ∷ []
 abbrev pub lines : List Record → List ℕ
 lines records = flat_map (λ x. line (spelling x)) records
 
--- the trace of these records
-abbrev pub text : List Record → List ℕ
-text records = line header ++ lines records ++ line end_word
+-- the trace of these records in that version
+abbrev pub text : Version → List Record → List ℕ
+text v records = line (header v) ++ lines records ++ line end_word
 
--- Where a line begins: at the start, behind the header and these records, or behind the `end` line.
+-- it is their trace in some version
+abbrev pub IsTextOf : List ℕ → List Record → Type 0
+IsTextOf bytes records = (v : Version) × (bytes ≡ text v records)
+
+-- the first line is the header of the version
+abbrev pub BeginsWith : Version → List ℕ → Type 0
+BeginsWith v bytes = (rest : List ℕ) × (bytes ≡ line (header v) ++ rest)
+
+-- Where a line begins: at the start, behind the header of that version and these records, or behind the `end` line.
 pub data Place : Type 0 where
   Start : Place
-  After : (records : List Record) → Place
-  Ended : (records : List Record) → Place
+  After : (version : Version) → (records : List Record) → Place
+  Ended : (version : Version) → (records : List Record) → Place
+
+-- the version that the first line gave
+abbrev pub version_before : Place → Option Version
+version_before Start = None
+version_before (After v records) = Some v
+version_before (Ended v records) = Some v
 
 -- the records before it
 abbrev pub records_before : Place → List Record
 records_before Start = []
-records_before (After records) = records
-records_before (Ended records) = records
+records_before (After v records) = records
+records_before (Ended v records) = records
 
 -- the bytes before it
 abbrev pub bytes_before : Place → List ℕ
 bytes_before Start = []
-bytes_before (After records) = line header ++ lines records
-bytes_before (Ended records) = text records
+bytes_before (After v records) = line (header v) ++ lines records
+bytes_before (Ended v records) = text v records
 
 -- the number of the line
 abbrev pub line_number : Place → ℕ
 line_number Start = 1
-line_number (After records) = length records + 2
-line_number (Ended records) = length records + 3
+line_number (After v records) = length records + 2
+line_number (Ended v records) = length records + 3
 
 -- too many bytes came without an LF
 abbrev pub is_long : List ℕ → Bool
@@ -64,6 +82,10 @@ is_long bytes = nat_lt most_line_bytes (length bytes) && has_no_lf (take (most_l
 -- the whole line at the front of the bytes and the bytes after its LF, or why there is none
 abbrev pub whole_line : List ℕ → Result (List ℕ × List ℕ) Cause
 whole_line bytes = if is_long bytes then Err LongLine else ok_or (first_line bytes) NoEnd
+
+-- it is the header of no version
+abbrev pub IsNoHeader : List ℕ → Type 0
+IsNoHeader bytes = (v : Version) → bytes ≢ header v
 
 -- no record is spelled so
 abbrev pub SpellsNone : List ℕ → Type 0
@@ -83,15 +105,15 @@ RecordCause number rest c =
 -- too-many-lines: there are bytes, and the number of the line is above the most
 -- long-line: more bytes than a line may have come without an LF
 -- no-end: no LF comes, also where there are no bytes
--- bad-header: the first line is not the header
+-- bad-header: the first line is the header of no version
 -- bad-record: a later line is neither the `end` line nor how a record is spelled
 abbrev pub LineCause : Place → List ℕ → Cause → Type 0
 LineCause Start rest c =
     MatchResult (whole_line rest)
-    (λ l. (l.0 ≢ header) × (c ≡ BadHeader))
+    (λ l. IsNoHeader l.0 × (c ≡ BadHeader))
     (λ why. c ≡ why)
-LineCause (After records) rest c = RecordCause (length records + 2) rest c
-LineCause (Ended records) rest c = (rest ≢ []) × (c ≡ AfterEnd)
+LineCause (After v records) rest c = RecordCause (length records + 2) rest c
+LineCause (Ended v records) rest c = (rest ≢ []) × (c ≡ AfterEnd)
 
 -- the lines before it are lines of a trace
 pub record IsPlace (place : Place) : Type 0 where

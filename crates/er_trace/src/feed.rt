@@ -10,6 +10,7 @@ use crate::mark::Mark;
 use crate::plain::plain_line;
 use crate::record::Record;
 use crate::trace::MOST_LINES;
+use crate::version::Version;
 use er_text::Cause;
 use std::alloc::Global;
 
@@ -30,7 +31,8 @@ impl Feed {
     ghost use Rattle.er_text.specs.declared.causes.Cause.{Cause};
     ghost use Rattle.er_text.specs.declared.causes.Cause.TheVariants.{NoEnd};
     ghost use Rattle.er_trace.specs.declared.record.Record.{Record};
-    ghost use Rattle.er_trace.specs.Trace.{Place, Refuses, IsTrace, line_number, text, ReadsUntil};
+    ghost use Rattle.er_trace.specs.declared.version.Version.{Version};
+    ghost use Rattle.er_trace.specs.Trace.{Place, Refuses, IsTrace, IsTextOf, BeginsWith, line_number, text, ReadsUntil};
     ghost use Rattle.er_trace.specs.Feed.{StandsFor, IsGoing, HasAnswered, IsFed, IsFedUntil, IsFedPart};
     ghost use Rattle.er_trace.specs.Marks.{IsOpen};
     ghost use Rattle.er_trace.specs.Steps.{Leads, LeadsPart, Took, IsLine, IsBadLine, IsPlainFront};
@@ -132,14 +134,14 @@ impl Feed {
         if !self.line.is_empty() {
             return None;
         }
-        let Mark::After(records) = self.mark else {
+        let Mark::After(version, records) = self.mark else {
             return None;
         };
         if records > MOST_LINES - 2 {
             return None;
         }
         let (access, left) = plain_line(*self.line.allocator(), piece)?;
-        Some((Mark::After(records + 1), access, left))
+        Some((Mark::After(version, records + 1), access, left))
     }
 
     /// Takes the next bytes of one line, of any kind.
@@ -224,12 +226,12 @@ impl Feed {
     /// The answer for an input that ends here: `no-end`, unless the `end` line was read.
     pub fn finish(&self) -> Result<(), FeedFault>
         ensures whole { OnOk result ((bytes : List ℕ) (records : List Record)
-            → StandsFor self.now bytes records → IsTrace records × (bytes ≡ text records)) }
+            → StandsFor self.now bytes records → IsTrace records × IsTextOf bytes records) }
         ensures refused { (n : ℕ) (c : Cause) → result ≡ Err (FeedFault.Refused n c)
             → (bytes : List ℕ) (records : List Record) → StandsFor self.now bytes records
             → ReadsUntil bytes n c [] records }
-        ensures accepts { (records : List Record) → IsTrace records
-            → StandsFor self.now (text records) records → result ≡ Ok tt }
+        ensures accepts { (version : Version) (records : List Record) → IsTrace records
+            → StandsFor self.now (text version records) records → result ≡ Ok tt }
         ensures refuses { (bytes : List ℕ) (records : List Record) (place : Place) (c : Cause)
             → StandsFor self.now bytes records → Refuses bytes place c
             → result ≡ Err (FeedFault.Refused (line_number place) c) }
@@ -240,7 +242,7 @@ impl Feed {
             return Err(answered);
         }
         match self.mark {
-            Mark::Ended(_) => Ok(()),
+            Mark::Ended(_, _) => Ok(()),
             _ => Err(self.refusal(Cause::NoEnd)),
         }
     }
@@ -248,12 +250,22 @@ impl Feed {
     /// Whether the `end` line was read, where no call has answered a fault.
     pub fn ended(&self) -> bool
         ensures { (bytes : List ℕ) (records : List Record) → StandsFor self.now bytes records
-            → IsGoing self.now → IsTrue result ↔ (IsTrace records × (bytes ≡ text records)) }
+            → IsGoing self.now → IsTrue result ↔ (IsTrace records × IsTextOf bytes records) }
     {
         match self.mark {
-            Mark::Ended(_) => true,
+            Mark::Ended(_, _) => true,
             _ => false,
         }
+    }
+
+    /// The version that the first line gave, where it was read and is a header.
+    pub fn version(&self) -> Option<Version>
+        ensures given { (version : Version) → result ≡ Some version → (bytes : List ℕ) (records : List Record)
+            → StandsFor self.now bytes records → BeginsWith version bytes }
+        ensures none { result ≡ None → (bytes : List ℕ) (records : List Record)
+            → StandsFor self.now bytes records → (version : Version) → ¬ BeginsWith version bytes }
+    {
+        self.mark.version()
     }
 
     /// The number of the records of the lines so far.

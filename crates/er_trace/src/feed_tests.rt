@@ -4,17 +4,18 @@ use crate::fault::FeedFault;
 use crate::feed::Feed;
 use crate::print::print_record;
 use crate::record::Record;
-use er_outside::{MemorySink, put_all};
+use crate::version::Version;
+use er_outside::{MemorySink, WriteFault, put_all};
 use er_text::Cause;
-use std::alloc::Global;
-use std::test::Fail;
+use std::alloc::{AllocError, Global};
 
 /// Texts, the lines of the records that come of each, and the line that is refused.
-const ROWS: [(&str, &str, Option<(u32, Cause)>); 14] = [
+static ROWS: [(&str, &str, Option<(u32, Cause)>); 15] = [
     ("", "", Some((1, Cause::NoEnd))),
     ("webtrace 1", "", Some((1, Cause::NoEnd))),
     ("webtrace 1\n", "", Some((2, Cause::NoEnd))),
-    ("webtrace 2\nend\n", "", Some((1, Cause::BadHeader))),
+    ("webtrace 2\nexec 1\nend\n", "exec 1\n", None),
+    ("webtrace 3\nend\n", "", Some((1, Cause::BadHeader))),
     ("webtrace 1\r\nend\n", "", Some((1, Cause::BadHeader))),
     ("webtrace 1\nend\n", "", None),
     ("webtrace 1\nend", "", Some((2, Cause::NoEnd))),
@@ -47,56 +48,170 @@ const ROWS: [(&str, &str, Option<(u32, Cause)>); 14] = [
     ),
 ];
 
-fn answer_of(refused: Option<(u32, Cause)>) -> Result<(), FeedFault> {
-    match refused {
-        None => Ok(()),
-        Some((line, cause)) => Err(FeedFault::Refused { line, cause }),
-    }
+/// A trace, the lines of its records, and what a feed answers to it.
+#[derive(Clone, Copy)]
+struct Due<'a> {
+    text: &'a [u8],
+    lines: &'a [u8],
+    answer: Result<(), FeedFault>,
 }
 
-/// What a feed answers, and whether the lines of its records are those that were wanted.
-#[derive(Clone, Copy)]
-struct Read {
-    answer: Result<(), FeedFault>,
-    same: bool,
+fn of_row<'a>(text: &'a str, lines: &'a str, refused: Option<(u32, Cause)>) -> Due<'a> {
+    Due {
+        text: text.as_bytes(),
+        lines: lines.as_bytes(),
+        answer: match refused {
+            None => Ok(()),
+            Some((line, cause)) => Err(FeedFault::Refused { line, cause }),
+        },
+    }
 }
 
 /// What comes of the text in two pieces.
-fn read_in_two(alloc: Global, text: &[u8], place: usize, lines: &str) -> Result<Read, Fail> {
+fn feed_in_two(
+    alloc: Global,
+    text: &[u8],
+    place: usize,
+    out: &mut Vec<Record>,
+) -> Result<(), FeedFault> {
     let place = place.min(text.len());
-    let mut out = Vec::new(alloc);
     let mut feed = Feed::new(alloc);
-    let first = feed.feed(&text[..place], &mut out);
-    let second = first.and(feed.feed(&text[place..], &mut out));
-    read_by(alloc, second.and(feed.finish()), out.as_slice(), lines)
+    let first = feed.feed(&text[..place], out);
+    let second = first.and(feed.feed(&text[place..], out));
+    second.and(feed.finish())
 }
 
 /// What comes of the text byte by byte.
-fn read_bytes(alloc: Global, text: &[u8], lines: &str) -> Result<Read, Fail> {
-    let mut out = Vec::new(alloc);
+fn feed_bytes(alloc: Global, text: &[u8], out: &mut Vec<Record>) -> Result<(), FeedFault> {
     let mut feed = Feed::new(alloc);
     let mut answer = Ok(());
     for byte in text {
-        answer = answer.and(feed.feed(&[*byte], &mut out));
+        answer = answer.and(feed.feed(&[*byte], out));
     }
-    read_by(alloc, answer.and(feed.finish()), out.as_slice(), lines)
+    answer.and(feed.finish())
 }
 
-fn read_by(
-    alloc: Global,
-    answer: Result<(), FeedFault>,
-    records: &[Record],
-    lines: &str,
-) -> Result<Read, Fail> {
-    let mut sink = MemorySink::new(alloc, 1000, 1000, Vec::new(alloc)).map_err(|_| "memory")?;
+fn print_lines(records: &[Record], sink: &mut MemorySink) -> Result<(), WriteFault> {
     for rec in records {
-        print_record(rec, &mut sink).map_err(|_| "printed")?;
-        put_all(&mut sink, b"\n").map_err(|_| "printed")?;
+        print_record(rec, sink)?;
+        put_all(sink, b"\n")?;
     }
-    Ok(Read {
-        answer,
-        same: sink.bytes() == lines.as_bytes(),
-    })
+    Ok(())
+}
+
+/// Whether the records are printed as these lines.
+fn are_lines(alloc: Global, records: &[Record], lines: &[u8]) -> bool {
+    match MemorySink::new(alloc, 1000, 1000, Vec::new(alloc)) {
+        Ok(mut sink) => print_lines(records, &mut sink).is_ok() && sink.bytes() == lines,
+        Err(_) => false,
+    }
+}
+
+/// Whether the answer and the records are due, in two pieces.
+fn is_read_in_two(alloc: Global, due: &Due<'_>, place: usize) -> bool {
+    let mut out = Vec::new(alloc);
+    let answer = feed_in_two(alloc, due.text, place, &mut out);
+    answer == due.answer && are_lines(alloc, out.as_slice(), due.lines)
+}
+
+/// Whether the answer and the records are due, byte by byte.
+fn is_read_in_bytes(alloc: Global, due: &Due<'_>) -> bool {
+    let mut out = Vec::new(alloc);
+    let answer = feed_bytes(alloc, due.text, &mut out);
+    answer == due.answer && are_lines(alloc, out.as_slice(), due.lines)
+}
+
+/// The first place at which a cut gives what is not due.
+fn wrong_cut(alloc: Global, due: &Due<'_>) -> Option<usize> {
+    for place in 0..=due.text.len() {
+        if !is_read_in_two(alloc, due, place) {
+            return Some(place);
+        }
+    }
+    None
+}
+
+#[test]
+fn cut_anywhere(rt: HostRuntime) {
+    for (text, lines, refused) in &ROWS {
+        let wrong = wrong_cut(rt.alloc(), &of_row(text, lines, *refused));
+        assert_eq!(rt; wrong, None, "{text}");
+    }
+}
+
+#[test]
+fn byte_by_byte(rt: HostRuntime) {
+    for (text, lines, refused) in &ROWS {
+        let read = is_read_in_bytes(rt.alloc(), &of_row(text, lines, *refused));
+        assert!(rt; read, "{text}");
+    }
+}
+
+fn joined(alloc: Global, parts: &[&[u8]]) -> Result<Vec<u8>, AllocError> {
+    let mut text = Vec::new(alloc);
+    for part in parts {
+        text.extend_from_slice(part)?;
+    }
+    Ok(text)
+}
+
+/// Whether, wherever it is cut, a second line of so many letters is refused for this cause.
+fn is_refused(alloc: Global, letters: usize, end: &[u8], cause: Cause) -> Result<bool, AllocError> {
+    let mut text = joined(alloc, &[b"webtrace 1\n"])?;
+    text.resize(text.len().saturating_add(letters), b'a')?;
+    text.extend_from_slice(end)?;
+    let due = Due {
+        text: text.as_slice(),
+        lines: b"",
+        answer: Err(FeedFault::Refused { line: 2, cause }),
+    };
+    Ok(wrong_cut(alloc, &due).is_none())
+}
+
+#[test]
+fn lines_at_the_limit(rt: HostRuntime) {
+    for (letters, end, cause) in [
+        (1024, "\n", Cause::BadRecord),
+        (1025, "\n", Cause::LongLine),
+        (1024, "", Cause::NoEnd),
+        (1025, "", Cause::LongLine),
+    ] {
+        let refused = is_refused(rt.alloc(), letters, end.as_bytes(), cause);
+        assert!(rt; refused == Ok(true), "{letters}{end}");
+    }
+}
+
+/// Accesses with names of 1, 29, 30 and 31 bytes, on both sides of what lies in place, and one with a byte
+/// that is spelled by digits.
+static NAMES: [&str; 5] = [
+    "w slot 4294967295 x\n",
+    "r var 0 abcdefghijklmnopqrstuvwxyz012\n",
+    "r var 0 abcdefghijklmnopqrstuvwxyz0123\n",
+    "r elem 10 abcdefghijklmnopqrstuvwxyz01234\n",
+    "r elem 10 abcdefghijklmnopqrstu%00\n",
+];
+
+/// Lines behind them, with more bytes than lie in place: a line that few bytes follow is read in another way.
+const LATER: &[u8] = b"w var 1 a\nexec 1\nw var 2 b\nr var 3 c\n";
+
+/// Whether the line comes with those behind it, wherever the text is cut.
+fn is_read(alloc: Global, line: &[u8]) -> Result<bool, AllocError> {
+    let text = joined(alloc, &[b"webtrace 1\n", line, LATER, b"end\n"])?;
+    let lines = joined(alloc, &[line, LATER])?;
+    let due = Due {
+        text: text.as_slice(),
+        lines: lines.as_slice(),
+        answer: Ok(()),
+    };
+    Ok(wrong_cut(alloc, &due).is_none())
+}
+
+#[test]
+fn names_of_any_length(rt: HostRuntime) {
+    for line in &NAMES {
+        let read = is_read(rt.alloc(), line.as_bytes());
+        assert!(rt; read == Ok(true), "{line}");
+    }
 }
 
 /// What one call answers, and how many records it hands on.
@@ -107,83 +222,6 @@ fn fed(alloc: Global, feed: &mut Feed, piece: &str) -> (Result<(), FeedFault>, u
 }
 
 #[test]
-fn cut_anywhere(rt: HostRuntime) -> Result<(), Fail> {
-    for (text, lines, refused) in ROWS {
-        for place in 0..text.len() + 1 {
-            let read = read_in_two(rt.alloc(), text.as_bytes(), place, lines)?;
-            assert_eq!(rt; read.answer, answer_of(refused), "{text} at {place}");
-            assert!(rt; read.same, "{text} at {place}");
-        }
-    }
-    Ok(())
-}
-
-#[test]
-fn byte_by_byte(rt: HostRuntime) -> Result<(), Fail> {
-    for (text, lines, refused) in ROWS {
-        let read = read_bytes(rt.alloc(), text.as_bytes(), lines)?;
-        assert_eq!(rt; read.answer, answer_of(refused), "{text}");
-        assert!(rt; read.same, "{text}");
-    }
-    Ok(())
-}
-
-/// A header, and a line of so many letters.
-fn with_letters(alloc: Global, letters: usize, end: &str) -> Result<Vec<u8>, Fail> {
-    let mut text = Vec::from_slice(alloc, b"webtrace 1\n").map_err(|_| "memory")?;
-    for _ in 0..letters {
-        text.push(b'a').map_err(|_| "memory")?;
-    }
-    text.extend_from_slice(end.as_bytes())
-        .map_err(|_| "memory")?;
-    Ok(text)
-}
-
-#[test]
-fn lines_at_the_limit(rt: HostRuntime) -> Result<(), Fail> {
-    for (letters, end, cause) in [
-        (1024, "\n", Cause::BadRecord),
-        (1025, "\n", Cause::LongLine),
-        (1024, "", Cause::NoEnd),
-        (1025, "", Cause::LongLine),
-    ] {
-        let text = with_letters(rt.alloc(), letters, end)?;
-        let refused = Err(FeedFault::Refused { line: 2, cause });
-        for place in 0..text.len() + 1 {
-            let read = read_in_two(rt.alloc(), text.as_slice(), place, "")?;
-            assert_eq!(rt; read.answer, refused, "{letters} at {place}");
-        }
-    }
-    Ok(())
-}
-
-/// Accesses with names of 1, 21, 22 and 23 bytes, where one that is spelled as itself ends being read at once.
-const NAMES: [&str; 5] = [
-    "w slot 4294967295 x\n",
-    "r var 0 abcdefghijklmnopqrstu\n",
-    "r var 0 abcdefghijklmnopqrstuv\n",
-    "r elem 10 abcdefghijklmnopqrstuvw\n",
-    "r elem 10 abcdefghijklmnopqrstu%00\n",
-];
-
-#[test]
-fn names_of_any_length(rt: HostRuntime) -> Result<(), Fail> {
-    for line in NAMES {
-        let mut text = Vec::from_slice(rt.alloc(), b"webtrace 1\n").map_err(|_| "memory")?;
-        for part in [line, "end\n"] {
-            text.extend_from_slice(part.as_bytes())
-                .map_err(|_| "memory")?;
-        }
-        for place in 0..text.len() + 1 {
-            let read = read_in_two(rt.alloc(), text.as_slice(), place, line)?;
-            assert_eq!(rt; read.answer, Ok(()), "{line} at {place}");
-            assert!(rt; read.same, "{line} at {place}");
-        }
-    }
-    Ok(())
-}
-
-#[test]
 fn refusals_stay(rt: HostRuntime) {
     let mut feed = Feed::new(rt.alloc());
     let refused = Err(FeedFault::Refused {
@@ -191,27 +229,65 @@ fn refusals_stay(rt: HostRuntime) {
         cause: Cause::BadRecord,
     });
     let first = fed(rt.alloc(), &mut feed, "webtrace 1\nexec 1\nexec\nexec 2\n");
-    assert_eq!(rt; first, (refused, 1));
     let later = fed(rt.alloc(), &mut feed, "exec 3\nend\n");
-    assert_eq!(rt; later, (refused, 0));
-    assert_eq!(rt; feed.finish(), refused);
+    let last = feed.finish();
+    assert!(rt; first == (refused, 1));
+    assert!(rt; later == (refused, 0));
+    assert!(rt; last == refused);
+}
+
+/// Pieces, how many records each hands on, how many came by then, and whether the last line has come.
+static MARKS: [(&str, usize, u32, bool); 6] = [
+    ("webtrace 1\nexec 1\nex", 1, 1, false),
+    ("ec 2", 0, 1, false),
+    ("\nen", 1, 2, false),
+    ("d", 0, 2, false),
+    ("\n", 0, 2, true),
+    ("", 0, 2, true),
+];
+
+/// Whether a feed tells these marks.
+fn tells_marks(alloc: Global, feed: &mut Feed) -> bool {
+    let mut tells = true;
+    for (piece, came, records, ended) in &MARKS {
+        let (answer, count) = fed(alloc, feed, piece);
+        tells &= answer.is_ok() & (count == *came);
+        tells &= (feed.records() == *records) & (feed.ended() == *ended);
+    }
+    tells
 }
 
 #[test]
 fn marks(rt: HostRuntime) {
     let mut feed = Feed::new(rt.alloc());
-    for (piece, came, records, ended) in [
-        ("webtrace 1\nexec 1\nex", 1, 1, false),
-        ("ec 2", 0, 1, false),
-        ("\nen", 1, 2, false),
-        ("d", 0, 2, false),
-        ("\n", 0, 2, true),
-        ("", 0, 2, true),
-    ] {
-        let answer = fed(rt.alloc(), &mut feed, piece);
-        assert_eq!(rt; answer, (Ok(()), came), "{piece}");
-        assert_eq!(rt; feed.records(), records, "{piece}");
-        assert_eq!(rt; feed.ended(), ended, "{piece}");
+    let told = tells_marks(rt.alloc(), &mut feed);
+    let last = feed.finish();
+    assert!(rt; told);
+    assert!(rt; last.is_ok());
+}
+
+/// The version that a feed tells after these bytes.
+fn version_of(alloc: Global, bytes: &str) -> Option<Version> {
+    let mut feed = Feed::new(alloc);
+    let _answer = fed(alloc, &mut feed, bytes);
+    feed.version()
+}
+
+/// What comes, and the version that is told.
+static VERSIONS: [(&str, Option<Version>); 7] = [
+    ("", None),
+    ("webtrace 1", None),
+    ("webtrace 1\n", Some(Version::One)),
+    ("webtrace 2\nexec 1\n", Some(Version::Two)),
+    ("webtrace 2\nexec\n", Some(Version::Two)),
+    ("webtrace 2\nend\n", Some(Version::Two)),
+    ("webtrace 3\n", None),
+];
+
+#[test]
+fn versions(rt: HostRuntime) {
+    for (bytes, version) in &VERSIONS {
+        let told = version_of(rt.alloc(), bytes);
+        assert!(rt; told == *version, "{bytes}");
     }
-    assert_eq!(rt; feed.finish(), Ok(()));
 }

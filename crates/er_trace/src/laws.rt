@@ -8,27 +8,29 @@ ghost use Rattle.er_text.specs.declared.causes.Cause.{Cause};
 ghost use Rattle.er_text.specs.declared.causes.Cause.TheVariants.{NoEnd};
 ghost use Rattle.er_trace.specs.declared.record.Record.{Record};
 ghost use Rattle.er_trace.specs.declared.feed.Feed.{Feed};
+ghost use Rattle.er_trace.specs.declared.version.Version.{Version};
 ghost use Rattle.er_trace.specs.Feed.{StandsFor, IsGoing};
 ghost use Rattle.er_trace.specs.Spelling.{spelling, IsRecord};
-ghost use Rattle.er_trace.specs.Trace.{Place, line_number, records_before, bytes_before, text, IsPlace, IsTrace, Refuses};
+ghost use Rattle.er_trace.specs.Trace.{Place, line_number, version_before, records_before, bytes_before, text, IsPlace, IsTrace, Refuses};
 
 /// One spelling has one record.
 pub fn one_record()
     ensures { (x y : Record) → IsRecord x → IsRecord y → spelling x ≡ spelling y → x ≡ y }
 {}
 
-/// One text has one list of records, however many they are.
+/// One text has one version and one list of records, however many they are.
 pub fn one_trace()
-    ensures { (a b : List Record) → AllByRecursion IsRecord a → AllByRecursion IsRecord b → text a ≡ text b → a ≡ b }
+    ensures { (v w : Version) (a b : List Record) → AllByRecursion IsRecord a → AllByRecursion IsRecord b → text v a ≡ text w b → (v ≡ w) × (a ≡ b) }
 {}
 
-/// Bytes are refused at one line, for one cause, with the same records before it. The text of a
+/// Bytes are refused at one line, for one cause, with the same version and records before it. The text of a
 /// trace is not refused.
 pub fn one_cause()
     ensures line { (bytes : List ℕ) (p q : Place) (c d : Cause) → Refuses bytes p c → Refuses bytes q d → line_number p ≡ line_number q }
+    ensures version { (bytes : List ℕ) (p q : Place) (c d : Cause) → Refuses bytes p c → Refuses bytes q d → version_before p ≡ version_before q }
     ensures before { (bytes : List ℕ) (p q : Place) (c d : Cause) → Refuses bytes p c → Refuses bytes q d → records_before p ≡ records_before q }
     ensures cause { (bytes : List ℕ) (p q : Place) (c d : Cause) → Refuses bytes p c → Refuses bytes q d → c ≡ d }
-    ensures never { (records : List Record) (p : Place) (c : Cause) → IsTrace records → ¬ Refuses (text records) p c }
+    ensures never { (v : Version) (records : List Record) (p : Place) (c : Cause) → IsTrace records → ¬ Refuses (text v records) p c }
 {}
 
 /// The number of a line is one more than that of the LFs before it.

@@ -21,3 +21,4 @@ pub mod sharing;
 #[cfg(test)]
 mod tests;
 pub mod trace;
+pub mod version;

@@ -13,10 +13,9 @@ use crate::mark::Mark;
 use crate::parse::parse_record;
 use crate::record::Record;
 use crate::trace::MOST_LINE_BYTES;
+use crate::version::version_of;
 use er_text::{Cause, take_line};
 use std::alloc::Global;
-
-const HEADER: &str = "webtrace 1";
 
 const END: &str = "end";
 
@@ -65,25 +64,24 @@ pub fn read_line(
         → (n ≡ number_at mark) × IsBadLine mark line.now c × (out.new.items ≡ out.old.items) }
     ensures no_memory { result ≡ Err FeedFault.NoMemory → out.new.items ≡ out.old.items }
 {
-    let Mark::After(records) = mark else {
-        return if is_word(line, HEADER) {
-            Ok(Mark::After(0))
-        } else {
-            Err(FeedFault::Refused {
+    let Mark::After(version, records) = mark else {
+        return match version_of(line) {
+            Some(version) => Ok(Mark::After(version, 0)),
+            None => Err(FeedFault::Refused {
                 line: 1,
                 cause: Cause::BadHeader,
-            })
+            }),
         };
     };
     if is_word(line, END) {
-        return Ok(Mark::Ended(records));
+        return Ok(Mark::Ended(version, records));
     }
     match parse_record(alloc, line) {
         Ok(found) => {
             let Ok(()) = out.push(found) else {
                 return Err(FeedFault::NoMemory);
             };
-            Ok(Mark::After(records + 1))
+            Ok(Mark::After(version, records + 1))
         }
         Err(LineFault::BadRecord) => Err(FeedFault::Refused {
             line: records + 2,

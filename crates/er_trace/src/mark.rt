@@ -1,18 +1,19 @@
 //! Where a line begins.
 
 ghost use Rattle.std.specs.Prelude.{◌≡◌, ◌+◌, ◌≤◌, IfSome, IfNone};
-ghost use Rattle.er_trace.specs.Marks.{number_at, records_at, IsOpen, IsClosed};
+ghost use Rattle.er_trace.specs.Marks.{number_at, records_at, version_at, IsOpen, IsClosed};
 
 use crate::trace::MOST_LINES;
+use crate::version::Version;
 use er_text::Cause;
 
-/// Where a line begins: at the start, behind the header and so many records, or behind the `end`
-/// line.
+/// Where a line begins: at the start, behind the header of a version and so many records, or behind
+/// the `end` line.
 #[derive(Clone, Copy, Debug, PartialEq, Eq)]
 pub enum Mark {
     Start,
-    After(u32),
-    Ended(u32),
+    After(Version, u32),
+    Ended(Version, u32),
 }
 
 impl Mark {
@@ -25,8 +26,8 @@ impl Mark {
     {
         match self {
             Mark::Start => 1,
-            Mark::After(records) => records + 2,
-            Mark::Ended(records) => records + 3,
+            Mark::After(_, records) => records + 2,
+            Mark::Ended(_, records) => records + 3,
         }
     }
 
@@ -36,8 +37,19 @@ impl Mark {
     {
         match self {
             Mark::Start => 0,
-            Mark::After(records) => records,
-            Mark::Ended(records) => records,
+            Mark::After(_, records) => records,
+            Mark::Ended(_, records) => records,
+        }
+    }
+
+    /// The version that the first line gave.
+    pub fn version(self) -> Option<Version>
+        ensures { result ≡ version_at self }
+    {
+        match self {
+            Mark::Start => None,
+            Mark::After(version, _) => Some(version),
+            Mark::Ended(version, _) => Some(version),
         }
     }
 
@@ -48,14 +60,14 @@ impl Mark {
     {
         match self {
             Mark::Start => None,
-            Mark::After(records) => {
+            Mark::After(_, records) => {
                 if records > MOST_LINES - 2 {
                     Some(Cause::TooManyLines)
                 } else {
                     None
                 }
             }
-            Mark::Ended(_) => Some(Cause::AfterEnd),
+            Mark::Ended(_, _) => Some(Cause::AfterEnd),
         }
     }
 }

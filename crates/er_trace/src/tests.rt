@@ -5,12 +5,11 @@ use crate::name::Name;
 use crate::parse::parse_record;
 use crate::print::{print_loc, print_record};
 use crate::record::{Kind, Loc, Mode, Record};
-use er_outside::MemorySink;
+use er_outside::{Failed, MemorySink};
 use std::alloc::Global;
-use std::test::Fail;
 
 /// Each form, and each kind of element and location.
-const RECORDS: [&str; 32] = [
+static RECORDS: [&str; 32] = [
     "parse 0 1 plain",
     "parse 0 1 inline",
     "parse 0 1 sync",
@@ -46,7 +45,7 @@ const RECORDS: [&str; 32] = [
 ];
 
 /// Lines that are no record.
-const OTHERS: [&str; 28] = [
+static OTHERS: [&str; 28] = [
     "",
     " ",
     "end",
@@ -77,43 +76,84 @@ const OTHERS: [&str; 28] = [
     "w elem 0",
 ];
 
-/// Whether the line is a record, whose copy is printed as that line.
-fn prints_back(alloc: Global, line: &str) -> Result<bool, Fail> {
-    let found = parse_record(alloc, line.as_bytes()).map_err(|_| "a record")?;
-    let copied = found.copy().map_err(|_| "memory")?;
-    let mut sink = MemorySink::new(alloc, 100, 3, Vec::new(alloc)).map_err(|_| "memory")?;
-    print_record(&copied, &mut sink).map_err(|_| "printed")?;
-    Ok(sink.bytes() == line.as_bytes())
+/// Lets the record go. The proof of that is long, and a caller that goes through this needs none of its own.
+fn let_go(_rec: Record) {}
+
+fn let_go_of_location(_loc: Loc) {}
+
+/// Whether this was printed, and no byte more.
+fn is_written(printed: Result<(), Failed>, sink: &MemorySink, wanted: &str) -> bool {
+    printed.is_ok() && sink.bytes() == wanted.as_bytes()
+}
+
+/// Whether the record is printed as this line.
+fn is_printed(alloc: Global, rec: &Record, line: &str) -> bool {
+    match MemorySink::new(alloc, 100, 3, Vec::new(alloc)) {
+        Ok(mut sink) => is_written(print_record(rec, &mut sink), &sink, line),
+        Err(_) => false,
+    }
+}
+
+/// Whether a copy of the record is printed as this line.
+fn is_copied(alloc: Global, rec: &Record, line: &str) -> bool {
+    match rec.copy() {
+        Ok(copied) => {
+            let same = is_printed(alloc, &copied, line);
+            let_go(copied);
+            same
+        }
+        Err(_) => false,
+    }
+}
+
+/// Whether the line is a record, for which the test holds.
+fn is_record<Test: Fn(&Record) -> bool>(alloc: Global, line: &str, test: Test) -> bool
+    requires { Test.IsAlwaysCallable test }
+{
+    match parse_record(alloc, line.as_bytes()) {
+        Ok(rec) => {
+            let holds = test(&rec);
+            let_go(rec);
+            holds
+        }
+        Err(_) => false,
+    }
 }
 
 fn is_refused(alloc: Global, line: &str) -> bool {
-    let answer = parse_record(alloc, line.as_bytes());
-    matches!(answer, Err(LineFault::BadRecord))
+    match parse_record(alloc, line.as_bytes()) {
+        Ok(rec) => {
+            let_go(rec);
+            false
+        }
+        Err(fault) => fault == LineFault::BadRecord,
+    }
 }
 
 #[test]
-fn records(rt: HostRuntime) -> Result<(), Fail> {
-    for line in RECORDS {
-        assert!(rt; prints_back(rt.alloc(), line)?, "{line}");
+fn records(rt: HostRuntime) {
+    for line in &RECORDS {
+        let alloc = rt.alloc();
+        let same = is_record(alloc, line, |rec| is_copied(alloc, rec, line));
+        assert!(rt; same, "{line}");
     }
-    Ok(())
 }
 
 #[test]
 fn other_lines(rt: HostRuntime) {
-    for line in OTHERS {
+    for line in &OTHERS {
         assert!(rt; is_refused(rt.alloc(), line), "{line}");
     }
 }
 
-/// The name, where the record writes variable 5.
-fn written_name(rec: &Record) -> Option<&Name> {
-    match rec {
-        Record::Access {
-            mode: Mode::W,
-            loc: Loc::Var(5, name),
-        } => Some(name),
-        _ => None,
+/// Whether the record writes a variable of this object, of this name.
+fn writes(rec: &Record, wanted: u32, bytes: &[u8]) -> bool {
+    let Record::Access { mode, loc } = rec else {
+        return false;
+    };
+    match loc {
+        Loc::Var(object, name) => *mode == Mode::W && *object == wanted && name.bytes() == bytes,
+        _ => false,
     }
 }
 
@@ -128,47 +168,56 @@ fn is_made(rec: &Record) -> bool {
     )
 }
 
-fn reads_fields(alloc: Global) -> Result<bool, Fail> {
-    let made = parse_record(alloc, b"parse 3 4 defer").map_err(|_| "made")?;
-    let access = parse_record(alloc, b"w var 5 a%0A").map_err(|_| "access")?;
-    let named = written_name(&access).is_some_and(|name| name.bytes() == b"a\n".as_slice());
-    Ok(named && is_made(&made))
+#[test]
+fn fields(rt: HostRuntime) {
+    assert!(rt; is_record(rt.alloc(), "parse 3 4 defer", is_made));
+    assert!(rt; is_record(rt.alloc(), "w var 5 a%0A", |rec| writes(rec, 5, b"a\n")));
+}
+
+/// Whether the name and a copy have these bytes.
+fn has_bytes(name: &Name, bytes: &[u8]) -> bool {
+    match name.copy() {
+        Ok(copied) => name.bytes() == bytes && copied.bytes() == bytes,
+        Err(_) => false,
+    }
 }
 
 #[test]
-fn fields(rt: HostRuntime) -> Result<(), Fail> {
-    assert!(rt; reads_fields(rt.alloc())?);
-    Ok(())
+fn names(rt: HostRuntime) {
+    let named = Name::new(rt.alloc(), b"n").is_ok_and(|name| has_bytes(&name, b"n"));
+    assert!(rt; named);
 }
 
-#[test]
-fn names(rt: HostRuntime) -> Result<(), Fail> {
-    let named = Name::new(rt.alloc(), b"n").map_err(|_| "memory")?;
-    assert_eq!(rt; named.bytes(), b"n".as_slice());
-    let again = named.copy().map_err(|_| "memory")?;
-    assert_eq!(rt; again.bytes(), b"n".as_slice());
-    Ok(())
-}
-
-/// How the location of an access is printed, after it was copied.
-fn location_of(alloc: Global, line: &str, wanted: &str) -> Result<bool, Fail> {
-    let access = parse_record(alloc, line.as_bytes()).map_err(|_| "access")?;
-    let Record::Access { loc, .. } = &access else {
-        return Err("an access".into());
+/// Whether the record is an access, and a copy of its location is printed so.
+fn is_at(alloc: Global, rec: &Record, wanted: &str) -> bool {
+    let Record::Access { loc, .. } = rec else {
+        return false;
     };
-    let copied = loc.copy().map_err(|_| "memory")?;
-    let mut sink = MemorySink::new(alloc, 100, 3, Vec::new(alloc)).map_err(|_| "memory")?;
-    print_loc(&copied, &mut sink).map_err(|_| "printed")?;
-    Ok(sink.bytes() == wanted.as_bytes())
+    match loc.copy() {
+        Ok(copied) => {
+            let same = is_printed_location(alloc, &copied, wanted);
+            let_go_of_location(copied);
+            same
+        }
+        Err(_) => false,
+    }
+}
+
+fn is_printed_location(alloc: Global, loc: &Loc, wanted: &str) -> bool {
+    match MemorySink::new(alloc, 100, 3, Vec::new(alloc)) {
+        Ok(mut sink) => is_written(print_loc(loc, &mut sink), &sink, wanted),
+        Err(_) => false,
+    }
 }
 
 #[test]
-fn locations(rt: HostRuntime) -> Result<(), Fail> {
+fn locations(rt: HostRuntime) {
     for (line, wanted) in [
         ("w elem 0 a%20b", "elem 0 a%20b"),
         ("r slot 7 onclick", "slot 7 onclick"),
     ] {
-        assert!(rt; location_of(rt.alloc(), line, wanted)?, "{line}");
+        let alloc = rt.alloc();
+        let same = is_record(alloc, line, |rec| is_at(alloc, rec, wanted));
+        assert!(rt; same, "{line}");
     }
-    Ok(())
 }

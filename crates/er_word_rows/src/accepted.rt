@@ -1,7 +1,7 @@
 //! Words that are accepted, and what they ask for.
 
 use crate::reading::read;
-use er_words::Command;
+use er_words::{Asked, Command};
 use std::test::Fail;
 
 static CHECKS: [(&str, bool); 6] = [
@@ -22,11 +22,32 @@ static NUMBERS: [(&str, u32); 6] = [
     ("gen --number 1500", 1500),
 ];
 
+static RACES: [(&str, u32); 4] = [
+    ("schedule --race 1", 1),
+    ("--race 7 schedule", 7),
+    ("schedule --race=42", 42),
+    ("schedule --race 262144", 262_144),
+];
+
+static PAIRS: [(&str, u32, u32); 4] = [
+    ("explain --from 0 --to 3", 0, 3),
+    ("--to 3 explain --from 12", 12, 3),
+    ("explain --from=2 --to=2", 2, 2),
+    ("explain --from 4294967295 --to 0", 4_294_967_295, 0),
+];
+
+static SHARDS: [(&str, u32); 4] = [
+    ("--shards 1", 1),
+    ("check --shards 64", 64),
+    ("--shards 8 gen --number 5", 8),
+    ("schedule --race 1 --shards 3", 3),
+];
+
 #[test]
 fn checks(rt: HostRuntime) -> Result<(), Fail> {
     for (line, json) in &CHECKS {
-        let command = read(rt.alloc(), line)?;
-        assert_eq!(rt; command, Ok(Command::Check { json: *json }));
+        let command = Command::Check { json: *json };
+        assert_eq!(rt; read(rt.alloc(), line)?, Ok(Asked { command, shards: 1 }));
     }
     Ok(())
 }
@@ -34,8 +55,38 @@ fn checks(rt: HostRuntime) -> Result<(), Fail> {
 #[test]
 fn numbers(rt: HostRuntime) -> Result<(), Fail> {
     for (line, number) in &NUMBERS {
-        let command = read(rt.alloc(), line)?;
-        assert_eq!(rt; command, Ok(Command::Gen { number: *number }));
+        let command = Command::Gen { number: *number };
+        assert_eq!(rt; read(rt.alloc(), line)?, Ok(Asked { command, shards: 1 }));
+    }
+    Ok(())
+}
+
+#[test]
+fn races(rt: HostRuntime) -> Result<(), Fail> {
+    for (line, race) in &RACES {
+        let command = Command::Schedule { race: *race };
+        assert_eq!(rt; read(rt.alloc(), line)?, Ok(Asked { command, shards: 1 }));
+    }
+    Ok(())
+}
+
+#[test]
+fn pairs(rt: HostRuntime) -> Result<(), Fail> {
+    for (line, from, to) in &PAIRS {
+        let command = Command::Explain {
+            from: *from,
+            to: *to,
+        };
+        assert_eq!(rt; read(rt.alloc(), line)?, Ok(Asked { command, shards: 1 }));
+    }
+    Ok(())
+}
+
+#[test]
+fn shards(rt: HostRuntime) -> Result<(), Fail> {
+    for (line, shards) in &SHARDS {
+        let asked = read(rt.alloc(), line)?;
+        assert!(rt; matches!(asked, Ok(Asked { shards: found, .. }) if found == *shards));
     }
     Ok(())
 }

@@ -1,10 +1,10 @@
 //! Reads a line of words, as a shell cuts it.
 
-use er_words::{Command, WordsFault, read_words};
+use er_words::{Asked, WordsFault, read_words};
 use std::alloc::{AllocError, Global};
 
 /// What the words of a line come to, which stand with a space between.
-pub(crate) fn read(alloc: Global, line: &str) -> Result<Result<Command, WordsFault>, AllocError> {
+pub(crate) fn read(alloc: Global, line: &str) -> Result<Result<Asked, WordsFault>, AllocError> {
     let mut words = Vec::new(alloc);
     for word in line.split_whitespace() {
         words.push(String::from_str(alloc, word)?)?;

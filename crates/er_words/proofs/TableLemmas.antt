@@ -1,26 +1,49 @@
 -- The table of modes has one command for what is given.
-use Rattle.std.proofs.Common.{◌≡◌, ◌∙◌, ◌∷◌, arith, ap, sym, ℕ, Bool, List, Option, Some, None, codes}
+use Rattle.std.proofs.Common.{◌≡◌, ◌∙◌, ◌∷◌, arith, ap, sym, ℕ, List, Option, Some, None, codes}
 use Rattle.std.proofs.lemmas.Fmt.{decimal_injective}
+use Rattle.er_text.specs.Number.{IsNumber}
 use Rattle.clap.specs.Words.{Text, matches_of}
-use Rattle.er_words.specs.Words.{Asks, HasNumber, IsCommand, mode_word, number_word, syntax, wants_json}
+use Rattle.er_words.specs.Words.{Asks, AreOptions, Given, Has, HasShards, IsNumberGiven, IsRaceGiven, given_in, mode_of, syntax}
+use Rattle.er_words.specs.declared.commands.Asked.{Asked}
 use Rattle.er_words.specs.declared.commands.Command.{Command}
-use Rattle.er_words.specs.declared.commands.Command.TheVariants.{Check, Gen}
+use Rattle.er_words.specs.declared.commands.Command.TheVariants.{Check, Gen, Schedule, Explain}
 
-one_number : (number : Option Text) (m n : ℕ) → HasNumber number m → HasNumber number n → m ≡ n
+-- a word is one number
+
+one_value : (word : Text) (m n : ℕ) → IsNumber word m → IsNumber word n → m ≡ n
+one_value word m n first second = decimal_injective m n (omega arith) (omega arith) (sym first.1 ∙ second.1)
+
+one_number : (word : Option Text) (m n : ℕ) → Has IsNumberGiven word m → Has IsNumberGiven word n → m ≡ n
 one_number None m n first second = elim first [ ]
-one_number (Some word) m n first second = decimal_injective m n (omega arith) (omega arith) (sym first.0.1 ∙ second.0.1)
+one_number (Some word) m n first second = one_value word m n first.0 second.0
 
--- the two modes have other words
-apart : (mode : Text) → mode ≡ codes "check" → mode ≡ codes "gen" → ⊥
-apart mode check gen = cc
+one_race : (word : Option Text) (m n : ℕ) → Has IsRaceGiven word m → Has IsRaceGiven word n → m ≡ n
+one_race None m n first second = elim first [ ]
+one_race (Some word) m n first second = one_value word m n first.0 second.0
 
-one_row : (mode : Text) (number : Option Text) (json : Bool) (c d : Command) → IsCommand mode number json c → IsCommand mode number json d → c ≡ d
-one_row mode number json (Check a) (Check b) first second = ap (λ asked. Check asked) (sym first.2 ∙ second.2)
-one_row mode number json (Check a) (Gen n) first second = absurd (apart mode first.0 second.0)
-one_row mode number json (Gen n) (Check a) first second = absurd (apart mode second.0 first.0)
-one_row mode number json (Gen m) (Gen n) first second = ap (λ k. Gen k) (one_number number m n first.1 second.1)
+one_action : (word : Option Text) (m n : ℕ) → Has IsNumber word m → Has IsNumber word n → m ≡ n
+one_action None m n first second = elim first [ ]
+one_action (Some word) m n first second = one_value word m n first second
 
-pub one_command : (words : List Text) (c d : Command) → Asks words c → Asks words d → c ≡ d
+one_split : (word : Option Text) (m n : ℕ) → HasShards word m → HasShards word n → m ≡ n
+one_split None m n first second = first ∙ sym second
+one_split (Some word) m n first second = one_value word m n first.0 second.0
+
+-- a mode has one command
+
+one_row : (g : Given) (c d : Command) → mode_of c ≡ mode_of d → AreOptions g c → AreOptions g d → c ≡ d
+one_row g (Check a) (Check b) mode first second = ap (λ asked. Check asked) (ap (λ (x : Given). x.json) (sym first ∙ second))
+one_row g (Gen m) (Gen n) mode first second = ap (λ k. Gen k) (one_number g.number m n first.0 second.0)
+one_row g (Schedule m) (Schedule n) mode first second = ap (λ k. Schedule k) (one_race g.race m n first.0 second.0)
+one_row g (Explain i j) (Explain m n) mode first second =
+    ap (λ k. Explain k j) (one_action g.from i m first.0 second.0) ∙ ap (λ k. Explain m k) (one_action g.to j n first.1 second.1)
+one_row g c d mode first second = absurd (cc)
+
+pub one_command : (words : List Text) (c d : Asked) → Asks words c → Asks words d → c ≡ d
 one_command words c d first second =
     let rows = matches_of syntax (codes "er_cli" ∷ words) in
-    one_row (mode_word rows) (number_word rows) (wants_json rows) c d first.1 second.1
+    let command = one_row (given_in rows) c.command d.command (sym first.1.0.0 ∙ second.1.0.0) first.1.0.1 second.1.0.1 in
+    let shards = one_split (given_in rows).shards c.shards d.shards first.1.1 second.1.1 in
+    let with_command : Command → Asked = λ k. record { command = k; shards = c.shards } in
+    let with_shards : ℕ → Asked = λ n. record { command = d.command; shards = n } in
+    ap with_command command ∙ ap with_shards shards

@@ -7,13 +7,16 @@ use Rattle.clap.specs.Words.{App, Row, Rule, Text, fault_of, first_of, matches_o
 use Rattle.clap.specs.declared.builder.action.ArgAction.TheVariants.{SetTrue}
 use Rattle.er_text.specs.Number.{IsNumber}
 use Rattle.er_gen.specs.Generated.{most_rounds}
+use Rattle.er_words.specs.declared.commands.Asked.{Asked}
 use Rattle.er_words.specs.declared.commands.Command.{Command}
-use Rattle.er_words.specs.declared.commands.Command.TheVariants.{Check, Gen}
+use Rattle.er_words.specs.declared.commands.Command.TheVariants.{Check, Gen, Schedule, Explain}
+use Rattle.er_words.specs.declared.modes.Options.{Options}
 
 -- ---- the words, as clap reads them
 
-abbrev pub number_option : Rule
-number_option = record (new_rule (codes "number")) { long = Some (codes "number") }
+-- an option with a value
+abbrev pub value_option : Text → Rule
+value_option name = record (new_rule name) { long = Some name }
 
 abbrev pub json_flag : Rule
 json_flag = record (new_rule (codes "json")) { long = Some (codes "json"); action = Some SetTrue }
@@ -21,17 +24,19 @@ json_flag = record (new_rule (codes "json")) { long = Some (codes "json"); actio
 abbrev pub with_mode : App
 with_mode = with_rule (new_app (codes "er_cli")) (new_rule (codes "mode"))
 
--- one simple command: a word for the mode, --number with a value, and the flag --json
+abbrev pub with_counts : App
+with_counts = with_rule (with_rule with_mode (value_option (codes "shards"))) (value_option (codes "number"))
+
+abbrev pub with_places : App
+with_places = with_rule (with_rule (with_rule with_counts (value_option (codes "race"))) (value_option (codes "from"))) (value_option (codes "to"))
+
+-- one simple command: a word for the mode, the options of all modes with a value, and the flag --json
 abbrev pub syntax : App
-syntax = with_rule (with_rule with_mode number_option) json_flag
+syntax = with_rule with_places json_flag
 
 -- the word for the mode; where there is none, check
 abbrev pub mode_word : List Row → Text
 mode_word rows = unwrap_or (first_of (codes "mode") rows) (codes "check")
-
--- the value of --number, where it is given
-abbrev pub number_word : List Row → Option Text
-number_word = first_of (codes "number")
 
 -- the text of a flag says that it is given
 abbrev pub is_set : Option Text → Bool
@@ -41,9 +46,39 @@ is_set text = option_map_or (bytes_eq (codes "true")) text false
 abbrev pub wants_json : List Row → Bool
 wants_json rows = is_set (one_of (codes "json") rows)
 
+-- what is given of the options: the value of each, and whether --json is
+pub record Given : Type 0 where
+  pub number : Option Text
+  pub race : Option Text
+  pub from : Option Text
+  pub to : Option Text
+  pub shards : Option Text
+  pub json : Bool
+
+abbrev pub given_in : List Row → Given
+given_in rows = record {
+  number = first_of (codes "number") rows;
+  race = first_of (codes "race") rows;
+  from = first_of (codes "from") rows;
+  to = first_of (codes "to") rows;
+  shards = first_of (codes "shards") rows;
+  json = wants_json rows;
+}
+
 -- the text behind a reference, where there is one
 abbrev pub text_of : Option (Bor Text) → Option Text
 text_of = option_map (λ text. text.now)
+
+-- the same of what was read
+abbrev pub given_of : Options → Given
+given_of o = record {
+  number = text_of o.number;
+  race = text_of o.race;
+  from = text_of o.from;
+  to = text_of o.to;
+  shards = text_of o.shards;
+  json = o.json;
+}
 
 -- ---- the table of modes
 
@@ -51,24 +86,60 @@ text_of = option_map (λ text. text.now)
 abbrev pub IsNumberGiven : Text → ℕ → Type 0
 IsNumberGiven word n = IsNumber word n × (1 ≤ n) × (n ≤ most_rounds)
 
-abbrev pub HasNumber : Option Text → ℕ → Type 0
-HasNumber None n = ⊥
-HasNumber (Some word) n = IsNumberGiven word n
+-- the greatest number that a race can have
+abbrev pub last_race : ℕ
+last_race = 262144
 
--- --json belongs to check; --number belongs to gen, and gen requires it
-abbrev pub IsCommand : Text → Option Text → Bool → Command → Type 0
-IsCommand mode number json (Check asked) = (mode ≡ codes "check") × (number ≡ None) × (json ≡ asked)
-IsCommand mode number json (Gen n) = (mode ≡ codes "gen") × HasNumber number n × (json ≡ false)
+abbrev pub IsRaceGiven : Text → ℕ → Type 0
+IsRaceGiven word n = IsNumber word n × (1 ≤ n) × (n ≤ last_race)
+
+-- the most shards
+abbrev pub most_shards : ℕ
+most_shards = 64
+
+abbrev pub IsShardsGiven : Text → ℕ → Type 0
+IsShardsGiven word n = IsNumber word n × (1 ≤ n) × (n ≤ most_shards)
+
+-- the option is given, with a value that is this number
+abbrev pub Has : (Text → ℕ → Type 0) → Option Text → ℕ → Type 0
+Has IsValue None n = ⊥
+Has IsValue (Some word) n = IsValue word n
+
+-- where --shards is not given, there is one shard
+abbrev pub HasShards : Option Text → ℕ → Type 0
+HasShards None n = n ≡ 1
+HasShards (Some word) n = IsShardsGiven word n
+
+-- no option is given
+abbrev pub nothing : Given
+nothing = record { number = None; race = None; from = None; to = None; shards = None; json = false }
+
+-- the word for the mode of a command
+abbrev pub mode_of : Command → Text
+mode_of (Check json) = codes "check"
+mode_of (Gen n) = codes "gen"
+mode_of (Schedule k) = codes "schedule"
+mode_of (Explain i j) = codes "explain"
+
+-- no options are given but those that belong to the mode, and those that it requires are
+abbrev pub AreOptions : Given → Command → Type 0
+AreOptions g (Check asked) = g ≡ record nothing { shards = g.shards; json = asked }
+AreOptions g (Gen n) = Has IsNumberGiven g.number n × (g ≡ record nothing { shards = g.shards; number = g.number })
+AreOptions g (Schedule k) = Has IsRaceGiven g.race k × (g ≡ record nothing { shards = g.shards; race = g.race })
+AreOptions g (Explain i j) = Has IsNumber g.from i × Has IsNumber g.to j × (g ≡ record nothing { from = g.from; to = g.to })
+
+abbrev pub IsCommand : Text → Given → Command → Type 0
+IsCommand mode g c = (mode ≡ mode_of c) × AreOptions g c
 
 -- ---- what the words come to
 
-abbrev pub IsAsked : List Row → Command → Type 0
-IsAsked rows = IsCommand (mode_word rows) (number_word rows) (wants_json rows)
+abbrev pub IsAsked : List Row → Asked → Type 0
+IsAsked rows asked = IsCommand (mode_word rows) (given_in rows) asked.command × HasShards (given_in rows).shards asked.shards
 
--- clap finds no fault in the line, and its matches ask for the command
-abbrev pub AsksBy : List Text → Command → Type 0
-AsksBy line c = (fault_of syntax line ≡ []) × IsAsked (matches_of syntax line) c
+-- clap finds no fault in the line, and its matches ask for the command, in so many shards
+abbrev pub AsksBy : List Text → Asked → Type 0
+AsksBy line asked = (fault_of syntax line ≡ []) × IsAsked (matches_of syntax line) asked
 
 -- the words behind the program's name ask for the command; words that ask for none are refused
-abbrev pub Asks : List Text → Command → Type 0
+abbrev pub Asks : List Text → Asked → Type 0
 Asks words = AsksBy (codes "er_cli" ∷ words)

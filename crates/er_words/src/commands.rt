@@ -7,6 +7,17 @@ pub enum Command {
     Check { json: bool },
     /// The counts of the generated trace of this number.
     Gen { number: u32 },
+    /// Two orders of the actions for the race of this number, from 1.
+    Schedule { race: u32 },
+    /// Why a path leads from one action to another.
+    Explain { from: u32, to: u32 },
+}
+
+/// What the words ask for, and into how many shards its work is split.
+#[derive(Clone, Copy, Debug, PartialEq, Eq)]
+pub struct Asked {
+    pub command: Command,
+    pub shards: u32,
 }
 
 /// Why the words give no command.

@@ -4,10 +4,10 @@
 ghost use Rattle.std.specs.Prelude.{◌≡◌, ℕ, List};
 ghost use Rattle.er_words.specs.Words.{Asks};
 
-use crate::commands::Command;
+use crate::commands::Asked;
 
 /// No words ask for two commands.
 #[tactic(auto, using(crate::proofs::TableLemmas::one_command))]
 pub fn one_command()
-    ensures { (words : List (List ℕ)) (c d : Command) → Asks words c → Asks words d → c ≡ d }
+    ensures { (words : List (List ℕ)) (c d : Asked) → Asks words c → Asks words d → c ≡ d }
 {}

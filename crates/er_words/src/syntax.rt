@@ -2,7 +2,7 @@
 
 ghost use Rattle.std.specs.Prelude.{◌≡◌, IfOk, false};
 ghost use Rattle.clap.specs.Words.{app_of, rule_of};
-ghost use Rattle.er_words.specs.Words.{syntax, json_flag, number_option};
+ghost use Rattle.er_words.specs.Words.{syntax, with_counts, json_flag, value_option};
 
 use clap::{Arg, ArgAction, Command};
 use std::alloc::{AllocError, Global};
@@ -11,20 +11,32 @@ use std::alloc::{AllocError, Global};
 pub(crate) fn syntax<'a>(alloc: Global) -> Result<Command<'a>, AllocError>
     ensures { IfOk result (λ c. app_of c ≡ syntax) }
 {
-    let mode = Arg::new(alloc, "mode");
-    let number = number_option(alloc);
+    let race = value_option(alloc, "race");
+    let from = value_option(alloc, "from");
+    let to = value_option(alloc, "to");
     let json = json_flag(alloc);
-    Command::new(alloc, "er_cli")
-        .arg(mode)?
-        .arg(number)?
-        .arg(json)
+    with_counts(alloc)?.arg(race)?.arg(from)?.arg(to)?.arg(json)
 }
 
-fn number_option<'a>(alloc: Global) -> Arg<'a>
-    ensures rule { rule_of result ≡ number_option }
+/// The same without the options that name a place in the trace.
+fn with_counts<'a>(alloc: Global) -> Result<Command<'a>, AllocError>
+    ensures { IfOk result (λ c. app_of c ≡ with_counts) }
+{
+    let mode = Arg::new(alloc, "mode");
+    let shards = value_option(alloc, "shards");
+    let number = value_option(alloc, "number");
+    Command::new(alloc, "er_cli")
+        .arg(mode)?
+        .arg(shards)?
+        .arg(number)
+}
+
+/// An option with a value.
+fn value_option<'a>(alloc: Global, name: &'a str) -> Arg<'a>
+    ensures rule { rule_of result ≡ value_option name.entry.now }
     ensures local { result.global ≡ false }
 {
-    Arg::new(alloc, "number").long("number")
+    Arg::new(alloc, name).long(name)
 }
 
 fn json_flag<'a>(alloc: Global) -> Arg<'a>

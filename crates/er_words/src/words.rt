@@ -1,21 +1,21 @@
 //! From the words that a user gives to what they ask for.
 
 ghost use Rattle.std.specs.Prelude.{◌≡◌, ◌⊎◌, ◌∷◌, IfOk, Err, Ok, codes, map, string_bytes};
-ghost use Rattle.clap.specs.Words.{found_of, rows_of};
-ghost use Rattle.er_words.specs.Words.{Asks, AsksBy, IsAsked, text_of};
-ghost use Rattle.er_words.specs.Words.{mode_word, number_word, wants_json};
+ghost use Rattle.clap.specs.Words.{first_of, found_of, rows_of};
+ghost use Rattle.er_words.specs.Words.{Asks, AsksBy, IsAsked, given_in, given_of, text_of};
+ghost use Rattle.er_words.specs.Words.{mode_word, wants_json};
 
-use crate::commands::{Command, WordsFault};
-use crate::modes::command_of;
+use crate::commands::{Asked, WordsFault};
+use crate::modes::{Options, command_of, shards_of};
 use crate::syntax::syntax;
 use clap::ArgMatches;
 use clap::error::ErrorKind;
 use std::alloc::{AllocError, Global};
 
 /// What the words behind the program's own name ask for.
-pub fn read_words(alloc: Global, words: &[String]) -> Result<Command, WordsFault>
+pub fn read_words(alloc: Global, words: &[String]) -> Result<Asked, WordsFault>
     ensures asked { IfOk result (Asks (map string_bytes words.now)) }
-    ensures exact { (c : Command) → Asks (map string_bytes words.now) c
+    ensures exact { (c : Asked) → Asks (map string_bytes words.now) c
         → (result ≡ Ok c) ⊎ (result ≡ Err WordsFault.NoMemory) }
 {
     let Ok(line) = line_of(alloc, words) else {
@@ -38,9 +38,9 @@ fn line_of<'a>(alloc: Global, words: &'a [String]) -> Result<Vec<&'a str>, Alloc
 }
 
 /// What a line asks for.
-fn read_line<'a>(alloc: Global, line: &'a [&'a str]) -> Result<Command, WordsFault>
+fn read_line<'a>(alloc: Global, line: &'a [&'a str]) -> Result<Asked, WordsFault>
     ensures asked { IfOk result (AsksBy (map (λ w. w.now) line.entry.now)) }
-    ensures exact { (c : Command) → AsksBy (map (λ w. w.now) line.entry.now) c
+    ensures exact { (c : Asked) → AsksBy (map (λ w. w.now) line.entry.now) c
         → (result ≡ Ok c) ⊎ (result ≡ Err WordsFault.NoMemory) }
 {
     let Ok(syntax) = syntax(alloc) else {
@@ -59,14 +59,15 @@ fn read_line<'a>(alloc: Global, line: &'a [&'a str]) -> Result<Command, WordsFau
 }
 
 /// What the matches ask for.
-fn found(matches: &ArgMatches) -> Result<Command, WordsFault>
+fn found(matches: &ArgMatches) -> Result<Asked, WordsFault>
     ensures asked { IfOk result (IsAsked (rows_of (found_of matches.now))) }
-    ensures exact { (c : Command) → IsAsked (rows_of (found_of matches.now)) c → result ≡ Ok c }
+    ensures exact { (c : Asked) → IsAsked (rows_of (found_of matches.now)) c → result ≡ Ok c }
 {
     let mode = mode_given(matches);
-    let number = number_given(matches);
-    let json = json_given(matches);
-    command_of(mode, number, json)
+    let options = options_given(matches);
+    let command = command_of(mode, options)?;
+    let shards = shards_of(options.shards)?;
+    Ok(Asked { command, shards })
 }
 
 /// The word for the mode. Where there is none, it is `check`.
@@ -77,12 +78,26 @@ fn mode_given<'a>(matches: &ArgMatches<'a>) -> &'a str
     matches.get_str("mode").unwrap_or("check")
 }
 
-/// The value of `--number`, where it is given.
-#[tactic(auto, using(crate::proofs::FoundLemmas::option_read))]
-fn number_given<'a>(matches: &ArgMatches<'a>) -> Option<&'a str>
-    ensures { text_of result ≡ number_word (rows_of (found_of matches.now)) }
+/// What is given of the options.
+fn options_given<'a>(matches: &ArgMatches<'a>) -> Options<'a>
+    ensures { given_of result ≡ given_in (rows_of (found_of matches.now)) }
 {
-    matches.get_str("number")
+    Options {
+        number: value_given(matches, "number"),
+        race: value_given(matches, "race"),
+        from: value_given(matches, "from"),
+        to: value_given(matches, "to"),
+        shards: value_given(matches, "shards"),
+        json: json_given(matches),
+    }
+}
+
+/// The value of an option, where it is given.
+#[tactic(auto, using(crate::proofs::FoundLemmas::option_read))]
+fn value_given<'a>(matches: &ArgMatches<'a>, name: &str) -> Option<&'a str>
+    ensures { text_of result ≡ first_of name.now (rows_of (found_of matches.now)) }
+{
+    matches.get_str(name)
 }
 
 /// Whether `--json` is given.

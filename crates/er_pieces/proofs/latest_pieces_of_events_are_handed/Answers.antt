@@ -1,5 +1,6 @@
 use Rattle.er_pieces.proofs.HandsDispatch.{dispatch_hands_sources}
-use Rattle.er_pieces.proofs.HandsTimer.{hands_timer, hands_request}
+use Rattle.er_pieces.proofs.AnyTimersLemmas.{hands_timer}
+use Rattle.er_pieces.proofs.HandsTimer.{hands_request}
 use Rattle.er_pieces.proofs.latest_pieces_of_events_are_handed.Goals as goal
 
 pub returns-clause-dispatches : goal.returns-clause-dispatches

@@ -1,8 +1,11 @@
-use Rattle.er_pieces.proofs.TogetherLemmas.{sound_lists_are_steady, handed_stay_enough, handed_are_below}
+use Rattle.er_pieces.proofs.TogetherLemmas.{sound_lists_are_steady, all_hand, handed_stay_enough, handed_are_below}
 use Rattle.er_pieces.proofs.six_groups_together_are_enough.Goals as goal
 
 pub returns-clause-steady : goal.returns-clause-steady
 returns-clause-steady c = sound_lists_are_steady
+
+pub returns-clause-handed : goal.returns-clause-handed
+returns-clause-handed c = all_hand
 
 pub returns-clause-enough : goal.returns-clause-enough
 returns-clause-enough c = handed_stay_enough

@@ -1,5 +1,6 @@
 use Rattle.std.proofs.Common.{subst}
 use Rattle.er_names.specs.Names.{HasRank}
+use Rattle.er_names.proofs.FoundLemmas.{note_keeps}
 use Rattle.er_names.proofs.NamesLemmas.{timeouts_more}
 use Rattle.er_names.proofs.RankLemmas.{ranked_more}
 use Rattle.er_names.proofs.made.note_timeout.Goals as goal
@@ -15,3 +16,6 @@ returns-clause-ranked c = λ h stands now.
     let rank = subst (HasRank c.timeout_in-pair.result) c.len.ensures.len c.timeout_in-pair.ensures.ranked in
     ranked_more _ _ c.timeout_in-pair.result h c.args.rec.now now.running_action _ _ c.note_pair.ensures.found c.note_pair.ensures.longer c.note_pair.ensures.counted
     stands given rank now.runs
+
+pub returns-clause-kept : goal.returns-clause-kept
+returns-clause-kept c = note_keeps _ _ c.timeout_in-pair.result c.note_pair.ensures.found

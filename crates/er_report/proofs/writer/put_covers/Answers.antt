@@ -1,7 +1,8 @@
 use Rattle.std.proofs.Common.{◌<◌, length, refl, rules, ◌∙◌}
 use Rattle.er_report.specs.Report.{cover_line}
-use Rattle.er_report.proofs.BufferedLemmas.{holds_start}
-use Rattle.er_report.proofs.ReportLemmas.{line_held, line_part, name_at}
+use Rattle.er_buffer.proofs.BufferedLemmas.{holds_start}
+use Rattle.er_buffer.proofs.SequenceLemmas.{line_held, line_part}
+use Rattle.er_report.proofs.ReportLemmas.{name_at}
 use Rattle.er_report.proofs.writer.put_covers.Goals as goal
 
 pub loop-k-init : goal.loop-k-init

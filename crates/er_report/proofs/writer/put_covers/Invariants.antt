@@ -1,6 +1,7 @@
 use Rattle.std.proofs.Common.{◌≡◌, ◌++◌, take}
-use Rattle.er_report.specs.Buffered.{HoldsRest}
-use Rattle.er_report.specs.Report.{lines_from, cover_line}
+use Rattle.er_buffer.specs.Buffered.{HoldsRest}
+use Rattle.er_buffer.specs.Lines.{lines_from}
+use Rattle.er_report.specs.Report.{cover_line}
 use Rattle.er_report.proofs.writer.put_covers.Given as goal
 
 -- the lines of the races so far came, or are held

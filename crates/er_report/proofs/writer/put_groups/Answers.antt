@@ -1,8 +1,9 @@
 use Rattle.std.proofs.Common.{◌≡◌, ◌<◌, ◌≤◌, length, arith, refl, rules, sym, ◌∙◌}
 use Rattle.std.specs.List.{zip}
 use Rattle.er_report.specs.Report.{group_line}
-use Rattle.er_report.proofs.BufferedLemmas.{holds_start}
-use Rattle.er_report.proofs.ReportLemmas.{all_lines, group_at, groups_long, line_held, line_part}
+use Rattle.er_buffer.proofs.BufferedLemmas.{holds_start}
+use Rattle.er_buffer.proofs.SequenceLemmas.{all_lines, line_held, line_part}
+use Rattle.er_report.proofs.ReportLemmas.{group_at, groups_long}
 use Rattle.er_report.proofs.writer.put_groups.Goals as goal
 
 pub loop-g-init : goal.loop-g-init

@@ -3,4 +3,4 @@ use Rattle.er_hand.proofs.HandingLemmas.{made_events}
 use Rattle.er_rules_timer.proofs.fired.hand_earlier.Goals as goal
 
 pub hand_latest-requires : goal.hand_latest-requires
-hand_latest-requires c = record { events = made_events c.args.page.now (fires_timeout c.args.earlier) c.timer_event.result c.requires.some c.timer_event.ensures }
+hand_latest-requires c = record { events = made_events c.args.page.now (fires_timeout c.args.earlier.timeout) c.timer_event.result c.requires.some c.timer_event.ensures }

@@ -1,22 +1,21 @@
-use Rattle.std.proofs.Math.Logic.{∥∥₁_elim}
+use Rattle.std.proofs.Math.Logic.{∥∥₁_elim, ∥∥₁_map}
 use Rattle.std.proofs.Props.{props}
-use Rattle.er_page.specs.Page.{IsPage, IsSomePage}
-use Rattle.er_pieces.specs.Counts.{most_timer}
-use Rattle.er_pieces.specs.HandedPieces.{timer_handed}
-use Rattle.er_pieces.proofs.ContractLemmas.{few_by, kept_by}
-use Rattle.er_pieces.proofs.CountLaws.{timer_hands_at_most}
-use Rattle.er_rules_timer.proofs.TimersLemmas.{enough_timers, source_timers}
+use Rattle.er_rules_timer.specs.Timed.{IsTimed, IsSomeTimed}
+use Rattle.er_rules_timer.proofs.TimersLemmas.{enough_timers, source_timers, few_timers, kept_timers}
 use Rattle.er_rules_timer.proofs.predecessors.predecessors.Goals as goal
 
 pub returns-clause-enough : goal.returns-clause-enough
-returns-clause-enough c = enough_timers (IsPage c.args.page.now) c.args.rec.now c.args.out.now.items c.hand.new.out.items c.hand.result c.hand.ensures.exact
+returns-clause-enough c = enough_timers c.args.version (IsTimed c.args.version c.args.page.now c.args.clocks.now) c.args.rec.now c.args.out.now.items c.hand.new.out.items c.hand.result c.hand.ensures.exact
 
 pub returns-clause-sources : goal.returns-clause-sources
-returns-clause-sources c = source_timers (IsPage c.args.page.now) c.args.rec.now c.args.out.now.items c.hand.new.out.items c.hand.result c.hand.ensures.front
+returns-clause-sources c = source_timers c.args.version (IsTimed c.args.version c.args.page.now c.args.clocks.now) c.args.rec.now c.args.out.now.items c.hand.new.out.items c.hand.result c.hand.ensures.front
 
 pub returns-clause-few : goal.returns-clause-few
-returns-clause-few c = few_by (IsPage c.args.page.now) timer_handed most_timer timer_hands_at_most c.hand.result c.args.rec.now c.args.out.now.items c.hand.new.out.items c.hand.ensures.exact c.hand.ensures.front
+returns-clause-few c = few_timers c.args.version (IsTimed c.args.version c.args.page.now c.args.clocks.now) c.args.rec.now c.args.out.now.items c.hand.new.out.items c.hand.result c.hand.ensures.exact c.hand.ensures.front
 
 pub returns-clause-kept : goal.returns-clause-kept
-returns-clause-kept c = ∥∥₁_elim c.requires.some (hlevel props) (λ (is : IsSomePage c.args.page.now).
-    kept_by (IsPage c.args.page.now) timer_handed c.hand.result c.args.rec.now c.args.out.now.items c.hand.new.out.items c.hand.ensures.exact c.hand.ensures.front is.list is.stands)
+returns-clause-kept c = ∥∥₁_elim c.requires.timed (hlevel props) (λ (is : IsSomeTimed c.args.version c.args.page.now c.args.clocks.now).
+    kept_timers c.args.version (IsTimed c.args.version c.args.page.now c.args.clocks.now) c.args.rec.now c.args.out.now.items c.hand.new.out.items c.hand.result c.hand.ensures.exact c.hand.ensures.front is.list is.stands)
+
+pub hand-requires : goal.hand-requires
+hand-requires c = record { some = ∥∥₁_map c.requires.timed (λ (is : IsSomeTimed c.args.version c.args.page.now c.args.clocks.now). record { list = is.list; stands = is.stands.page }) }

@@ -1,28 +1,29 @@
 use Rattle.std.proofs.Common.{◌≡◌, Some, refl, subst, reverse, arith}
 use Rattle.std.proofs.lemmas.List.{length-reverse}
 use Rattle.er_trace.specs.declared.fault.FeedFault.TheVariants as faults
+use Rattle.er_run.specs.Legal.{end_cause_for}
 use Rattle.er_run.specs.Accepted.{IsEndFault}
 use Rattle.er_run.proofs.AcceptLemmas.{refused_line, refused_end}
 use Rattle.er_run.proofs.ReadingLemmas.{as_refused}
 use Rattle.er_run.proofs.accept.first_refusal.Goals as goal
 
 pub returns-then-refusal-session-clause-refused : goal.returns-then-refusal-session-clause-refused
-returns-then-refusal-session-clause-refused c = λ n cause is bytes records stands reading.
+returns-then-refusal-session-clause-refused g c = λ n cause is bytes records stands reading.
     let count = stands.count in
     let up_to = c.if-refusal-session.true in
-    as_refused bytes c.args.refusal c.of_line.result n cause c.of_line.ensures is
-    (refused_line bytes records (Some c.args.refusal) c.args.refusal reading refl stands.legal (λ behind. absurd (omega (arith, behind, up_to, count, length-reverse records))))
+    as_refused c.args.asked.command bytes c.args.refusal c.of_line.result n cause c.of_line.ensures is
+    (refused_line c.args.asked.command c.args.session.now.graph.version bytes records (Some c.args.refusal) c.args.refusal reading refl stands.legal (λ behind. absurd (omega (arith, behind, up_to, count, length-reverse records))))
 
 pub returns-in-Err-clause-refused : goal.returns-in-Err-clause-refused
-returns-in-Err-clause-refused c = λ n cause is bytes records stands reading.
+returns-in-Err-clause-refused g c = λ n cause is bytes records stands reading.
     let fault : c.in-Err.fault ≡ faults.Refused n cause = c.of_end.ensures.refused n cause is in
-    let limit = subst (IsEndFault (reverse records)) fault (c.in-Err.ensures.refused (reverse records) stands) in
+    let limit = subst (IsEndFault (end_cause_for c.args.asked.command c.args.session.now.graph.version (reverse records)) (reverse records)) fault (c.in-Err.ensures.refused (reverse records) stands) in
     let count = stands.count in
     let past = c.if-refusal-session.false in
-    refused_end bytes records (Some c.args.refusal) n cause reading (omega (arith, past, count, length-reverse records)) stands.legal (omega (arith, limit.0, length-reverse records)) limit.1
+    refused_end c.args.asked.command c.args.session.now.graph.version bytes records (Some c.args.refusal) n cause reading (omega (arith, past, count, length-reverse records)) stands.legal (omega (arith, limit.0, length-reverse records)) limit.1
 
 pub returns-clause-refused : goal.returns-clause-refused
-returns-clause-refused c = λ n cause is bytes records stands reading.
-    let judged = c.in_default.ensures.judged (reverse records) stands in
-    as_refused bytes c.args.refusal c.of_line-2.result n cause c.of_line-2.ensures is
-    (refused_line bytes records (Some c.args.refusal) c.args.refusal reading refl stands.legal (λ behind. judged.within))
+returns-clause-refused g c = λ n cause is bytes records stands reading.
+    let judged = c.in_default.ensures.found (reverse records) stands in
+    as_refused c.args.asked.command bytes c.args.refusal c.of_line-2.result n cause c.of_line-2.ensures is
+    (refused_line c.args.asked.command c.args.session.now.graph.version bytes records (Some c.args.refusal) c.args.refusal reading refl stands.legal (λ behind. judged.within))

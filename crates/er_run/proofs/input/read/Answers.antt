@@ -1,12 +1,12 @@
 use Rattle.std.proofs.Common.{[], ◌++◌, refl, ◌∙◌, arith, length-append}
 use Rattle.er_outside.proofs.Puts.{gives_again, gives_nothing}
-use Rattle.er_run.proofs.ReadingLemmas.{going_short, undecided}
+use Rattle.er_run.proofs.ReadingLemmas.{none_begins, none_spelled, going_short, undecided}
 use Rattle.er_run.proofs.input.read.Goals as goal
 
 pub loop-turn-init : goal.loop-turn-init
 loop-turn-init g c = record {
-  here = record { bytes = []; records = []; at = record { fed = c.new-feed.ensures.stands; stands = c.in-Ok.ensures } };
-  ahead = λ trace e. absurd (cc);
+  here = record { bytes = []; records = []; at = record { fed = c.new-feed.ensures.stands; stands = c.in-Ok.ensures.stands; by = λ v begins. none_begins v begins.0 begins.1 } };
+  ahead = λ trace e. none_spelled e.0 [] e.1;
   gave = gives_nothing (g.S.Source.left c.args.source.now);
   going = c.new-feed.ensures.going;
   long = omega arith;
@@ -33,7 +33,7 @@ returns-in-Ok-Ended-clause-read g c =
     record {
       bytes = i.here.bytes;
       left = g.S.Source.left c.loop-turn.source;
-      before = record { gave = i.gave; fresh = undecided c.loop-turn.feed c.loop-turn.session i.here.bytes i.here.records i.here.at i.going i.ahead };
+      before = record { gave = i.gave; fresh = λ asked. undecided asked c.loop-turn.feed c.loop-turn.session i.here.bytes i.here.records i.here.at i.going i.ahead };
       ends = c.in-Ok-Ended.ensures.ended c.in-Ok-Ended.refused (cc) i.here.bytes i.here.records i.here.at;
     }
 
@@ -43,7 +43,7 @@ returns-in-Err-clause-refused g c = λ n cause is.
     record {
       bytes = i.here.bytes;
       left = g.S.Source.left c.loop-turn.source;
-      before = record { gave = i.gave; fresh = undecided c.loop-turn.feed c.loop-turn.session i.here.bytes i.here.records i.here.at i.going i.ahead };
+      before = record { gave = i.gave; fresh = λ asked. undecided asked c.loop-turn.feed c.loop-turn.session i.here.bytes i.here.records i.here.at i.going i.ahead };
       refused = c.in-Err.ensures.refused n cause (cc) i.here.bytes i.here.records i.here.at;
     }
 

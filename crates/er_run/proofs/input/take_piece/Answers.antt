@@ -1,5 +1,6 @@
 use Rattle.std.proofs.Common.{◌++◌, reverse}
-use Rattle.er_run.proofs.ReadingLemmas.{on_by, room_by, final_by}
+use Rattle.er_run.proofs.ReadingLemmas.{on_by, room_by, final_by, IsGiven, by_given, begun_by}
+use Rattle.er_run.specs.Session.{begun}
 use Rattle.er_run.proofs.input.take_piece.Goals as goal
 
 pub judge_all-requires : goal.judge_all-requires
@@ -7,19 +8,21 @@ judge_all-requires c =
     let here = c.requires.at in
     let fed = rw c.clear.ensures.items at (c.feed.ensures.fed (λ e. cc) c.requires.bytes c.requires.records here.fed) in
     record {
-      some = record { list = reverse c.requires.records; stands = here.stands };
+      some = record { list = reverse c.requires.records; stands = here.stands; begins = begun_by c.args.feed.now c.args.session.now c.version.result c.requires.bytes c.args.piece.now c.requires.records here (λ v e. c.version.ensures.given v e (c.requires.bytes ++ c.args.piece.now) (c.requires.records ++ fed.0) fed.1, λ e v. c.version.ensures.none e (c.requires.bytes ++ c.args.piece.now) (c.requires.records ++ fed.0) fed.1 v) };
       room = rw c.as_slice.ensures.value (room_by c.feed.new.self (c.requires.bytes ++ c.args.piece.now) c.requires.records c.feed.new.out.items c.args.session.now.records fed here.stands.count);
     }
 
 pub returns-in_default-clause-on : goal.returns-in_default-clause-on
 returns-in_default-clause-on c = λ bytes records at.
     let fed = rw c.clear.ensures.items at (c.feed.ensures.fed (λ e. cc) bytes records at.fed) in
-    on_by c.feed.new.self c.judge_all.new.session (bytes ++ c.args.piece.now) records c.feed.new.out.items fed (rw c.as_slice.ensures.value at (c.in_default.ensures.taken records at.stands))
+    let given : IsGiven c.version.result (bytes ++ c.args.piece.now) = (λ v e. c.version.ensures.given v e (bytes ++ c.args.piece.now) (records ++ fed.0) fed.1, λ e v. c.version.ensures.none e (bytes ++ c.args.piece.now) (records ++ fed.0) fed.1 v) in
+    on_by c.feed.new.self c.judge_all.new.session (begun c.args.session.now.graph.version c.version.result) (bytes ++ c.args.piece.now) records c.feed.new.out.items fed c.in_default.ensures.version (by_given c.args.session.now.graph.version c.version.result bytes c.args.piece.now given) (rw c.as_slice.ensures.value at (c.in_default.ensures.taken records at.stands (begun_by c.args.feed.now c.args.session.now c.version.result bytes c.args.piece.now records at given)))
 
 pub returns-in-Err-clause-refused : goal.returns-in-Err-clause-refused
 returns-in-Err-clause-refused c = λ bytes records at.
     let fed = rw c.clear.ensures.items at (c.feed.ensures.fed (λ e. cc) bytes records at.fed) in
-    final_by c.feed.new.self (bytes ++ c.args.piece.now) records c.feed.new.out.items c.in-Err.fault fed (rw c.as_slice.ensures.value at (c.in-Err.ensures.refused records at.stands))
+    let given : IsGiven c.version.result (bytes ++ c.args.piece.now) = (λ v e. c.version.ensures.given v e (bytes ++ c.args.piece.now) (records ++ fed.0) fed.1, λ e v. c.version.ensures.none e (bytes ++ c.args.piece.now) (records ++ fed.0) fed.1 v) in
+    final_by (begun c.args.session.now.graph.version c.version.result) c.feed.new.self (bytes ++ c.args.piece.now) records c.feed.new.out.items c.in-Err.fault fed (by_given c.args.session.now.graph.version c.version.result bytes c.args.piece.now given) (rw c.as_slice.ensures.value at (c.in-Err.ensures.refused records at.stands (begun_by c.args.feed.now c.args.session.now c.version.result bytes c.args.piece.now records at given)))
 
 -- a line of the piece is refused
 
@@ -28,18 +31,20 @@ judge_all-requires-in-Err-Refused c =
     let here = c.requires.at in
     let fed = rw c.clear.ensures.items at (c.feed.ensures.fed (λ e. cc) c.requires.bytes c.requires.records here.fed) in
     record {
-      some = record { list = reverse c.requires.records; stands = here.stands };
+      some = record { list = reverse c.requires.records; stands = here.stands; begins = begun_by c.args.feed.now c.args.session.now c.version-in-Err-Refused.result c.requires.bytes c.args.piece.now c.requires.records here (λ v e. c.version-in-Err-Refused.ensures.given v e (c.requires.bytes ++ c.args.piece.now) (c.requires.records ++ fed.0) fed.1, λ e v. c.version-in-Err-Refused.ensures.none e (c.requires.bytes ++ c.args.piece.now) (c.requires.records ++ fed.0) fed.1 v) };
       room = rw c.as_slice-in-Err-Refused.ensures.value (room_by c.feed.new.self (c.requires.bytes ++ c.args.piece.now) c.requires.records c.feed.new.out.items c.args.session.now.records fed here.stands.count);
     }
 
 pub returns-in_default-judge_all-clause-on : goal.returns-in_default-judge_all-clause-on
 returns-in_default-judge_all-clause-on c = λ bytes records at.
     let fed = rw c.clear.ensures.items at (c.feed.ensures.fed (λ e. cc) bytes records at.fed) in
-    on_by c.feed.new.self c.judge_all-in-Err-Refused.new.session (bytes ++ c.args.piece.now) records c.feed.new.out.items fed
-    (rw c.as_slice-in-Err-Refused.ensures.value at (c.in_default-judge_all.ensures.taken records at.stands))
+    let given : IsGiven c.version-in-Err-Refused.result (bytes ++ c.args.piece.now) = (λ v e. c.version-in-Err-Refused.ensures.given v e (bytes ++ c.args.piece.now) (records ++ fed.0) fed.1, λ e v. c.version-in-Err-Refused.ensures.none e (bytes ++ c.args.piece.now) (records ++ fed.0) fed.1 v) in
+    on_by c.feed.new.self c.judge_all-in-Err-Refused.new.session (begun c.args.session.now.graph.version c.version-in-Err-Refused.result) (bytes ++ c.args.piece.now) records c.feed.new.out.items fed c.in_default-judge_all.ensures.version (by_given c.args.session.now.graph.version c.version-in-Err-Refused.result bytes c.args.piece.now given)
+    (rw c.as_slice-in-Err-Refused.ensures.value at (c.in_default-judge_all.ensures.taken records at.stands (begun_by c.args.feed.now c.args.session.now c.version-in-Err-Refused.result bytes c.args.piece.now records at given)))
 
 pub returns-in-Err-judge_all-clause-refused : goal.returns-in-Err-judge_all-clause-refused
 returns-in-Err-judge_all-clause-refused c = λ bytes records at.
     let fed = rw c.clear.ensures.items at (c.feed.ensures.fed (λ e. cc) bytes records at.fed) in
-    final_by c.feed.new.self (bytes ++ c.args.piece.now) records c.feed.new.out.items c.in-Err-judge_all.fault fed
-    (rw c.as_slice-in-Err-Refused.ensures.value at (c.in-Err-judge_all.ensures.refused records at.stands))
+    let given : IsGiven c.version-in-Err-Refused.result (bytes ++ c.args.piece.now) = (λ v e. c.version-in-Err-Refused.ensures.given v e (bytes ++ c.args.piece.now) (records ++ fed.0) fed.1, λ e v. c.version-in-Err-Refused.ensures.none e (bytes ++ c.args.piece.now) (records ++ fed.0) fed.1 v) in
+    final_by (begun c.args.session.now.graph.version c.version-in-Err-Refused.result) c.feed.new.self (bytes ++ c.args.piece.now) records c.feed.new.out.items c.in-Err-judge_all.fault fed (by_given c.args.session.now.graph.version c.version-in-Err-Refused.result bytes c.args.piece.now given)
+    (rw c.as_slice-in-Err-Refused.ensures.value at (c.in-Err-judge_all.ensures.refused records at.stands (begun_by c.args.feed.now c.args.session.now c.version-in-Err-Refused.result bytes c.args.piece.now records at given)))

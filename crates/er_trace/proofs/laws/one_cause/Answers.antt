@@ -6,7 +6,8 @@ use Rattle.er_trace.proofs.laws.one_cause.Goals as goal
 pub returns : goal.returns
 returns c = record {
   line = λ bytes p q c d first second. (one_refusal bytes p q c d first second).number;
+  version = λ bytes p q c d first second. (one_refusal bytes p q c d first second).version;
   before = λ bytes p q c d first second. (one_refusal bytes p q c d first second).before;
   cause = λ bytes p q c d first second. (one_refusal bytes p q c d first second).cause;
-  never = λ records p c is h. trace_not_refused (text records) records p c is refl h;
+  never = λ v records p c is h. trace_not_refused (text v records) v records p c is refl h;
 }

@@ -1,4 +1,4 @@
-use Rattle.std.proofs.Common.{refl, ◌≡◌, subst, sym, true, List, []}
+use Rattle.std.proofs.Common.{refl, inl, ◌≡◌, subst, sym, true, List, []}
 use Rattle.std.proofs.lemmas.Result.{IfOk-weaker}
 use Rattle.clap.specs.Words.{App, HasMatchesOf, Text, fault_of, found_of, is_simple_and_free, matches_of, rows_of}
 use Rattle.clap.specs.declared.parser.matches.ArgMatches.{ArgMatches}
@@ -23,3 +23,10 @@ returns-in-Ok-try_get_matches_from-clause-asked c =
     let parsed = c.in-Ok-try_get_matches_from.ensures in
     let rows = same_rows _ _ _ c.in-Ok.ensures parsed.matches in
     IfOk-weaker c.found.result _ _ (λ command h. (no_fault _ _ c.in-Ok.ensures parsed.kinds, rw (← rows) h)) c.found.ensures.asked
+
+pub returns-in-Ok-try_get_matches_from-clause-exact :
+    goal.returns-in-Ok-try_get_matches_from-clause-exact
+returns-in-Ok-try_get_matches_from-clause-exact c = λ command asks.
+    let parsed = c.in-Ok-try_get_matches_from.ensures in
+    let rows = same_rows _ _ _ c.in-Ok.ensures parsed.matches in
+    inl (c.found.ensures.exact command (rw rows asks.1))

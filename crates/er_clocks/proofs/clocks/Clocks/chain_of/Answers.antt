@@ -1,6 +1,7 @@
-use Rattle.std.specs.Prelude.{reverse}
-use Rattle.er_clocks.proofs.LookUps.{read_chain}
+use Rattle.std.proofs.Common.{◌∙◌}
+use Rattle.er_clocks.proofs.LookUps.{as_seen, chain_seen}
+use Rattle.er_clocks.proofs.Pushes.{stands_chain}
 use Rattle.er_clocks.proofs.clocks.Clocks.chain_of.Goals as goal
 
 pub returns : goal.returns
-returns c = λ lists stands. read_chain (reverse c.self.inside.links.items) c.self.inside.rows.items c.self.inside.numbers.items c.self.inside.places.items c.self.inside.chains c.self.inside.count c.args.self.now lists c.args.j c.index.result.now c.self.invariant.0 c.self.view_is c.requires c.index.ensures stands
+returns c = λ lists stands. chain_seen c.self.inside c.args.self.now c.args.j c.index.result.now (as_seen c.self.inside c.args.self.now c.self.invariant c.self.view_is) c.requires c.index.ensures ∙ stands_chain c.args.self.now lists c.args.j stands

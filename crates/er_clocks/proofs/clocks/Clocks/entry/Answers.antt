@@ -1,7 +1,6 @@
 use Rattle.std.proofs.Common.{◌∙◌}
-use Rattle.std.specs.Prelude.{reverse}
-use Rattle.er_clocks.proofs.LookUps.{read_entry}
+use Rattle.er_clocks.proofs.Pushes.{stands_entry}
 use Rattle.er_clocks.proofs.clocks.Clocks.entry.Goals as goal
 
 pub returns : goal.returns
-returns c = λ lists stands. c.at.ensures ∙ read_entry (reverse c.self.inside.links.items) c.self.inside.rows.items c.self.inside.numbers.items c.self.inside.places.items c.self.inside.chains c.self.inside.count c.args.self.now lists c.args.j c.args.chain c.index.result.now c.self.invariant.0 c.self.view_is c.requires c.index.ensures stands
+returns c = λ lists stands. c.own_entry.ensures ∙ stands_entry c.args.self.now lists c.args.j c.args.chain stands

@@ -1,19 +1,18 @@
-use Rattle.std.proofs.Common.{◌≡◌, ◌-◌, ◌<◌, ℕ, length, get_or, sym, arith}
-use Rattle.std.proofs.lemmas.Bool.{eqb-true}
+use Rattle.std.proofs.Common.{[], ◌-◌, ◌<◌, ◌∙◌, ℕ, length, get_or, sym, arith}
 use Rattle.std.proofs.lemmas.Bool.Decides.{nat_tests}
 use Rattle.std.proofs.lemmas.List.Elements.{All-get_or}
-use Rattle.er_clocks.proofs.LookUps.{read_twins}
+use Rattle.er_clocks.proofs.LookUps.{as_seen, links_seen, stands_itself}
 use Rattle.er_clocks.proofs.clocks.Clocks.has_twin.Goals as goal
 
 pub returns : goal.returns
 returns c = λ e.
-    let was = c.self.inside in
+    let s = as_seen c.self.inside c.args.self.now c.self.invariant c.self.view_is in
+    let itself = stands_itself c.self.inside c.args.self.now s in
     let n : ℕ = length c.args.links.now - 1 in
     let within : n < length c.args.links.now = let z = c.if-count-eq0.false in grind (arith, nat_tests) in
-    let known = All-get_or (λ k. k < length c.args.self.now) c.args.links.now n 0 within c.requires.taken in
-    let last : c.index.result.now ≡ get_or was.twins.items (get_or c.args.links.now n 0) c.index.result.now = c.index.ensures in (
+    let known = All-get_or (λ k. k < length c.args.self.now) c.args.links.now n 0 within c.requires.taken in (
       n,
       within,
-      read_twins was.links.items was.rows.items was.numbers.items was.places.items was.chains was.count was.twins.items c.args.self.now c.args.i (get_or c.args.links.now n 0) c.index-2.result.now c.index.result.now
-          c.self.invariant.0 c.self.invariant.1 c.self.view_is c.requires.known known c.index-2.ensures last (sym (eqb-true c.index.result.now c.index-2.result.now e)),
+      sym (links_seen c.self.inside c.args.self.now c.args.self.now c.args.i s c.requires.known itself) ∙ sym (rw c.from.ensures at c.is_one.ensures e [])
+          ∙ links_seen c.self.inside c.args.self.now c.args.self.now (get_or c.args.links.now n 0) s known itself,
     )

@@ -1,7 +1,12 @@
-use Rattle.std.proofs.Common.{◌∙◌}
-use Rattle.std.specs.Prelude.{reverse}
-use Rattle.er_clocks.proofs.LookUps.{read_joined}
+use Rattle.std.proofs.Common.{◌∙◌, arith}
+use Rattle.er_clocks.proofs.Pushes.{clocks_tell_paths, none_back, none_past}
 use Rattle.er_clocks.proofs.clocks.Clocks.joined.Goals as goal
 
+pub returns-then-i-j : goal.returns-then-i-j
+returns-then-i-j c = λ lists stands. none_back lists c.args.i c.args.j c.if-i-j.true
+
+pub returns-then-j-len : goal.returns-then-j-len
+returns-then-j-len c = λ lists stands. none_past c.args.self.now lists c.args.i c.args.j stands (omega (arith, c.len.ensures, c.if-j-len.true))
+
 pub returns : goal.returns
-returns c = c.covers.ensures ∙ read_joined (reverse c.self.inside.links.items) c.self.inside.rows.items c.self.inside.numbers.items c.self.inside.places.items c.self.inside.chains c.self.inside.count c.args.self.now c.args.i c.args.j c.index.result.now c.self.invariant.0 c.self.view_is c.requires.first c.requires.second c.index.ensures
+returns c = λ lists stands. c.has_path.ensures ∙ (clocks_tell_paths c.args.self.now lists stands).1 c.args.i c.args.j

@@ -1,6 +1,7 @@
-use Rattle.std.specs.Prelude.{reverse}
-use Rattle.er_clocks.proofs.LookUps.{read_place}
+use Rattle.std.proofs.Common.{◌∙◌}
+use Rattle.er_clocks.proofs.LookUps.{as_seen, place_seen}
+use Rattle.er_clocks.proofs.Pushes.{stands_place}
 use Rattle.er_clocks.proofs.clocks.Clocks.place_of.Goals as goal
 
 pub returns : goal.returns
-returns c = λ lists stands. read_place (reverse c.self.inside.links.items) c.self.inside.rows.items c.self.inside.numbers.items c.self.inside.places.items c.self.inside.chains c.self.inside.count c.args.self.now lists c.args.j c.index.result.now c.self.invariant.0 c.self.view_is c.requires c.index.ensures stands
+returns c = λ lists stands. place_seen c.self.inside c.args.self.now c.args.j c.index.result.now (as_seen c.self.inside c.args.self.now c.self.invariant c.self.view_is) c.requires c.index.ensures ∙ stands_place c.args.self.now lists c.args.j stands

@@ -1,5 +1,4 @@
-use Rattle.std.proofs.Common.{◌≡◌, ◌≤◌, ◌<◌, All, length, drop}
-use Rattle.er_links.specs.Chains.{chains}
+use Rattle.std.proofs.Common.{◌≤◌, ◌<◌, All, length, drop}
 use Rattle.er_clocks.specs.Sources.{IsTaken}
 use Rattle.er_clocks.proofs.clocks.Clocks.take_all.Given as goal
 
@@ -7,7 +6,6 @@ use Rattle.er_clocks.proofs.clocks.Clocks.take_all.Given as goal
 abbrev pub invariant-loop-n : goal.invariant-loop-n
 invariant-loop-n l = record {
   within : l.n ≤ length l.sorted;
-  long : length l.row ≡ length (chains l.self);
   known : All (λ k. k < length l.self) l.links.items;
   taken : IsTaken l.self l.row l.links.items (drop l.n l.sorted);
 }

@@ -1,8 +1,10 @@
-use Rattle.er_names.proofs.NamesLemmas.{timer_fires}
+use Rattle.er_names.proofs.FoundLemmas.{are_still_found, timer_is_found}
+use Rattle.er_names.proofs.NamesLemmas.{timer_fires, timer_listed_fires}
 use Rattle.er_names.proofs.names.Names.take.Goals as goal
 
 pub returns : goal.returns
 returns c = λ h stands now. record {
-  tables = c.take.ensures h stands.tables now;
-  fired = c.take-2.ensures h c.args.rec.now stands.fired (timer_fires h c.args.rec.now _ _ stands.tables.timeouts c.timer_in-timer.ensures);
+  tables = c.take.ensures.taken h stands.tables now;
+  fired = c.take-2.ensures.fired h c.args.rec.now stands.fired (timer_listed_fires h c.args.rec.now _ _ stands.tables.timeouts c.timer_in-timer.ensures) (timer_fires h c.args.rec.now _ _ stands.tables.timeouts c.timer_in-timer.ensures);
+  found = are_still_found _ _ c.take-2.new.self c.take.ensures.kept (c.take-2.ensures.found _ stands.found (timer_is_found _ c.args.rec.now _ c.timer_in-timer.ensures));
 }

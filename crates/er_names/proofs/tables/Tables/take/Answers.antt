@@ -1,7 +1,7 @@
 use Rattle.er_names.proofs.tables.Tables.take.Goals as goal
 
-pub returns : goal.returns
-returns c = λ h stands now. record {
+pub returns-clause-taken : goal.returns-clause-taken
+returns-clause-taken c = λ h stands now. record {
   elements = c.note_element.ensures h stands.elements now;
   timeouts = c.note_timeout.ensures.set h stands.timeouts now;
   ranked = c.note_timeout.ensures.ranked h stands.ranked now;

@@ -8,7 +8,7 @@ returns-in-Err-clause-refused c = λ h stands. fault_after c.args.self.now c.acc
 
 pub returns-in_default-rec-clause-taken : goal.returns-in_default-rec-clause-taken
 returns-in_default-rec-clause-taken c = λ h stands.
-    noted c.args.self.now _ h c.args.rec.now (c.args.self.now.records + 2) stands refl c.in_default.ensures.accepted (not_access c.args.rec.now c.in_default-rec.not-Access) refl refl
+    noted c.args.self.now _ h c.args.rec.now (c.args.self.now.records + 2) stands refl c.in_default.ensures.accepted (not_access c.args.rec.now c.in_default-rec.not-Access) c.accept.ensures.version refl refl
 
 pub keep_access-requires : goal.keep_access-requires
 keep_access-requires c =
@@ -17,7 +17,7 @@ keep_access-requires c =
 
 pub returns-in-Ok-clause-taken : goal.returns-in-Ok-clause-taken
 returns-in-Ok-clause-taken c = λ h stands.
-    accessed c.args.self.now _ c.page.result.now h c.args.rec.now c.in-Access.mode c.in-Access.loc (c.args.self.now.records + 2) stands c.in-Access.is refl c.in_default.ensures.accepted c.page.ensures c.in-Ok.ensures.kept refl
+    accessed c.args.self.now _ c.page.result.now h c.args.rec.now c.in-Access.mode c.in-Access.loc (c.args.self.now.records + 2) stands c.in-Access.is refl c.in_default.ensures.accepted c.page.ensures c.in-Ok.ensures.kept c.accept.ensures.version refl
 
 pub returns-in-Err-Full-clause-refused : goal.returns-in-Err-Full-clause-refused
 returns-in-Err-Full-clause-refused c = λ h stands.

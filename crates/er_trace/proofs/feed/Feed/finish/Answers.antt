@@ -5,8 +5,8 @@ use Rattle.er_trace.proofs.StopLaws.{accepted, refused_end, missing, not_missing
 use Rattle.er_trace.proofs.feed.Feed.finish.Goals as goal
 
 pub returns-in-Some-clause-accepts : goal.returns-in-Some-clause-accepts
-returns-in-Some-clause-accepts c = λ records is stands.
-    let at = accepted c.args.self.now.mark c.args.self.now.line.items _ records c.args.self.now.fault is refl stands in
+returns-in-Some-clause-accepts c = λ version records is stands.
+    let at = accepted c.args.self.now.mark c.args.self.now.line.items _ version records c.args.self.now.fault is refl stands in
     let no : None ≡ Some c.in-Some.answered = sym at.0 ∙ c.in-Some.is in
     absurd (cc)
 
@@ -19,7 +19,7 @@ returns-in-Some-clause-refuses c = λ bytes records place cause stands is.
 
 pub returns-in-Ended-clause-refuses : goal.returns-in-Ended-clause-refuses
 returns-in-Ended-clause-refuses c = λ bytes records place cause stands is.
-    absurd (not_missing c.args.self.now.mark c.args.self.now.line.items bytes records c.args.self.now.fault place cause c.in-Ended.field-0 c.in_default.is c.in-Ended.is stands is)
+    absurd (not_missing c.args.self.now.mark c.args.self.now.line.items bytes records c.args.self.now.fault place cause c.in-Ended.field-0 c.in-Ended.field-1 c.in_default.is c.in-Ended.is stands is)
 
 pub returns-in_default-mark-clause-refused : goal.returns-in_default-mark-clause-refused
 returns-in_default-mark-clause-refused c = λ n cause e bytes records stands.
@@ -28,9 +28,9 @@ returns-in_default-mark-clause-refused c = λ n cause e bytes records stands.
     missing c.args.self.now.mark c.args.self.now.line.items bytes records c.args.self.now.fault n cause c.in_default.is c.in_default-mark.not-Ended stands numbered same
 
 pub returns-in_default-mark-clause-accepts : goal.returns-in_default-mark-clause-accepts
-returns-in_default-mark-clause-accepts c = λ records is stands.
-    let at = accepted c.args.self.now.mark c.args.self.now.line.items _ records c.args.self.now.fault is refl stands in
-    absurd (c.in_default-mark.not-Ended (length records) at.1)
+returns-in_default-mark-clause-accepts c = λ version records is stands.
+    let at = accepted c.args.self.now.mark c.args.self.now.line.items _ version records c.args.self.now.fault is refl stands in
+    absurd (c.in_default-mark.not-Ended version (length records) at.1)
 
 pub returns-in_default-mark-clause-refuses : goal.returns-in_default-mark-clause-refuses
 returns-in_default-mark-clause-refuses c = λ bytes records place cause stands is.

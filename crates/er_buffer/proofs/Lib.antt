@@ -1,0 +1,3 @@
+pub mod BufferedLemmas
+pub mod LineLemmas
+pub mod SequenceLemmas

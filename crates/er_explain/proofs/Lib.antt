@@ -1,0 +1,3 @@
+pub mod SourceLemmas
+pub mod StepLemmas
+pub mod TextLemmas

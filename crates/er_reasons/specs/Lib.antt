@@ -1,0 +1,4 @@
+pub mod Shown
+pub mod Read
+pub mod Numbers
+pub mod Words

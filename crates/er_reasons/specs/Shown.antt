@@ -1,0 +1,37 @@
+-- What an event that is read off a page stands for. A timeout is shown by its number: the list says what set it.
+use Rattle.std.specs.Prelude.{List, option_map}
+use Rattle.er_trace.specs.declared.record.Record.{Record}
+use Rattle.er_history.specs.History as history
+use Rattle.er_history.specs.LookUps.{timeout_made}
+use Rattle.er_names.specs.Names.{element_of}
+use Rattle.er_reasons.specs.declared.event.Event.{Event}
+use Rattle.er_reasons.specs.declared.event.Dispatch.{Dispatch}
+use Rattle.er_reasons.specs.declared.event.Delivery.{Delivery}
+use Rattle.er_reasons.specs.declared.event.Delivery.TheVariants.{DclOf, LoadOf, EloadOf, FireAt, InlineAt, WindowFire, ReplyOf}
+use Rattle.er_reasons.specs.declared.event.What.{What}
+use Rattle.er_reasons.specs.declared.event.What.TheVariants.{ParseStep, ScriptRun, TimeoutRun, TickRun, BeginOf, HandlerOf, CloseOf, Unnamed}
+
+abbrev pub delivered : Delivery → history.Delivery
+delivered (DclOf d m) = history.DclOf d m
+delivered (LoadOf d m) = history.LoadOf d m
+delivered (EloadOf e made) = history.EloadOf e (option_map element_of made)
+delivered (FireAt e n m) = history.FireAt e n.now m
+delivered (InlineAt e n m) = history.InlineAt e n.now m
+delivered (WindowFire d n m) = history.WindowFire d n.now m
+delivered (ReplyOf r m) = history.ReplyOf r m
+
+abbrev pub dispatched : Dispatch → history.Dispatch
+dispatched d = record { number = d.number; begin = d.begin; delivers = delivered d.delivers }
+
+abbrev pub what_shown : List Record → What → history.What
+what_shown h (ParseStep d m) = history.ParseStep d m
+what_shown h (ScriptRun e made) = history.ScriptRun e (option_map element_of made)
+what_shown h (TimeoutRun t) = history.TimeoutRun t (timeout_made h t)
+what_shown h (TickRun i m) = history.TickRun i m
+what_shown h (BeginOf d) = history.BeginOf (dispatched d)
+what_shown h (HandlerOf d g x m) = history.HandlerOf (dispatched d) g x m
+what_shown h (CloseOf d) = history.CloseOf (dispatched d)
+what_shown h Unnamed = history.Unnamed
+
+abbrev pub event_shown : List Record → Event → history.Event
+event_shown h e = record { number = e.number; what = what_shown h e.what }

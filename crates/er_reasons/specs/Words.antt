@@ -1,0 +1,56 @@
+-- Parts of the rules: the tests between what two events deliver.
+use Rattle.std.specs.Prelude.{ℕ, Bool, false, not, ◌==◌, ◌&&◌, nat_lt, nat_le, List, Option}
+use Rattle.er_trace.specs.declared.record.Record.{Record}
+use Rattle.er_history.specs.History.{Delivery, LoadOf, EloadOf, FireAt, InlineAt, ReplyOf, What, ScriptRun, CloseOf, Timeout, Event, Action, is_inline}
+use Rattle.er_history.specs.Rules.{of_made, both_made, is_plain, declared, same_bytes}
+
+-- the run of this script
+abbrev pub runs_element : ℕ → What → Bool
+runs_element e (ScriptRun f made) = f == e
+runs_element e _ = false
+
+-- the first load event of a static element that is not plain, and load of its document
+abbrev pub is_static_load_before : Delivery → Delivery → Bool
+is_static_load_before (EloadOf x made) (LoadOf d m) = of_made (λ e. e.is_static && (not (is_plain e) && (e.doc == d))) made
+is_static_load_before _ _ = false
+
+-- load of a document, and the first load event of the frame that declared it
+abbrev pub is_inner_load_before : Delivery → Delivery → Bool
+is_inner_load_before (LoadOf f m) (EloadOf x made) = of_made (λ e. declared e.form f) made
+is_inner_load_before _ _ = false
+
+-- the close of a reply of this request
+abbrev pub closes_reply : ℕ → What → Bool
+closes_reply r (CloseOf p) = of p.delivers
+  where
+    of : Delivery → Bool
+    of (ReplyOf s m) = s == r
+    of _ = false
+closes_reply r _ = false
+
+-- a dispatch of this type at the element
+abbrev pub is_at : ℕ → List ℕ → Delivery → Bool
+is_at e n (FireAt f k m) = (e == f) && same_bytes n k
+is_at e n (InlineAt f k m) = (e == f) && same_bytes n k
+is_at e n _ = false
+
+-- the event that set the timeout
+abbrev pub is_setter : Option Timeout → ℕ → Bool
+is_setter made event = of_made (λ x. x.maker == event) made
+
+-- both timeouts were set by one event, the one before the other with no greater delay
+abbrev pub fires_in_order : Option Timeout → Option Timeout → Bool
+fires_in_order made later = both_made (λ x y. (x.maker == y.maker) && (nat_lt x.place y.place && nat_le x.delay y.delay)) made later
+
+-- the one timeout was set before the other with no greater delay, and a path leads from the piece that set it to that of the other
+abbrev pub fires_behind : (ℕ → ℕ → Bool) → Option Timeout → Option Timeout → Bool
+fires_behind joined made later = both_made (λ x y. nat_lt x.place y.place && (nat_le x.delay y.delay && joined x.piece y.piece)) made later
+
+-- an action of this number, begun by a record, a piece of an event
+abbrev pub piece : ℕ → Record → Event → Action
+piece i x e = record { number = i; begin = x; event = e }
+
+-- the close of the inline dispatch of this number
+abbrev pub closes_inline : ℕ → What → Bool
+closes_inline p (CloseOf d) = is_inline d && (d.number == p)
+closes_inline p _ = false

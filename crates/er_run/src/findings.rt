@@ -1,0 +1,55 @@
+//! What was found of a trace, as it was asked for.
+
+use crate::session::Session;
+use er_cover::Groups;
+use er_explain::Steps;
+use er_races::Race;
+use er_schedule::Schedules;
+
+/// The races of a trace, and their groups.
+#[derive(Drop)]
+pub(crate) struct Listing {
+    pub(crate) races: Vec<Race>,
+    pub(crate) groups: Groups,
+}
+
+/// What was found, for the text that is due.
+#[derive(Drop)]
+pub(crate) enum Found {
+    /// For a line of JSON.
+    Line(Listing),
+    /// For a report.
+    Report(Listing),
+    /// For the summary of the generated trace of this number.
+    Summary {
+        number: u32,
+        listing: Listing,
+    },
+    /// Two orders for the race of this number, from 1.
+    Orders {
+        race: u32,
+        races: Vec<Race>,
+        orders: Schedules,
+    },
+    /// The steps from one action to another.
+    Steps {
+        from: u32,
+        to: u32,
+        steps: Option<Steps>,
+    },
+}
+
+/// What the records of a trace come to, and what was found.
+pub(crate) struct Judged {
+    pub(crate) session: Session,
+    pub(crate) found: Found,
+}
+
+impl Drop for Judged {
+    fn drop(self) {
+        let Judged {
+            session: _,
+            found: _,
+        } = self;
+    }
+}

@@ -1,0 +1,12 @@
+use Rattle.std.proofs.Common.{◌≡◌, ◌++◌, take}
+use Rattle.er_buffer.specs.Buffered.{HoldsRest}
+use Rattle.er_buffer.specs.Lines.{lines_from}
+use Rattle.er_schedule.specs.Text.{order_line}
+use Rattle.er_schedule.proofs.write.put_order.Given as goal
+
+-- the lines of the actions so far came, or are held
+abbrev pub invariant-loop-k : goal.invariant-loop-k
+invariant-loop-k g l = record {
+  came : HoldsRest (g.K.Sink.got l.fn.sink) (l.fn.buffer ++ lines_from (order_line l.word) 1 (take l.k l.order)) (g.K.Sink.got l.sink) l.buffer;
+  stands : g.K.Sink.faults l.sink ≡ g.K.Sink.faults l.fn.sink;
+}

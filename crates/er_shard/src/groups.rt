@@ -1,0 +1,131 @@
+//! The naming of covers, split among shards, each in a thread.
+
+ghost use Rattle.std.specs.Prelude.{◌≡◌, ℕ, ◌+◌, ◌<◌, ◌≤◌, ◌^◌, All, length, OnOk, IfOk, Err};
+ghost use Rattle.std.specs.Thread.{IsSync};
+ghost use Rattle.er_paths.specs.Paths.{joins};
+ghost use Rattle.er_races.specs.Races.{races_of, most_races};
+ghost use Rattle.er_cover.specs.Groups.{most_classes};
+ghost use Rattle.er_cover.specs.Parts.{IsOver, once_of};
+ghost use Rattle.er_cover.specs.Passes.{IsKnown};
+ghost use Rattle.er_cover.specs.Told.{AreFewClasses, AreFewTests, AreGroups, AreTooManyClasses};
+ghost use Rattle.er_shard.specs.Named.{IsNamed};
+
+use crate::Gate;
+use crate::names::{Names, begin, together};
+use er_access::Table;
+use er_clocks::{Clocks, Meter};
+use er_cover::{Classes, CoverFault, Groups, gather, make_classes, name_part};
+use er_races::Race;
+use std::alloc::Global;
+use std::thread::{Threads, join};
+
+/// Groups the races of a table, as `group` of er_cover does, where so many shards name the covers.
+///
+/// Each shard passes the gate before its first comparison.
+pub fn group_shards<R: Threads + Sync, G: Gate + Sync>(
+    rt: &R,
+    alloc: Global,
+    races: &[Race],
+    table: &Table,
+    clocks: &Clocks,
+    shards: u32,
+    gate: &G,
+    tests: &mut Meter,
+) -> Result<Groups, CoverFault>
+    requires some { 1 ≤ shards }
+    requires most { shards ≤ 64 }
+    requires known { All (λ x. x.action < length clocks.now) table.now }
+    requires races { races.now ≡ races_of (joins clocks.now) table.now }
+    requires few { length races.now ≤ most_races }
+    requires room { tests.old < 2 ^ 61 }
+    ensures groups { IfOk result (AreGroups clocks.now table.now) }
+    ensures each { IfOk result (λ v. length v.names ≡ length races.now) }
+    ensures few { OnOk result (AreFewClasses clocks.now table.now) }
+    ensures many { result ≡ Err CoverFault.TooManyClasses → AreTooManyClasses clocks.now table.now }
+    ensures bound { AreFewTests clocks.now table.now tests.old tests.new }
+    ensures rises { tests.old ≤ tests.new }
+{
+    let classes = match make_classes(alloc, races, table, clocks, tests) {
+        Ok(classes) => classes,
+        Err(fault) => return Err(fault),
+    };
+    let all = name_between(rt, alloc, &classes, clocks, shards, 0, shards, gate);
+    let Names { names, meter } = all;
+    tests.absorb(meter);
+    match names {
+        Ok(names) => match gather(alloc, classes, &names) {
+            Ok(groups) => Ok(groups),
+            Err(_) => Err(CoverFault::NoMemory),
+        },
+        Err(_) => Err(CoverFault::NoMemory),
+    }
+}
+
+#[cycle(names)]
+/// What the classes of the shards from `from` on and below `to` name: one alone, or two halves, each in a thread.
+fn name_between<R: Threads + Sync, G: Gate + Sync>(
+    rt: &R,
+    alloc: Global,
+    classes: &Classes,
+    clocks: &Clocks,
+    shards: u32,
+    from: u32,
+    to: u32,
+    gate: &G,
+) -> Names
+    requires some { from < to }
+    requires within { to ≤ shards }
+    requires over { IsOver (joins clocks.now) classes.now }
+    requires known { All (IsKnown (length clocks.now)) classes.now.by_race }
+    requires few { length (once_of classes.now) ≤ most_classes }
+    requires few_groups { length classes.now.groups ≤ most_classes }
+    ensures { IsNamed shards from to (joins clocks.now) classes.now result.names result.meter }
+{
+    if to - from == 1 {
+        return name_one(alloc, classes, clocks, shards, from, gate);
+    }
+    let middle = from + (to - from) / 2;
+    let (left, right) = join(
+        rt,
+        || -> Names
+            requires { IsSync R.row × (from < middle) × (middle ≤ shards)
+                × IsOver (joins clocks.now) classes.now
+                × All (IsKnown (length clocks.now)) classes.now.by_race
+                × (length (once_of classes.now) ≤ most_classes)
+                × (length classes.now.groups ≤ most_classes) }
+            ensures { IsNamed shards from middle (joins clocks.entry.now) classes.entry.now result.names result.meter }
+        { name_between(rt, alloc, classes, clocks, shards, from, middle, gate) },
+        || -> Names
+            requires { IsSync R.row × (middle < to) × (to ≤ shards)
+                × IsOver (joins clocks.now) classes.now
+                × All (IsKnown (length clocks.now)) classes.now.by_race
+                × (length (once_of classes.now) ≤ most_classes)
+                × (length classes.now.groups ≤ most_classes) }
+            ensures { IsNamed shards middle to (joins clocks.entry.now) classes.entry.now result.names result.meter }
+        { name_between(rt, alloc, classes, clocks, shards, middle, to, gate) },
+    );
+    together(left, right)
+}
+
+/// What the classes of one shard name, once it has passed the gate.
+fn name_one<G: Gate>(
+    alloc: Global,
+    classes: &Classes,
+    clocks: &Clocks,
+    shards: u32,
+    shard: u32,
+    gate: &G,
+) -> Names
+    requires within { shard < shards }
+    requires over { IsOver (joins clocks.now) classes.now }
+    requires known { All (IsKnown (length clocks.now)) classes.now.by_race }
+    ensures { IsNamed shards shard (shard + 1) (joins clocks.now) classes.now result.names result.meter }
+{
+    gate.enter(shard);
+    let count = classes.count();
+    let from = begin(count, shards, shard);
+    let to = begin(count, shards, shard + 1);
+    let mut meter = Meter::new();
+    let names = name_part(alloc, classes, clocks, from, to, &mut meter);
+    Names { names, meter }
+}

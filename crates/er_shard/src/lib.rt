@@ -1,0 +1,13 @@
+//! The races among the accesses of a table listed, and their covers named, in threads.
+#![tactic(auto)]
+
+mod gate;
+mod groups;
+mod names;
+mod part;
+mod shards;
+pub mod sharing;
+
+pub use gate::{FreeGate, Gate};
+pub use groups::group_shards;
+pub use shards::list_shards;

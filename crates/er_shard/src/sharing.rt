@@ -1,0 +1,10 @@
+//! Threads may share a gate.
+
+use crate::FreeGate;
+
+fn may_cross_threads<T: Send + Sync>() {}
+
+/// Where the type could not cross threads, this would be refused.
+pub fn types_may_cross_threads() {
+    may_cross_threads::<FreeGate>();
+}
