@@ -1,0 +1,198 @@
+"""Crates side by side, each in a room: a copy of what it stands on, in which rt works.
+
+A check holds the folders of all crates below it until it ends, so in one checkout every other check waits. A room takes next to no space: its files are links to those of the repository, and no check changes those in place.
+"""
+import contextlib
+import fcntl
+import glob
+import os
+import re
+import shutil
+import signal
+import subprocess
+import sys
+import tempfile
+from concurrent.futures import FIRST_COMPLETED, ThreadPoolExecutor, wait
+
+TOP = os.path.dirname(os.path.dirname(os.path.abspath(__file__)))
+SOURCES = ("src", "specs", "proofs")
+# the memory that a check takes at most, as seen
+MEMORY = 2_000_000_000
+# the most jobs that one check gains from
+MOST_JOBS = 4
+
+started = set()
+ends_early = False
+
+
+def read_crates():
+    """The lines of crates.txt by crate, and for each crate those that it stands on, lowest first."""
+    lines, below = {}, {}
+    with open(f"{TOP}/crates.txt", encoding="utf-8") as it:
+        for line in it:
+            line = line.partition("#")[0].strip()
+            if line:
+                lines[line.partition(":")[0].split()[0]] = line
+
+    def stands_on(name):
+        if name not in below:
+            own = [it for it in lines[name].partition(":")[2].split() if it in lines]
+            below[name] = list(dict.fromkeys(low for it in own for low in [*stands_on(it), it]))
+        return below[name]
+
+    for name in lines:
+        stands_on(name)
+    return lines, below
+
+
+def size_of(name):
+    """How many bytes of source the crate has."""
+    files = [file for part in SOURCES for file in glob.glob(f"{TOP}/crates/{name}/{part}/**", recursive=True)]
+    return sum(os.path.getsize(it) for it in files if os.path.isfile(it))
+
+
+def lanes():
+    """How many checks run at once: one a processor, as far as memory reaches."""
+    with open("/proc/meminfo") as it:
+        free = 1024 * int(re.search(r"MemAvailable:\s+(\d+)", it.read())[1])
+    return max(1, min(len(os.sched_getaffinity(0)), free // MEMORY))
+
+
+@contextlib.contextmanager
+def workers(count):
+    """So many threads for calls of rt, which all end where this ends early, as by Ctrl-C."""
+    global ends_early
+    ends = (signal.SIGINT, signal.SIGTERM, signal.SIGHUP)
+    for end in ends[1:]:
+        signal.signal(end, signal.default_int_handler)
+    with ThreadPoolExecutor(count) as pool:
+        try:
+            yield pool
+        except BaseException:
+            for end in ends:
+                signal.signal(end, signal.SIG_IGN)
+            ends_early = True
+            for it in list(started):
+                it.terminate()
+            raise
+
+
+def call_rt(room, folder, *words):
+    """Runs rt in a folder of the room. Gives its status and what it said."""
+    how = {"stdin": subprocess.DEVNULL, "stdout": subprocess.PIPE, "stderr": subprocess.STDOUT, "errors": "replace"}
+    with subprocess.Popen(["rt", *words], cwd=f"{room}/{folder}", env={**os.environ, "TMPDIR": f"{room}/tmp"}, **how) as it:
+        started.add(it)
+        if ends_early:
+            it.terminate()
+        said = it.communicate()[0]
+        started.discard(it)
+        return it.returncode, said
+
+
+def link(source, target):
+    try:
+        os.link(source, target)
+    except OSError:
+        shutil.copy2(source, target)
+
+
+def put_in(room, name, part, to=None):
+    """Puts a folder of the crate into the room, where the crate has it."""
+    source, target = f"{TOP}/crates/{name}/{part}", f"{room}/crates/{name}/{to or part}"
+    if os.path.isdir(source):
+        shutil.copytree(source, target, copy_function=link)
+
+
+@contextlib.contextmanager
+def room_for(lines, names):
+    """A room with these crates and their libraries, which goes at the end. It stands in the last one's out/, where neither git nor rt looks."""
+    out = f"{TOP}/crates/{names[-1]}/out"
+    os.makedirs(out, exist_ok=True)
+    room = tempfile.mkdtemp(prefix="room-", dir=out)
+    try:
+        os.mkdir(f"{room}/tmp")
+        with open(f"{room}/crates.txt", "w", encoding="utf-8") as it:
+            it.writelines(f"{lines[name]}\n" for name in names)
+        for name in names:
+            for part in SOURCES:
+                put_in(room, name, part)
+        for name in names[:-1]:
+            put_in(room, name, "out/rlib")
+        yield room
+    finally:
+        shutil.rmtree(room, ignore_errors=True)
+
+
+def move(source, target):
+    """Moves all that is kept from one folder out/ to another."""
+    os.makedirs(target, exist_ok=True)
+    for name in os.listdir(source):
+        if not name.startswith("room-"):
+            shutil.rmtree(f"{target}/{name}", ignore_errors=True)
+            os.rename(f"{source}/{name}", f"{target}/{name}")
+
+
+@contextlib.contextmanager
+def held(names):
+    """Keeps every other rt out of these crates, as rt itself does, and removes rooms that a killed run left."""
+    with contextlib.ExitStack() as stack:
+        for name in sorted(names):
+            folder = os.open(f"{TOP}/crates/{name}", os.O_RDONLY)
+            stack.callback(os.close, folder)
+            try:
+                fcntl.flock(folder, fcntl.LOCK_EX | fcntl.LOCK_NB)
+            except BlockingIOError:
+                print(f"waiting for another rt to finish in crates/{name}", file=sys.stderr, flush=True)
+                fcntl.flock(folder, fcntl.LOCK_EX)
+            for room in glob.glob(f"{TOP}/crates/{name}/out/room-*"):
+                shutil.rmtree(room, ignore_errors=True)
+        yield
+
+
+def build(name, lines, below, jobs):
+    """Proves and builds a crate in a room. Gives whether it is built, and what rt said."""
+    own = f"{TOP}/crates/{name}/out"
+    with room_for(lines, [*below[name], name]) as room:
+        made = f"{room}/crates/{name}/out"
+        move(own, made)
+        try:
+            if os.path.isfile(f"{room}/crates/{name}/src/lib.rt"):
+                status, said = call_rt(room, f"crates/{name}", "lib", "--jobs", str(jobs))
+                return status == 0, said
+            # rt run ends with the program's own status
+            with contextlib.suppress(FileNotFoundError):
+                os.remove(f"{made}/{name}")
+            _, said = call_rt(room, f"crates/{name}", "run", "--jobs", str(jobs))
+            return os.path.isfile(f"{made}/{name}"), said
+        finally:
+            move(made, own)
+
+
+class NotBuilt(Exception):
+    """A crate is not proved or not built: its name, and what rt said."""
+
+
+def build_all(names, tell):
+    """Builds these crates, each once those below it are built, and first those with most to do behind them. Calls tell with those that are built and those in work, each second."""
+    lines, below = read_crates()
+    behind = {}
+    for name in sorted(names, key=lambda it: -len(below[it])):
+        behind[name] = size_of(name) + max((behind[it] for it in behind if name in below[it]), default=0)
+    left, built, running = sorted(names, key=lambda it: -behind[it]), [], {}
+    most = lanes()
+    with held(names), workers(most) as pool:
+        while left or running:
+            ready = [it for it in left if all(low in built for low in below[it])]
+            idle = most - sum(jobs for _, jobs in running.values())
+            for at, name in enumerate(ready[: max(idle, 0)]):
+                jobs = min(MOST_JOBS, max(1, idle // (len(ready) - at)))
+                idle -= jobs
+                left.remove(name)
+                running[pool.submit(build, name, lines, below, jobs)] = name, jobs
+            for it in wait(running, timeout=1, return_when=FIRST_COMPLETED).done:
+                name, _ = running.pop(it)
+                is_built, said = it.result()
+                if not is_built:
+                    raise NotBuilt(name, said)
+                built.append(name)
+            tell(built, [name for name, _ in running.values()])
