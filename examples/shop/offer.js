@@ -1,0 +1,1 @@
+show('offer', 'Two for the price of one');

@@ -1,0 +1,106 @@
+'use strict';
+// Headless Chromium, driven over a pipe of its DevTools protocol: nothing listens on a port.
+
+const { spawn } = require('node:child_process');
+const { EventEmitter } = require('node:events');
+const fs = require('node:fs');
+const os = require('node:os');
+const path = require('node:path');
+
+const PROGRAM = process.env.CHROMIUM || '/usr/bin/chromium';
+const FLAGS = [
+  '--headless', '--disable-gpu', '--no-first-run', '--disable-background-networking', '--disable-component-update',
+  '--disable-sync', '--disable-default-apps', '--disable-extensions', '--mute-audio', '--disable-dev-shm-usage',
+  '--disable-background-timer-throttling', '--disable-renderer-backgrounding', '--disable-backgrounding-occluded-windows',
+  // one process for a page and all its frames, so that their actions come in one order
+  '--disable-site-isolation-trials', '--disable-features=IsolateOrigins,site-per-process,BackForwardCache,Prerender2',
+  '--remote-debugging-pipe',
+];
+
+/** The browser does not run as root with its sandbox. */
+const sandboxFlags = () => (process.getuid && process.getuid() === 0 ? ['--no-sandbox'] : []);
+
+/** Events: each message of the protocol under its method's name, and `gone` once the browser has ended. */
+class Chromium extends EventEmitter {
+  constructor() {
+    super();
+    this.setMaxListeners(0); // each tab listens
+  }
+
+  static async launch({ width, height }) {
+    const browser = new Chromium();
+    browser.start(width, height);
+    await browser.send('Browser.getVersion');
+    return browser;
+  }
+
+  start(width, height) {
+    this.folder = fs.mkdtempSync(path.join(os.tmpdir(), 'er-record-'));
+    this.answers = new Map();
+    this.lastId = 0;
+    const words = [...FLAGS, ...sandboxFlags(), `--user-data-dir=${this.folder}`, `--window-size=${width},${height}`, 'about:blank'];
+    this.process = spawn(PROGRAM, words, { stdio: ['ignore', 'ignore', 'ignore', 'pipe', 'pipe'], detached: true });
+    this.process.on('error', (fault) => this.end(fault.message));
+    this.process.on('exit', () => this.end('the browser ended'));
+    this.process.stdio[3].on('error', () => {});
+    this.onProcessExit = () => this.killNow();
+    process.on('exit', this.onProcessExit);
+    this.readMessages();
+  }
+
+  readMessages() {
+    let text = '';
+    this.process.stdio[4].setEncoding('utf8');
+    this.process.stdio[4].on('data', (piece) => {
+      const messages = (text + piece).split('\0');
+      text = messages.pop();
+      messages.forEach((message) => this.receive(JSON.parse(message)));
+    });
+  }
+
+  receive(message) {
+    if (!message.id) {
+      this.emit(message.method, message.params, message.sessionId);
+      return;
+    }
+    const answer = this.answers.get(message.id);
+    this.answers.delete(message.id);
+    if (message.error) answer?.reject(new Error(message.error.message));
+    else answer?.resolve(message.result);
+  }
+
+  /** Calls a method of the protocol. Fails where the browser has ended. */
+  send(method, params = {}, sessionId = undefined) {
+    if (this.isGone) return Promise.reject(new Error('the browser has ended'));
+    const id = ++this.lastId;
+    this.process.stdio[3].write(`${JSON.stringify({ id, method, params, sessionId })}\0`);
+    return new Promise((resolve, reject) => this.answers.set(id, { resolve, reject }));
+  }
+
+  end(why) {
+    if (this.isGone) return;
+    this.isGone = true;
+    for (const { reject } of this.answers.values()) reject(new Error(why));
+    this.answers.clear();
+    this.emit('gone', why);
+  }
+
+  killNow() {
+    try {
+      process.kill(-this.process.pid, 'SIGKILL'); // the browser and its own processes, which are a group
+    } catch {
+      // they have ended
+    }
+    fs.rmSync(this.folder, { recursive: true, force: true, maxRetries: 5 });
+  }
+
+  async close() {
+    const ended = this.isGone ? Promise.resolve() : new Promise((resolve) => this.once('gone', resolve));
+    this.send('Browser.close').catch(() => {});
+    await Promise.race([ended, new Promise((resolve) => setTimeout(resolve, 2000).unref())]);
+    process.off('exit', this.onProcessExit);
+    this.killNow();
+  }
+}
+
+module.exports = { Chromium };

@@ -1,0 +1,140 @@
+'use strict';
+// Which names a piece of JavaScript declares where. Works on the trees that acorn gives.
+
+const FUNCTIONS = new Set(['FunctionDeclaration', 'FunctionExpression', 'ArrowFunctionExpression']);
+const NOT_CHILDREN = new Set(['type', 'start', 'end', 'loc', 'range', 'name', 'operator', 'raw', 'kind', 'computed', 'optional', 'directive', 'regex', 'bigint']);
+
+const isNode = (value) => value !== null && typeof value === 'object' && typeof value.type === 'string';
+
+/** The keys under which nodes of a type may have child nodes, in acorn's order; all nodes of a type have the same keys. */
+const keysOfType = new Map();
+/** The child nodes of a node, kept at the node, as they are asked for more than once. */
+const CHILDREN = Symbol('children');
+
+function keysOf(node) {
+  let keys = keysOfType.get(node.type);
+  if (!keys) {
+    keys = Object.keys(node).filter((key) => !NOT_CHILDREN.has(key));
+    keysOfType.set(node.type, keys);
+  }
+  return keys;
+}
+
+/** The child nodes of a node, in the order of the text. */
+function childrenOf(node) {
+  if (!node[CHILDREN]) node[CHILDREN] = collectChildren(node);
+  return node[CHILDREN];
+}
+
+function collectChildren(node) {
+  const children = [];
+  for (const key of keysOf(node)) {
+    const value = node[key];
+    if (Array.isArray(value)) addNodes(value, children);
+    else if (isNode(value)) children.push(value);
+  }
+  return isInOrder(children) ? children : children.sort((a, b) => a.start - b.start);
+}
+
+function addNodes(values, children) {
+  for (const value of values) {
+    if (isNode(value)) children.push(value);
+  }
+}
+
+function isInOrder(nodes) {
+  for (let k = 1; k < nodes.length; k++) {
+    if (nodes[k - 1].start > nodes[k].start) return false;
+  }
+  return true;
+}
+
+/** The names that a pattern binds, as `a` and `b` of `{a, x: [b]}`. */
+function namesOfPattern(pattern) {
+  if (!pattern) return [];
+  switch (pattern.type) {
+    case 'Identifier': return [pattern.name];
+    case 'ObjectPattern': return pattern.properties.flatMap((property) => namesOfPattern(property.value || property.argument));
+    case 'ArrayPattern': return pattern.elements.flatMap(namesOfPattern);
+    case 'RestElement': return namesOfPattern(pattern.argument);
+    case 'AssignmentPattern': return namesOfPattern(pattern.left);
+    default: return [];
+  }
+}
+
+const namesOfDeclaration = (declaration) => declaration.declarations.flatMap((one) => namesOfPattern(one.id));
+
+/** Adds the `var` names of a function's body, and its functions in blocks, but nothing of inner functions. */
+function addHoisted(node, names) {
+  if (FUNCTIONS.has(node.type)) {
+    if (node.type === 'FunctionDeclaration' && node.id) names.add(node.id.name);
+    return;
+  }
+  if (node.type === 'VariableDeclaration' && node.kind === 'var') namesOfDeclaration(node).forEach((name) => names.add(name));
+  childrenOf(node).forEach((child) => addHoisted(child, names));
+}
+
+/** Adds the names that the statements of one block declare for this block alone. */
+function addLexical(statements, names) {
+  for (const statement of statements) {
+    if (statement.type === 'VariableDeclaration' && statement.kind !== 'var') {
+      namesOfDeclaration(statement).forEach((name) => names.add(name));
+    }
+    const named = statement.type === 'ClassDeclaration' || statement.type === 'FunctionDeclaration';
+    if (named && statement.id) names.add(statement.id.name);
+  }
+}
+
+/** One scope. A dynamic one (`with`) may have any name. */
+class Scope {
+  constructor(parent, names = [], dynamic = false) {
+    this.parent = parent;
+    this.names = new Set(names);
+    this.dynamic = dynamic;
+  }
+
+  static ofBlock(parent, statements) {
+    const scope = new Scope(parent);
+    addLexical(statements, scope.names);
+    return scope;
+  }
+
+  static ofFunction(parent, node) {
+    const scope = new Scope(parent, node.params.flatMap(namesOfPattern));
+    if (node.type !== 'ArrowFunctionExpression') scope.names.add('arguments');
+    if (node.id && node.type === 'FunctionExpression') scope.names.add(node.id.name);
+    if (node.body.type === 'BlockStatement') {
+      node.body.body.forEach((statement) => addHoisted(statement, scope.names));
+      addLexical(node.body.body, scope.names);
+    }
+    return scope;
+  }
+
+  /** 'local', 'global', 'module' (a variable of the module itself), or 'unknown' where a `with` stands between. */
+  where(name) {
+    if (this.dynamic) return 'unknown';
+    if (this.names.has(name)) return 'local';
+    return this.parent ? this.parent.where(name) : 'global';
+  }
+}
+
+/** The scope of a module: what it imports is local, what it declares is `module`. */
+class ModuleScope extends Scope {
+  constructor(program) {
+    super(null);
+    this.own = new Set();
+    const declarations = program.body.map((statement) => statement.declaration || statement);
+    for (const statement of program.body) {
+      if (statement.type === 'ImportDeclaration') statement.specifiers.forEach((one) => this.names.add(one.local.name));
+    }
+    declarations.forEach((declaration) => addHoisted(declaration, this.own));
+    addLexical(declarations, this.own);
+  }
+
+  where(name) {
+    if (this.names.has(name)) return 'local';
+    return this.own.has(name) ? 'module' : 'global';
+  }
+}
+
+module.exports = { Scope, ModuleScope, childrenOf, namesOfPattern, addHoisted, addLexical };

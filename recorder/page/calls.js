@@ -1,0 +1,123 @@
+// Calls of the browser that may dispatch events or change the tree while a script runs.
+
+const INSERTIONS = [
+  ['Node', ['appendChild', 'insertBefore', 'replaceChild', 'removeChild']],
+  ['Element', ['append', 'prepend', 'before', 'after', 'replaceWith', 'replaceChildren', 'insertAdjacentElement', 'insertAdjacentHTML', 'remove', 'setHTMLUnsafe']],
+  ['CharacterData', ['before', 'after', 'replaceWith', 'remove']],
+  ['DocumentFragment', ['append', 'prepend', 'replaceChildren']],
+  ['Document', ['append', 'prepend', 'replaceChildren', 'write', 'writeln', 'open', 'close', 'execCommand']],
+  ['Range', ['insertNode', 'extractContents', 'deleteContents', 'surroundContents']],
+];
+const SETTERS = [['Element', ['innerHTML', 'outerHTML']], ['Node', ['textContent']], ['HTMLElement', ['innerText', 'outerText']]];
+const DISPATCHERS = [
+  ['EventTarget', ['dispatchEvent']],
+  ['HTMLElement', ['click', 'focus', 'blur']],
+  ['SVGElement', ['focus', 'blur']],
+  ['HTMLFormElement', ['reset', 'requestSubmit', 'submit', 'checkValidity', 'reportValidity']],
+  ['HTMLInputElement', ['select', 'setSelectionRange', 'checkValidity', 'reportValidity']],
+  ['HTMLTextAreaElement', ['select', 'setSelectionRange']],
+  ['HTMLDialogElement', ['show', 'showModal', 'close']],
+  ['AbortController', ['abort']],
+];
+/** Elements that are declared where a script inserts them, as their kind is not known before. */
+const DECLARED_AT_INSERTION = new Set(['script', 'iframe', 'frame', 'link']);
+
+class Calls {
+  constructor(page) {
+    this.page = page;
+    this.recording = page.recording;
+  }
+
+  start() {
+    const { window } = this.page;
+    for (const [owner, names] of INSERTIONS) names.forEach((name) => this.replaceCall(window[owner].prototype, name, true));
+    for (const [owner, names] of DISPATCHERS) names.forEach((name) => this.replaceCall(window[owner].prototype, name, false));
+    for (const [owner, names] of SETTERS) names.forEach((name) => this.replaceSetter(window[owner].prototype, name));
+    this.replaceCreation(window.Document.prototype);
+    this.replaceSources();
+    this.replaceSetAttribute();
+  }
+
+  /** Runs a call of the browser: dispatches in it are inline, and they are over as it returns. */
+  around(call, isInsertion) {
+    const { recording, page } = this;
+    if (recording.isOver) return call();
+    if (isInsertion) page.elements.collect(recording.isRunning() ? 'script' : 'parser');
+    const height = recording.dispatches.length;
+    recording.enter('call');
+    try {
+      return call();
+    } finally {
+      recording.finishAbove(height);
+      if (isInsertion) each(recording.documents, (document) => document.elements.collect('script'));
+      recording.leaveCall();
+    }
+  }
+
+  replaceCall(owner, name, isInsertion) {
+    const calls = this;
+    replaceMethod(owner, name, (native) => function called(...words) {
+      const result = calls.around(() => native.apply(this, words), isInsertion);
+      if (name === 'open' && isInsertion && this === calls.page.document) calls.page.dispatches.captureAgain();
+      return result;
+    });
+  }
+
+  replaceSetter(owner, name) {
+    const calls = this;
+    replaceProperty(owner, name, (native) => ({
+      set(value) {
+        calls.around(() => native.set.call(this, value), true);
+      },
+    }));
+  }
+
+  replaceCreation(owner) {
+    const calls = this;
+    const declare = (element) => {
+      const { recording, page } = calls;
+      const isMine = element.ownerDocument === page.document;
+      if (!recording.isOver && recording.isRunning() && isMine && !DECLARED_AT_INSERTION.has(element.localName)) {
+        page.elements.declaredNumber(element);
+      }
+      return element;
+    };
+    for (const name of ['createElement', 'createElementNS']) {
+      replaceMethod(owner, name, (native) => function create(...words) {
+        return declare(native.apply(this, words));
+      });
+    }
+  }
+
+  /** What an element loads is set by a script. */
+  replaceSources() {
+    const { window, elements } = this.page;
+    const owners = [[window.HTMLImageElement, 'src'], [window.HTMLIFrameElement, 'src'], [window.HTMLIFrameElement, 'srcdoc'], [window.HTMLFrameElement, 'src']];
+    for (const [owner, name] of owners) {
+      replaceProperty(owner.prototype, name, (native) => ({
+        set(value) {
+          elements.noteSource(this);
+          native.set.call(this, value);
+        },
+      }));
+    }
+    replaceProperty(window.HTMLScriptElement.prototype, 'integrity', () => ({ set() {} }));
+  }
+
+  replaceSetAttribute() {
+    const { page } = this;
+    replaceMethod(page.window.Element.prototype, 'setAttribute', (native) => function setAttribute(name, value) {
+      const key = String(name).toLowerCase();
+      const isSource = key === 'src' && /^(img|iframe|frame)$/.test(this.localName);
+      if (isSource && !page.recording.isOver) page.elements.noteSource(this);
+      if (key === 'integrity' && this.localName === 'script') return undefined;
+      const result = native.apply(this, arguments);
+      if (/^on[a-z]+$/.test(key) && !page.recording.isOver && page.recording.isRunning()) {
+        page.elements.declaredNumber(this);
+        page.recording.finishReturned();
+        page.handlers.registerAttribute(this, key.slice(2), String(value));
+      }
+      return result;
+    });
+  }
+}

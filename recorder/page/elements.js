@@ -1,0 +1,315 @@
+// Elements: their numbers, kinds and declarations, and the changes of the tree. What comes while no script runs is the parser's.
+
+const JAVASCRIPT_TYPE = /^(text|application)\/(x-)?(java|ecma|j)script(1\.\d)?$/;
+const HTML_NAMESPACE = 'http://www.w3.org/1999/xhtml';
+
+class Elements {
+  constructor(page) {
+    this.page = page;
+    this.recording = page.recording;
+    this.natives = page.natives;
+    this.kinds = new Map();
+    this.staticScripts = new Set();
+    this.pendingDeferred = new Set();
+    this.hasRunDeferred = false;
+    this.lastParsed = 0;
+    this.frameDocuments = new WeakMap();
+    this.loads = new WeakMap();
+    this.makers = new WeakMap();
+    this.late = [];
+    /** What a blocking script made and load waits for: it is written as parse steps directly behind the script's run. */
+    this.joining = new Map();
+    this.observer = new this.natives.MutationObserver((records) => {
+      if (!this.recording.isOver) this.handle(records, this.recording.isRunning() ? 'script' : 'parser');
+    });
+  }
+
+  start() {
+    const { document } = this.page;
+    if (document.documentElement) this.addTree(document.documentElement, 'script');
+    this.observer.observe(document, {
+      childList: true, subtree: true, attributes: true, attributeFilter: ['id'], attributeOldValue: true,
+    });
+  }
+
+  // ---- kinds
+
+  attribute(element, name) {
+    return this.natives.getAttribute.call(element, name);
+  }
+
+  has(element, name) {
+    return this.natives.hasAttribute.call(element, name);
+  }
+
+  kindOf(element, isStatic) {
+    if (element.namespaceURI !== HTML_NAMESPACE) return 'plain';
+    switch (element.localName) {
+      case 'script': return isStatic ? this.kindOfStaticScript(element) : this.kindOfInsertedScript(element);
+      case 'img': return this.attribute(element, 'loading') === 'lazy' ? 'plain' : 'image';
+      case 'link': return /\bstylesheet\b/i.test(this.attribute(element, 'rel') || '') ? 'image' : 'plain';
+      case 'input': return this.attribute(element, 'type') === 'image' ? 'image' : 'plain';
+      case 'iframe': case 'frame': return 'frame';
+      default: return 'plain';
+    }
+  }
+
+  /** 'classic', 'module', or null for a data block and for a script that never runs. */
+  scriptType(element) {
+    const type = (this.attribute(element, 'type') || '').trim().toLowerCase();
+    const language = this.attribute(element, 'language');
+    if (type === 'module') return 'module';
+    if (this.has(element, 'nomodule')) return null;
+    if (type === '') return language === null || language === '' || /^javascript/i.test(language) ? 'classic' : null;
+    return JAVASCRIPT_TYPE.test(type) ? 'classic' : null;
+  }
+
+  kindOfStaticScript(element) {
+    const type = this.scriptType(element);
+    if (!type) return 'plain';
+    const hasSource = this.has(element, 'src');
+    if (type === 'module') return this.has(element, 'async') ? 'async' : 'defer';
+    if (!hasSource) return 'inline';
+    if (this.has(element, 'async')) return 'async';
+    return this.has(element, 'defer') ? 'defer' : 'sync';
+  }
+
+  /** An inline script that a script inserts runs inside the running action, so it has no run of its own. */
+  kindOfInsertedScript(element) {
+    const type = this.scriptType(element);
+    if (type === 'module') return 'async';
+    return type && (this.has(element, 'src') || !element.textContent) ? 'async' : 'plain';
+  }
+
+  // ---- numbers and declarations
+
+  /** The number of any target of events. A location may use it before anything declares it. */
+  number(target) {
+    let number = this.recording.elementNumbers.get(target);
+    if (!number) {
+      number = this.recording.next('element');
+      this.recording.elementNumbers.set(target, number);
+    }
+    return number;
+  }
+
+  /** The number of a target, which is declared in the running action where that was not done before. */
+  declaredNumber(target) {
+    const number = this.number(target);
+    if (!this.recording.declared.has(number)) this.declareNew(target);
+    return number;
+  }
+
+  declareNew(target) {
+    const isElement = target.nodeType === 1;
+    const kind = isElement ? this.declaration(target, false) : 'plain';
+    this.markDeclared(target, kind);
+    if (!this.joinsParsing(target, kind)) {
+      this.recording.note(`new ${this.page.numberOfDocumentOf(target)} ${this.number(target)} ${kind}`);
+    }
+  }
+
+  /**
+   * The window's load waits for a script or an image that a script makes while the page is parsed, which `new` can't say. Where
+   * the running script is a blocking one, a parse step directly behind its run gives exactly that order.
+   */
+  joinsParsing(element, kind) {
+    const { recording, page } = this;
+    const isAwaited = kind === 'async' || kind === 'image';
+    const isOwn = element.ownerDocument === page.document && recording.running.blocks === page;
+    if (!isAwaited || !isOwn || page.loading.hasBegunDomContentLoaded || this.hasRunDeferred) return false;
+    this.joining.set(element, kind);
+    return true;
+  }
+
+  writeJoining() {
+    if (!this.joining.size) return;
+    const joining = [...this.joining];
+    this.joining.clear();
+    each(joining, ([element, kind]) => this.writeParsed(element, kind));
+  }
+
+  /** What an event of a script needs now is declared at once. */
+  declareJoining(element) {
+    const kind = this.joining.get(element);
+    if (!kind) return;
+    this.joining.delete(element);
+    this.recording.note(`new ${this.page.number} ${this.number(element)} ${kind}`);
+  }
+
+  /** The kind as a declaration spells it: a frame also declares the document inside it. */
+  declaration(element, isStatic) {
+    const kind = this.kindOf(element, isStatic);
+    if (kind !== 'frame') return kind;
+    const inner = this.recording.next('document');
+    this.frameDocuments.set(element, { number: inner, isUsed: false });
+    this.recording.log.name('document', inner, { frame: this.number(element) });
+    return `frame ${inner}`;
+  }
+
+  markDeclared(target, kind) {
+    const number = this.number(target);
+    this.makers.set(target, this.recording.running);
+    this.recording.declared.add(number);
+    this.kinds.set(number, kind);
+    this.recording.log.name('element', number, this.facts(target));
+  }
+
+  facts(target) {
+    if (target.nodeType !== 1) return { tag: Object.prototype.toString.call(target).slice(8, -1) };
+    const source = this.attribute(target, 'src');
+    return {
+      tag: target.localName,
+      id: target.id || undefined,
+      field: typeof target.name === 'string' && target.name ? target.name : undefined,
+      source: source ? source.slice(0, 200) : undefined,
+      document: this.page.numberOfDocumentOf(target),
+    };
+  }
+
+  /**
+   * A plain element that stands for a target in one dispatch. It is declared beside the target, so that it comes after the
+   * target's maker, and no rule joins it with other dispatches at the target.
+   */
+  standIn(target, why) {
+    const number = this.declaredNumber(target);
+    this.declareJoining(target);
+    const standIn = this.recording.next('element');
+    this.recording.noteBeside(number, `new ${this.page.numberOfDocumentOf(target)} ${standIn} plain`);
+    this.recording.log.name('element', standIn, { standsFor: number, why });
+    return standIn;
+  }
+
+  // ---- changes of the tree
+
+  /** Takes the changes so far. `by` is 'script' or 'parser'. */
+  collect(by) {
+    const records = this.observer.takeRecords();
+    if (records.length) this.handle(records, by);
+  }
+
+  handle(records, by) {
+    const parsing = !this.page.loading.hasBegunDomContentLoaded && !this.hasRunDeferred;
+    const maker = by === 'parser' && parsing ? 'parser' : 'script';
+    if (by === 'parser' && maker === 'script') {
+      this.late.push(...records); // the browser's own work behind the parsing: it belongs to what begins next
+      return;
+    }
+    if (maker === 'parser') {
+      this.recording.finishAll();
+      this.writeJoining();
+    }
+    each(records, (record) => this.handleOne(record, maker));
+  }
+
+  /** Changes that the browser made with no script running belong to the action that has begun now. */
+  writeLate() {
+    const records = this.late;
+    this.late = [];
+    each(records, (record) => this.handleOne(record, 'script'));
+  }
+
+  handleOne(record, maker) {
+    if (record.type === 'attributes') {
+      this.writeId(record.oldValue);
+      this.writeId(record.target.id);
+      return;
+    }
+    each(record.removedNodes, (node) => this.removeTree(node));
+    each(record.addedNodes, (node) => (maker === 'parser' ? this.add(node, maker) : this.addTree(node, maker)));
+  }
+
+  writeId(id) {
+    if (id) this.recording.accessNow('w', `elem ${this.page.number} ${spellName(id)}`, '');
+  }
+
+  removeTree(node) {
+    if (node.nodeType !== 1) return;
+    this.writeId(node.id);
+    each(this.natives.querySelectorAll.call(node, '[id]'), (element) => this.writeId(element.id));
+  }
+
+  addTree(node, maker) {
+    if (node.nodeType !== 1) return;
+    this.add(node, maker);
+    if (node.firstElementChild) each(this.natives.querySelectorAll.call(node, '*'), (element) => this.add(element, maker));
+  }
+
+  add(node, maker) {
+    if (node.nodeType !== 1) return;
+    if (!this.recording.declared.has(this.number(node))) {
+      if (maker === 'parser') this.addParsed(node);
+      else this.addMade(node);
+      this.page.handlers.readAttributes(node);
+    } else if (node.id) {
+      this.recording.log.name('element', this.number(node), { id: node.id });
+    }
+    this.writeId(node.id);
+  }
+
+  addParsed(element) {
+    const kind = this.declaration(element, true);
+    this.markDeclared(element, kind);
+    this.writeParsed(element, kind);
+  }
+
+  writeParsed(element, kind) {
+    const number = this.number(element);
+    this.recording.begin(`parse ${this.page.number} ${number} ${kind}`, 'parse');
+    this.lastParsed = number;
+    if (element.localName === 'script' && kind !== 'plain') this.staticScripts.add(number);
+    if (kind === 'defer') this.pendingDeferred.add(number);
+  }
+
+  addMade(element) {
+    const kind = this.declaration(element, false);
+    this.markDeclared(element, kind);
+    if (this.joinsParsing(element, kind)) return;
+    this.recording.log.line(`new ${this.page.number} ${this.number(element)} ${kind}`, placeOnStack());
+  }
+
+  // ---- loads
+
+  /** A script sets what an element loads: the load event comes after this, whoever made the element. */
+  noteSource(element) {
+    if (!this.recording.isRunning() || !this.recording.declared.has(this.number(element))) return;
+    if (this.makers.get(element) === this.recording.running) return;
+    const isFrame = this.kindOf(element, false) === 'frame';
+    const number = this.recording.next('element');
+    const inner = isFrame ? this.recording.next('document') : 0;
+    this.loads.set(element, { number, inner });
+    this.recording.note(`new ${this.page.numberOfDocumentOf(element)} ${number} ${isFrame ? `frame ${inner}` : 'image'}`);
+    this.recording.log.name('element', number, { standsFor: this.number(element), why: 'its source was set' });
+    if (isFrame) this.recording.log.name('document', inner, { frame: number });
+  }
+
+  /** The document number for a page that a frame shows now. */
+  numberOfInner(frame, isPassing) {
+    const first = this.frameDocuments.get(frame);
+    const load = this.loads.get(frame);
+    if (load && load.inner) return this.useOnce(load, 'inner');
+    if (first && !first.isUsed && !isPassing) {
+      first.isUsed = true;
+      return first.number;
+    }
+    return this.furtherDocument(frame);
+  }
+
+  useOnce(load, key) {
+    const number = load[key];
+    load[key] = 0;
+    return number;
+  }
+
+  /** A further page in a frame, with no known asker: a frame element that stands for it is declared beside the frame's own. */
+  furtherDocument(frame) {
+    const number = this.declaredNumber(frame);
+    const standIn = this.recording.next('element');
+    const inner = this.recording.next('document');
+    this.recording.noteBeside(number, `new ${this.page.number} ${standIn} frame ${inner}`);
+    this.recording.log.name('element', standIn, { standsFor: number, why: 'a further page in the frame' });
+    this.recording.log.name('document', inner, { frame: standIn });
+    this.loads.set(frame, { number: standIn, inner: 0 });
+    return inner;
+  }
+}

@@ -1,0 +1,100 @@
+// The log: lines of the trace, each with the place of the code that caused it, handed to the driver in batches.
+
+const LINES_A_BATCH = 200;
+const MILLISECONDS_A_BATCH = 100;
+const LONGEST_NAME = 255;
+const STACK_DEPTH = 12;
+
+const spelledNames = new Map();
+const MOST_SPELLED = 20000;
+
+/** A name as the format spells it. */
+function spellName(text) {
+  const name = String(text);
+  let spelled = spelledNames.get(name);
+  if (spelled === undefined) {
+    spelled = /^[!-$&-~]{1,255}$/.test(name) ? name : spellBytes(name);
+    if (spelledNames.size < MOST_SPELLED) spelledNames.set(name, spelled);
+  }
+  return spelled;
+}
+
+/** One that is too long is cut, with a hash of the whole behind it. */
+function spellBytes(text) {
+  let bytes = new TextEncoder().encode(text);
+  if (bytes.length === 0) bytes = new Uint8Array(1);
+  if (bytes.length > LONGEST_NAME) bytes = new TextEncoder().encode(cutName(text, bytes));
+  let spelled = '';
+  for (const byte of bytes) {
+    const isItself = byte >= 0x21 && byte <= 0x7e && byte !== 0x25;
+    spelled += isItself ? String.fromCharCode(byte) : `%${byte.toString(16).toUpperCase().padStart(2, '0')}`;
+  }
+  return spelled;
+}
+
+/** The begin of a long name and 32 hexadecimal digits for the whole. */
+function cutName(text, bytes) {
+  let digits = '';
+  for (let seed = 1; seed <= 4; seed++) {
+    let value = seed * 0x9e3779b1;
+    for (const byte of bytes) value = Math.imul(value ^ byte, 0x01000193) >>> 0;
+    digits += value.toString(16).padStart(8, '0');
+  }
+  return Array.from(text).slice(0, 55).join('') + digits;
+}
+
+/** The first place of the page's own code on the stack: `address:line:column` in the browser's copy, or ''. */
+function placeOnStack() {
+  const { stackTraceLimit, prepareStackTrace } = Error;
+  Error.stackTraceLimit = STACK_DEPTH;
+  Error.prepareStackTrace = undefined;
+  const stack = String(new Error().stack);
+  Error.stackTraceLimit = stackTraceLimit;
+  Error.prepareStackTrace = prepareStackTrace;
+  for (const line of stack.split('\n').slice(1)) {
+    const found = /\(?((?:https?|file|about|data|blob):[^\s()]*:\d+:\d+)\)?$/.exec(line);
+    if (found && !found[1].includes('__er-recorder')) return found[1];
+  }
+  return '';
+}
+
+class Log {
+  constructor(send) {
+    this.send = send;
+    this.entries = [];
+    this.lastSent = 0;
+    this.counts = {};
+  }
+
+  /** A line of the trace. `place` is a site number, a place on the stack, or nothing. */
+  line(text, place) {
+    this.entries.push(place === undefined || place === '' ? text : `${text}\t${place}`);
+  }
+
+  /** What a number is, for OUT.names.json. */
+  name(kind, number, facts) {
+    this.entries.push(`#${this.json({ kind, number, ...facts })}`);
+  }
+
+  /** Counts something that was not recorded. */
+  miss(what) {
+    this.counts[what] = (this.counts[what] || 0) + 1;
+  }
+
+  /** Some pages give all objects a `toJSON` of their own. */
+  json(facts) {
+    return JSON.stringify({ ...facts, toJSON: undefined });
+  }
+
+  sendIfDue(now) {
+    const isDue = this.entries.length > LINES_A_BATCH || now - this.lastSent > MILLISECONDS_A_BATCH;
+    if (isDue && this.entries.length) this.sendAll(now);
+  }
+
+  sendAll(now) {
+    this.entries.push(`!${this.json(this.counts)}`);
+    this.send(this.entries.join('\n'));
+    this.entries = [];
+    this.lastSent = now;
+  }
+}

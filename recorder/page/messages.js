@@ -1,0 +1,63 @@
+// Messages: `postMessage` of windows and of ports. Each message has a plain element that its sender makes, so that it comes after
+// its sender and no rule joins it with another message.
+
+class Messages {
+  constructor(page) {
+    this.page = page;
+    this.recording = page.recording;
+    if (!this.recording.posted) {
+      this.recording.posted = new WeakMap();
+      this.recording.peers = new WeakMap();
+    }
+  }
+
+  start() {
+    const messages = this;
+    const { window } = this.page;
+    replaceMethod(window, 'postMessage', (native) => function postMessage() {
+      messages.post(window);
+      return native.apply(window, arguments);
+    });
+    this.replaceChannel(window);
+  }
+
+  replaceChannel(window) {
+    const messages = this;
+    const { peers } = this.recording;
+    const Native = window.MessageChannel;
+    function MessageChannel() {
+      const channel = new Native();
+      peers.set(channel.port1, channel.port2);
+      peers.set(channel.port2, channel.port1);
+      return channel;
+    }
+    MessageChannel.prototype = Native.prototype;
+    Object.defineProperty(window, 'MessageChannel', { configurable: true, writable: true, value: MessageChannel });
+    replaceMethod(window.MessagePort.prototype, 'postMessage', (native) => function postMessage() {
+      const peer = peers.get(this);
+      if (peer) messages.post(peer);
+      return native.apply(this, arguments);
+    });
+  }
+
+  post(receiver) {
+    const { recording } = this;
+    if (recording.isOver) return;
+    const message = recording.next('message');
+    const standIn = recording.next('element');
+    recording.note(`post ${message} ${this.page.number} ${standIn}`);
+    recording.log.name('element', standIn, { why: 'a message' });
+    if (!recording.posted.has(receiver)) recording.posted.set(receiver, []);
+    recording.posted.get(receiver).push({ message, standIn });
+  }
+
+  /** Messages to one receiver come in the order of their posting. */
+  begin(dispatch) {
+    const { event, target } = dispatch;
+    const waiting = event.type === 'message' && event.isTrusted && this.recording.posted.get(target);
+    if (!waiting || !waiting.length) return false;
+    const { message, standIn } = waiting.shift();
+    this.recording.begin(`message ${message} ${dispatch.number} ${standIn}`, 'begin');
+    return true;
+  }
+}

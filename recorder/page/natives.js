@@ -1,0 +1,42 @@
+// The browser's own functions, taken before any script of the page can change them.
+
+function takeNatives(window) {
+  const { Document, Element, Event, EventTarget, Node, Object, Promise } = window;
+  return {
+    addEventListener: EventTarget.prototype.addEventListener,
+    composedPath: Event.prototype.composedPath,
+    getElementById: Document.prototype.getElementById,
+    querySelectorAll: Element.prototype.querySelectorAll,
+    getAttribute: Element.prototype.getAttribute,
+    setAttribute: Element.prototype.setAttribute,
+    hasAttribute: Element.prototype.hasAttribute,
+    isConnected: Object.getOwnPropertyDescriptor(Node.prototype, 'isConnected').get,
+    MutationObserver: window.MutationObserver,
+    promise: Promise,
+    then: Promise.prototype.then,
+    queueMicrotask: window.queueMicrotask.bind(window),
+    now: window.performance.now.bind(window.performance),
+  };
+}
+
+/** Puts a function in place of another one; the page sees its name and the text of a native function. */
+function replaceMethod(owner, name, make) {
+  const descriptor = Object.getOwnPropertyDescriptor(owner, name);
+  if (!descriptor || typeof descriptor.value !== 'function') return;
+  const native = descriptor.value;
+  const replacement = make(native);
+  Object.defineProperty(replacement, 'name', { value: name, configurable: true });
+  Object.defineProperty(replacement, 'length', { value: native.length, configurable: true });
+  replacedFunctions.set(replacement, native);
+  Object.defineProperty(owner, name, { ...descriptor, value: replacement });
+}
+
+/** Puts a getter and a setter in place of those of a property. */
+function replaceProperty(owner, name, make) {
+  const descriptor = Object.getOwnPropertyDescriptor(owner, name);
+  if (!descriptor || !descriptor.set || !descriptor.configurable) return;
+  Object.defineProperty(owner, name, { ...descriptor, ...make(descriptor) });
+}
+
+/** What `toString` of a replaced function shows. */
+const replacedFunctions = new WeakMap();

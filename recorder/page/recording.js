@@ -1,0 +1,224 @@
+// What runs now: the running event, the code on the stack, the dispatches that are not over. One recording is shared by
+// a page and its frames. Every line of the trace goes through here.
+
+/** For how many turns of the job queue what runs still belongs to the action before. */
+const TURNS_OF_A_CHECKPOINT = 24;
+/** How far the events before the running one are searched. */
+const LONGEST_CHAIN = 20;
+/** Events in which a script may dispatch another one. */
+const MAY_DISPATCH = new Set(['exec', 'timer', 'tick', 'handler', 'close']);
+
+class Recording {
+  constructor(natives, send) {
+    this.natives = natives;
+    this.log = new Log(send);
+    this.isOver = false;
+    this.numbers = {};
+    /** The event of the running action. */
+    this.running = { kind: 'none', after: [] };
+    this.hasBegun = false;
+    this.actions = 0;
+    /** What stands on the stack, outermost first: 'script', 'callback', 'handler', 'job' or 'call' (of the browser). */
+    this.contexts = [];
+    this.isCheckpoint = false;
+    this.turns = 0;
+    this.dispatches = [];
+    this.accessed = new Set();
+    this.documents = [];
+    this.elementNumbers = new WeakMap();
+    this.declared = new Set();
+    this.endedEvents = new WeakSet();
+  }
+
+  next(kind) {
+    this.numbers[kind] = (this.numbers[kind] || 0) + 1;
+    return this.numbers[kind];
+  }
+
+  // ---- lines
+
+  /** `after` are events that a rule puts before this one. */
+  begin(line, kind, place, after = []) {
+    this.log.line(line, place);
+    this.running = { kind, after: keep(after, Boolean) };
+    this.accessed.clear();
+    this.hasBegun = true;
+    this.actions++;
+  }
+
+  /** A note belongs to the running action; where nothing recorded runs, to the first action of the trace. */
+  note(line, place = placeOnStack()) {
+    if (this.isOver) return;
+    if (this.isRunning()) {
+      this.finishReturned();
+      this.log.line(line, place);
+    } else {
+      this.log.line(`early ${line}`, place);
+    }
+  }
+
+  /** A note that stands beside the declaration of an element, wherever that was. */
+  noteBeside(element, line) {
+    this.log.line(`beside ${element} ${line}`);
+  }
+
+  access(mode, location, place) {
+    if (this.isOver) return;
+    if (!this.isRunning()) {
+      this.log.miss('accesses while nothing recorded ran');
+      return;
+    }
+    this.finishReturned();
+    this.accessNow(mode, location, place);
+  }
+
+  /** An access of the running action, without a look at what returned meanwhile. */
+  accessNow(mode, location, place) {
+    const line = `${mode} ${location}`;
+    if (this.accessed.has(line)) return;
+    this.accessed.add(line);
+    this.log.line(line, place === undefined ? placeOnStack() : place);
+  }
+
+  /** Whether rules are known to put an event before the running one: a short search along `after`. */
+  isBeforeRunning(event) {
+    let events = [this.running];
+    for (let depth = 0; depth < LONGEST_CHAIN && events.length; depth++) {
+      if (hasItem(events, event)) return true;
+      const before = [];
+      each(events, (one) => before.push(...one.after));
+      events = before.slice(0, LONGEST_CHAIN);
+    }
+    return false;
+  }
+
+  // ---- what runs
+
+  isRunning() {
+    return this.hasBegun && (this.contexts.length > 0 || this.isCheckpoint);
+  }
+
+  /** Something begins that the browser's event loop calls: all before it is over. */
+  startTask() {
+    if (this.contexts.length) {
+      this.endPiece();
+      this.contexts.length = 0;
+      for (const dispatch of this.dispatches) dispatch.active = 0;
+    }
+    this.isCheckpoint = false;
+    this.finishAll();
+    for (const document of this.documents) {
+      document.elements.writeJoining();
+      document.elements.collect('parser');
+    }
+    this.log.sendIfDue(this.natives.now());
+  }
+
+  enter(kind) {
+    this.contexts.push(kind);
+  }
+
+  /** Code that the page sees as one whole returns. */
+  leave() {
+    this.endPiece();
+    this.leaveCall();
+  }
+
+  leaveCall() {
+    this.contexts.pop();
+    if (!this.contexts.length) this.startCheckpoint();
+  }
+
+  /** A piece of an event ends: what it did to the tree and to the window is written before anything else. */
+  endPiece() {
+    if (this.isOver) return;
+    this.finishReturned();
+    for (const document of this.documents) {
+      document.elements.collect('script');
+      document.globals.compare();
+    }
+  }
+
+  startCheckpoint() {
+    this.turns = TURNS_OF_A_CHECKPOINT;
+    if (this.isCheckpoint) return;
+    this.isCheckpoint = true;
+    this.natives.queueMicrotask(() => this.turn());
+  }
+
+  turn() {
+    if (!this.isCheckpoint) return;
+    this.turns--;
+    if (this.turns > 0) {
+      this.natives.queueMicrotask(() => this.turn());
+      return;
+    }
+    for (const document of this.documents) document.elements.collect('script');
+    this.isCheckpoint = false;
+  }
+
+  // ---- dispatches
+
+  mayDispatch() {
+    return MAY_DISPATCH.has(this.running.kind);
+  }
+
+  top() {
+    return this.dispatches[this.dispatches.length - 1];
+  }
+
+  push(dispatch) {
+    dispatch.depth = this.contexts.length;
+    dispatch.active = 0;
+    dispatch.isClosed = false;
+    dispatch.lastTime = this.natives.now();
+    this.dispatches.push(dispatch);
+    return dispatch;
+  }
+
+  close(dispatch) {
+    if (dispatch.isClosed) return;
+    dispatch.isClosed = true;
+    if (dispatch.event) this.endedEvents.add(dispatch.event);
+    this.begin(`close ${dispatch.number}`, 'close');
+    if (dispatch.whenClosed) dispatch.whenClosed();
+  }
+
+  /** The top dispatch is over. */
+  finishTop() {
+    const dispatch = this.top();
+    this.close(dispatch);
+    this.dispatches.pop();
+    if (!dispatch.isInline) return;
+    this.begin(`back ${dispatch.number}`, dispatch.suspended.kind);
+    this.running = dispatch.suspended;
+  }
+
+  /** Dispatches that running code called, and that have returned to it, are over. */
+  finishReturned() {
+    for (let top = this.top(); top && top.isInline && !top.active; top = this.top()) {
+      if (!this.contexts.length || this.contexts.length > top.depth) return;
+      this.finishTop();
+    }
+  }
+
+  /** All dispatches above a number are over, as a call that may have made them returns. */
+  finishAbove(height) {
+    while (this.dispatches.length > height && this.top().isInline && !this.top().active) this.finishTop();
+  }
+
+  finishAll() {
+    while (this.dispatches.length && !this.top().active) this.finishTop();
+  }
+
+  /** The last lines, as the recording ends. */
+  finish() {
+    this.startTask();
+    this.isOver = true;
+    this.flush();
+  }
+
+  flush() {
+    this.log.sendAll(this.natives.now());
+  }
+}

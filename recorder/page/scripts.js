@@ -1,0 +1,199 @@
+// Runs of scripts: what marked code calls at its begin and end.
+
+const DOES_NOTHING = /^\s*(void\s*\(?\s*0\s*\)?)?\s*;?\s*$/;
+
+class Scripts {
+  constructor(page) {
+    this.page = page;
+    this.recording = page.recording;
+    this.hasRun = new Set();
+    this.modules = [];
+    this.asked = [];
+    this.clicked = [];
+  }
+
+  // ---- classic scripts
+
+  /** `element` is null in a module that looks like a classic script, as one without imports. */
+  begins(element, site, functions) {
+    const { recording } = this;
+    if (recording.isOver) return;
+    if (!element) {
+      this.moduleBegins(placeOnStack().replace(/:\d+:\d+$/, ''), site);
+      return;
+    }
+    if (recording.contexts.length && recording.contexts[recording.contexts.length - 1] !== 'script') {
+      this.beginInside(functions);
+      return;
+    }
+    recording.startTask();
+    const number = this.runnable(element);
+    this.hasRun.add(number);
+    if (this.page.elements.kinds.get(number) === 'defer') this.noteDeferred(number);
+    recording.begin(`exec ${number}`, 'exec', site);
+    if (/^(inline|sync)$/.test(this.page.elements.kinds.get(number))) recording.running.blocks = this.page;
+    recording.enter('script');
+    each(functions, ([name, place]) => this.page.globals.write(name, place));
+  }
+
+  /** A script that a script inserts or writes runs inside the running action. */
+  beginInside(functions) {
+    this.recording.enter('script');
+    each(functions, ([name, place]) => this.page.globals.write(name, place));
+  }
+
+  ends() {
+    const { recording } = this;
+    if (recording.isOver || recording.contexts[recording.contexts.length - 1] !== 'script') return;
+    recording.leave();
+  }
+
+  noteDeferred(number) {
+    const { elements } = this.page;
+    elements.pendingDeferred.delete(number);
+    elements.hasRunDeferred = true;
+  }
+
+  /** The element whose run this may be: a further `async` one where the format lets the script's own not run now. */
+  runnable(element) {
+    const { elements, recording } = this.page;
+    const number = elements.declaredNumber(element);
+    const kind = elements.kinds.get(number);
+    const isScript = /^(inline|sync|defer|async)$/.test(kind);
+    const why = isScript && !this.hasRun.has(number) ? this.whyTooLate(number, kind) : 'it had run, or was no script when it was made';
+    if (!why) return number;
+    const standIn = recording.next('element');
+    recording.noteBeside(number, `new ${this.page.number} ${standIn} async`);
+    recording.log.name('element', standIn, { standsFor: number, why });
+    recording.log.miss('scripts that ran later than the format lets them: async ones stand for them');
+    return standIn;
+  }
+
+  /** Why the run of a static script would be out of order, or ''. */
+  whyTooLate(number, kind) {
+    const { elements, loading } = this.page;
+    if (!elements.staticScripts.has(number)) return '';
+    if (loading.hasBegunLoad) return 'it ran behind load';
+    if (kind === 'async') return '';
+    if (loading.hasBegunDomContentLoaded) return 'it ran behind DOMContentLoaded';
+    if (kind === 'defer') return '';
+    if (elements.hasRunDeferred) return 'it ran behind a deferred script';
+    return elements.lastParsed === number ? '' : 'the parser had gone on';
+  }
+
+  // ---- modules
+
+  /**
+   * A module's body begins. The modules that a script imports run in the same turn before it, so which element runs is
+   * known with the last one: until then the run's line has a number of its own, which `is` tells later.
+   */
+  moduleBegins(address, site) {
+    const { recording } = this;
+    if (recording.isOver) return;
+    const isSameTurn = recording.moduleRun && recording.contexts.length > 0;
+    if (!isSameTurn) {
+      recording.startTask();
+      recording.moduleRun = { number: recording.next('module run'), element: 0 };
+      recording.begin(`module ${recording.moduleRun.number}`, 'exec', site);
+      recording.enter('callback');
+    }
+    const element = this.findModule(address, site);
+    if (element && !recording.moduleRun.element) this.tellModule(element);
+  }
+
+  tellModule(element) {
+    const { recording } = this;
+    const { elements } = this.page;
+    const number = this.runnable(element);
+    this.hasRun.add(number);
+    recording.moduleRun.element = number;
+    if (elements.kinds.get(number) === 'defer') this.noteDeferred(number);
+    recording.log.line(`is ${recording.moduleRun.number} ${number}`);
+  }
+
+  /** The script element of a module: by its address, an inline one by the site in its text. */
+  findModule(address, site) {
+    const { document, natives } = this.page;
+    const scripts = natives.querySelectorAll.call(document.documentElement, 'script[type="module" i]');
+    return findItem(scripts, (script) => {
+      if (this.hasRun.has(this.page.elements.number(script))) return false;
+      return script.src ? script.src === address : script.textContent.includes(`import.meta.url,${site})`);
+    });
+  }
+
+  moduleEnds() {
+    const { recording } = this;
+    if (recording.isOver || !recording.moduleRun || !recording.moduleRun.element) return;
+    this.closeModule();
+  }
+
+  closeModule() {
+    const { recording } = this;
+    recording.moduleRun = null;
+    if (recording.contexts.length) recording.leave();
+  }
+
+  /** `import()` was called: the run of its module comes after this. */
+  importAsked(site) {
+    if (!this.recording.isRunning()) return;
+    this.recording.note(`every ${this.askedInterval()} 0`, site);
+  }
+
+  askedInterval() {
+    const interval = this.recording.next('interval');
+    this.recording.log.line(`asked ${interval}`);
+    this.recording.log.name('interval', interval, { why: 'import()' });
+    return interval;
+  }
+
+  // ---- javascript: addresses
+
+  /** A link that a script made gets the same marks as one in the page's text. */
+  markAddress(element) {
+    const { natives } = this.page;
+    const found = /^\s*javascript:(?!\/\*<\*\/)([^]*)$/i.exec(natives.getAttribute.call(element, 'href') || '');
+    if (!found || /^%2F\*%3C\*/i.test(found[1])) return;
+    let code = found[1];
+    try {
+      code = decodeURIComponent(code);
+    } catch {
+      // a `%` that escapes nothing stands for itself
+    }
+    if (DOES_NOTHING.test(code)) return;
+    const marked = `/*<*/__er.addressBegins();try{/*>*/${code}/*<*/\n}finally{__er.addressEnds()}/*>*/`;
+    natives.setAttribute.call(element, 'href', `javascript:${encodeURIComponent(marked)}`);
+  }
+
+  /** A click at a `javascript:` link asks for a run of its address, which comes after the click's close. */
+  watchAddress(dispatch, path) {
+    if (dispatch.event.type !== 'click') return;
+    const { natives, recording } = this.page;
+    const link = findItem(path, (node) => node.localName === 'a' && /^\s*javascript:/i.test(natives.getAttribute.call(node, 'href') || ''));
+    if (!link) return;
+    this.markAddress(link);
+    dispatch.whenClosed = () => {
+      if (dispatch.event.defaultPrevented) return;
+      const interval = recording.next('interval');
+      recording.log.line(`every ${interval} 0`);
+      recording.log.name('interval', interval, { why: 'a javascript: address' });
+      this.clicked.push(interval);
+    };
+  }
+
+  addressBegins() {
+    const { recording } = this;
+    if (recording.isOver) return;
+    recording.startTask();
+    let interval = this.clicked.shift();
+    if (!interval) {
+      interval = recording.next('interval');
+      recording.log.line(`early every ${interval} 0`);
+    }
+    recording.begin(`tick ${interval}`, 'tick');
+    recording.enter('callback');
+  }
+
+  addressEnds() {
+    if (!this.recording.isOver && this.recording.contexts.length) this.recording.leave();
+  }
+}

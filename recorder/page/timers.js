@@ -1,0 +1,87 @@
+// Timeouts, intervals, animation frames and idle callbacks.
+
+class Timers {
+  constructor(page) {
+    this.page = page;
+    this.recording = page.recording;
+  }
+
+  start() {
+    const { window } = this.page;
+    this.replaceTimeout(window);
+    this.replaceInterval(window);
+    for (const name of ['requestAnimationFrame', 'webkitRequestAnimationFrame', 'requestIdleCallback']) {
+      if (window[name]) this.replaceFrame(window, name);
+    }
+  }
+
+  /** The delay as a browser takes it: whole, the low 32 bits, not below 0. */
+  delay(given) {
+    return Math.max(Math.trunc(Number(given)) | 0, 0);
+  }
+
+  /** The code of a callback; a text is run as a script is. */
+  callable(callback) {
+    if (typeof callback === 'function') return callback;
+    const code = String(callback);
+    const { window } = this.page;
+    return () => window.eval(code);
+  }
+
+  run(line, kind, asker, callback, words) {
+    const { recording, page } = this;
+    if (recording.isOver) return callback.apply(page.window, words);
+    recording.startTask();
+    recording.begin(line, kind, undefined, [asker]);
+    recording.enter('callback');
+    try {
+      return callback.apply(page.window, words);
+    } finally {
+      recording.leave();
+    }
+  }
+
+  replaceTimeout(window) {
+    const timers = this;
+    const { recording, page } = this;
+    replaceMethod(window, 'setTimeout', (native) => function setTimeout(callback, delay, ...words) {
+      if (recording.isOver) return native.call(window, callback, delay, ...words);
+      const timeout = recording.next('timeout');
+      // a setter that was not seen is no event, so the timeout gets order from nothing
+      const isKnown = recording.isRunning();
+      recording.note(`set ${timeout} ${timers.delay(delay)} ${isKnown ? page.number : 'unknown'}`);
+      const run = timers.callable(callback);
+      const asker = recording.running;
+      return native.call(window, () => timers.run(`timer ${timeout}`, 'timer', isKnown ? asker : null, run, words), delay);
+    });
+  }
+
+  replaceInterval(window) {
+    const timers = this;
+    const { recording } = this;
+    replaceMethod(window, 'setInterval', (native) => function setInterval(callback, delay, ...words) {
+      if (recording.isOver) return native.call(window, callback, delay, ...words);
+      const interval = recording.next('interval');
+      recording.note(`every ${interval} ${timers.delay(delay)}`);
+      recording.log.name('interval', interval, { why: 'setInterval' });
+      const run = timers.callable(callback);
+      const asker = recording.running;
+      return native.call(window, () => timers.run(`tick ${interval}`, 'tick', asker, run, words), delay);
+    });
+  }
+
+  /** An animation frame has a record of its own in version 3, and is an interval that ticks once before. */
+  replaceFrame(window, name) {
+    const timers = this;
+    const { recording } = this;
+    const words = name === 'requestIdleCallback' ? ['every', 'tick'] : ['ask', 'anim'];
+    replaceMethod(window, name, (native) => function request(callback, ...rest) {
+      if (recording.isOver || typeof callback !== 'function') return native.call(window, callback, ...rest);
+      const number = recording.next('interval');
+      recording.note(words[0] === 'every' ? `every ${number} 0` : `ask ${number}`);
+      recording.log.name('interval', number, { why: name });
+      const asker = recording.running;
+      return native.call(window, (time) => timers.run(`${words[1]} ${number}`, 'tick', asker, callback, [time]), ...rest);
+    });
+  }
+}

@@ -1,0 +1,233 @@
+'use strict';
+// Records one page: drives the browser, and hands over what it did.
+
+const { Chromium } = require('./browser/chromium.js');
+const { Tab } = require('./browser/tab.js');
+const { Responses } = require('./browser/responses.js');
+const { resolveAddress } = require('./browser/folder.js');
+const { User } = require('./browser/user.js');
+const { Sources } = require('./sources.js');
+const { Intake } = require('./trace/intake.js');
+const { pageScript } = require('./page-script.js');
+
+const SIZE = { width: 1100, height: 800 };
+const POLL = 50;
+/** What a page gets over its time, for a last answer. */
+const GRACE = 1000;
+/** A page is quiet when for this long no request was open and no action began. */
+const QUIET = 400;
+/** A page that is never quiet, as one with an interval, is waited for so long. */
+const LONGEST_UNREST = 3000;
+
+const LOAD_TIME = "(() => { const [one] = performance.getEntriesByType('navigation'); return one && one.loadEventEnd ? one.loadEventEnd - one.startTime : null; })()";
+
+/** Runs in an empty page: the names that every window has, and the interfaces with `on..` properties. */
+function browserFacts() {
+  const names = [];
+  for (let one = window; one; one = Object.getPrototypeOf(one)) names.push(...Object.getOwnPropertyNames(one));
+  const prototypeOf = (name) => Object.getOwnPropertyDescriptor(window, name).value?.prototype || {};
+  const hasHandlers = (name) => Object.getOwnPropertyNames(prototypeOf(name)).some((property) => /^on[a-z]/.test(property));
+  return { names, handlerOwners: Object.getOwnPropertyNames(window).filter(hasHandlers) };
+}
+
+const sleep = (time) => new Promise((resolve) => setTimeout(resolve, time));
+
+/** Why a recording ended before its end. */
+class RecordingFault extends Error {
+  constructor(message, status) {
+    super(message);
+    this.status = status;
+  }
+}
+const STATUS = { noPage: 4, noBrowser: 5, stopped: 130 };
+
+class Recorder {
+  constructor(given, options) {
+    this.options = options;
+    this.given = given;
+    this.intake = new Intake();
+    this.sources = new Sources();
+    this.errors = [];
+    this.windows = 0;
+    this.isLoaded = false;
+    this.hasAnswered = false;
+    this.isUsed = false;
+    /** Milliseconds from the begin of the navigation to the end of the page's load event. */
+    this.loadTime = null;
+    this.stopped = new Promise((resolve, reject) => { this.stop = reject; });
+    this.stopped.catch(() => {});
+  }
+
+  /** Stops the recording; what came so far is kept. */
+  interrupt() {
+    this.stop(new RecordingFault('stopped', STATUS.stopped));
+  }
+
+  openRequests() {
+    return this.responses ? this.responses.open.size : 0;
+  }
+
+  /** Records the page. Fails with a RecordingFault; what was recorded until then stands in the intake. */
+  async record() {
+    try {
+      await Promise.race([this.recordToEnd(), this.stopped]);
+    } catch (fault) {
+      if (fault.status === STATUS.stopped && this.tab) await this.finish();
+      throw fault;
+    } finally {
+      if (this.options.browser) await this.tab?.close();
+      else if (this.browser) await this.browser.close();
+    }
+  }
+
+  async recordToEnd() {
+    const { address, folder } = this.resolve();
+    await this.openBrowser();
+    await this.prepareTab(folder);
+    this.until = Date.now() + this.options.time * 1000; // the browser's own start does not count
+    await Promise.race([this.loadAndUse(address), this.timeIsUp()]);
+    await this.finish();
+  }
+
+  async loadAndUse(address) {
+    await this.load(address);
+    await this.useAndWait();
+    this.isUsed = true;
+  }
+
+  /** A page that never ends its work answers nothing: what came until then is the recording. */
+  async timeIsUp() {
+    while (!this.isUsed && Date.now() < this.until + GRACE) await sleep(POLL);
+  }
+
+  resolve() {
+    try {
+      return resolveAddress(this.given, this.options.root);
+    } catch (fault) {
+      throw new RecordingFault(fault.message, STATUS.noPage);
+    }
+  }
+
+  async openBrowser() {
+    try {
+      this.browser = this.options.browser || new Chromium();
+      this.browser.once('gone', (why) => this.stop(new RecordingFault(`the browser has gone: ${why}`, STATUS.noBrowser)));
+      if (!this.options.browser) {
+        this.browser.start(SIZE.width, SIZE.height);
+        if (!this.options.isRaw) this.sources.warmUp(); // while the browser starts
+      }
+      this.tab = await Tab.open(this.browser, SIZE);
+    } catch (fault) {
+      throw new RecordingFault(`the browser could not be started: ${fault.message}`, STATUS.noBrowser);
+    }
+  }
+
+  async prepareTab(folder) {
+    const { tab, options } = this;
+    this.listen();
+    for (const domain of ['Page', 'Runtime', 'Inspector']) await tab.send(`${domain}.enable`);
+    const { names, handlerOwners } = await tab.evaluate(`(${browserFacts})()`);
+    this.sources.builtins = new Set(names);
+    this.responses = new Responses(tab, { sources: options.isRaw ? null : this.sources, folder, slow: options.slow });
+    await this.responses.start();
+    if (!options.isRaw) {
+      await tab.send('Runtime.addBinding', { name: '__erSend' });
+      await tab.send('Page.addScriptToEvaluateOnNewDocument', { source: pageScript(handlerOwners) });
+    }
+  }
+
+  listen() {
+    const { tab } = this;
+    tab.on('Runtime.bindingCalled', ({ name, payload }) => name === '__erSend' && this.intake.take(payload));
+    tab.on('Runtime.exceptionThrown', ({ exceptionDetails }) => this.errors.push(errorOf(exceptionDetails)));
+    tab.on('Page.loadEventFired', () => { this.isLoaded = true; });
+    tab.on('Page.javascriptDialogOpening', () => tab.send('Page.handleJavaScriptDialog', { accept: true }).catch(() => {}));
+    tab.on('Page.windowOpen', () => { this.windows++; });
+    tab.on('Inspector.targetCrashed', () => this.stop(new RecordingFault('the page crashed the browser', STATUS.noBrowser)));
+  }
+
+  // ---- loading
+
+  async load(address) {
+    this.isLoaded = false;
+    const navigation = this.tab.send('Page.navigate', { url: address });
+    const early = this.options.actions.filter((action) => action.isEarly);
+    const { errorText } = await Promise.race([navigation, this.noAnswer()]);
+    this.hasAnswered = true;
+    if (errorText) throw new RecordingFault(`${this.given} did not load: ${errorText}`, STATUS.noPage);
+    if (this.responses.failures.includes(address.replace(/#.*$/, ''))) throw new RecordingFault(`${this.given} did not load: there is no such file`, STATUS.noPage);
+    this.user = new User(this.tab);
+    for (const action of early) {
+      await this.user.waitFor(action, this.until);
+      await this.user.act(action);
+    }
+    while (!this.isLoaded && Date.now() < this.until) await sleep(POLL);
+    this.loadTime = this.isLoaded ? await this.tab.evaluateApart(LOAD_TIME) : null;
+  }
+
+  /** Where nothing comes of the page until the recording's time is over. */
+  async noAnswer() {
+    while (!this.hasAnswered && Date.now() < this.until) await sleep(POLL);
+    return { errorText: 'no answer came in time' };
+  }
+
+  // ---- use
+
+  async useAndWait() {
+    await this.waitForQuiet();
+    for (const action of this.options.actions.filter((one) => !one.isEarly)) {
+      if (Date.now() < this.until) await this.user.act(action);
+    }
+    await this.user.clickAround(this.options.clicks, this.options.seed);
+    await this.waitForQuiet();
+  }
+
+  async waitForQuiet() {
+    const begin = Date.now();
+    let actions = -1;
+    let quietSince = begin;
+    while (Date.now() < this.until) {
+      await this.flush();
+      if (this.openRequests() || this.intake.actions !== actions) quietSince = Date.now();
+      actions = this.intake.actions;
+      const isTooLong = Date.now() - begin > LONGEST_UNREST && !this.openRequests();
+      if (Date.now() - quietSince >= QUIET || isTooLong) return;
+      await sleep(POLL);
+    }
+  }
+
+  async flush() {
+    await this.callRecording('flush');
+  }
+
+  async finish() {
+    await this.callRecording('finish');
+    await sleep(POLL); // the last batch comes as an event of the protocol
+  }
+
+  async callRecording(method) {
+    if (this.options.isRaw) return;
+    const answer = this.tab.evaluate(`typeof __er === 'object' && __er.recording && __er.recording.${method}()`);
+    await Promise.race([answer.catch(() => {}), sleep(2000)]);
+  }
+
+  // ---- what was not recorded
+
+  /** Counts of what was left out or changed, as lines. */
+  losses() {
+    const lines = Object.entries(this.intake.missed).map(([what, count]) => `${what}: ${count}`);
+    for (const [what, count] of this.sources.missed) lines.push(`${what}, kept as they are: ${count}`);
+    for (const [what, count] of this.sources.dropped) lines.push(`${what} dropped in the copy that the page sees: ${count}`);
+    if (this.responses?.notFollowed) lines.push(`steps to another page not followed: ${this.responses.notFollowed}`);
+    if (this.hasAnswered && !this.isUsed) lines.push('what came later: the recording ended before the page was quiet');
+    if (this.windows) lines.push(`windows opened and not recorded: ${this.windows}`);
+    return lines;
+  }
+}
+
+function errorOf({ exception, text, url, lineNumber }) {
+  const message = (exception && exception.description ? exception.description.split('\n')[0] : text) || '';
+  return `${message} (${(url || '').replace(/^.*\//, '')}:${lineNumber + 1})`;
+}
+
+module.exports = { Recorder, RecordingFault };

@@ -1,0 +1,387 @@
+'use strict';
+// The pages of pages/: what a user does, the records that are due in this order, and the locations that race.
+
+const CLICK = ['--do', 'click:button'];
+
+exports.cases = [
+  // ---- scripts
+  {
+    page: 'blocking-script.html',
+    due: [
+      'parse script sync', 'exec script', 'w ready', 'eload script', 'parse p#text plain', 'w #text', 'exec script',
+      'r ready', 'dcl', 'load',
+    ],
+  },
+  {
+    page: 'defer.html',
+    due: [
+      'parse script defer', 'parse p#text plain', 'w #text', 'exec script', 'r #text', 'eload script', 'dcl',
+    ],
+  },
+  {
+    page: 'async.html',
+    due: [
+      'parse script async', 'exec script', 'r #text', 'eload script', 'load',
+    ],
+    races: ['#text'],
+  },
+  {
+    page: 'module.html',
+    due: [
+      'parse script defer', 'parse p#text plain', 'parse script defer', 'exec script', 'w fromShared', 'w mine',
+      'r #text', 'exec script', 'w fromSecond', 'r fromShared', 'dcl',
+    ],
+  },
+  {
+    page: 'import-call.html',
+    due: [
+      'exec script', 'every 0', 'tick', 'w lazyRan',
+    ],
+  },
+  {
+    page: 'inserted-script.html',
+    due: [
+      'exec script', 'on added', 'parse script async', 'exec script', 'w ready', 'eload script', 'run added',
+      'r ready', 'load', 'run all',
+    ],
+  },
+  {
+    page: 'document-write.html',
+    due: [
+      'exec script', 'new p#written plain', 'w #written', 'w afterwards', 'w inside', 'parse p#next plain',
+    ],
+  },
+  {
+    page: 'throws.html',
+    due: [
+      'exec script', 'w before', 'exec script', 'r before',
+    ],
+    throws: true,
+  },
+  {
+    page: 'no-javascript.html',
+    due: [
+      'parse script inline', 'parse script inline', 'exec script', 'w afterwards',
+    ],
+    throws: true,
+  },
+  {
+    page: 'function-text.html',
+    due: [
+      'exec script', 'w add', 'w text',
+    ],
+  },
+  {
+    page: 'own-arrays.html',
+    due: [
+      'w calls', 'parse button#go plain', 'new p#added plain', 'w #added', 'inline button#go click', 'w clicked',
+      'timer', 'r calls',
+    ],
+  },
+  {
+    page: 'integrity.html',
+    due: [
+      'parse script sync', 'exec script', 'w ready', 'exec script', 'r ready',
+    ],
+  },
+
+  // ---- timers and jobs
+  {
+    page: 'timer.html',
+    due: [
+      'set 10', 'set 0', 'timer', 'r cart', 'timer', 'w cart',
+    ],
+    races: ['cart'],
+  },
+  {
+    page: 'interval.html',
+    due: [
+      'every 5', 'tick', 'w ticks', 'tick', 'w ticks', 'tick', 'w ticks',
+    ],
+  },
+  {
+    page: 'nested-timers.html',
+    due: [
+      'set 5', 'timer', 'w depth', 'set 0', 'timer', 'w depth',
+    ],
+  },
+  {
+    page: 'text-timer.html',
+    due: [
+      'set 1', 'timer', 'w late',
+    ],
+  },
+  {
+    page: 'animation-frame.html',
+    due: [
+      'w painted', 'every 0', 'tick', 'r painted', 'w painted',
+    ],
+  },
+  {
+    page: 'promise.html',
+    due: [
+      'w value', 'on soon', 'w afterwards', 'exec script', 'r value',
+    ],
+  },
+  {
+    page: 'promise-of-another.html',
+    due: [
+      'on reaction', 'set 0', 'timer', 'r settle', 'inline promise reactions then', 'run reaction', 'r later',
+      'close', 'back',
+    ],
+  },
+  {
+    page: 'mutation-observer.html',
+    due: [
+      'on changed', 'exec script', 'new i plain', 'inline promise reactions then', 'run changed', 'w changes',
+    ],
+  },
+  {
+    page: 'messages.html',
+    due: [
+      'on got', 'timer', 'w b', 'new ? plain', 'fire ? message', 'run got', 'timer', 'w a', 'fire ? message',
+      'run got',
+    ],
+    races: ['last'],
+  },
+  {
+    page: 'worker.html',
+    due: [
+      'new Worker plain', 'fire Worker message', 'run answered', 'w answer',
+    ],
+  },
+
+  // ---- requests
+  {
+    page: 'xhr.html',
+    due: [
+      'on onAnswer', 'send', 'reply', 'run onAnswer', 'w answer', 'close',
+    ],
+  },
+  {
+    page: 'xhr-events.html',
+    due: [
+      'inline XMLHttpRequest readystatechange', 'run onState', 'close', 'back', 'send', 'reply', 'run onState',
+      'reply', 'run onState',
+    ],
+  },
+  {
+    page: 'fetch.html',
+    due: [
+      'send', 'on gotHead', 'on gotBody', 'reply', 'run reply of fetch', 'close', 'reply', 'run reply of fetch',
+      'w items', 'close',
+    ],
+  },
+  {
+    page: 'fetch-await.html',
+    due: [
+      'send', 'reply', 'w head', 'close', 'reply', 'w items', 'close',
+    ],
+  },
+
+  // ---- dispatches
+  {
+    page: 'click-late.html',
+    words: CLICK,
+    due: [
+      'on onBuy', 'load', 'fire button#buy mousedown', 'inline button#buy focus', 'back', 'fire button#buy mouseup',
+      'close', 'inline button#buy click', 'run onBuy', 'w count', 'close', 'back',
+    ],
+    races: ['click of button#buy'],
+  },
+  {
+    page: 'click-early.html',
+    words: ['--slow', '3500', '--do', 'early click:#buy', '--do', 'click:#buy'],
+    due: [
+      'parse script sync', 'inline button#buy click', 'exec script', 'on onBuy', 'inline button#buy click',
+      'run onBuy', 'w bought',
+    ],
+    races: ['click of button#buy'],
+  },
+  {
+    page: 'capture-and-bubble.html',
+    words: CLICK,
+    due: [
+      'on bubbled', 'on captured', 'inline button#inner click', 'run captured', 'w order', 'run bubbled', 'w order',
+    ],
+    races: ['click of div#outer'],
+  },
+  {
+    page: 'once.html',
+    words: CLICK,
+    due: [
+      'run onlyOnce', 'w click of button#go', 'w runs',
+    ],
+    races: ['click of button#go'],
+  },
+  {
+    page: 'removed-handler.html',
+    words: CLICK,
+    due: [
+      'on gone', 'on stays', 'run stays', 'w yes',
+    ],
+    never: ['run gone', 'w never'],
+    races: ['click of button#go'],
+  },
+  {
+    page: 'two-listeners.html',
+    due: [
+      'exec script', 'w click of button#go', 'exec script', 'w click of button#go',
+    ],
+    races: [],
+  },
+  {
+    page: 'inline-click.html',
+    due: [
+      'w steps', 'inline button#go click', 'run clicked', 'w steps', 'close', 'back', 'w steps',
+    ],
+  },
+  {
+    page: 'two-inline-clicks.html',
+    due: [
+      'timer', 'w who', 'inline button#go click', 'run clicked', 'w last', 'back', 'timer', 'inline button#go click',
+      'run clicked',
+    ],
+    races: ['who', 'last'],
+  },
+  {
+    page: 'throws-in-handler.html',
+    words: CLICK,
+    due: [
+      'run thrower', 'inline window error', 'run onError', 'w count', 'close', 'back',
+    ],
+    races: ['click of button#go'],
+    throws: true,
+  },
+  {
+    page: 'form.html',
+    words: ['--do', 'click:#box', '--do', 'click:#send'],
+    due: [
+      'inline input#box click', 'close', 'inline input#box input', 'w checked of input#box',
+      'inline input#box change', 'run changed', 'inline button#send click', 'close', 'inline form#form submit',
+      'run submitted',
+    ],
+    races: ['seen', 'change of input#box', 'submit of form#form'],
+  },
+  {
+    page: 'typing.html',
+    words: ['--do', 'type:#field:ab'],
+    due: [
+      'timer', 'w value of input#field', 'fire input#field keydown', 'inline input#field keypress',
+      'inline input#field input', 'w value of input#field', 'fire input#field keyup',
+    ],
+    races: ['value of input#field'],
+  },
+  {
+    page: 'address.html',
+    words: ['--do', 'click:#link'],
+    due: [
+      'w visited', 'inline a#link click', 'close', 'every 0', 'back', 'tick', 'w visited',
+    ],
+    races: ['visited'],
+  },
+  {
+    page: 'ready-states.html',
+    due: [
+      'dcl', 'run onState', 'run parsed', 'close', 'load', 'run onState', 'run loaded', 'run shown', 'close',
+    ],
+  },
+
+  // ---- elements and what they load
+  {
+    page: 'image-load.html',
+    due: [
+      'parse img#dot image', 'on load', 'eload img#dot', 'run load', 'w pictures', 'load', 'run all', 'r pictures',
+    ],
+  },
+  {
+    page: 'image-error.html',
+    due: [
+      'parse img#lost image', 'eload img#lost', 'run error', 'w missing', 'load', 'r missing',
+    ],
+  },
+  {
+    page: 'image-later.html',
+    due: [
+      'timer', 'w size', 'new img#dot image', 'eload img#dot', 'run loaded', 'r size',
+    ],
+  },
+  {
+    page: 'image-lazy.html',
+    due: [
+      'parse img#lazy plain', 'eload img#lazy', 'w lazyLoaded',
+    ],
+    races: ['lazyLoaded'],
+  },
+  {
+    page: 'style-sheet.html',
+    due: [
+      'parse link image', 'eload link', 'run load', 'w styled', 'load', 'r styled',
+    ],
+  },
+  {
+    page: 'inner-html.html',
+    due: [
+      'new b#made plain', 'on click', 'w click of b#made', 'w #made', 'r #made', 'inline b#made click', 'run click',
+      'w hit',
+    ],
+  },
+  {
+    page: 'storage.html',
+    due: [
+      'w localStorage.theme', 'w document.cookie', 'timer', 'r localStorage.theme', 'r document.cookie',
+    ],
+  },
+
+  // ---- frames
+  {
+    page: 'frames.html',
+    due: [
+      'parse iframe#inside frame', 'w load of iframe#inside', 'parse p#child plain', 'exec script', 'w fromChild',
+      'dcl', 'load', 'eload iframe#inside', 'run load', 'w whole', 'load',
+    ],
+  },
+  {
+    page: 'frame-twice.html',
+    due: [
+      'parse iframe#inside frame', 'eload iframe#inside', 'run again', 'new iframe#inside frame',
+      'parse p#second plain', 'w secondRan', 'dcl', 'load', 'eload iframe#inside',
+    ],
+  },
+  {
+    page: 'frame-blank.html',
+    due: [
+      'on blankLoaded', 'new iframe frame', 'inline iframe load', 'run blankLoaded', 'w blanks', 'back',
+      'new p#filled plain', 'w afterwards',
+    ],
+  },
+  {
+    page: 'frame-srcdoc.html',
+    due: [
+      'parse iframe frame', 'parse p#sd plain', 'exec script', 'w ofSrcdoc', 'dcl', 'load', 'eload iframe', 'load',
+    ],
+  },
+  {
+    page: 'frame-written.html',
+    due: [
+      'parse iframe#frame frame', 'exec script', 'new p#w plain', 'w #w', 'w written',
+    ],
+  },
+  {
+    page: 'frame-timers.html',
+    due: [
+      'run load', 'set 0', 'every 0', 'close', 'w mineRan',
+    ],
+    races: ['both', 'mineRan'],
+  },
+
+  // ---- a page without a race
+  {
+    page: 'no-race.html',
+    words: CLICK,
+    due: [
+      'w clicked', 'exec script', 'w clicks', 'inline button#go click',
+    ],
+    races: [],
+  },
+];

@@ -1,0 +1,145 @@
+'use strict';
+// How the commands end: what they write, what they say, their statuses, and that no browser and no folder is left behind.
+
+const assert = require('node:assert');
+const { spawn, spawnSync } = require('node:child_process');
+const fs = require('node:fs');
+const os = require('node:os');
+const path = require('node:path');
+const { after, test } = require('node:test');
+
+const TOP = path.join(__dirname, '..', '..');
+const PAGES = path.join(__dirname, 'pages');
+const folder = fs.mkdtempSync(path.join(os.tmpdir(), 'er-test-'));
+after(() => fs.rmSync(folder, { recursive: true, force: true }));
+
+const traceFile = (name) => path.join(folder, `${name}.trace`);
+/** A folder for temporary files of its own, so that what is left behind is seen. */
+function temporary(name) {
+  const own = path.join(folder, `temporary-${name}`);
+  fs.mkdirSync(own, { recursive: true });
+  return own;
+}
+
+function run(command, words, own) {
+  return spawnSync(path.join(TOP, command), words, { encoding: 'utf8', cwd: folder, timeout: 90000, env: { ...process.env, TMPDIR: own } });
+}
+
+function isWhole(file) {
+  const text = fs.readFileSync(file, 'utf8');
+  return /^webtrace [123]\n/.test(text) && text.endsWith('\nend\n');
+}
+
+/** The processes whose words name a folder. */
+function processesOf(own) {
+  return fs.readdirSync('/proc').filter((name) => /^\d+$/.test(name)).filter((name) => {
+    try {
+      return fs.readFileSync(`/proc/${name}/cmdline`, 'utf8').includes(own);
+    } catch {
+      return false; // it has ended
+    }
+  });
+}
+
+function assertNothingLeft(own) {
+  assert.deepStrictEqual(fs.readdirSync(own).filter((name) => name.startsWith('er-record-')), []);
+  assert.deepStrictEqual(processesOf(own), []);
+}
+
+test('a recording writes the trace and its names', () => {
+  const own = temporary('plain');
+  const { status, stderr } = run('er_record', [path.join(PAGES, 'timer.html'), traceFile('plain')], own);
+  assert.strictEqual(status, 0, stderr);
+  assert.match(stderr, /er_record: \d+ actions in [\d.]+ s/);
+  assert.ok(isWhole(traceFile('plain')));
+  const names = JSON.parse(fs.readFileSync(path.join(folder, 'plain.names.json'), 'utf8'));
+  assert.strictEqual(Object.keys(names.timeouts).length, 2);
+  assert.deepStrictEqual(names.timeouts[1].place.slice(1), [5, 1]);
+  assertNothingLeft(own);
+});
+
+test('words that ask for nothing', () => {
+  for (const words of [[], ['a'], ['a', 'b', '--what'], ['a', 'b', '--do', 'jump:x'], ['a', 'b', '--version', '9'], ['a', 'b', '--time', 'x']]) {
+    const { status, stderr } = run('er_record', words, temporary('usage'));
+    assert.strictEqual(status, 2, words.join(' '));
+    assert.match(stderr, /usage: er_record/);
+  }
+  assert.strictEqual(run('er_page', [], temporary('usage')).status, 2);
+  assert.strictEqual(run('er_view', [], temporary('usage')).status, 2);
+});
+
+test('a page that does not load', () => {
+  const own = temporary('missing');
+  const missing = run('er_record', [path.join(PAGES, 'not-there.html'), traceFile('missing')], own);
+  assert.strictEqual(missing.status, 4, missing.stderr);
+  assert.match(missing.stderr, /not-there.html did not load/);
+  assert.ok(isWhole(traceFile('missing')));
+  const closed = run('er_record', ['http://127.0.0.1:1/', traceFile('closed')], own);
+  assert.strictEqual(closed.status, 4);
+  assert.match(closed.stderr, /did not load: net::ERR/);
+  assertNothingLeft(own);
+});
+
+function startRecording(name, page, own) {
+  const child = spawn(path.join(TOP, 'er_record'), [path.join(PAGES, page), traceFile(name), '--do', 'wait:60000', '--time', '80'], { env: { ...process.env, TMPDIR: own } });
+  child.said = '';
+  child.stderr.on('data', (piece) => { child.said += piece; });
+  child.ended = new Promise((resolve) => child.on('close', resolve));
+  return child;
+}
+
+/** Waits until the recording says that actions came. */
+async function untilActions(child) {
+  for (let k = 0; k < 300 && !/ [1-9]\d* actions/.test(child.said); k++) await new Promise((resolve) => setTimeout(resolve, 100));
+}
+
+test('Ctrl-C: what was recorded so far is written', { timeout: 60000 }, async () => {
+  const own = temporary('stopped');
+  const child = startRecording('stopped', 'interval.html', own);
+  await untilActions(child);
+  child.kill('SIGINT');
+  assert.strictEqual(await child.ended, 130);
+  assert.match(child.said, /er_record: stopped/);
+  assert.ok(isWhole(traceFile('stopped')));
+  assert.match(fs.readFileSync(traceFile('stopped'), 'utf8'), /\ntick 1\n/);
+  assertNothingLeft(own);
+});
+
+test('a browser that is gone: what was recorded so far is written', { timeout: 60000 }, async () => {
+  const own = temporary('gone');
+  const child = startRecording('gone', 'interval.html', own);
+  await untilActions(child);
+  for (const number of processesOf(own)) process.kill(Number(number), 'SIGKILL');
+  assert.strictEqual(await child.ended, 5);
+  assert.match(child.said, /er_record: the browser has gone/);
+  assert.ok(isWhole(traceFile('gone')));
+  assertNothingLeft(own);
+});
+
+test('a page without an end is recorded for as long as was said', { timeout: 60000 }, () => {
+  const own = temporary('endless');
+  const { status, stderr } = run('er_record', [path.join(PAGES, 'endless.html'), traceFile('endless'), '--time', '4'], own);
+  assert.strictEqual(status, 0, stderr);
+  assert.ok(isWhole(traceFile('endless')));
+  assertNothingLeft(own);
+});
+
+test('from a page to its races', { timeout: 90000 }, () => {
+  const own = temporary('page');
+  const { status, stdout, stderr } = run('er_page', [path.join(TOP, 'examples/shop/index.html'), '--slow', '300', '--do', 'early click:#add'], own);
+  assert.strictEqual(status, 1, stderr);
+  assert.match(stdout, /^1\. .*nothing orders them/m);
+  for (const ending of ['trace', 'names.json', 'report', 'html']) assert.ok(fs.existsSync(path.join(folder, 'shop.races', `page.${ending}`)), ending);
+  const clean = run('er_page', [path.join(PAGES, 'no-race.html')], own);
+  assert.strictEqual(clean.status, 0, clean.stderr);
+  assert.match(clean.stdout, /^No race\.$/m);
+  assertNothingLeft(own);
+});
+
+test('a trace that is refused', () => {
+  const file = traceFile('refused');
+  fs.writeFileSync(file, 'webtrace 1\ntimer 9\nend\n');
+  const { status, stderr } = run('er_view', [file], temporary('view'));
+  assert.strictEqual(status, 3);
+  assert.match(stderr, /refused at line 2: unknown/);
+});

@@ -1,0 +1,50 @@
+'use strict';
+// A page from a web server: a redirect, encodings, compression, a content policy, a file that is missing, a page that sends nothing.
+
+const assert = require('node:assert');
+const http = require('node:http');
+const zlib = require('node:zlib');
+const { after, before, test } = require('node:test');
+const { Chromium } = require('../browser/chromium.js');
+const { recordPage, judge, firstMissing } = require('./support.js');
+
+const PAGE = Buffer.from('<!doctype html><title>h</title><p id="caf\u00e9">caf\u00e9</p><script src="code.js" integrity="sha256-x"></script><script src="lost.js"></script><script>seen = word</script>', 'latin1');
+const ANSWERS = {
+  '/start': [302, { location: '/page' }, ''],
+  '/page': [200, { 'content-type': 'text/html; charset=iso-8859-1', 'content-security-policy': "script-src 'none'" }, PAGE],
+  '/code.js': [200, { 'content-type': 'text/javascript', 'content-encoding': 'gzip' }, zlib.gzipSync("var word = document.getElementById('caf\u00e9').textContent;\nif (word !== 'caf\u00e9') throw new Error(word);\n")],
+};
+
+let browser;
+let server;
+let origin;
+before(async () => {
+  browser = await Chromium.launch({ width: 1100, height: 800 });
+  server = http.createServer((request, response) => {
+    if (request.url === '/never') return;
+    const [status, headers, body] = ANSWERS[request.url] || [404, {}, 'no'];
+    response.writeHead(status, headers).end(body);
+  });
+  await new Promise((resolve) => server.listen(0, '127.0.0.1', resolve));
+  origin = `http://127.0.0.1:${server.address().port}`;
+});
+after(async () => {
+  await browser.close();
+  server.closeAllConnections();
+  server.close();
+});
+
+test('a page that is redirected, compressed, in another encoding, under a policy', { timeout: 60000 }, async () => {
+  const trace = await recordPage(browser, `${origin}/start`);
+  const due = ['parse p#caf\u00e9 plain', 'parse script sync', 'exec script', 'w word', 'eload script', 'parse script sync', 'parse script inline', 'exec script', 'r word', 'dcl', 'load'];
+  assert.strictEqual(firstMissing(trace.readable, due), null, trace.readable.join('\n'));
+  assert.ok(trace.lines.includes('w elem 0 caf%C3%A9'));
+  assert.deepStrictEqual(trace.errors, []);
+  assert.ok(trace.losses.some((line) => /content policies dropped .*: 1/.test(line)), trace.losses.join('\n'));
+  assert.ok(trace.losses.some((line) => /integrity attributes dropped .*: 1/.test(line)));
+  assert.strictEqual(judge(trace).refused, '');
+});
+
+test('a page that never answers', { timeout: 60000 }, async () => {
+  await assert.rejects(recordPage(browser, `${origin}/never`, ['--time', '2']), /did not load/);
+});

@@ -1,0 +1,103 @@
+'use strict';
+// Marked code: it does what it did, its marks can be taken out, and its places lead back. No browser.
+
+const assert = require('node:assert');
+const { test } = require('node:test');
+const { EditedText } = require('../instrument/edits.js');
+const { instrument } = require('../instrument/instrument.js');
+const { scanTags } = require('../instrument/html-scanner.js');
+const { Sources } = require('../sources.js');
+
+const BUILTINS = new Set(['window', 'document', 'setTimeout', 'String', 'Array', 'Object', 'Promise']);
+
+function marked(code, kind = 'script') {
+  let sites = 0;
+  const result = instrument(code, { kind, builtins: BUILTINS, site: () => sites++, module: 2000000, type: 'click' });
+  assert.strictEqual(result.fault, undefined);
+  return new EditedText(code, result.edits);
+}
+
+const strip = (text) => text.replace(/\u2005?\/\*<\*\/[^]*?\/\*>\*\//g, '');
+
+/** The accesses of a piece of code, as it runs. */
+function accessesOf(code) {
+  const seen = [];
+  const note = (mode) => (name) => { seen.push(`${mode} ${name}`); };
+  const ofObject = (mode) => (object, name) => { seen.push(`${mode} ${name}`); return object; };
+  const helpers = { r: note('r'), w: note('w'), u: note('u'), ro: ofObject('r'), wo: ofObject('w'), uo: ofObject('u'), scriptBegins() {}, scriptEnds() {} };
+  new Function('__er', 'document', 'window', marked(code).text)(helpers, {}, {});
+  return seen;
+}
+
+const PIECES = [
+  'var a = 1, b;\nb = a\na++\n(function () { var a = 2; c = a })()',
+  'let x = () => 1, y = class {}\nif (x.name !== "x" || y.name !== "y") throw Error("name")',
+  'var o = { a() { return 1 }, get b() { return 2 }, ["c" + 1]: 3 }, { b, ...rest } = o',
+  'for (var i = 0; i < 2; i++) q = i\nfor (const k of [1]) q = k\nfor (z in { m: 1 });',
+  'label: for (;;) { break label }\ndo q = 1\nwhile (false)',
+  'var t = `a${typeof missing}b`\nvar f = function () { return t }\nf()',
+  'try { throw { e: 1 } } catch ({ e }) { q = e } finally { q = 2 }',
+  'switch (1) { case 1: let s = 2; q = s }',
+  'class A { static n = 1; #p = 2; get p() { return this.#p } }\nnew A().p',
+  '"use strict"\nvar late = 1 // the end',
+  'var shorthand = 1; var made = { shorthand }; if (made.shorthand !== 1) throw Error("shorthand")',
+  '(async () => { await null; q = 1 })()\nvar g = function* () { yield q }',
+  'var half = 1 / Math.PI, quarter = 1/Math.PI, word = /a/.source',
+  'window.w1 = 1; delete window.w1; window["w2"] += 1',
+];
+
+for (const code of PIECES) {
+  test(`runs as before: ${code.slice(0, 40).replace(/\n/g, ' ')}`, () => {
+    assert.strictEqual(strip(marked(code).text), code);
+    assert.doesNotThrow(() => accessesOf(code));
+  });
+}
+
+test('accesses to global variables alone', () => {
+  assert.deepStrictEqual(accessesOf('var a = 1; function f(a) { return a + b.c } a = typeof d; a++; var b = {}; f(a); String(a)'),
+    ['w a', 'w a', 'r d', 'u a', 'w b', 'r f', 'r a', 'r b', 'r a']);
+});
+
+test('a module: its own variables, and those of the window', () => {
+  const { text } = marked('import { a } from "./a.mjs";\nexport const own = a;\nwindow.shared = own;\nlet { x } = a; x++', 'module');
+  assert.match(text, /__er\.wm\(2000000,"own"/);
+  assert.match(text, /__er\.rm\(2000000,"own"/);
+  assert.match(text, /,"shared",\d+\)\)/);
+  assert.match(text, /__er\.um\(2000000,"x"/);
+});
+
+test('text that is no JavaScript', () => {
+  assert.ok(instrument('this is none', { kind: 'script', builtins: BUILTINS, site: () => 0 }).fault);
+});
+
+test('places lead back to the original', () => {
+  const code = 'var a = 1;\nfoo(a, bar);\n';
+  const edited = marked(code);
+  const line = edited.text.split('\n')[1];
+  assert.deepStrictEqual(edited.originalPlace(2, line.indexOf('bar/') + 1), { line: 2, column: 8 });
+  assert.deepStrictEqual(edited.originalPlace(2, line.indexOf(');/*<*/;') + 1), { line: 2, column: 11 });
+});
+
+test('a page: scripts, handlers, addresses, and what is dropped', () => {
+  const sources = new Sources();
+  const page = '<p id=a onclick="n++; say(&quot;x&quot;)">\n<a href="javascript:go()">x</a><script integrity="sha" src=a.js></script>\n<script>\nvar n = 1 // <p>\n</script>\n<script type="application/json">{"a": 1}</script><!-- <script>x</script> -->';
+  const text = sources.rewritePage('http://localhost/', page);
+  assert.match(text, /handlerBegins\(this,event,&quot;click&quot;\)/);
+  assert.match(text, /javascript:%2F\*%3C\*%2F%3B__er\.addressBegins/);
+  assert.ok(!text.includes('integrity'));
+  assert.ok(text.includes('{"a": 1}'));
+  assert.ok(text.includes('<!-- <script>x</script> -->'));
+  assert.match(text, /scriptEnds\(\);\/\*>\*\/ \/\/ <p>/);
+  assert.strictEqual(text.split('\n').length, page.split('\n').length);
+  assert.deepStrictEqual([...sources.dropped], [['integrity attributes', 1]]);
+  assert.deepStrictEqual(sources.nextTag('http://localhost/', 'a'), [0, 2, 1]);
+  assert.strictEqual(sources.nextTag('http://localhost/', 'script', { source: 'b.js' }), null);
+  assert.deepStrictEqual(sources.nextTag('http://localhost/', 'script', { source: 'a.js' }), [0, 2, 32]);
+});
+
+test('tags: attributes, raw text, templates', () => {
+  const tags = scanTags('<DIV Class=x data-a=\'1\' b><textarea><p></textarea><template><i></template><i/><script><!-- <script> </script> --></script><b>');
+  assert.deepStrictEqual(tags.map(({ name }) => name), ['div', 'textarea', 'template', 'i', 'i', 'script', 'b']);
+  assert.deepStrictEqual(tags[0].attributes.map(({ name, value }) => [name, value]), [['class', 'x'], ['data-a', '1'], ['b', '']]);
+  assert.deepStrictEqual(tags.filter(({ inTemplate }) => inTemplate).map(({ name }) => name), ['i']);
+});

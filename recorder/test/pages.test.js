@@ -1,0 +1,25 @@
+'use strict';
+// Small pages of one thing each, in a real browser: the records that are due, in order, and the races by name.
+
+const assert = require('node:assert');
+const { after, before, test } = require('node:test');
+const { Chromium } = require('../browser/chromium.js');
+const { recordPage, judge, firstMissing } = require('./support.js');
+const { cases } = require('./cases.js');
+
+let browser;
+before(async () => { browser = await Chromium.launch({ width: 1100, height: 800 }); });
+after(async () => { await browser.close(); });
+
+for (const one of cases) {
+  test(one.page, { timeout: 120000 }, async () => {
+    const trace = await recordPage(browser, one.page, one.words);
+    const missing = firstMissing(trace.readable, one.due || []);
+    assert.strictEqual(missing, null, `missing or out of its order: ${missing}\n${trace.readable.join('\n')}`);
+    for (const record of one.never || []) assert.ok(!trace.readable.includes(record), `not due: ${record}\n${trace.readable.join('\n')}`);
+    const { refused, races } = judge(trace);
+    assert.strictEqual(refused, '', `${refused}\n${trace.text.split('\n').map((line, k) => `${k + 1} ${line}`).join('\n')}`);
+    assert.deepStrictEqual([...new Set(races)].sort(), [...(one.races || [])].sort(), `${trace.text.split('\n').map((line, k) => `${k + 1} ${line}`).join('\n')}`);
+    if (!one.throws) assert.deepStrictEqual(trace.errors, []);
+  });
+}

@@ -1,0 +1,2 @@
+export const lazy = 1;
+globalThis.lazyRan = 1;

@@ -1,0 +1,1 @@
+var seen = window.ready;

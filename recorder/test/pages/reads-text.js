@@ -1,0 +1,1 @@
+var text = document.getElementById('text');

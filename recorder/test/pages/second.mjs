@@ -1,0 +1,2 @@
+import { shared } from './shared.mjs';
+window.fromSecond = shared + window.fromShared;

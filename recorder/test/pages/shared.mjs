@@ -1,0 +1,2 @@
+export let shared = 1;
+globalThis.fromShared = 1;

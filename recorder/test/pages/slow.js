@@ -1,0 +1,2 @@
+function onBuy() { bought = 1; }
+document.getElementById('buy').addEventListener('click', onBuy);

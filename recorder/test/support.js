@@ -1,0 +1,99 @@
+'use strict';
+// What the tests share: recording a page of pages/, reading a trace with names in place of numbers, and asking the program.
+
+const { spawnSync } = require('node:child_process');
+const path = require('node:path');
+const { Recorder } = require('../recorder.js');
+const { parseOptions } = require('../options.js');
+const { Names } = require('../trace/names.js');
+const { Spelling, NEWEST_VERSION } = require('../trace/spelling.js');
+const { PROGRAM } = require('../view/program.js');
+
+const PAGES = path.join(__dirname, 'pages');
+
+/** Records a page of pages/ in a browser that runs. */
+async function recordPage(browser, page, words = [], version = NEWEST_VERSION) {
+  const options = parseOptions([...words, page], NEWEST_VERSION, 1);
+  const recorder = new Recorder(/^https?:/.test(page) ? page : path.resolve(PAGES, page), { ...options, browser });
+  await recorder.record();
+  return readTrace(recorder, version);
+}
+
+function readTrace(recorder, version) {
+  const records = new Spelling(recorder.intake.entries, version).records();
+  const names = new Names(recorder.sources, recorder.intake.names);
+  names.addRecords(records);
+  const lines = records.map(({ text }) => text);
+  return {
+    text: `webtrace ${version}\n${lines.map((line) => `${line}\n`).join('')}end\n`,
+    lines,
+    names,
+    readable: lines.map((line) => readable(line, names)),
+    errors: recorder.errors,
+    losses: recorder.losses(),
+  };
+}
+
+// ---- names in place of numbers
+
+function elementName(number, names) {
+  const facts = names.lists.elements[number] || {};
+  if (facts.standsFor) return elementName(facts.standsFor, names);
+  if (facts.tag === 'HTMLDocument') return 'document';
+  if (facts.tag === 'Window') return 'window';
+  return `${facts.tag || '?'}${facts.id ? `#${facts.id}` : ''}`;
+}
+
+const handlerName = (number, names) => names.lists.handlers[number]?.function || names.lists.handlers[number]?.type || '?';
+
+/** A location in words: `count`, `#menu`, `click of button#buy`, `value of input#q`. */
+function locationName(location, names) {
+  const [kind, number, name] = location.split(' ');
+  if (kind === 'elem') return `#${name}`;
+  if (kind === 'slot') return `${name.replace(/\/\d+$/, '')} of ${elementName(number, names)}`;
+  if (number >= 1000000 && number < 2000000) return `${name} of ${elementName(number - 1000000, names)}`;
+  return name;
+}
+
+/** A record with names in place of numbers; the numbers of documents, groups and dispatches are left out. */
+function readable(line, names) {
+  const [word, a, b, c, d] = line.split(' ');
+  switch (word) {
+    case 'parse': case 'new': return `${word} ${elementName(b, names)} ${c}`;
+    case 'exec': return `exec ${elementName(a, names)}`;
+    case 'eload': return `eload ${elementName(b, names)}`;
+    case 'fire': case 'inline': return `${word} ${elementName(b, names)} ${c}`;
+    case 'wfire': return `wfire ${c}`;
+    case 'run': return `run ${handlerName(c, names)}`;
+    case 'on': return `on ${handlerName(a, names)}`;
+    case 'r': case 'w': return `${word} ${locationName([a, b, c, d].filter(Boolean).join(' '), names)}`;
+    case 'dcl': case 'load': case 'reply': return word;
+    case 'set': case 'every': return `${word} ${b}`;
+    default: return word;
+  }
+}
+
+// ---- the program
+
+/** What the program says of a trace. */
+function judge(trace) {
+  const answer = spawnSync('/bin/sh', ['-c', PROGRAM], { input: trace.text, encoding: 'utf8', maxBuffer: 1 << 28 });
+  const races = [...answer.stdout.matchAll(/^race \d+ (\d+) (\d+) (\w\w) \d+ \d+ (.*)$/gm)];
+  return {
+    refused: /^refused .*$/m.exec(answer.stdout)?.[0] || (answer.stdout.startsWith('report') ? '' : answer.stderr || 'no report'),
+    races: races.map(([, , , , location]) => locationName(location, trace.names)),
+  };
+}
+
+/** The first of the records that is not there behind the one before it, or null where all are there in order. */
+function firstMissing(readableLines, due) {
+  let at = 0;
+  for (const record of due) {
+    const found = readableLines.indexOf(record, at);
+    if (found < 0) return record;
+    at = found + 1;
+  }
+  return null;
+}
+
+module.exports = { recordPage, judge, firstMissing, PAGES };

@@ -1,0 +1,127 @@
+'use strict';
+// The view in a real browser: what it shows, its filter, what folds out, text of the page that looks like markup, and many races.
+
+const assert = require('node:assert');
+const { spawnSync } = require('node:child_process');
+const fs = require('node:fs');
+const os = require('node:os');
+const path = require('node:path');
+const { pathToFileURL } = require('node:url');
+const { after, before, test } = require('node:test');
+const { Chromium } = require('../browser/chromium.js');
+const { Tab } = require('../browser/tab.js');
+
+const TOP = path.join(__dirname, '..', '..');
+const SIZE = { width: 1100, height: 800 };
+const folder = fs.mkdtempSync(path.join(os.tmpdir(), 'er-view-test-'));
+let browser;
+before(async () => { browser = await Chromium.launch(SIZE); });
+after(async () => {
+  await browser.close();
+  fs.rmSync(folder, { recursive: true, force: true });
+});
+
+/** Writes a trace and its names, makes the view, and opens it. */
+async function openView(name, lines, names) {
+  const file = path.join(folder, `${name}.trace`);
+  fs.writeFileSync(file, ['webtrace 1', ...lines, 'end', ''].join('\n'));
+  if (names) fs.writeFileSync(path.join(folder, `${name}.names.json`), JSON.stringify(names));
+  const { status, stderr } = spawnSync(path.join(TOP, 'er_view'), [file], { encoding: 'utf8' });
+  assert.strictEqual(status, 1, stderr);
+  const tab = await Tab.open(browser, SIZE);
+  const errors = [];
+  tab.on('Runtime.exceptionThrown', ({ exceptionDetails }) => errors.push(exceptionDetails.text));
+  await tab.send('Page.enable');
+  await tab.send('Runtime.enable');
+  const loaded = new Promise((resolve) => tab.on('Page.loadEventFired', resolve));
+  await tab.send('Page.navigate', { url: pathToFileURL(path.join(folder, `${name}.html`)).href });
+  await loaded;
+  return { tab, errors };
+}
+
+/** Clicks at what a selector finds, and waits until what folds out is there. */
+async function clickAt(tab, selector) {
+  const spot = await tab.evaluate(`(() => { const one = document.querySelector(${JSON.stringify(selector)}); one.scrollIntoView({ block: 'center' }); const box = one.getBoundingClientRect(); return { x: box.left + 20, y: box.top + box.height / 2 }; })()`);
+  for (const type of ['mousePressed', 'mouseReleased']) await tab.send('Input.dispatchMouseEvent', { type, ...spot, button: 'left', clickCount: 1 });
+  await new Promise((resolve) => setTimeout(resolve, 200));
+}
+
+const count = (tab, selector) => tab.evaluate(`document.querySelectorAll(${JSON.stringify(selector)}).length`);
+const textOf = (tab, selector) => tab.evaluate(`document.querySelector(${JSON.stringify(selector)}).textContent`);
+const choose = (tab, id, value) => tab.evaluate(`(() => { const one = document.getElementById('${id}'); one.value = ${JSON.stringify(value)}; one.dispatchEvent(new Event(one.type === 'search' ? 'input' : 'change')); })()`);
+
+/** Two races on one pair of actions, one on an element and one on a handler. */
+const SHOP = ['parse 0 1 plain', 'parse 0 2 async', 'parse 0 3 plain', 'w elem 0 <b>menu', 'exec 2', 'r elem 0 <b>menu', 'set 1 10', 'set 2 0',
+  'on 1', 'w slot 3 click/1', 'timer 2', 'w var 0 cart', 'w var 0 sum', 'timer 1', 'r var 0 cart', 'r var 0 sum', 'fire 1 3 click', 'r slot 3 click/1', 'close 1'];
+const NAMES = {
+  format: 1, page: 'shop <i>', files: [{ address: 'http://localhost/shop.js', text: 'one\n<script>alert("x")</script>\nsetTimeout(a)\nsetTimeout(b)\n' }],
+  elements: { 1: { tag: 'HTMLDocument' }, 2: { tag: 'script', source: 'shop.js' }, 3: { tag: 'button', id: '<b>menu' } },
+  documents: {}, handlers: { 1: { type: 'click', target: 3, function: 'buy' } }, timeouts: { 1: { place: [0, 3, 1] }, 2: { place: [0, 4, 1] } },
+  intervals: {}, requests: {}, dispatches: {}, places: { 13: [0, 2, 2], 16: [0, 3, 1] },
+};
+
+test('groups in words, a filter, and what folds out', { timeout: 60000 }, async () => {
+  const { tab, errors } = await openView('shop', SHOP, NAMES);
+  assert.strictEqual(await textOf(tab, '#found'), '3 groups with 4 races');
+  assert.match(await textOf(tab, 'details.group .sentence'), /"cart" is written by the timeout set at shop\.js:4 .*, and read by the timeout set at shop\.js:3; nothing orders them\./);
+  await choose(tab, 'kind', 'element');
+  assert.strictEqual(await textOf(tab, '#found'), '1 group with 1 race');
+  assert.match(await textOf(tab, 'details.group .sentence'), /"#<b>menu" is added, changed or removed by the parser at button#<b>menu, and looked up by the script shop\.js/);
+  assert.strictEqual(await count(tab, 'main b, main i'), 0);
+  await choose(tab, 'kind', 'all');
+  await choose(tab, 'text', 'SUM');
+  assert.strictEqual(await textOf(tab, '#found'), '1 group with 1 race');
+  await choose(tab, 'text', '');
+  assert.strictEqual(await count(tab, 'svg'), 0);
+  await clickAt(tab, 'details.group summary');
+  assert.strictEqual(await count(tab, 'details.group svg'), 1);
+  assert.strictEqual(await count(tab, 'details.group svg .dot'), 2);
+  assert.match(await textOf(tab, '.source .place'), /<script>alert\("x"\)<\/script>/);
+  assert.match(await textOf(tab, '.why'), /asked for by the script shop\.js/);
+  await tab.evaluate("(() => { const svg = document.querySelector('svg'); const box = svg.getBoundingClientRect(); svg.dispatchEvent(new MouseEvent('click', { clientX: box.right - 8, clientY: box.top })); })()");
+  assert.match(await textOf(tab, '.picked'), /^Action 7, line 20: .*click/);
+  assert.match(await textOf(tab, '.others summary'), /1 more race/);
+  await clickAt(tab, '.others > summary');
+  await clickAt(tab, '.one > summary');
+  assert.strictEqual(await count(tab, 'details.group svg'), 2);
+  await clickAt(tab, 'details.group summary');
+  assert.strictEqual(await tab.evaluate("document.querySelector('details.group').open"), false);
+  assert.deepStrictEqual(errors, []);
+});
+
+test('why two actions are ordered', () => {
+  const file = path.join(folder, 'why.trace');
+  fs.writeFileSync(file, ['webtrace 1', ...SHOP, 'end', ''].join('\n'));
+  const ask = (from, to) => spawnSync(path.join(TOP, 'er_view'), [file, '--why', from, to], { encoding: 'utf8' });
+  const ordered = ask('0', '4');
+  if (ordered.status !== 0) { // a program without the mode `explain` says so
+    assert.match(ordered.stderr, /^er_view: no explanation: /);
+    return;
+  }
+  assert.match(ordered.stdout, /^These steps put action 0 .* and action 4 .* in order:\n {2}.*by rule \d+/);
+  assert.match(ask('4', '5').stdout, /^Nothing puts action 4 .* and action 5 .* in this order\./);
+});
+
+test('a trace without names', { timeout: 60000 }, async () => {
+  const { tab, errors } = await openView('bare', SHOP, null);
+  assert.strictEqual(await textOf(tab, '#found'), '3 groups with 4 races');
+  await clickAt(tab, 'details.group summary');
+  assert.strictEqual(await count(tab, 'details.group svg'), 1);
+  assert.deepStrictEqual(errors, []);
+});
+
+test('ten thousand races', { timeout: 120000 }, async () => {
+  const timers = Array.from({ length: 145 }, (_, k) => k + 1);
+  const lines = ['parse 0 1 inline', 'exec 1', ...timers.map((k) => `set ${k} ${200 - k}`), ...timers.reverse().flatMap((k) => [`timer ${k}`, 'w var 0 x'])];
+  const { tab, errors } = await openView('many', lines, null);
+  assert.strictEqual(await textOf(tab, '#found'), '10440 groups with 10440 races');
+  assert.strictEqual(await count(tab, 'details.group'), 200);
+  await clickAt(tab, 'button.more');
+  assert.strictEqual(await count(tab, 'details.group'), 400);
+  const begin = Date.now();
+  await choose(tab, 'text', 'var 0 x');
+  await choose(tab, 'order', 'trace');
+  assert.strictEqual(await textOf(tab, '#found'), '10440 groups with 10440 races');
+  assert.ok(Date.now() - begin < 10000, `filtering took ${Date.now() - begin} ms`);
+  assert.deepStrictEqual(errors, []);
+});

@@ -1,0 +1,33 @@
+'use strict';
+// Takes the page's log as it comes: lines of the trace with their places, names of numbers, and counts of what was missed.
+
+const BEGINS = new Set(['parse', 'exec', 'timer', 'tick', 'dcl', 'load', 'eload', 'fire', 'wfire', 'reply', 'inline', 'run', 'close',
+  'back', 'message', 'anim', 'module']);
+
+const wordOf = (line) => line.slice(0, line.indexOf(' '));
+
+class Intake {
+  constructor() {
+    /** @type {{text: string, place: string|undefined}[]} */
+    this.entries = [];
+    this.names = [];
+    this.missed = {};
+    this.actions = 0;
+  }
+
+  take(batch) {
+    for (const line of batch.split('\n')) {
+      if (line[0] === '#') this.names.push(JSON.parse(line.slice(1)));
+      else if (line[0] === '!') this.missed = JSON.parse(line.slice(1));
+      else if (line) this.takeLine(line);
+    }
+  }
+
+  takeLine(line) {
+    const [text, place] = line.split('\t');
+    if (BEGINS.has(wordOf(text))) this.actions++;
+    this.entries.push({ text, place });
+  }
+}
+
+module.exports = { Intake, BEGINS, wordOf };

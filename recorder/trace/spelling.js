@@ -1,0 +1,224 @@
+'use strict';
+// Spells a log as records of one version of the format.
+
+const { BEGINS, wordOf } = require('./intake.js');
+
+/** How many actions a trace may have (docs/format.md). */
+const MOST_ACTIONS = 32768;
+/** How many records: a trace has a line more at its begin and one at its end. */
+const MOST_RECORDS = 2097150;
+const NEWEST_VERSION = 2;
+/** Numbers of intervals that stand for timeouts of other windows, and for runs of modules that nobody asked for. */
+const FIRST_FOREIGN_TIMEOUT = 3000000000;
+const FIRST_LONE_MODULE = 3500000000;
+
+class Spelling {
+  /**
+   * @param {{text: string, place: string|undefined}[]} entries the log
+   * @param {number} version
+   */
+  constructor(entries, version) {
+    this.version = version;
+    this.entries = this.placeNotes(entries);
+    this.slots = this.collectSlots();
+    this.moduleElements = this.collectModules();
+    this.chooseClocks();
+    this.messageDispatches = new Set();
+    this.askedIntervals = [];
+    this.loneModules = 0;
+  }
+
+  /** The records, each with its place; the header and `end` are not among them. */
+  records() {
+    this.out = [];
+    this.entries.forEach((entry) => this.spell(entry));
+    return this.out;
+  }
+
+  put(text, place) {
+    this.out.push({ text, place });
+  }
+
+  // ---- what a whole look at the log tells
+
+  /** Moves notes to where they belong: to the first action, or beside the declaration of an element. */
+  placeNotes(entries) {
+    const early = [];
+    const beside = new Map();
+    const rest = [];
+    for (const { text, place } of entries) {
+      const words = text.split(' ');
+      if (words[0] === 'early') early.push({ text: text.slice(6), place });
+      else if (words[0] === 'beside') beside.set(words[1], [...(beside.get(words[1]) || []), { text: words.slice(2).join(' '), place }]);
+      else rest.push({ text, place });
+    }
+    const withBeside = (some) => some.flatMap((entry) => [entry, ...this.besideOf(entry, beside)]);
+    return [...withBeside(rest.slice(0, 1)), ...(rest.length ? withBeside(early) : []), ...withBeside(rest.slice(1))];
+  }
+
+  /** The stand-ins of a stand-in stand behind it. */
+  besideOf({ text }, beside) {
+    const words = text.split(' ');
+    if (words[0] !== 'parse' && words[0] !== 'new') return [];
+    return (beside.get(words[2]) || []).flatMap((entry) => [entry, ...this.besideOf(entry, beside)]);
+  }
+
+  /** All slots that were ever written at an element for a type, as a dispatch looks at each of them. */
+  collectSlots() {
+    const slots = new Map();
+    for (const { text } of this.entries) {
+      const found = /^w (slot \d+ \S+)\/\d+$/.exec(text);
+      if (!found) continue;
+      if (!slots.has(found[1])) slots.set(found[1], new Set());
+      slots.get(found[1]).add(text.slice(2));
+    }
+    return slots;
+  }
+
+  collectModules() {
+    const pairs = this.entries.map(({ text }) => /^is (\d+) (\d+)$/.exec(text)).filter(Boolean);
+    return new Map(pairs.map(([, run, element]) => [run, element]));
+  }
+
+  /**
+   * Timeouts are compared with each other only where they are of one window. In version 1 those of one event are compared, so
+   * each event may have a window of its own; from version 2 on all are, so it is the window with the most timeouts.
+   */
+  chooseClocks() {
+    this.foreign = new Set();
+    const perWindow = new Map();
+    let event = 0;
+    let events = 0;
+    const suspended = [];
+    const windowOfEvent = new Map();
+    for (const { text } of this.entries) {
+      const words = text.split(' ');
+      if (words[0] === 'inline') suspended.push(event);
+      if (words[0] === 'back') event = suspended.pop();
+      else if (BEGINS.has(words[0])) event = ++events;
+      if (words[0] !== 'set') continue;
+      if (!windowOfEvent.has(event) && words[3] !== 'unknown') windowOfEvent.set(event, words[3]);
+      if (words[3] !== windowOfEvent.get(event)) this.foreign.add(words[1]);
+      perWindow.set(words[3], (perWindow.get(words[3]) || 0) + 1);
+    }
+    if (this.version > 1) this.chooseOneClock(perWindow);
+  }
+
+  chooseOneClock(perWindow) {
+    perWindow.delete('unknown');
+    const [most] = [...perWindow].sort((a, b) => b[1] - a[1] || a[0] - b[0])[0] || ['0'];
+    const sets = this.entries.map(({ text }) => text.split(' ')).filter((words) => words[0] === 'set');
+    this.foreign = new Set(sets.filter((words) => words[3] !== most).map((words) => words[1]));
+  }
+
+  // ---- one entry
+
+  spell({ text, place }) {
+    const words = text.split(' ');
+    const spellWord = this[`spell_${words[0]}`];
+    if (spellWord) spellWord.call(this, words, place);
+    else this.put(text, place);
+  }
+
+  spell_look([, element, type], place) {
+    const slot = `slot ${element} ${type}`;
+    this.put(`r ${slot}`, place);
+    for (const one of this.slots.get(slot) || []) this.put(`r ${one}`, place);
+  }
+
+  spell_set([, timeout, delay], place) {
+    if (this.foreign.has(timeout)) this.put(`every ${FIRST_FOREIGN_TIMEOUT + Number(timeout)} ${delay}`, place);
+    else this.put(`set ${timeout} ${delay}`, place);
+  }
+
+  spell_timer([, timeout], place) {
+    if (this.foreign.has(timeout)) this.put(`tick ${FIRST_FOREIGN_TIMEOUT + Number(timeout)}`, place);
+    else this.put(`timer ${timeout}`, place);
+  }
+
+  spell_ask([, number], place) {
+    this.put(this.version >= 3 ? `ask ${number}` : `every ${number} 0`, place);
+  }
+
+  spell_anim([, number], place) {
+    this.put(this.version >= 3 ? `anim ${number}` : `tick ${number}`, place);
+  }
+
+  spell_post([, message, document, standIn], place) {
+    this.put(this.version >= 3 ? `post ${message}` : `new ${document} ${standIn} plain`, place);
+  }
+
+  /** In version 3 a message is one event, and no dispatch with handlers. */
+  spell_message([, message, dispatch, standIn], place) {
+    if (this.version < 3) {
+      this.put(`fire ${dispatch} ${standIn} message`, place);
+      return;
+    }
+    this.messageDispatches.add(dispatch);
+    this.put(`message ${message}`, place);
+  }
+
+  spell_run(words, place) {
+    if (!this.messageDispatches.has(words[1])) this.put(words.join(' '), place);
+  }
+
+  spell_close(words, place) {
+    if (!this.messageDispatches.has(words[1])) this.put(words.join(' '), place);
+  }
+
+  /** A module is the run of its script element, or of what `import()` asked for. */
+  spell_module([, run], place) {
+    const element = this.moduleElements.get(run);
+    if (element) {
+      this.put(`exec ${element}`, place);
+      return;
+    }
+    const asked = this.askedIntervals.shift();
+    if (asked) {
+      this.put(`tick ${asked}`, place);
+      return;
+    }
+    const lone = FIRST_LONE_MODULE + this.loneModules++;
+    this.out.splice(1, 0, { text: `every ${lone} 0`, place });
+    this.put(`tick ${lone}`, place);
+  }
+
+  spell_is() {}
+
+  spell_asked([, interval]) {
+    this.askedIntervals.push(interval);
+  }
+}
+
+/** The elements that some record but their own parse step names. */
+function usedElements(records) {
+  const used = new Set();
+  for (const { text } of records) {
+    const words = text.split(' ');
+    if (['eload', 'fire', 'inline'].includes(words[0])) used.add(words[2]);
+    if (words[0] === 'exec') used.add(words[1]);
+  }
+  return used;
+}
+
+/**
+ * Leaves out parse steps of plain elements in which nothing happens and that nothing names, from the first on, until the trace
+ * has no more actions than it may have. A parse step without accesses gives no race, and its neighbours keep their order.
+ * @returns {{records: {text: string, place: string|undefined}[], leftOut: number, cut: number}}
+ */
+function keepWithin(all, most = MOST_ACTIONS) {
+  const records = all.slice(0, MOST_RECORDS);
+  const tooMany = all.length - records.length;
+  const begins = records.map(({ text }) => BEGINS.has(wordOf(text)));
+  let spare = begins.filter(Boolean).length - most;
+  if (spare <= 0) return { records, leftOut: 0, cut: tooMany };
+  const used = usedElements(records);
+  const isQuiet = ({ text }, k) => /^parse \d+ \d+ plain$/.test(text) && (k + 1 === records.length || begins[k + 1]) && !used.has(text.split(' ')[2]);
+  const kept = records.filter((one, k) => !(spare > 0 && k > 0 && isQuiet(one, k) && spare--));
+  const leftOut = records.length - kept.length;
+  let actions = 0;
+  const end = kept.findIndex(({ text }) => BEGINS.has(wordOf(text)) && ++actions > most);
+  return { records: end < 0 ? kept : kept.slice(0, end), leftOut, cut: tooMany + (end < 0 ? 0 : kept.length - end) };
+}
+
+module.exports = { Spelling, keepWithin, NEWEST_VERSION, MOST_ACTIONS };

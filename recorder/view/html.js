@@ -1,0 +1,53 @@
+'use strict';
+// The page of the view as one text that needs nothing else.
+
+const fs = require('node:fs');
+const path = require('node:path');
+
+const read = (name) => fs.readFileSync(path.join(__dirname, name), 'utf8');
+const escapeText = (text) => String(text).replace(/[&<>"']/g, (one) => `&#${one.charCodeAt(0)};`);
+/** JSON inside a script element: no tag can begin in it. */
+const escapeJson = (value) => JSON.stringify(value).replace(/[<>&\u2028\u2029]/g, (one) => `\\u${one.charCodeAt(0).toString(16).padStart(4, '0')}`);
+
+function options(pairs) {
+  return pairs.map(([value, text]) => `<option value="${value}">${text}</option>`).join('');
+}
+
+const KINDS = options([['all', 'all'], ['variable', 'variables'], ['element', 'elements'], ['handler', 'handlers']]);
+const ORDERS = options([['size', 'largest first'], ['trace', 'as recorded']]);
+
+function counts(model) {
+  const all = [['groups', model.groups.length], ['races', model.races.length], ...model.counts];
+  return all.map(([name, number]) => `${number} ${name}`).join(', ');
+}
+
+function renderPage(model) {
+  return `<!doctype html>
+<html lang="en">
+<head>
+<meta charset="utf-8">
+<meta http-equiv="Content-Security-Policy" content="default-src 'none'; style-src 'unsafe-inline'; script-src 'unsafe-inline'">
+<meta name="viewport" content="width=device-width">
+<title>Races of ${escapeText(model.page)}</title>
+<style>
+${read('style.css')}</style>
+</head>
+<body>
+<h1>Races of ${escapeText(model.page)}</h1>
+<p class="counts">${escapeText(counts(model))}</p>
+<form onsubmit="return false">
+<label>Kind <select id="kind">${KINDS}</select></label>
+<label>Text <input id="text" type="search" placeholder="a name, a file, a handler"></label>
+<label>Order <select id="order">${ORDERS}</select></label>
+<output id="found"></output>
+</form>
+<main id="groups"></main>
+<script type="application/json" id="model">${escapeJson(model)}</script>
+<script>
+${read('client.js')}</script>
+</body>
+</html>
+`;
+}
+
+module.exports = { renderPage };

@@ -1,0 +1,102 @@
+'use strict';
+// All that the page of the view shows, as one plain value: groups, races, actions, and the lines of source around the places.
+
+const { Words } = require('./words.js');
+
+const LINES_AROUND = 2;
+const LONGEST_LINE = 240;
+const LANES = ['Parser', 'Scripts', 'Timers', 'Network', 'Loading', 'User and events', 'Handlers'];
+const LANE_OF = {
+  parse: 0, exec: 1, timer: 2, tick: 2, anim: 2, job: 2, reply: 3, message: 3, dcl: 4, load: 4, eload: 4, fire: 5, wfire: 5, inline: 5, close: 5, run: 6,
+};
+
+/** A line of source, cut around a column where it is long. */
+function cutLine(text, column) {
+  if (text.length <= LONGEST_LINE) return { text, column };
+  const from = Math.max(0, column - LONGEST_LINE / 2);
+  return { text: `…${text.slice(from, from + LONGEST_LINE)}…`, column: column - from + 1 };
+}
+
+class Model {
+  constructor(report, names, actions) {
+    this.report = report;
+    this.names = names;
+    this.actions = actions;
+    this.words = new Words(names, actions);
+    this.excerpts = {};
+    this.texts = new Map();
+  }
+
+  build() {
+    const races = this.report.races.map((race) => this.race(race));
+    return {
+      page: this.names.page,
+      counts: ['actions', 'accesses', 'pairs', 'chains', 'links'].map((name) => [name, this.report[name]]),
+      lanes: LANES,
+      actions: this.actions.list.map((action) => this.action(action)),
+      groups: this.report.groups.map((group) => ({ race: group.race - 1, size: group.size })),
+      races,
+      excerpts: this.excerpts,
+    };
+  }
+
+  action(action) {
+    const own = this.actions.list[action.first];
+    return [LANE_OF[own.words[0]] ?? 1, action.line, this.words.action(action.number), this.origins(action.number)];
+  }
+
+  /** The actions that an action comes from, one a step: of a handler its registration, else what asked for it. */
+  origins(number) {
+    return this.actions.list[number].origins.map(({ action, word }) => [word, action]);
+  }
+
+  race(race) {
+    const { kind, text } = this.words.location(race.location);
+    return {
+      kind,
+      location: text,
+      spelled: race.location,
+      modes: race.modes,
+      lines: race.lines,
+      actions: race.actions,
+      group: race.group - 1,
+      words: this.words.race(race),
+      places: race.lines.map((line, k) => this.excerpt(this.placeOfAccess(line, race.actions[k]))),
+    };
+  }
+
+  /** The place of an access, else that of its action. */
+  placeOfAccess(line, action) {
+    const own = this.actions.list[this.actions.list[action].first];
+    return this.words.placeOfLine(line) || this.words.placeOfLine(this.actions.list[action].line) || this.words.placeOfLine(own.line);
+  }
+
+  /** Notes the lines around a place; answers the key under which they stand. */
+  excerpt(place) {
+    if (!place) return null;
+    const key = place.join(':');
+    if (!this.excerpts[key]) this.excerpts[key] = { file: this.words.fileName(place[0]), line: place[1], ...this.linesAround(place) };
+    return key;
+  }
+
+  linesAround([file, line, column]) {
+    const lines = this.linesOf(file);
+    const around = [];
+    for (let k = Math.max(1, line - LINES_AROUND); k <= line + LINES_AROUND; k++) {
+      if (lines[k] === undefined) continue;
+      around.push([k, k === line ? cutLine(lines[k], column).text : cutLine(lines[k], 1).text]);
+    }
+    return { column: lines[line] === undefined ? 0 : cutLine(lines[line], column).column, around };
+  }
+
+  /** The lines of a file by their numbers, from 1. */
+  linesOf(file) {
+    if (!this.texts.has(file)) {
+      const { text, lines } = this.names.files[file];
+      this.texts.set(file, text === undefined ? lines || {} : { ...['', ...text.split('\n')] });
+    }
+    return this.texts.get(file);
+  }
+}
+
+module.exports = { Model };
