@@ -85,6 +85,9 @@ pub fn run<R: Threads + Sync, S: Source, K: Sink, G: Gate + Sync>(
         → (result ≡ Outcome.NoMemory) ⊎ ((due : List ℕ) × Answers asked.command bytes result due) }
     ensures reads { S.faults source.old ≤ S.faults source.new }
     ensures writes { K.faults sink.old ≤ K.faults sink.new }
+    // Whatever the outcome, no comparison and no test is forgotten.
+    ensures compares_rise { compares.old ≤ compares.new }
+    ensures tests_rise { tests.old ≤ tests.new }
 {
     match read_words(alloc, words) {
         Ok(asked) => match asked.command {

@@ -58,6 +58,8 @@ pub(crate) fn judge_input<R: Threads + Sync, S: Source, K: Sink, G: Gate + Sync>
         ⊎ ((due : List ℕ) × Answers asked.command bytes result due) }
     ensures reads { S.faults source.old ≤ S.faults source.new }
     ensures writes { K.faults sink.old ≤ K.faults sink.new }
+    ensures compares_rise { compares.old ≤ compares.new }
+    ensures tests_rise { tests.old ≤ tests.new }
 {
     let command = asked.command;
     match accept_input(rt, alloc, asked, source, compares, tests, gate) {
@@ -108,6 +110,8 @@ pub(crate) fn judge_generated<R: Threads + Sync, K: Sink, G: Gate + Sync>(
     ensures stands { IsAnswer result → K.faults sink.new ≡ K.faults sink.old }
     ensures kept { result ≡ Outcome.NoMemory → sink.new ≡ sink.old }
     ensures writes { K.faults sink.old ≤ K.faults sink.new }
+    ensures compares_rise { compares.old ≤ compares.new }
+    ensures tests_rise { tests.old ≤ tests.new }
 {
     let command = Command::Gen { number };
     let asked = Asked { command, shards };
