@@ -25,6 +25,7 @@ pub mod laws;
 mod modes;
 pub mod outcome;
 mod session;
+pub mod sure;
 mod tell;
 
 /// Does what the words ask for: reads the trace that the source gives, at most 4,096 bytes at a time, to its
