@@ -1,5 +1,5 @@
 -- What a legal trace answers that was cut.
-use Rattle.std.proofs.Common.{◌≡◌, ℕ, ◌+◌, ◌<◌, List, ◌++◌, length, reverse, refl, ap, sym, ◌∙◌, subst}
+use Rattle.std.proofs.Common.{◌≡◌, ℕ, ◌+◌, ◌<◌, List, ◌++◌, length, reverse, ap, sym, ◌∙◌, subst}
 use Rattle.std.proofs.lemmas.List.{reverse-append}
 use Rattle.er_text.specs.Bytes.{count_of_lf}
 use Rattle.er_text.specs.declared.causes.Cause.TheVariants.{NoEnd}

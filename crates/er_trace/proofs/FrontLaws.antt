@@ -10,7 +10,7 @@ use Rattle.er_trace.specs.declared.record.Record.{Record}
 use Rattle.er_trace.specs.declared.version.Version.{Version}
 use Rattle.er_trace.specs.declared.version.Version.TheVariants.{One, Two}
 use Rattle.er_trace.specs.Spelling.{spelling, IsRecord}
-use Rattle.er_trace.specs.Trace.{most_lines, most_line_bytes, header, end_word, line, lines, text, whole_line, Place, Start, After, Ended, bytes_before, IsTrace, Refuses}
+use Rattle.er_trace.specs.Trace.{most_lines, most_line_bytes, header, end_word, line, lines, text, whole_line, Place, Start, After, Ended, IsTrace, Refuses}
 use Rattle.er_trace.proofs.CauseLaws.{IsShort, whole_short, start_err, cause_err, few_many}
 use Rattle.er_trace.proofs.RecordLaws.{spelling_is_short, spelling_has_no_lf}
 
