@@ -45,7 +45,7 @@ meets (x ∷ a) (y ∷ b) r s first second e =
     meets_more x y a b r s same.0 (meets a b r s first.1 second.1 same.1)
 
 -- in a legal list no record has a cause
-legal_older : (table : List (ℕ × Rule)) (newer older : List Record) → IsLegal table (newer ++ older) → IsLegal table older
+pub legal_older : (table : List (ℕ × Rule)) (newer older : List Record) → IsLegal table (newer ++ older) → IsLegal table older
 legal_older table [] older h = h
 legal_older table (x ∷ newer) older h = legal_older table newer older h.1
 

@@ -1,7 +1,7 @@
 //! What an input comes to, at its end: the trace that was read, or a generated one.
 
 ghost use Rattle.std.specs.Prelude.{◌≡◌, ◌≢◌, ℕ, ◌<◌, ◌≤◌, ◌^◌, List, Option, Some, None, Err, reverse, IfOk, IfErr, IsErrOf};
-ghost use Rattle.er_outside.specs.Ends.{Rose};
+ghost use Rattle.er_outside.specs.Ends.{Rose, one_more};
 ghost use Rattle.er_text.specs.declared.causes.Cause.{Cause};
 ghost use Rattle.er_trace.specs.declared.record.Record.{Record};
 ghost use Rattle.er_trace.specs.declared.version.Version.TheVariants.{One};
@@ -53,8 +53,12 @@ pub(crate) fn accept_input<R: Threads + Sync, S: Source, G: Gate + Sync>(
         IsTestedFor asked.command judged.session tests.old tests.new) }
     ensures failed { IsErrOf result InputFault.Failed
         → Rose (S.faults source.old) (S.faults source.new) }
+    ensures once { IsErrOf result InputFault.Failed
+        → S.faults source.new ≡ one_more (S.faults source.old) }
     ensures stands { result ≢ Err InputFault.Failed → S.faults source.new ≡ S.faults source.old }
     ensures count { S.faults source.old ≤ S.faults source.new }
+    ensures compares_rise { compares.old ≤ compares.new }
+    ensures tests_rise { tests.old ≤ tests.new }
 {
     match read(alloc, source) {
         Ok((session, refused)) => match refused {
@@ -95,8 +99,12 @@ fn accept_end<R: Threads + Sync, S: Source, G: Gate + Sync>(
         IsTestedFor asked.command judged.session tests.old tests.new) }
     ensures failed { IsErrOf result InputFault.Failed
         → Rose (S.faults source.old) (S.faults source.new) }
+    ensures once { IsErrOf result InputFault.Failed
+        → S.faults source.new ≡ one_more (S.faults source.old) }
     ensures stands { result ≢ Err InputFault.Failed → S.faults source.new ≡ S.faults source.old }
     ensures count { S.faults source.old ≤ S.faults source.new }
+    ensures compares_rise { compares.old ≤ compares.new }
+    ensures tests_rise { tests.old ≤ tests.new }
 {
     let line = session.records + 3;
     let judged = match judge_end(rt, alloc, asked, session, compares, tests, gate) {
@@ -135,6 +143,8 @@ fn first_refusal<R: Threads + Sync, G: Gate + Sync>(
         → IsReading session.now.graph.version bytes records (Some refusal)
         → FirstIllegal asked.command bytes n c }
     ensures no_failure { result ≢ InputFault.Failed }
+    ensures compares_rise { compares.old ≤ compares.new }
+    ensures tests_rise { tests.old ≤ tests.new }
 {
     if refusal.line <= session.records + 2 {
         return of_line(refusal);
@@ -185,6 +195,8 @@ pub(crate) fn accept_generated<R: Threads + Sync, G: Gate + Sync>(
         IsComparedFor asked.command judged.session compares.old compares.new) }
     ensures tested { IfOk result (λ judged.
         IsTestedFor asked.command judged.session tests.old tests.new) }
+    ensures compares_rise { compares.old ≤ compares.new }
+    ensures tests_rise { tests.old ≤ tests.new }
 {
     let Ok(records) = generated_records(alloc, number) else {
         return Err(FeedFault::NoMemory);
@@ -234,6 +246,8 @@ fn judge_end<R: Threads + Sync, G: Gate + Sync>(
         IsComparedFor asked.command judged.session compares.old compares.new) }
     ensures tested { IfOk result (λ judged.
         IsTestedFor asked.command judged.session tests.old tests.new) }
+    ensures compares_rise { compares.old ≤ compares.new }
+    ensures tests_rise { tests.old ≤ tests.new }
 {
     match found_within(rt, alloc, asked, &session, compares, tests, gate) {
         Ok(found) => Ok(Judged { session, found }),

@@ -48,6 +48,8 @@ pub(crate) fn found_within<R: Threads + Sync, G: Gate + Sync>(
     ensures tested { OnOk result (IsTestedFor asked.command session.now tests.old tests.new) }
     ensures refused { IfErr result (λ fault. (h : List Record) → StandsFor session.now h
         → IsEndFault (end_cause_for asked.command session.now.graph.version h) h fault) }
+    ensures compares_rise { compares.old ≤ compares.new }
+    ensures tests_rise { tests.old ≤ tests.new }
 {
     let shards = asked.shards;
     match asked.command {
@@ -102,6 +104,8 @@ fn listing_within<R: Threads + Sync, G: Gate + Sync>(
     ensures tested { OnOk result (IsTested session.now tests.old tests.new) }
     ensures refused { IfErr result (λ fault. (h : List Record) → StandsFor session.now h
         → IsEndFault (end_cause session.now.graph.version h) h fault) }
+    ensures compares_rise { compares.old ≤ compares.new }
+    ensures tests_rise { tests.old ≤ tests.new }
 {
     let races = match races_within(rt, alloc, session, compares, shards, gate) {
         Ok(races) => races,
@@ -133,6 +137,7 @@ fn orders_within<R: Threads + Sync, G: Gate + Sync>(
     ensures compared { OnOk result (IsCompared session.now compares.old compares.new) }
     ensures refused { IfErr result (λ fault. (h : List Record) → StandsFor session.now h
         → IsEndFault (schedule_cause race session.now.graph.version h) h fault) }
+    ensures rises { compares.old ≤ compares.new }
 {
     let races = match races_within(rt, alloc, session, compares, shards, gate) {
         Ok(races) => races,
@@ -213,6 +218,7 @@ fn races_within<R: Threads + Sync, G: Gate + Sync>(
     ensures compared { OnOk result (IsCompared session.now compares.old compares.new) }
     ensures refused { IfErr result (λ fault. (h : List Record) → StandsFor session.now h
         → IsListFault session.now.graph.version h fault) }
+    ensures rises { compares.old ≤ compares.new }
 {
     let line = session.records + 2;
     if session.kept.pairs() > MOST_PAIRS {
@@ -259,6 +265,7 @@ fn groups_within<R: Threads + Sync, G: Gate + Sync>(
     ensures tested { OnOk result (IsTested session.now tests.old tests.new) }
     ensures refused { IfErr result (λ fault. (h : List Record) → StandsFor session.now h
         → IsEndFault (end_cause session.now.graph.version h) h fault) }
+    ensures rises { tests.old ≤ tests.new }
 {
     match group_shards(
         rt,

@@ -1,7 +1,7 @@
 //! What a mode judges: the trace that is read, or a generated one.
 
 ghost use Rattle.std.specs.Prelude.{◌≡◌, ◌≢◌, ◌⊎◌, ℕ, ◌<◌, ◌≤◌, ◌^◌, List, Some};
-ghost use Rattle.er_outside.specs.Ends.{Rose};
+ghost use Rattle.er_outside.specs.Ends.{Rose, one_more};
 ghost use Rattle.er_trace.specs.Trace.{text};
 ghost use Rattle.er_trace.specs.declared.version.Version.TheVariants.{One};
 ghost use Rattle.er_gen.specs.Generated.{generated, most_rounds};
@@ -43,6 +43,8 @@ pub(crate) fn judge_input<R: Threads + Sync, S: Source, K: Sink, G: Gate + Sync>
     ensures no_usage { result ≢ Outcome.Usage }
     ensures read_fault { result ≡ Outcome.ReadFault
         → Rose (S.faults source.old) (S.faults source.new) }
+    ensures once { result ≡ Outcome.ReadFault
+        → S.faults source.new ≡ one_more (S.faults source.old) }
     ensures write_fault { result ≡ Outcome.WriteFault
         → Rose (K.faults sink.old) (K.faults sink.new) }
     ensures cut_short { result ≡ Outcome.WriteFault
@@ -58,6 +60,8 @@ pub(crate) fn judge_input<R: Threads + Sync, S: Source, K: Sink, G: Gate + Sync>
         ⊎ ((due : List ℕ) × Answers asked.command bytes result due) }
     ensures reads { S.faults source.old ≤ S.faults source.new }
     ensures writes { K.faults sink.old ≤ K.faults sink.new }
+    ensures compares_rise { compares.old ≤ compares.new }
+    ensures tests_rise { tests.old ≤ tests.new }
 {
     let command = asked.command;
     match accept_input(rt, alloc, asked, source, compares, tests, gate) {
@@ -108,6 +112,8 @@ pub(crate) fn judge_generated<R: Threads + Sync, K: Sink, G: Gate + Sync>(
     ensures stands { IsAnswer result → K.faults sink.new ≡ K.faults sink.old }
     ensures kept { result ≡ Outcome.NoMemory → sink.new ≡ sink.old }
     ensures writes { K.faults sink.old ≤ K.faults sink.new }
+    ensures compares_rise { compares.old ≤ compares.new }
+    ensures tests_rise { tests.old ≤ tests.new }
 {
     let command = Command::Gen { number };
     let asked = Asked { command, shards };
