@@ -11,6 +11,7 @@ pub mod OneAnswer
 pub mod EveryText
 pub mod EveryAnswer
 pub mod TellLemmas
+pub mod FormatLemmas
 pub mod GeneratedLemmas
 pub mod RunLemmas
 pub mod ReadingLemmas

@@ -13,20 +13,22 @@ use Rattle.er_history.specs.Rules.{rules}
 use Rattle.er_history.specs.Edges.{edges}
 use Rattle.er_access.specs.Kept.{Kept}
 use Rattle.er_orders.specs.Orders.{is_lawful, is_next, before_order, after_order}
-use Rattle.er_run.specs.Answer.{FirstIllegal, Answers}
+use Rattle.er_run.specs.Answer.{format_of, FirstIllegal, Answers}
 use Rattle.er_run.specs.Races.{races}
 
 -- to each command a byte string has one outcome, and one text is due for it
 abbrev pub OneAnswer : Type 0
-OneAnswer = (asked : Command) (bytes : List ℕ) (o p : Outcome) (due text : List ℕ) → Answers asked bytes o due → Answers asked bytes p text → (o ≡ p) × (due ≡ text)
+OneAnswer = (asked : Command) (bytes : List ℕ) (o p : Outcome) (due text : List ℕ) → Answers (format_of asked) asked bytes o due → Answers (format_of asked) asked bytes p text
+    → (o ≡ p) × (due ≡ text)
 
 -- to each command a byte string has an outcome, and a text is due for it; under a double negation, since the words of the definitions decide nothing
 abbrev pub EveryAnswer : Type 0
-EveryAnswer = (asked : Command) (bytes : List ℕ) → ¬ ¬ ((o : Outcome) × (due : List ℕ) × Answers asked bytes o due)
+EveryAnswer = (asked : Command) (bytes : List ℕ) → ¬ ¬ ((o : Outcome) × (due : List ℕ) × Answers (format_of asked) asked bytes o due)
 
 -- a refusal other than `no-end` is that of every longer input
 abbrev pub LongerInput : Type 0
-LongerInput = (asked : Command) (bytes more : List ℕ) (n : ℕ) (c : Cause) → FirstIllegal asked bytes n c → c ≢ NoEnd → FirstIllegal asked (bytes ++ more) n c
+LongerInput = (asked : Command) (bytes more : List ℕ) (n : ℕ) (c : Cause) → FirstIllegal (format_of asked) asked bytes n c → c ≢ NoEnd
+    → FirstIllegal (format_of asked) asked (bytes ++ more) n c
 
 -- by these lists no edge leads back in either order of the two actions, and each order shows them side by side
 pub record AreBothLawful (lists : List (List ℕ)) (i j : ℕ) : Type 0 where
