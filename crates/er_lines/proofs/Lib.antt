@@ -7,3 +7,4 @@ pub mod StopLaws
 pub mod HeaderLaws
 pub mod LinesBefore
 pub mod TextLaws
+pub mod CutTraces
