@@ -15,3 +15,4 @@ pub mod FormatLemmas
 pub mod GeneratedLemmas
 pub mod RunLemmas
 pub mod ReadingLemmas
+pub mod CutTraces
