@@ -4,6 +4,8 @@ use Rattle.std.specs.Fmt.{digits}
 use Rattle.er_buffer.specs.Lines.{item_line}
 use Rattle.er_trace.specs.declared.record.Record.TheVariants.{Parse, Timer, Exec}
 use Rattle.er_trace.specs.declared.record.Kind.TheVariants as kinds
+use Rattle.er_trace.specs.Spelling.{spelling}
+use Rattle.er_lines.proofs.TextLaws.{behind_from, short_spelling}
 use Rattle.er_run.specs.Answer.{OfRecord}
 use Rattle.er_trace.specs.declared.version.Version.TheVariants.{One}
 use Rattle.er_rows.specs.Rows.{Causes, Orders, UnknownTimeout, NotAScript, RunTooLate, step}
@@ -18,10 +20,13 @@ orders_of_records = record { step_after_deferred = refl; step_after_async = refl
 pub unknown_timeout : UnknownTimeout
 unfolding digits item_line
 unknown_timeout asked = OfRecord One (step 1 ∷ []) refl (refl, tt) (record {
-  is_place = record { each = ((tt, (omega arith, (omega arith, (tt, tt)))), tt); few = omega arith };
+  before = _;
+  are = behind_from One _ ((tt, (omega arith, (omega arith, (tt, tt)))), tt);
   few = omega arith;
   read = Timer 9;
-  is_record = (tt, (omega arith, tt));
+  l = spelling (Timer 9);
+  short = short_spelling (Timer 9) (tt, (omega arith, tt));
+  spells = ((tt, (omega arith, tt)), refl);
   rest = codes "end\n";
   begins = refl;
   cause = refl;
@@ -30,10 +35,13 @@ unknown_timeout asked = OfRecord One (step 1 ∷ []) refl (refl, tt) (record {
 pub not_a_script : NotAScript
 unfolding digits item_line
 not_a_script asked = OfRecord One (step 1 ∷ []) refl (refl, tt) (record {
-  is_place = record { each = ((tt, (omega arith, (omega arith, (tt, tt)))), tt); few = omega arith };
+  before = _;
+  are = behind_from One _ ((tt, (omega arith, (omega arith, (tt, tt)))), tt);
   few = omega arith;
   read = Exec 1;
-  is_record = (tt, (omega arith, tt));
+  l = spelling (Exec 1);
+  short = short_spelling (Exec 1) (tt, (omega arith, tt));
+  spells = ((tt, (omega arith, tt)), refl);
   rest = codes "end\n";
   begins = refl;
   cause = refl;
@@ -42,10 +50,13 @@ not_a_script asked = OfRecord One (step 1 ∷ []) refl (refl, tt) (record {
 pub run_too_late : RunTooLate
 unfolding digits item_line
 run_too_late asked = OfRecord One (Parse 0 1 kinds.Sync ∷ step 2 ∷ []) refl (refl, (refl, tt)) (record {
-  is_place = record { each = ((tt, (omega arith, (omega arith, (tt, tt)))), ((tt, (omega arith, (omega arith, (tt, tt)))), tt)); few = omega arith };
+  before = _;
+  are = behind_from One _ ((tt, (omega arith, (omega arith, (tt, tt)))), ((tt, (omega arith, (omega arith, (tt, tt)))), tt));
   few = omega arith;
   read = Exec 1;
-  is_record = (tt, (omega arith, tt));
+  l = spelling (Exec 1);
+  short = short_spelling (Exec 1) (tt, (omega arith, tt));
+  spells = ((tt, (omega arith, tt)), refl);
   rest = codes "end\n";
   begins = refl;
   cause = refl;

@@ -13,6 +13,7 @@ use Rattle.er_trace.specs.declared.version.Version.TheVariants.{One, Two}
 use Rattle.er_words.specs.declared.commands.Command.{Command}
 use Rattle.er_history.specs.Rules.{same_bytes, rules}
 use Rattle.er_report.specs.Report.{refusal}
+use Rattle.er_lines.specs.Text.{text as text_lines}
 use Rattle.er_run.specs.Answer.{FirstIllegal}
 use Rattle.er_run.specs.Legal.{cause, end_cause}
 use Rattle.er_run.specs.Report.{report}
@@ -156,11 +157,11 @@ pub record Orders : Type 0 where
 
 -- line 3 is the first illegal one of these bytes, whatever is asked
 abbrev pub UnknownTimeout : Type 0
-UnknownTimeout = (asked : Command) → FirstIllegal asked (codes "webtrace 1\nparse 0 1 plain\ntimer 9\nend\n") 3 Unknown
+UnknownTimeout = (asked : Command) → FirstIllegal text_lines asked (codes "webtrace 1\nparse 0 1 plain\ntimer 9\nend\n") 3 Unknown
 
 abbrev pub NotAScript : Type 0
-NotAScript = (asked : Command) → FirstIllegal asked (codes "webtrace 1\nparse 0 1 plain\nexec 1\nend\n") 3 NotScript
+NotAScript = (asked : Command) → FirstIllegal text_lines asked (codes "webtrace 1\nparse 0 1 plain\nexec 1\nend\n") 3 NotScript
 
 -- and line 4 of these
 abbrev pub RunTooLate : Type 0
-RunTooLate = (asked : Command) → FirstIllegal asked (codes "webtrace 1\nparse 0 1 sync\nparse 0 2 plain\nexec 1\nend\n") 4 OutOfOrder
+RunTooLate = (asked : Command) → FirstIllegal text_lines asked (codes "webtrace 1\nparse 0 1 sync\nparse 0 2 plain\nexec 1\nend\n") 4 OutOfOrder

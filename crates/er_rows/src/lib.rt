@@ -26,6 +26,8 @@ mod large;
 #[cfg(test)]
 mod limits;
 #[cfg(test)]
+mod lines;
+#[cfg(test)]
 mod loads;
 #[cfg(test)]
 mod modes;

@@ -10,11 +10,11 @@ use std::test::Fail;
 use std::thread::Threads;
 
 /// The words of a command, an input, and what is written for it.
-struct Asked {
-    words: &'static str,
-    input: &'static str,
-    written: &'static str,
-    status: u8,
+pub(crate) struct Asked {
+    pub(crate) words: &'static str,
+    pub(crate) input: &'static str,
+    pub(crate) written: &'static str,
+    pub(crate) status: u8,
 }
 
 const TIMEOUTS: &str =
@@ -91,10 +91,12 @@ static ASKED: [Asked; 11] = [
     },
 ];
 
-static USAGE: [&str; 14] = [
+static USAGE: [&str; 16] = [
     "check check",
     "nonsense",
     "check --number 5",
+    "jsonl --number 5",
+    "jsonl --race 1",
     "gen",
     "gen --json",
     "gen --number 0",
@@ -109,7 +111,7 @@ static USAGE: [&str; 14] = [
 ];
 
 /// What a command does, whose words stand with a space between.
-fn told(
+pub(crate) fn told(
     rt: &(impl Threads + Sync),
     alloc: Global,
     line: &str,
@@ -149,7 +151,7 @@ fn wrong_usage(rt: HostRuntime) -> Result<(), Fail> {
         assert_eq!(rt;
             done.outcome.line(),
             Some(
-                "usage: er_cli [check|gen|schedule|explain] [--shards N] [--json] [--number N] [--race N] [--from N] [--to N]"
+                "usage: er_cli [check|gen|schedule|explain|jsonl] [--shards N] [--json] [--number N] [--race N] [--from N] [--to N]"
             )
         );
     }

@@ -5,9 +5,10 @@ use Rattle.er_text.specs.Bytes.{count_of_lf}
 use Rattle.er_text.specs.declared.causes.Cause.TheVariants.{NoEnd}
 use Rattle.er_trace.specs.declared.record.Record.{Record}
 use Rattle.er_trace.specs.declared.version.Version.{Version}
-use Rattle.er_trace.specs.Trace.{Place, Start, After, Ended, line_number, text, IsTrace}
-use Rattle.er_trace.proofs.FrontLaws.{IsWithin, cut_text}
-use Rattle.er_trace.proofs.LinesBefore.{line_of_no_end}
+use Rattle.er_lines.specs.Format.{Format}
+use Rattle.er_lines.specs.Lines.{Place, Start, After, Ended, IsTrace, IsWithin}
+use Rattle.er_lines.proofs.CutTraces.{cut_trace as place_of_cut}
+use Rattle.er_lines.proofs.LinesBefore.{line_of_no_end}
 use Rattle.er_history.specs.Rules.{rules}
 use Rattle.er_words.specs.declared.commands.Command.{Command}
 use Rattle.er_run.specs.Legal.{IsLegal}
@@ -23,7 +24,7 @@ legal_within asked v records (After w front) within legal =
     subst (λ u. IsLegal (rules u) (reverse front)) (sym within.0) older
 legal_within asked v records (Ended w front) within legal = absurd within
 
-pub cut_trace : (asked : Command) (v : Version) (records : List Record) (bytes more : List ℕ) → IsTrace records → IsLegal (rules v) (reverse records) → text v records ≡ bytes ++ more → 0 < length more → FirstIllegal asked bytes (count_of_lf bytes + 1) NoEnd
-cut_trace asked v records bytes more is legal e some =
-    let cut = cut_text v records bytes more is e some in
-    OfLine cut.0 (sym (line_of_no_end bytes cut.0 cut.1)) (legal_within asked v records cut.0 cut.2 legal) cut.1
+pub cut_trace : (f : Format) (asked : Command) (v : Version) (records : List Record) (bytes more : List ℕ) → IsTrace f v (bytes ++ more) records → IsLegal (rules v) (reverse records) → 0 < length more → FirstIllegal f asked bytes (count_of_lf bytes + 1) NoEnd
+cut_trace f asked v records bytes more is legal some =
+    let cut = place_of_cut f v records bytes more is some in
+    OfLine cut.0 (sym (line_of_no_end f bytes cut.0 cut.1)) (legal_within asked v records cut.0 cut.2 legal) cut.1

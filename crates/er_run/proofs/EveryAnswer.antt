@@ -15,10 +15,11 @@ use Rattle.er_run.specs.declared.outcome.Outcome.{Outcome}
 use Rattle.er_run.specs.declared.outcome.Outcome.TheVariants.{Refused}
 use Rattle.er_run.specs.Reading.{IsBy, IsReading}
 use Rattle.er_trace.specs.declared.version.Version.TheVariants.{One}
-use Rattle.er_trace.specs.Trace.{Place, Start, After, Ended, header, line, lines, end_word, Refuses}
-use Rattle.er_trace.proofs.OneTrace.{header_once}
-use Rattle.er_run.proofs.OneAnswer.{no_header}
-use Rattle.er_run.specs.Answer.{FirstIllegal, Answers}
+use Rattle.er_lines.specs.Format.{Format, IsFormat}
+use Rattle.er_lines.specs.Lines.{Place, Start, After, Ended, StartCause, whole_line, BeginsWith, Refuses}
+use Rattle.er_lines.proofs.HeaderLaws.{header_of, header_of_whole}
+use Rattle.er_lines.proofs.OneReading.{front_of, no_header_by, one_beginning}
+use Rattle.er_run.specs.Answer.{format_of, FirstIllegal, Answers}
 use Rattle.er_words.specs.declared.commands.Command.{Command}
 use Rattle.er_run.specs.Report.{text_for, refusal_for}
 use Rattle.er_run.specs.Session.{IsFaultOf}
@@ -59,49 +60,49 @@ reverse_twice : (h : List Record) → reverse (reverse h) ≡ h
 reverse_twice h = grind (arith, common_steps)
 
 -- as a judgement of the records, oldest first
-fault_of : (v : Version) (records : List Record) → (f : Faulty v (reverse records)) → IsFaultOf v records (graph_faults.Refused (length f.older + 2) f.cause)
-fault_of v records f =
-    let back : records ≡ reverse f.older ++ f.read ∷ reverse f.newer =
-    sym (reverse_twice records) ∙ (ap reverse f.is ∙ (reverse-append f.newer (f.read ∷ f.older) ∙ (ap (λ l. l ++ reverse f.newer) (reverse-append (f.read ∷ []) f.older) ∙ append_assoc (reverse f.older) (f.read ∷ []) (reverse f.newer)))) in
-    let long : length (reverse f.older) ≡ length f.older = length-reverse f.older in
-    let front : take (length f.older) records ≡ reverse f.older = ap (take (length f.older)) back ∙ (ap (λ n. take n (reverse f.older ++ f.read ∷ reverse f.newer)) (sym long) ∙ front_taken (reverse f.older) (f.read ∷ reverse f.newer)) in
-    let older : f.older ≡ reverse (take (length f.older) records) = sym (ap reverse front ∙ reverse_twice f.older) in
-    let there : slice_get records (length f.older) ≡ Some f.read = ap (λ l. slice_get l (length f.older)) back ∙ (ap (slice_get (reverse f.older ++ f.read ∷ reverse f.newer)) (sym long) ∙ at_place (reverse f.older) (reverse f.newer) f.read) in
-    (length f.older, refl, subst (IsLegal (rules v)) older f.legal, (f.read, there, subst (λ l. legality.cause (rules v) l f.read ≡ Some f.cause) older f.why))
+fault_of : (v : Version) (records : List Record) → (first : Faulty v (reverse records)) → IsFaultOf v records (graph_faults.Refused (length first.older + 2) first.cause)
+fault_of v records first =
+    let back : records ≡ reverse first.older ++ first.read ∷ reverse first.newer =
+    sym (reverse_twice records) ∙ (ap reverse first.is ∙ (reverse-append first.newer (first.read ∷ first.older) ∙ (ap (λ l. l ++ reverse first.newer) (reverse-append (first.read ∷ []) first.older) ∙ append_assoc (reverse first.older) (first.read ∷ []) (reverse first.newer)))) in
+    let long : length (reverse first.older) ≡ length first.older = length-reverse first.older in
+    let front : take (length first.older) records ≡ reverse first.older = ap (take (length first.older)) back ∙ (ap (λ n. take n (reverse first.older ++ first.read ∷ reverse first.newer)) (sym long) ∙ front_taken (reverse first.older) (first.read ∷ reverse first.newer)) in
+    let older : first.older ≡ reverse (take (length first.older) records) = sym (ap reverse front ∙ reverse_twice first.older) in
+    let there : slice_get records (length first.older) ≡ Some first.read = ap (λ l. slice_get l (length first.older)) back ∙ (ap (slice_get (reverse first.older ++ first.read ∷ reverse first.newer)) (sym long) ∙ at_place (reverse first.older) (reverse first.newer) first.read) in
+    (length first.older, refl, subst (IsLegal (rules v)) older first.legal, (first.read, there, subst (λ l. legality.cause (rules v) l first.read ≡ Some first.cause) older first.why))
 
 -- an answer, and the text that is due
-abbrev HasAnswer : Command → List ℕ → Type 0
-HasAnswer asked bytes = (o : Outcome) × (due : List ℕ) × Answers asked bytes o due
+abbrev HasAnswer : Format → Command → List ℕ → Type 0
+HasAnswer f asked bytes = (o : Outcome) × (due : List ℕ) × Answers f asked bytes o due
 
-refused : (asked : Command) (bytes : List ℕ) (n : ℕ) (c : Cause) → FirstIllegal asked bytes n c → HasAnswer asked bytes
-refused asked bytes n c is = (Refused n c, refusal_for asked n c, (is, refl))
+refused : (f : Format) (asked : Command) (bytes : List ℕ) (n : ℕ) (c : Cause) → FirstIllegal f asked bytes n c → HasAnswer f asked bytes
+refused f asked bytes n c is = (Refused n c, refusal_for asked n c, (is, refl))
 
 -- behind legal records and no line that is refused the `end` line is refused, or it is within the limits
-by_end : (v : Version) (asked : Command) (bytes : List ℕ) (records : List Record) (line : Option LineRefusal) (o : Option Cause) → o ≡ end_cause_for asked v (reverse records) → IsReading v bytes records line → IsRead records line → IsLegal (rules v) (reverse records)
-    → (end_cause_for asked v (reverse records) ≡ None → HasAnswer asked bytes) → HasAnswer asked bytes
-by_end v asked bytes records line None is reading read legal answer = answer (sym is)
-by_end v asked bytes records line (Some c) is reading read legal answer = refused asked bytes (length records + 2) c (refused_end asked v bytes records line (length records + 2) c reading read legal refl (sym is))
+by_end : (f : Format) (v : Version) (asked : Command) (bytes : List ℕ) (records : List Record) (line : Option LineRefusal) (o : Option Cause) → o ≡ end_cause_for asked v (reverse records) → IsReading f v bytes records line → IsRead records line → IsLegal (rules v) (reverse records)
+    → (end_cause_for asked v (reverse records) ≡ None → HasAnswer f asked bytes) → HasAnswer f asked bytes
+by_end f v asked bytes records line None is reading read legal answer = answer (sym is)
+by_end f v asked bytes records line (Some c) is reading read legal answer = refused f asked bytes (length records + 2) c (refused_end f asked v bytes records line (length records + 2) c reading read legal refl (sym is))
 
-by_line : (v : Version) (asked : Command) (bytes : List ℕ) (records : List Record) (line : LineRefusal) (behind : Bool) → behind ≡ nat_lt (length records + 2) line.line → IsReading v bytes records (Some line) → IsLegal (rules v) (reverse records) → HasAnswer asked bytes
-by_line v asked bytes records line false is reading legal =
+by_line : (f : Format) (v : Version) (asked : Command) (bytes : List ℕ) (records : List Record) (line : LineRefusal) (behind : Bool) → behind ≡ nat_lt (length records + 2) line.line → IsReading f v bytes records (Some line) → IsLegal (rules v) (reverse records) → HasAnswer f asked bytes
+by_line f v asked bytes records line false is reading legal =
     let up_to : line.line ≤ length records + 2 = grind (arith, nat_tests) in
-    refused asked bytes line.line line.cause (refused_line asked v bytes records (Some line) line reading refl legal (λ behind. absurd (omega arith)))
-by_line v asked bytes records line true is reading legal =
+    refused f asked bytes line.line line.cause (refused_line f asked v bytes records (Some line) line reading refl legal (λ behind. absurd (omega arith)))
+by_line f v asked bytes records line true is reading legal =
     let past : length records + 2 < line.line = grind (arith, nat_tests) in
-    by_end v asked bytes records (Some line) (end_cause_for asked v (reverse records)) refl reading past legal
-    (λ within. refused asked bytes line.line line.cause (refused_line asked v bytes records (Some line) line reading refl legal (λ behind. within)))
+    by_end f v asked bytes records (Some line) (end_cause_for asked v (reverse records)) refl reading past legal
+    (λ within. refused f asked bytes line.line line.cause (refused_line f asked v bytes records (Some line) line reading refl legal (λ behind. within)))
 
-answered : (v : Version) (asked : Command) (bytes : List ℕ) (records : List Record) (line : Option LineRefusal) → IsReading v bytes records line → IsLegal (rules v) (reverse records) → HasAnswer asked bytes
-answered v asked bytes records None reading legal =
-    by_end v asked bytes records None (end_cause_for asked v (reverse records)) refl reading tt legal (λ within.
-    let found = legal_answer v asked bytes records (record { is_trace = reading.0; spelled = reading.1; legal = legal; within = within }) in
+answered : (f : Format) (v : Version) (asked : Command) (bytes : List ℕ) (records : List Record) (line : Option LineRefusal) → IsReading f v bytes records line → IsLegal (rules v) (reverse records) → HasAnswer f asked bytes
+answered f v asked bytes records None reading legal =
+    by_end f v asked bytes records None (end_cause_for asked v (reverse records)) refl reading tt legal (λ within.
+    let found = legal_answer f v asked bytes records (record { is_trace = reading; legal = legal; within = within }) in
     (found.0, text_for v asked (reverse records), found.1))
-answered v asked bytes records (Some line) reading legal = by_line v asked bytes records line (nat_lt (length records + 2) line.line) refl reading legal
+answered f v asked bytes records (Some line) reading legal = by_line f v asked bytes records line (nat_lt (length records + 2) line.line) refl reading legal
 
-from_reading : (v : Version) (asked : Command) (bytes : List ℕ) (records : List Record) (line : Option LineRefusal) → IsReading v bytes records line → HasAnswer asked bytes
-from_reading v asked bytes records line reading = elim (legal_or_faulty v (reverse records)) [
-  | inl legal ↦ answered v asked bytes records line reading legal
-  | inr f ↦ refused asked bytes (length f.older + 2) f.cause (refused_judged asked v bytes records line (length f.older + 2) f.cause reading (fault_of v records f))
+from_reading : (f : Format) (v : Version) (asked : Command) (bytes : List ℕ) (records : List Record) (line : Option LineRefusal) → IsReading f v bytes records line → HasAnswer f asked bytes
+from_reading f v asked bytes records line reading = elim (legal_or_faulty v (reverse records)) [
+  | inl legal ↦ answered f v asked bytes records line reading legal
+  | inr first ↦ refused f asked bytes (length first.older + 2) first.cause (refused_judged f asked v bytes records line (length first.older + 2) first.cause reading (fault_of v records first))
 ]
 
 -- the version of a place; that of the first line is as good as any
@@ -110,19 +111,21 @@ version_at Start = One
 version_at (After v records) = v
 version_at (Ended v records) = v
 
-by_place : (place : Place) (bytes : List ℕ) (c : Cause) → Refuses bytes place c → IsBy (version_at place) bytes
-by_place Start bytes c h = λ w begins. absurd (no_header w begins.0 bytes c h.rest h.begins h.cause begins.1)
-by_place (After v records) bytes c h = λ w begins. (header_once bytes (lines records ++ h.rest) begins.0 v w (h.begins ∙ append_assoc (line (header v)) (lines records) h.rest) begins.1).0
-by_place (Ended v records) bytes c h = λ w begins.
-    (header_once bytes ((lines records ++ line end_word) ++ h.rest) begins.0 v w
-    (h.begins ∙ (ap (λ l. l ++ h.rest) (append_assoc (line (header v)) (lines records) (line end_word)) ∙ append_assoc (line (header v)) (lines records ++ line end_word) h.rest)) begins.1).0
+no_first_line : (f : Format) (bytes before rest : List ℕ) (c : Cause) (w : Version) → before ≡ [] → bytes ≡ before ++ rest → StartCause f rest c → BeginsWith f w bytes → ⊥
+no_first_line f bytes before rest c w none is cause begins =
+    let all : rest ≡ bytes = sym (is ∙ ap (λ b. b ++ rest) none) in
+    no_header_by f (whole_line f.most rest) c w begins.first begins.rest cause (front_of f.most rest begins.first begins.rest begins.short (all ∙ begins.begins)) begins.header
 
-from_text : (asked : Command) (bytes : List ℕ) → Reads bytes → HasAnswer asked bytes
-from_text asked bytes (Whole records (v, read, is, e, same)) =
-    from_reading v asked bytes records None (subst (λ l. IsReading v bytes l None) (sym same) (is, e))
-from_text asked bytes (Until number c records (place, refuses, numbered, same)) =
+by_place : (f : Format) → IsFormat f → (place : Place) (bytes : List ℕ) (c : Cause) → Refuses f bytes place c → IsBy f (version_at place) bytes
+by_place f good Start bytes c h = λ w begins. absurd (no_first_line f bytes h.before h.rest c w h.are h.begins h.cause begins)
+by_place f good (After v records) bytes c h = λ w begins. one_beginning f good bytes v w (header_of f v bytes h.before h.rest records h.begins h.are) begins
+by_place f good (Ended v records) bytes c h = λ w begins. one_beginning f good bytes v w (header_of_whole f v bytes h.before h.rest records h.begins h.are) begins
+
+from_text : (f : Format) → IsFormat f → (asked : Command) (bytes : List ℕ) → Reads f bytes → HasAnswer f asked bytes
+from_text f good asked bytes (Whole records (v, trace)) = from_reading f v asked bytes records None trace
+from_text f good asked bytes (Until number c records (place, refuses, numbered, same)) =
     let v = version_at place in
-    from_reading v asked bytes records (Some (record { line = number; cause = c })) (place, refuses, numbered, same, by_place place bytes c refuses)
+    from_reading f v asked bytes records (Some (record { line = number; cause = c })) (place, refuses, numbered, same, by_place f good place bytes c refuses)
 
-pub every_answer : (asked : Command) (bytes : List ℕ) → (HasAnswer asked bytes → ⊥) → ⊥
-every_answer asked bytes = λ refute. every_text bytes (λ read. refute (from_text asked bytes read))
+pub every_answer : (f : Format) → IsFormat f → (asked : Command) (bytes : List ℕ) → (HasAnswer f asked bytes → ⊥) → ⊥
+every_answer f good asked bytes = λ refute. every_text f bytes (λ read. refute (from_text f good asked bytes read))

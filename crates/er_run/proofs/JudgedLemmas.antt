@@ -44,6 +44,7 @@ use Rattle.er_run.specs.declared.session.Session.{Session}
 use Rattle.er_run.specs.declared.findings.Listing.{Listing}
 use Rattle.er_run.specs.declared.findings.Found.{Found}
 use Rattle.er_run.specs.declared.findings.Found.TheVariants as findings
+use Rattle.er_words.specs.declared.commands.Input.{Input}
 use Rattle.er_words.specs.declared.commands.Command.{Command}
 use Rattle.er_words.specs.declared.commands.Command.TheVariants.{Check, Gen, Schedule, Explain}
 use Rattle.er_run.specs.Legal.{listing_cause, end_cause, schedule_cause, explain_cause}
@@ -185,9 +186,9 @@ report_within : (v : Version) (h : List Record) (listing : Listing) → IsListin
 report_within v h listing is =
     listing_within v h listing.races.items (if nat_lt most_classes (length (classes v h)) then Some TooManyClasses else None) is.listed ∙ not_caused most_classes (length (classes v h)) TooManyClasses is.grouped.few_classes
 
-pub judged_check : (s : Session) (asked : Command) (json : Bool) (h : List Record) (found : Found) (listing : Listing) → asked ≡ Check json → StandsFor s h → IsListing s.graph.version listing h
-    → ((v : Version) (g : List Record) → IsListing v listing g → IsFound (Check json) v found g) → IsJudged asked s found h
-judged_check s asked json h found listing same stands is gives =
+pub judged_check : (s : Session) (asked : Command) (json : Bool) (input : Input) (h : List Record) (found : Found) (listing : Listing) → asked ≡ Check json input → StandsFor s h → IsListing s.graph.version listing h
+    → ((v : Version) (g : List Record) → IsListing v listing g → IsFound (Check json input) v found g) → IsJudged asked s found h
+judged_check s asked json input h found listing same stands is gives =
     subst (λ a. IsJudged a s found h) (sym same) (record { stands = stands; within = report_within s.graph.version h listing is; is_found = gives s.graph.version h is })
 
 pub judged_summary : (s : Session) (asked : Command) (n : ℕ) (h : List Record) (listing : Listing) → asked ≡ Gen n → StandsFor s h → IsListing s.graph.version listing h → IsJudged asked s (findings.Summary n listing) h

@@ -12,6 +12,7 @@ pub mod CutTraces
 pub mod EveryText
 pub mod EveryAnswer
 pub mod TellLemmas
+pub mod FormatLemmas
 pub mod GeneratedLemmas
 pub mod RunLemmas
 pub mod ReadingLemmas

@@ -7,6 +7,7 @@ use Rattle.er_words.specs.declared.commands.Command.TheVariants.{Check, Gen, Sch
 use Rattle.er_words.specs.declared.commands.WordsFault.{WordsFault}
 use Rattle.er_words.specs.declared.commands.WordsFault.TheVariants.{NoMemory}
 use Rattle.er_words.specs.Words.{Asks, Has, HasShards, IsNumberGiven, IsRaceGiven, most_shards}
+use Rattle.er_lines.specs.Format.{Format}
 use Rattle.er_outside.specs.Ends.{Gives, Rose}
 use Rattle.er_run.specs.Accepted.{IsAskable}
 use Rattle.er_run.specs.Promise.{IsInput, IsDecided, Holds, ReadsWithout}
@@ -59,20 +60,20 @@ askable words found asks =
 
 -- a command that reads judges what was taken
 
-pub read_input : (asked : Command) (bytes : List ℕ) (left_old left_new : Option (List ℕ)) → ((n : ℕ) → asked ≡ Gen n → ⊥) → Gives left_old bytes left_new → IsDecided asked bytes left_new → IsInput asked bytes left_old left_new
-read_input (Check json) bytes left_old left_new reads gave decided = (gave, decided)
-read_input (Gen n) bytes left_old left_new reads gave decided = absurd (reads n refl)
-read_input (Schedule k) bytes left_old left_new reads gave decided = (gave, decided)
-read_input (Explain i j) bytes left_old left_new reads gave decided = (gave, decided)
+pub read_input : (f : Format) (asked : Command) (bytes : List ℕ) (left_old left_new : Option (List ℕ)) → ((n : ℕ) → asked ≡ Gen n → ⊥) → Gives left_old bytes left_new → IsDecided f asked bytes left_new → IsInput f asked bytes left_old left_new
+read_input f (Check json input) bytes left_old left_new reads gave decided = (gave, decided)
+read_input f (Gen n) bytes left_old left_new reads gave decided = absurd (reads n refl)
+read_input f (Schedule k) bytes left_old left_new reads gave decided = (gave, decided)
+read_input f (Explain i j) bytes left_old left_new reads gave decided = (gave, decided)
 
 pub holds_all : (asked : Command) (left : Option (List ℕ)) (bytes : List ℕ) → ((n : ℕ) → asked ≡ Gen n → ⊥) → Holds asked left bytes → left ≡ Some bytes
-holds_all (Check json) left bytes reads held = held
+holds_all (Check json input) left bytes reads held = held
 holds_all (Gen n) left bytes reads held = absurd (reads n refl)
 holds_all (Schedule k) left bytes reads held = held
 holds_all (Explain i j) left bytes reads held = held
 
 pub no_rise : (asked : Command) (old new : ℕ) → ((n : ℕ) → asked ≡ Gen n → ⊥) → ReadsWithout asked old new → Rose old new → ⊥
-no_rise (Check json) old new reads without = without
+no_rise (Check json input) old new reads without = without
 no_rise (Gen n) old new reads without = absurd (reads n refl)
 no_rise (Schedule k) old new reads without = without
 no_rise (Explain i j) old new reads without = without
@@ -83,7 +84,7 @@ pub never_rose : Rose 0 0 → ⊥
 never_rose rose = elim rose [ inl more ↦ absurd (omega arith) | inr last ↦ absurd (omega (arith, last)) ]
 
 pub reads_surely : (asked : Command) → ReadsWithout asked 0 0
-reads_surely (Check json) = never_rose
+reads_surely (Check json input) = never_rose
 reads_surely (Gen n) = tt
 reads_surely (Schedule k) = never_rose
 reads_surely (Explain i j) = never_rose

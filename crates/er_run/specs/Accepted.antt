@@ -14,6 +14,8 @@ use Rattle.er_run.specs.declared.findings.Listing.{Listing}
 use Rattle.er_run.specs.declared.findings.Found.{Found}
 use Rattle.er_run.specs.declared.findings.Found.TheVariants as findings
 use Rattle.er_run.specs.declared.findings.Judged.{Judged}
+use Rattle.er_lines.specs.Format.{Format}
+use Rattle.er_words.specs.declared.commands.Input.{Input}
 use Rattle.er_words.specs.declared.commands.Command.{Command}
 use Rattle.er_words.specs.declared.commands.Command.TheVariants.{Check, Gen, Schedule, Explain}
 use Rattle.er_words.specs.declared.commands.Asked.{Asked}
@@ -64,8 +66,8 @@ pub record IsExplanation (v : Version) (i j : ℕ) (steps : Option (List Step)) 
 
 -- this was found of these records, newest first, by what is asked
 abbrev pub IsFound : Command → Version → Found → List Record → Type 0
-IsFound asked v (findings.Line listing) h = (asked ≡ Check true) × IsListing v listing h
-IsFound asked v (findings.Report listing) h = (asked ≡ Check false) × IsListing v listing h
+IsFound asked v (findings.Line listing) h = ((input : Input) × (asked ≡ Check true input)) × IsListing v listing h
+IsFound asked v (findings.Report listing) h = ((input : Input) × (asked ≡ Check false input)) × IsListing v listing h
 IsFound asked v (findings.Summary n listing) h = (asked ≡ Gen n) × IsListing v listing h
 IsFound asked v (findings.Orders k races orders) h = (asked ≡ Schedule k) × AreOrdersOf v k races.items orders h
 IsFound asked v (findings.Steps i j steps) h = (asked ≡ Explain i j) × IsExplanation v i j steps h
@@ -83,9 +85,9 @@ pub record IsJudgement (judged : Judged) : Type 0 where
   pub is_judged : IsJudged asked judged.session judged.found list
 
 -- the bytes are a legal trace, and this is what came of judging its records
-pub record IsAccepted (asked : Command) (bytes : List ℕ) (judged : Judged) : Type 0 where
+pub record IsAccepted (f : Format) (asked : Command) (bytes : List ℕ) (judged : Judged) : Type 0 where
   pub records : List Record
-  pub legal : IsLegalTrace asked judged.session.graph.version bytes records
+  pub legal : IsLegalTrace f asked judged.session.graph.version bytes records
   pub is_judged : IsJudged asked judged.session judged.found (reverse records)
 
 -- the count of comparisons rose by one for each candidate pair of the records for which the session stands
@@ -161,10 +163,10 @@ pub record IsReportable (session : Session) : Type 0 where
   pub few : length list ≤ most_lines
 
 -- the fault is the refusal of the bytes, or want of memory
-abbrev pub IsRefusal : Command → List ℕ → FeedFault → Type 0
-IsRefusal asked bytes (faults.Refused n c) = FirstIllegal asked bytes n c
-IsRefusal asked bytes faults.NoMemory = Unit {0}
+abbrev pub IsRefusal : Format → Command → List ℕ → FeedFault → Type 0
+IsRefusal f asked bytes (faults.Refused n c) = FirstIllegal f asked bytes n c
+IsRefusal f asked bytes faults.NoMemory = Unit {0}
 
 -- the bytes are accepted, or refused
-abbrev pub IsVerdict : Command → List ℕ → Result Judged FeedFault → Type 0
-IsVerdict asked bytes verdict = MatchResult verdict (IsAccepted asked bytes) (IsRefusal asked bytes)
+abbrev pub IsVerdict : Format → Command → List ℕ → Result Judged FeedFault → Type 0
+IsVerdict f asked bytes verdict = MatchResult verdict (IsAccepted f asked bytes) (IsRefusal f asked bytes)

@@ -10,34 +10,36 @@ use Rattle.er_run.specs.declared.outcome.Outcome.TheVariants.{Refused}
 use Rattle.er_words.specs.declared.commands.Command.{Command}
 use Rattle.er_trace.specs.declared.record.Record.{Record}
 use Rattle.er_trace.specs.declared.version.Version.{Version}
-use Rattle.er_trace.specs.Trace.{text, IsTrace}
+use Rattle.er_lines.specs.Lines.{IsTrace}
 use Rattle.er_history.specs.History.{told}
 use Rattle.er_history.specs.Rules.{rules}
 use Rattle.er_history.specs.Edges.{edges}
 use Rattle.er_access.specs.Kept.{Kept}
 use Rattle.er_orders.specs.Orders.{is_lawful, is_next, before_order, after_order}
-use Rattle.er_run.specs.Answer.{FirstIllegal, Answers}
+use Rattle.er_run.specs.Answer.{format_of, FirstIllegal, Answers}
 use Rattle.er_run.specs.Legal.{IsLegal}
 use Rattle.er_run.specs.Report.{refusal_for}
 use Rattle.er_run.specs.Races.{races}
 
 -- to each command a byte string has one outcome, and one text is due for it
 abbrev pub OneAnswer : Type 0
-OneAnswer = (asked : Command) (bytes : List ℕ) (o p : Outcome) (due text : List ℕ) → Answers asked bytes o due → Answers asked bytes p text → (o ≡ p) × (due ≡ text)
+OneAnswer = (asked : Command) (bytes : List ℕ) (o p : Outcome) (due text : List ℕ) → Answers (format_of asked) asked bytes o due → Answers (format_of asked) asked bytes p text
+    → (o ≡ p) × (due ≡ text)
 
 -- to each command a byte string has an outcome, and a text is due for it; under a double negation, since the words of the definitions decide nothing
 abbrev pub EveryAnswer : Type 0
-EveryAnswer = (asked : Command) (bytes : List ℕ) → ¬ ¬ ((o : Outcome) × (due : List ℕ) × Answers asked bytes o due)
+EveryAnswer = (asked : Command) (bytes : List ℕ) → ¬ ¬ ((o : Outcome) × (due : List ℕ) × Answers (format_of asked) asked bytes o due)
 
 -- a refusal other than `no-end` is that of every longer input
 abbrev pub LongerInput : Type 0
-LongerInput = (asked : Command) (bytes more : List ℕ) (n : ℕ) (c : Cause) → FirstIllegal asked bytes n c → c ≢ NoEnd → FirstIllegal asked (bytes ++ more) n c
+LongerInput = (asked : Command) (bytes more : List ℕ) (n : ℕ) (c : Cause) → FirstIllegal (format_of asked) asked bytes n c → c ≢ NoEnd
+    → FirstIllegal (format_of asked) asked (bytes ++ more) n c
 
--- The text of a legal trace, without some of its last bytes, is refused for `no-end`, at the line behind its last LF.
+-- The bytes of a legal trace, without some of the last, are refused for `no-end`, at the line behind their last LF.
 abbrev pub CutTrace : Type 0
 CutTrace = (asked : Command) (v : Version) (records : List Record) (bytes more : List ℕ)
-    → IsTrace records → IsLegal (rules v) (reverse records) → text v records ≡ bytes ++ more → 0 < length more
-    → Answers asked bytes (Refused (count_of_lf bytes + 1) NoEnd) (refusal_for asked (count_of_lf bytes + 1) NoEnd)
+    → IsTrace (format_of asked) v (bytes ++ more) records → IsLegal (rules v) (reverse records) → 0 < length more
+    → Answers (format_of asked) asked bytes (Refused (count_of_lf bytes + 1) NoEnd) (refusal_for asked (count_of_lf bytes + 1) NoEnd)
 
 -- by these lists no edge leads back in either order of the two actions, and each order shows them side by side
 pub record AreBothLawful (lists : List (List ℕ)) (i j : ℕ) : Type 0 where

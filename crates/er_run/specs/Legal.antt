@@ -57,7 +57,7 @@ explain_cause i j h = if nat_le (length (told h).actions) i || nat_le (length (t
 
 -- the first cause for which the `end` line behind the records is refused, by what is asked
 abbrev pub end_cause_for : Command → Version → List Record → Option Cause
-end_cause_for (Check json) v h = end_cause v h
+end_cause_for (Check json input) v h = end_cause v h
 end_cause_for (Gen n) v h = end_cause v h
 end_cause_for (Schedule k) v h = schedule_cause k v h
 end_cause_for (Explain i j) v h = explain_cause i j h

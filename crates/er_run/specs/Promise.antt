@@ -8,6 +8,7 @@ use Rattle.er_trace.specs.declared.version.Version.{Version}
 use Rattle.er_trace.specs.declared.version.Version.TheVariants.{One}
 use Rattle.er_trace.specs.Trace.{text}
 use Rattle.er_gen.specs.Generated.{generated}
+use Rattle.er_lines.specs.Format.{Format}
 use Rattle.er_words.specs.declared.commands.Command.{Command}
 use Rattle.er_words.specs.declared.commands.Command.TheVariants.{Check, Gen, Explain}
 use Rattle.er_text.specs.declared.causes.Cause.{Cause}
@@ -23,25 +24,25 @@ IsAnswer (Refused n c) = Unit {0}
 IsAnswer _ = ⊥
 
 -- the bytes are refused for another cause than `no-end`
-abbrev pub IsFinal : Command → List ℕ → Type 0
-IsFinal asked bytes = (n : ℕ) × (c : Cause) × FirstIllegal asked bytes n c × (c ≢ NoEnd)
+abbrev pub IsFinal : Format → Command → List ℕ → Type 0
+IsFinal f asked bytes = (n : ℕ) × (c : Cause) × FirstIllegal f asked bytes n c × (c ≢ NoEnd)
 
 -- the most bytes of a piece of the input
 abbrev pub piece_bytes : ℕ
 piece_bytes = 4096
 
 -- without their last piece the bytes are not refused, but for `no-end`, and with it they are
-pub record IsJustRefused (asked : Command) (bytes : List ℕ) : Type 0 where
+pub record IsJustRefused (f : Format) (asked : Command) (bytes : List ℕ) : Type 0 where
   pub before : List ℕ
   pub last : List ℕ
   pub is : bytes ≡ before ++ last
   pub few : length last ≤ piece_bytes
-  pub fresh : IsFinal asked before → ⊥
-  pub refused : IsFinal asked bytes
+  pub fresh : IsFinal f asked before → ⊥
+  pub refused : IsFinal f asked bytes
 
 -- nothing is left, or the piece that was taken last brought the refusal
-abbrev pub IsDecided : Command → List ℕ → Option (List ℕ) → Type 0
-IsDecided asked taken left = IsSpent left ⊎ IsJustRefused asked taken
+abbrev pub IsDecided : Format → Command → List ℕ → Option (List ℕ) → Type 0
+IsDecided f asked taken left = IsSpent left ⊎ IsJustRefused f asked taken
 
 -- an outcome that leaves the sink as it was
 abbrev pub IsSilent : Outcome → Type 0
@@ -51,16 +52,16 @@ IsSilent NoMemory = Unit {0}
 IsSilent _ = ⊥
 
 -- the text that is due for the answer of the bytes came to what was got
-pub record IsGiven (asked : Command) (bytes : List ℕ) (outcome : Outcome) (got_old got_new : Option (List ℕ)) : Type 0 where
+pub record IsGiven (f : Format) (asked : Command) (bytes : List ℕ) (outcome : Outcome) (got_old got_new : Option (List ℕ)) : Type 0 where
   pub due : List ℕ
-  pub answers : Answers asked bytes outcome due
+  pub answers : Answers f asked bytes outcome due
   pub gave : Gets got_old due got_new
 
 -- a proper front of that text came
-pub record IsPartGiven (asked : Command) (bytes : List ℕ) (got_old got_new : Option (List ℕ)) : Type 0 where
+pub record IsPartGiven (f : Format) (asked : Command) (bytes : List ℕ) (got_old got_new : Option (List ℕ)) : Type 0 where
   pub outcome : Outcome
   pub due : List ℕ
-  pub answers : Answers asked bytes outcome due
+  pub answers : Answers f asked bytes outcome due
   pub gave : GetsPart got_old due got_new
 
 -- each candidate pair is compared where the races are asked for
@@ -70,40 +71,40 @@ compared_for _ h = length (candidates h)
 
 -- each class is tested against each group where the races are grouped
 abbrev pub tested_for : Command → Version → List Record → ℕ
-tested_for (Check json) v h = length (classes v h) * length (groups v h)
+tested_for (Check json input) v h = length (classes v h) * length (groups v h)
 tested_for (Gen n) v h = length (classes v h) * length (groups v h)
 tested_for _ v h = 0
 
 -- where the trace is legal, the count of comparisons rose by one for each candidate pair that is compared
-abbrev pub Compares : Command → List ℕ → Outcome → ℕ → ℕ → Type 0
-Compares asked bytes Clean old new = (v : Version) (records : List Record) → IsLegalTrace asked v bytes records → new ≡ old + compared_for asked (reverse records)
-Compares asked bytes Races old new = (v : Version) (records : List Record) → IsLegalTrace asked v bytes records → new ≡ old + compared_for asked (reverse records)
-Compares asked bytes _ old new = Unit {0}
+abbrev pub Compares : Format → Command → List ℕ → Outcome → ℕ → ℕ → Type 0
+Compares f asked bytes Clean old new = (v : Version) (records : List Record) → IsLegalTrace f asked v bytes records → new ≡ old + compared_for asked (reverse records)
+Compares f asked bytes Races old new = (v : Version) (records : List Record) → IsLegalTrace f asked v bytes records → new ≡ old + compared_for asked (reverse records)
+Compares f asked bytes _ old new = Unit {0}
 
 -- and the count of tests by four at most for each class and each group
-abbrev pub Tests : Command → List ℕ → Outcome → ℕ → ℕ → Type 0
-Tests asked bytes Clean old new = (v : Version) (records : List Record) → IsLegalTrace asked v bytes records → (old ≤ new) × (new ≤ old + 4 * tested_for asked v (reverse records))
-Tests asked bytes Races old new = (v : Version) (records : List Record) → IsLegalTrace asked v bytes records → (old ≤ new) × (new ≤ old + 4 * tested_for asked v (reverse records))
-Tests asked bytes _ old new = Unit {0}
+abbrev pub Tests : Format → Command → List ℕ → Outcome → ℕ → ℕ → Type 0
+Tests f asked bytes Clean old new = (v : Version) (records : List Record) → IsLegalTrace f asked v bytes records → (old ≤ new) × (new ≤ old + 4 * tested_for asked v (reverse records))
+Tests f asked bytes Races old new = (v : Version) (records : List Record) → IsLegalTrace f asked v bytes records → (old ≤ new) × (new ≤ old + 4 * tested_for asked v (reverse records))
+Tests f asked bytes _ old new = Unit {0}
 
 -- What a command judges: a generated trace, for which it takes nothing of the source, or the bytes that the call took of it.
-abbrev pub IsInput : Command → List ℕ → Option (List ℕ) → Option (List ℕ) → Type 0
-IsInput (Gen n) bytes left_old left_new = (bytes ≡ text One (generated n)) × (left_new ≡ left_old)
-IsInput asked bytes left_old left_new = Gives left_old bytes left_new × IsDecided asked bytes left_new
+abbrev pub IsInput : Format → Command → List ℕ → Option (List ℕ) → Option (List ℕ) → Type 0
+IsInput f (Gen n) bytes left_old left_new = (bytes ≡ text One (generated n)) × (left_new ≡ left_old)
+IsInput f asked bytes left_old left_new = Gives left_old bytes left_new × IsDecided f asked bytes left_new
 
 -- The input of the command answers this outcome, exactly the text that is due came to the sink, and the comparisons and the tests that it needs were made.
-pub record IsAnswered (asked : Command) (left_old left_new got_old got_new : Option (List ℕ)) (compared_old compared_new tested_old tested_new : ℕ) (outcome : Outcome) : Type 0 where
+pub record IsAnswered (f : Format) (asked : Command) (left_old left_new got_old got_new : Option (List ℕ)) (compared_old compared_new tested_old tested_new : ℕ) (outcome : Outcome) : Type 0 where
   pub input : List ℕ
-  pub taken : IsInput asked input left_old left_new
-  pub given : IsGiven asked input outcome got_old got_new
-  pub compared : Compares asked input outcome compared_old compared_new
-  pub tested : Tests asked input outcome tested_old tested_new
+  pub taken : IsInput f asked input left_old left_new
+  pub given : IsGiven f asked input outcome got_old got_new
+  pub compared : Compares f asked input outcome compared_old compared_new
+  pub tested : Tests f asked input outcome tested_old tested_new
 
 -- The input of the command answers some outcome, and a proper front of the text that is due came to the sink.
-pub record IsCutShort (asked : Command) (left_old left_new got_old got_new : Option (List ℕ)) : Type 0 where
+pub record IsCutShort (f : Format) (asked : Command) (left_old left_new got_old got_new : Option (List ℕ)) : Type 0 where
   pub input : List ℕ
-  pub taken : IsInput asked input left_old left_new
-  pub given : IsPartGiven asked input got_old got_new
+  pub taken : IsInput f asked input left_old left_new
+  pub given : IsPartGiven f asked input got_old got_new
 
 -- what a command has to judge: a generated trace, or all bytes that the source holds
 abbrev pub Holds : Command → Option (List ℕ) → List ℕ → Type 0

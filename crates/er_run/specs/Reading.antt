@@ -7,9 +7,10 @@ use Rattle.er_trace.specs.declared.record.Record.{Record}
 use Rattle.er_trace.specs.declared.version.Version.{Version}
 use Rattle.er_trace.specs.declared.fault.FeedFault.{FeedFault}
 use Rattle.er_trace.specs.declared.fault.FeedFault.TheVariants as faults
-use Rattle.er_trace.specs.declared.feed.Feed.{Feed}
-use Rattle.er_trace.specs.Feed as feeds
-use Rattle.er_trace.specs.Trace.{Place, line_number, records_before, text, IsTrace, IsTextOf, BeginsWith, Refuses}
+use Rattle.er_lines.specs.declared.mark.Mark.{Mark}
+use Rattle.er_lines.specs.Format.{Format}
+use Rattle.er_lines.specs.Lines.{Place, line_number, records_before, IsTrace, IsTraceOf, BeginsWith, Refuses}
+use Rattle.er_lines.specs.Feed.{Stands}
 use Rattle.er_words.specs.declared.commands.Command.{Command}
 use Rattle.er_run.specs.declared.input.LineRefusal.{LineRefusal}
 use Rattle.er_run.specs.declared.session.Session.{Session}
@@ -21,29 +22,29 @@ use Rattle.er_run.specs.Promise.{piece_bytes, IsFinal, IsDecided}
 use Rattle.er_run.specs.Session.{StandsFor, IsFaultOf}
 
 -- the first line gives no other version
-abbrev pub IsBy : Version → List ℕ → Type 0
-IsBy v bytes = (w : Version) → BeginsWith w bytes → v ≡ w
+abbrev pub IsBy : Format → Version → List ℕ → Type 0
+IsBy f v bytes = (w : Version) → BeginsWith f w bytes → v ≡ w
 
 -- the records before the first line that has a cause, with that line; or those of the whole trace
-abbrev pub IsReading : Version → List ℕ → List Record → Option LineRefusal → Type 0
-IsReading v bytes records None = IsTrace records × (bytes ≡ text v records)
-IsReading v bytes records (Some refused) = (place : Place) × Refuses bytes place refused.cause × (refused.line ≡ line_number place) × (records ≡ records_before place) × IsBy v bytes
+abbrev pub IsReading : Format → Version → List ℕ → List Record → Option LineRefusal → Type 0
+IsReading f v bytes records None = IsTrace f v bytes records
+IsReading f v bytes records (Some refused) = (place : Place) × Refuses f bytes place refused.cause × (refused.line ≡ line_number place) × (records ≡ records_before place) × IsBy f v bytes
 
--- the feed and the session stand for these bytes and for the records of their whole lines
-pub record IsAt (feed : Feed) (session : Session) (bytes : List ℕ) (records : List Record) : Type 0 where
-  pub fed : feeds.StandsFor feed bytes records
+-- what a feed keeps and the session stand for these bytes and for the records of their whole lines
+pub record IsAt (f : Format) (mark : Mark) (kept : List ℕ) (fault : Option FeedFault) (session : Session) (bytes : List ℕ) (records : List Record) : Type 0 where
+  pub fed : Stands f mark kept fault bytes records
   pub stands : StandsFor session (reverse records)
-  pub by : IsBy session.graph.version bytes
+  pub by : IsBy f session.graph.version bytes
 
 -- they stand for some bytes, and for the records of their whole lines
-pub record IsSomewhere (feed : Feed) (session : Session) : Type 0 where
+pub record IsSomewhere (f : Format) (mark : Mark) (kept : List ℕ) (fault : Option FeedFault) (session : Session) : Type 0 where
   pub bytes : List ℕ
   pub records : List Record
-  pub at : IsAt feed session bytes records
+  pub at : IsAt f mark kept fault session bytes records
 
 -- they stand for these bytes, and for more records
-abbrev pub GoesOn : Feed → Session → List ℕ → List Record → Type 0
-GoesOn feed session bytes records = (more : List Record) × IsAt feed session bytes (records ++ more)
+abbrev pub GoesOn : Format → Mark → List ℕ → Option FeedFault → Session → List ℕ → List Record → Type 0
+GoesOn f mark kept fault session bytes records = (more : List Record) × IsAt f mark kept fault session bytes (records ++ more)
 
 -- as a feed keeps it
 abbrev pub fault_of : Option LineRefusal → Option FeedFault
@@ -56,9 +57,9 @@ IsRecordFault v records (faults.Refused n c) = IsFaultOf v records (graph_faults
 IsRecordFault v records faults.NoMemory = Unit {0}
 
 -- a line of the bytes is refused, whatever is asked, which no further byte changes; or memory ran out
-abbrev pub IsFinalFault : List ℕ → FeedFault → Type 0
-IsFinalFault bytes (faults.Refused n c) = ((asked : Command) → FirstIllegal asked bytes n c) × (c ≢ NoEnd)
-IsFinalFault bytes faults.NoMemory = Unit {0}
+abbrev pub IsFinalFault : Format → List ℕ → FeedFault → Type 0
+IsFinalFault f bytes (faults.Refused n c) = ((asked : Command) → FirstIllegal f asked bytes n c) × (c ≢ NoEnd)
+IsFinalFault f bytes faults.NoMemory = Unit {0}
 
 -- The `end` line was read and nothing behind it; or a line is refused, where the source is at its end or which no further byte changes.
 abbrev pub IsEnd : Option (List ℕ) → Option LineRefusal → Type 0
@@ -66,62 +67,62 @@ IsEnd left None = Unit {0}
 IsEnd left (Some refused) = IsSpent left ⊎ (refused.cause ≢ NoEnd)
 
 -- A piece was read, and behind the bytes before it the feed and the session stand for it too.
-pub record Advances (left_old left_new : Option (List ℕ)) (feed : Feed) (session : Session) (bytes : List ℕ) (records : List Record) : Type 0 where
+pub record Advances (f : Format) (left_old left_new : Option (List ℕ)) (mark : Mark) (kept : List ℕ) (fault : Option FeedFault) (session : Session) (bytes : List ℕ) (records : List Record) : Type 0 where
   pub piece : List ℕ
   pub some : 0 < length piece
   pub gave : Gives left_old piece left_new
-  pub on : GoesOn feed session (bytes ++ piece) records
+  pub on : GoesOn f mark kept fault session (bytes ++ piece) records
 
 -- the bytes are not the trace of these records: its `end` line is still to come
-abbrev pub IsOpen : List ℕ → List Record → Type 0
-IsOpen bytes records = IsTrace records → IsTextOf bytes records → ⊥
+abbrev pub IsOpen : Format → List ℕ → List Record → Type 0
+IsOpen f bytes records = ¬ IsTraceOf f bytes records
 
 -- With the piece that was read behind these bytes the reading is at its end, and the session stands for its records.
-pub record Ends (left_old left_new : Option (List ℕ)) (session : Session) (refused : Option LineRefusal) (bytes : List ℕ) : Type 0 where
+pub record Ends (f : Format) (left_old left_new : Option (List ℕ)) (session : Session) (refused : Option LineRefusal) (bytes : List ℕ) : Type 0 where
   pub piece : List ℕ
   pub records : List Record
   pub gave : Gives left_old piece left_new
   pub few : length piece ≤ piece_bytes
   pub stands : StandsFor session (reverse records)
-  pub reading : IsReading session.graph.version (bytes ++ piece) records refused
+  pub reading : IsReading f session.graph.version (bytes ++ piece) records refused
   pub end : IsEnd left_new refused
 
 -- With the piece that was read behind these bytes a record is refused.
-pub record IsRefusedBehind (left_old left_new : Option (List ℕ)) (n : ℕ) (c : Cause) (bytes : List ℕ) : Type 0 where
+pub record IsRefusedBehind (f : Format) (left_old left_new : Option (List ℕ)) (n : ℕ) (c : Cause) (bytes : List ℕ) : Type 0 where
   pub piece : List ℕ
   pub gave : Gives left_old piece left_new
   pub few : length piece ≤ piece_bytes
-  pub refused : IsFinalFault (bytes ++ piece) (faults.Refused n c)
+  pub refused : IsFinalFault f (bytes ++ piece) (faults.Refused n c)
 
 -- the pieces before the last one do not decide
-pub record IsUndecided (left_old left_new : Option (List ℕ)) (bytes : List ℕ) : Type 0 where
+pub record IsUndecided (f : Format) (left_old left_new : Option (List ℕ)) (bytes : List ℕ) : Type 0 where
   pub gave : Gives left_old bytes left_new
-  pub fresh : (asked : Command) → IsFinal asked bytes → ⊥
+  pub fresh : (asked : Command) → IsFinal f asked bytes → ⊥
 
 -- A trace was read to its end, or to the piece that decides.
-pub record IsRead (left_old left_new : Option (List ℕ)) (session : Session) (refused : Option LineRefusal) : Type 0 where
+pub record IsRead (f : Format) (left_old left_new : Option (List ℕ)) (session : Session) (refused : Option LineRefusal) : Type 0 where
   pub bytes : List ℕ
   pub left : Option (List ℕ)
-  pub before : IsUndecided left_old left bytes
-  pub ends : Ends left left_new session refused bytes
+  pub before : IsUndecided f left_old left bytes
+  pub ends : Ends f left left_new session refused bytes
 
 -- A trace was read to a piece with a record that is refused.
-pub record IsReadTo (left_old left_new : Option (List ℕ)) (n : ℕ) (c : Cause) : Type 0 where
+pub record IsReadTo (f : Format) (left_old left_new : Option (List ℕ)) (n : ℕ) (c : Cause) : Type 0 where
   pub bytes : List ℕ
   pub left : Option (List ℕ)
-  pub before : IsUndecided left_old left bytes
-  pub refused : IsRefusedBehind left left_new n c bytes
+  pub before : IsUndecided f left_old left bytes
+  pub refused : IsRefusedBehind f left left_new n c bytes
 
 -- The bytes that were taken are a legal trace, which was judged, and nothing stands behind it.
-pub record IsAcceptedInput (asked : Command) (left_old left_new : Option (List ℕ)) (judged : Judged) : Type 0 where
+pub record IsAcceptedInput (f : Format) (asked : Command) (left_old left_new : Option (List ℕ)) (judged : Judged) : Type 0 where
   pub taken : List ℕ
   pub gave : Gives left_old taken left_new
   pub spent : IsSpent left_new
-  pub accepted : IsAccepted asked taken judged
+  pub accepted : IsAccepted f asked taken judged
 
 -- The bytes that were taken are refused.
-pub record IsRefusedInput (asked : Command) (left_old left_new : Option (List ℕ)) (n : ℕ) (c : Cause) : Type 0 where
+pub record IsRefusedInput (f : Format) (asked : Command) (left_old left_new : Option (List ℕ)) (n : ℕ) (c : Cause) : Type 0 where
   pub taken : List ℕ
   pub gave : Gives left_old taken left_new
-  pub decided : IsDecided asked taken left_new
-  pub refused : FirstIllegal asked taken n c
+  pub decided : IsDecided f asked taken left_new
+  pub refused : FirstIllegal f asked taken n c

@@ -37,14 +37,14 @@ explained v i j h = explanations.explain_text i j (explanation (rules v) h i j)
 
 -- what a command writes of a legal trace
 abbrev pub text_for : Version → Command → List Record → List ℕ
-text_for v (Check json) h = if json then json_report v h else report v h
+text_for v (Check json input) h = if json then json_report v h else report v h
 text_for v (Gen n) h = summary v n h
 text_for v (Schedule k) h = schedule v k h
 text_for v (Explain i j) h = explained v i j h
 
 -- a line of JSON is asked for
 abbrev pub is_json : Command → Bool
-is_json (Check json) = json
+is_json (Check json input) = json
 is_json _ = false
 
 -- and of a refusal

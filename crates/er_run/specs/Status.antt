@@ -13,7 +13,7 @@ status_of WriteFault = 5
 status_of NoMemory = 6
 
 abbrev pub line_of : Outcome → Option (List ℕ)
-line_of Usage = Some (codes "usage: er_cli [check|gen|schedule|explain] [--shards N] [--json] [--number N] [--race N] [--from N] [--to N]")
+line_of Usage = Some (codes "usage: er_cli [check|gen|schedule|explain|jsonl] [--shards N] [--json] [--number N] [--race N] [--from N] [--to N]")
 line_of ReadFault = Some (codes "er_cli: input could not be read")
 line_of WriteFault = Some (codes "er_cli: output could not be written")
 line_of NoMemory = Some (codes "er_cli: out of memory")

@@ -6,6 +6,7 @@ ghost use Rattle.er_text.specs.declared.causes.Cause.{Cause};
 ghost use Rattle.er_trace.specs.declared.record.Record.{Record};
 ghost use Rattle.er_trace.specs.declared.version.Version.TheVariants.{One};
 ghost use Rattle.er_trace.specs.Trace.{text};
+ghost use Rattle.er_lines.specs.Text.{text as text_lines};
 ghost use Rattle.er_gen.specs.Generated.{generated, most_rounds};
 ghost use Rattle.er_run.specs.Session.{StandsFor};
 ghost use Rattle.er_run.specs.Answer.{FirstIllegal};
@@ -20,6 +21,7 @@ use crate::session::{Session, judge};
 use er_clocks::Meter;
 use er_gen::Generator;
 use er_graph::GraphFault;
+use er_lines::format::Lines;
 use er_outside::{Failed, NoMemory, Source};
 use er_shard::Gate;
 use er_text::Cause;
@@ -30,7 +32,7 @@ use std::alloc::Global;
 use std::thread::Threads;
 
 /// What the trace comes to that the source gives. No more is read of it than decides.
-pub(crate) fn accept_input<R: Threads + Sync, S: Source, G: Gate + Sync>(
+pub(crate) fn accept_input<L: Lines, R: Threads + Sync, S: Source, G: Gate + Sync>(
     rt: &R,
     alloc: Global,
     asked: Asked,
@@ -43,9 +45,9 @@ pub(crate) fn accept_input<R: Threads + Sync, S: Source, G: Gate + Sync>(
     requires compares { compares.old < 2 ^ 60 }
     requires tests { tests.old < 2 ^ 60 }
     ensures accepted { IfOk result (λ judged.
-        IsAcceptedInput asked.command (S.left source.old) (S.left source.new) judged) }
+        IsAcceptedInput L.format asked.command (S.left source.old) (S.left source.new) judged) }
     ensures refused { (n : ℕ) (c : Cause) → result ≡ Err (InputFault.Refused n c)
-        → IsRefusedInput asked.command (S.left source.old) (S.left source.new) n c }
+        → IsRefusedInput L.format asked.command (S.left source.old) (S.left source.new) n c }
     ensures judged { IfOk result IsJudgement }
     ensures compared { IfOk result (λ judged.
         IsComparedFor asked.command judged.session compares.old compares.new) }
@@ -60,10 +62,12 @@ pub(crate) fn accept_input<R: Threads + Sync, S: Source, G: Gate + Sync>(
     ensures compares_rise { compares.old ≤ compares.new }
     ensures tests_rise { tests.old ≤ tests.new }
 {
-    match read(alloc, source) {
+    match read::<L, S>(alloc, source) {
         Ok((session, refused)) => match refused {
-            None => accept_end(rt, alloc, asked, source, session, compares, tests, gate),
-            Some(refusal) => Err(first_refusal(
+            None => accept_end::<L, R, S, G>(
+                rt, alloc, asked, source, session, compares, tests, gate,
+            ),
+            Some(refusal) => Err(first_refusal::<L, R, G>(
                 rt, alloc, asked, &session, refusal, compares, tests, gate,
             )),
         },
@@ -72,7 +76,7 @@ pub(crate) fn accept_input<R: Threads + Sync, S: Source, G: Gate + Sync>(
 }
 
 /// Judges the `end` line, and sees whether a byte stands behind it.
-fn accept_end<R: Threads + Sync, S: Source, G: Gate + Sync>(
+fn accept_end<L: Lines, R: Threads + Sync, S: Source, G: Gate + Sync>(
     rt: &R,
     alloc: Global,
     asked: Asked,
@@ -87,11 +91,11 @@ fn accept_end<R: Threads + Sync, S: Source, G: Gate + Sync>(
     requires compares { compares.old < 2 ^ 60 }
     requires tests { tests.old < 2 ^ 60 }
     ensures accepted { IfOk result (λ judged. (first : Option (List ℕ))
-        → IsRead first (S.left source.old) session None
-        → IsAcceptedInput asked.command first (S.left source.new) judged) }
+        → IsRead L.format first (S.left source.old) session None
+        → IsAcceptedInput L.format asked.command first (S.left source.new) judged) }
     ensures refused { (n : ℕ) (c : Cause) → result ≡ Err (InputFault.Refused n c)
-        → (first : Option (List ℕ)) → IsRead first (S.left source.old) session None
-        → IsRefusedInput asked.command first (S.left source.new) n c }
+        → (first : Option (List ℕ)) → IsRead L.format first (S.left source.old) session None
+        → IsRefusedInput L.format asked.command first (S.left source.new) n c }
     ensures judged { IfOk result IsJudgement }
     ensures compared { IfOk result (λ judged.
         IsComparedFor asked.command judged.session compares.old compares.new) }
@@ -123,7 +127,7 @@ fn accept_end<R: Threads + Sync, S: Source, G: Gate + Sync>(
 }
 
 /// The refusal of the line that is none; or that of the `end` line before it, where that one has a cause.
-fn first_refusal<R: Threads + Sync, G: Gate + Sync>(
+fn first_refusal<L: Lines, R: Threads + Sync, G: Gate + Sync>(
     rt: &R,
     alloc: Global,
     asked: Asked,
@@ -140,8 +144,8 @@ fn first_refusal<R: Threads + Sync, G: Gate + Sync>(
     ensures refused { (n : ℕ) (c : Cause) → result ≡ InputFault.Refused n c
         → (bytes : List ℕ) (records : List Record)
         → StandsFor session.now (reverse records)
-        → IsReading session.now.graph.version bytes records (Some refusal)
-        → FirstIllegal asked.command bytes n c }
+        → IsReading L.format session.now.graph.version bytes records (Some refusal)
+        → FirstIllegal L.format asked.command bytes n c }
     ensures no_failure { result ≢ InputFault.Failed }
     ensures compares_rise { compares.old ≤ compares.new }
     ensures tests_rise { tests.old ≤ tests.new }
@@ -189,7 +193,7 @@ pub(crate) fn accept_generated<R: Threads + Sync, G: Gate + Sync>(
     requires most { number ≤ most_rounds }
     requires compares { compares.old < 2 ^ 60 }
     requires tests { tests.old < 2 ^ 60 }
-    ensures verdict { IsVerdict asked.command (text One (generated number)) result }
+    ensures verdict { IsVerdict text_lines asked.command (text One (generated number)) result }
     ensures judged { IfOk result IsJudgement }
     ensures compared { IfOk result (λ judged.
         IsComparedFor asked.command judged.session compares.old compares.new) }

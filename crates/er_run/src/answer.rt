@@ -8,31 +8,33 @@ ghost use Rattle.er_run.specs.Accepted.{IsComparedFor, IsTestedFor, IsJudgement,
 use crate::findings::Judged;
 use crate::outcome::Outcome;
 use crate::tell::{tell, tell_fault};
+use er_lines::format::Lines;
 use er_outside::Sink;
 use er_trace::fault::FeedFault;
 use er_words::Command;
 use std::alloc::Global;
 
 /// Writes the text that is due to the command for what its input came to, and answers how the run ends.
-pub(crate) fn answer<K: Sink>(
+pub(crate) fn answer<L: Lines, K: Sink>(
     alloc: Global,
     asked: Command,
     verdict: Result<Judged, FeedFault>,
     sink: &mut K,
 ) -> Outcome
     requires { IfOk verdict IsJudgement }
-    ensures answered { (bytes : List ℕ) → IsVerdict asked bytes verdict → IsAnswer result
-        → IsGiven asked bytes result (K.got sink.old) (K.got sink.new) }
-    ensures compared { (bytes : List ℕ) (old new : ℕ) → IsVerdict asked bytes verdict
+    ensures answered { (bytes : List ℕ) → IsVerdict L.format asked bytes verdict → IsAnswer result
+        → IsGiven L.format asked bytes result (K.got sink.old) (K.got sink.new) }
+    ensures compared { (bytes : List ℕ) (old new : ℕ) → IsVerdict L.format asked bytes verdict
         → IfOk verdict (λ judged. IsComparedFor asked judged.session old new)
-        → Compares asked bytes result old new }
-    ensures tested { (bytes : List ℕ) (old new : ℕ) → IsVerdict asked bytes verdict
+        → Compares L.format asked bytes result old new }
+    ensures tested { (bytes : List ℕ) (old new : ℕ) → IsVerdict L.format asked bytes verdict
         → IfOk verdict (λ judged. IsTestedFor asked judged.session old new)
-        → Tests asked bytes result old new }
+        → Tests L.format asked bytes result old new }
     ensures write_fault { result ≡ Outcome.WriteFault
         → Rose (K.faults sink.old) (K.faults sink.new) }
-    ensures cut_short { (bytes : List ℕ) → IsVerdict asked bytes verdict
-        → result ≡ Outcome.WriteFault → IsPartGiven asked bytes (K.got sink.old) (K.got sink.new) }
+    ensures cut_short { (bytes : List ℕ) → IsVerdict L.format asked bytes verdict
+        → result ≡ Outcome.WriteFault
+        → IsPartGiven L.format asked bytes (K.got sink.old) (K.got sink.new) }
     ensures kept { result ≡ Outcome.NoMemory → sink.new ≡ sink.old }
     ensures stands { IsAnswer result → K.faults sink.new ≡ K.faults sink.old }
     ensures no_usage { result ≢ Outcome.Usage }

@@ -4,6 +4,7 @@ ghost use Rattle.std.specs.Prelude.{◌≡◌, ◌<◌, ◌≤◌, ◌^◌, List
 ghost use Rattle.er_trace.specs.declared.record.Record.{Record};
 ghost use Rattle.er_trace.specs.declared.version.Version.{Version};
 ghost use Rattle.er_words.specs.Words.{most_shards};
+ghost use Rattle.er_words.specs.declared.commands.Input.{Input};
 ghost use Rattle.er_run.specs.Legal.{end_cause_for, end_cause, schedule_cause, explain_cause};
 ghost use Rattle.er_run.specs.Session.{StandsFor};
 ghost use Rattle.er_run.specs.Accepted.{IsAskable, IsReportable, AreListed, AreGrouped, AreOrdersOf, IsListing, IsFound, IsJudged};
@@ -53,7 +54,7 @@ pub(crate) fn found_within<R: Threads + Sync, G: Gate + Sync>(
 {
     let shards = asked.shards;
     match asked.command {
-        Command::Check { json } => {
+        Command::Check { json, input: _ } => {
             match listing_within(rt, alloc, session, compares, tests, shards, gate) {
                 Ok(listing) => Ok(for_text(json, listing)),
                 Err(fault) => Err(fault),
@@ -74,8 +75,8 @@ pub(crate) fn found_within<R: Threads + Sync, G: Gate + Sync>(
 
 /// The races for a line of JSON, or for a report.
 fn for_text(json: bool, listing: Listing) -> Found
-    ensures { (v : Version) (h : List Record) → IsListing v listing h
-        → IsFound (Command.Check json) v result h }
+    ensures { (input : Input) (v : Version) (h : List Record) → IsListing v listing h
+        → IsFound (Command.Check json input) v result h }
 {
     if json {
         Found::Line(listing)

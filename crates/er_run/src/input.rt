@@ -2,19 +2,20 @@
 
 ghost use Rattle.std.specs.Prelude.{◌≡◌, ◌≢◌, ℕ, ◌+◌, ◌<◌, ◌≤◌, List, [], ◌++◌, length, reverse, Option, Ok, Err, Some, None, IfOk, OnOk, IfErr, IsErrOf};
 ghost use Rattle.er_outside.specs.Ends.{Rose, one_more};
-ghost use Rattle.er_trace.specs.Trace.{IsTrace, IsTextOf, most_lines};
-ghost use Rattle.er_trace.specs.Feed.{IsGoing};
-ghost use Rattle.er_trace.specs.Feed as feeds;
+ghost use Rattle.er_trace.specs.Trace.{most_lines};
+ghost use Rattle.er_lines.specs.Lines.{IsTraceOf};
+ghost use Rattle.er_lines.specs.Feed.{Stands};
 ghost use Rattle.er_trace.specs.declared.version.Version.{Version};
 ghost use Rattle.er_run.specs.Session.{StandsFor, IsReady, IsBegun, begun};
 ghost use Rattle.er_run.specs.Reading.{IsAt, IsBy, IsSomewhere, IsOpen, IsRead, IsReadTo, IsReading, GoesOn, Advances, Ends, IsRefusedBehind, IsFinalFault, IsRecordFault, fault_of};
 
 use crate::session::Session;
 use er_graph::GraphFault;
+use er_lines::feed::LineFeed;
+use er_lines::format::Lines;
 use er_outside::Source;
 use er_text::Cause;
 use er_trace::fault::FeedFault;
-use er_trace::feed::Feed;
 use er_trace::record::Record;
 use er_trace::version::Version;
 use std::alloc::Global;
@@ -49,13 +50,14 @@ enum Step {
 
 /// Reads the trace that the source gives, to its `end` line or to the first line that is illegal. Answers
 /// what the records come to, and the line behind them that is no line of a trace, where one is.
-pub(crate) fn read<S: Source>(
+pub(crate) fn read<L: Lines, S: Source>(
     alloc: Global,
     source: &mut S,
 ) -> Result<(Session, Option<LineRefusal>), InputFault>
-    ensures read { IfOk result (λ read. IsRead (S.left source.old) (S.left source.new) read.0 read.1) }
+    ensures read { IfOk result (λ read.
+        IsRead L.format (S.left source.old) (S.left source.new) read.0 read.1) }
     ensures refused { (n : ℕ) (c : Cause) → result ≡ Err (InputFault.Refused n c)
-        → IsReadTo (S.left source.old) (S.left source.new) n c }
+        → IsReadTo L.format (S.left source.old) (S.left source.new) n c }
     ensures failed { IsErrOf result InputFault.Failed
         → Rose (S.faults source.old) (S.faults source.new) }
     ensures once { IsErrOf result InputFault.Failed
@@ -66,7 +68,7 @@ pub(crate) fn read<S: Source>(
     let Ok(mut session) = Session::new(alloc, Version::One) else {
         return Err(InputFault::NoMemory);
     };
-    let mut feed = Feed::new(alloc);
+    let mut feed: LineFeed<L> = LineFeed::new(alloc);
     let mut came = Vec::new(alloc);
     // Each turn reads a byte at least, and as long as no line is refused fewer bytes come than turns may.
     for turn in 0..u64::MAX {
@@ -80,27 +82,30 @@ pub(crate) fn read<S: Source>(
 }
 
 /// Reads the next piece and judges the records of the lines that end in it. What the list holds goes.
-fn read_piece<S: Source>(
+fn read_piece<L: Lines, S: Source>(
     alloc: Global,
     source: &mut S,
-    feed: &mut Feed,
+    feed: &mut LineFeed<L>,
     session: &mut Session,
     came: &mut Vec<Record>,
 ) -> Result<Step, InputFault>
-    requires some { IsSomewhere feed.old session.old }
-    requires going { IsGoing feed.old }
+    requires some { IsSomewhere L.format feed.old.mark feed.old.line.items feed.old.fault
+        session.old }
+    requires going { feed.old.fault ≡ None }
     ensures on { result ≡ Ok Step.GoesOn → (bytes : List ℕ) (records : List Record)
-        → IsAt feed.old session.old bytes records
-        → Advances (S.left source.old) (S.left source.new) feed.new session.new bytes records }
-    ensures going { result ≡ Ok Step.GoesOn → IsGoing feed.new }
+        → IsAt L.format feed.old.mark feed.old.line.items feed.old.fault session.old bytes records
+        → Advances L.format (S.left source.old) (S.left source.new)
+        feed.new.mark feed.new.line.items feed.new.fault session.new bytes records }
+    ensures going { result ≡ Ok Step.GoesOn → feed.new.fault ≡ None }
     ensures ahead { result ≡ Ok Step.GoesOn → (bytes : List ℕ) (records : List Record)
-        → IsAt feed.new session.new bytes records → IsOpen bytes records }
+        → IsAt L.format feed.new.mark feed.new.line.items feed.new.fault session.new bytes records
+        → IsOpen L.format bytes records }
     ensures ended { (refused : Option LineRefusal) → result ≡ Ok (Step.Ended refused)
-        → (bytes : List ℕ) (records : List Record) → IsAt feed.old session.old bytes records
-        → Ends (S.left source.old) (S.left source.new) session.new refused bytes }
+        → (bytes : List ℕ) (records : List Record) → IsAt L.format feed.old.mark feed.old.line.items feed.old.fault session.old bytes records
+        → Ends L.format (S.left source.old) (S.left source.new) session.new refused bytes }
     ensures refused { (n : ℕ) (c : Cause) → result ≡ Err (InputFault.Refused n c)
-        → (bytes : List ℕ) (records : List Record) → IsAt feed.old session.old bytes records
-        → IsRefusedBehind (S.left source.old) (S.left source.new) n c bytes }
+        → (bytes : List ℕ) (records : List Record) → IsAt L.format feed.old.mark feed.old.line.items feed.old.fault session.old bytes records
+        → IsRefusedBehind L.format (S.left source.old) (S.left source.new) n c bytes }
     ensures failed { IsErrOf result InputFault.Failed
         → Rose (S.faults source.old) (S.faults source.new) }
     ensures once { IsErrOf result InputFault.Failed
@@ -124,13 +129,15 @@ fn read_piece<S: Source>(
 }
 
 /// Whether the `end` line was read.
-fn step_of(feed: &Feed) -> Step
-    requires { IsGoing feed.now }
+fn step_of<L: Lines>(feed: &LineFeed<L>) -> Step
+    requires { feed.now.fault ≡ None }
     ensures on { result ≡ Step.GoesOn → (bytes : List ℕ) (records : List Record)
-        → feeds.StandsFor feed.now bytes records → IsOpen bytes records }
+        → Stands L.format feed.now.mark feed.now.line.items feed.now.fault bytes records
+        → IsOpen L.format bytes records }
     ensures ended { (refused : Option LineRefusal) → result ≡ Step.Ended refused
-        → (bytes : List ℕ) (records : List Record) → feeds.StandsFor feed.now bytes records
-        → (refused ≡ None) × IsTrace records × IsTextOf bytes records }
+        → (bytes : List ℕ) (records : List Record)
+        → Stands L.format feed.now.mark feed.now.line.items feed.now.fault bytes records
+        → (refused ≡ None) × IsTraceOf L.format bytes records }
 {
     if feed.ended() {
         Step::Ended(None)
@@ -140,10 +147,11 @@ fn step_of(feed: &Feed) -> Step
 }
 
 /// The line that lacks its end, at the end of the input.
-fn line_at_end(feed: &Feed) -> Option<LineRefusal>
-    requires { IsGoing feed.now }
-    ensures { (bytes : List ℕ) (records : List Record) → feeds.StandsFor feed.now bytes records
-        → (v : Version) → IsBy v bytes → IsReading v bytes records result }
+fn line_at_end<L: Lines>(feed: &LineFeed<L>) -> Option<LineRefusal>
+    requires { feed.now.fault ≡ None }
+    ensures { (bytes : List ℕ) (records : List Record)
+        → Stands L.format feed.now.mark feed.now.line.items feed.now.fault bytes records
+        → (v : Version) → IsBy L.format v bytes → IsReading L.format v bytes records result }
 {
     match feed.finish() {
         Ok(()) => None,
@@ -155,20 +163,22 @@ fn line_at_end(feed: &Feed) -> Option<LineRefusal>
 
 /// Feeds a piece and judges the records of the lines that end in it, which take the place of what the list
 /// holds. Answers the line that is refused, where one is.
-fn take_piece(
+fn take_piece<L: Lines>(
     alloc: Global,
-    feed: &mut Feed,
+    feed: &mut LineFeed<L>,
     session: &mut Session,
     came: &mut Vec<Record>,
     piece: &[u8],
 ) -> Result<Option<LineRefusal>, FeedFault>
-    requires { IsSomewhere feed.old session.old }
+    requires { IsSomewhere L.format feed.old.mark feed.old.line.items feed.old.fault session.old }
     ensures on { OnOk result ((bytes : List ℕ) (records : List Record)
-        → IsAt feed.old session.old bytes records
-        → GoesOn feed.new session.new (bytes ++ piece.now) records) }
+        → IsAt L.format feed.old.mark feed.old.line.items feed.old.fault session.old bytes records
+        → GoesOn L.format feed.new.mark feed.new.line.items feed.new.fault session.new
+        (bytes ++ piece.now) records) }
     ensures fault { IfOk result (λ refused. feed.new.fault ≡ fault_of refused) }
     ensures refused { IfErr result (λ fault. (bytes : List ℕ) (records : List Record)
-        → IsAt feed.old session.old bytes records → IsFinalFault (bytes ++ piece.now) fault) }
+        → IsAt L.format feed.old.mark feed.old.line.items feed.old.fault session.old bytes records
+        → IsFinalFault L.format (bytes ++ piece.now) fault) }
 {
     came.clear();
     match feed.feed(piece, came) {

@@ -46,7 +46,7 @@ impl Outcome {
     {
         match self {
             Outcome::Usage => Some(
-                "usage: er_cli [check|gen|schedule|explain] [--shards N] [--json] [--number N] [--race N] [--from N] [--to N]",
+                "usage: er_cli [check|gen|schedule|explain|jsonl] [--shards N] [--json] [--number N] [--race N] [--from N] [--to N]",
             ),
             Outcome::ReadFault => Some("er_cli: input could not be read"),
             Outcome::WriteFault => Some("er_cli: output could not be written"),

@@ -2,7 +2,7 @@
 
 ghost use Rattle.std.specs.Prelude.{◌≡◌, ◌⊎◌, ℕ, ◌<◌, ◌^◌, List, Some, map, string_bytes};
 ghost use Rattle.er_words.specs.Words.{Asks};
-ghost use Rattle.er_run.specs.Answer.{Answers};
+ghost use Rattle.er_run.specs.Answer.{Answers, format_of};
 ghost use Rattle.er_run.specs.Promise.{Holds};
 
 use crate::outcome::Outcome;
@@ -30,7 +30,7 @@ pub fn run_surely<R: Threads + Sync, G: Gate + Sync>(
     requires tests { tests.old < 2 ^ 60 }
     ensures { (asked : Asked) → Asks (map string_bytes words.now) asked
         → (bytes : List ℕ) → Holds asked.command (Some source.old) bytes
-        → (result ≡ Outcome.NoMemory) ⊎ ((due : List ℕ) × Answers asked.command bytes result due) }
+        → (result ≡ Outcome.NoMemory) ⊎ ((due : List ℕ) × Answers (format_of asked.command) asked.command bytes result due) }
 {
     run(rt, alloc, words, source, sink, compares, tests, gate)
 }

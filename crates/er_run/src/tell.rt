@@ -5,6 +5,7 @@ ghost use Rattle.std.specs.Prelude.{◌≡◌, ◌≤◌, true, List, IfOk};
 ghost use Rattle.er_outside.specs.Ends.{Puts, Rose};
 ghost use Rattle.er_trace.specs.declared.record.Record.{Record};
 ghost use Rattle.er_json.specs.Json as lines;
+ghost use Rattle.er_words.specs.declared.commands.Input.{Input};
 ghost use Rattle.er_run.specs.Answer.{outcome_of};
 ghost use Rattle.er_run.specs.Promise.{IsAnswer};
 ghost use Rattle.er_run.specs.Report.{report, json_report, summary, schedule, is_json, text_for, refusal_for};
@@ -69,9 +70,9 @@ pub(crate) fn tell<K: Sink>(alloc: Global, judged: &Judged, sink: &mut K) -> Out
 /// Writes the report as a line of JSON.
 fn tell_line<K: Sink>(alloc: Global, session: &Session, listing: &Listing, sink: &mut K) -> Outcome
     requires { IsListed session.now listing.now }
-    ensures reported { (h : List Record) → StandsFor session.now h
+    ensures reported { (input : Input) (h : List Record) → StandsFor session.now h
         → IsListing session.now.graph.version listing.now h
-        → ReportsOf (Command.Check true) session.now.graph.version h
+        → ReportsOf (Command.Check true input) session.now.graph.version h
         (json_report session.now.graph.version h) result (K.got sink.old) (K.got sink.new) }
     ensures write_fault { result ≡ Outcome.WriteFault
         → Rose (K.faults sink.old) (K.faults sink.new) }
@@ -227,7 +228,7 @@ fn is_json(asked: Command) -> bool
     ensures { result ≡ is_json asked }
 {
     match asked {
-        Command::Check { json } => json,
+        Command::Check { json, input: _ } => json,
         Command::Gen { .. } => false,
         Command::Schedule { .. } => false,
         Command::Explain { .. } => false,

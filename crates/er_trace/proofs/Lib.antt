@@ -9,7 +9,6 @@ pub mod OneTrace
 pub mod LinesBefore
 pub mod CutLaws
 pub mod CauseLaws
-pub mod FrontLaws
 pub mod FeedLaws
 pub mod StopLaws
 pub mod PlainLaws

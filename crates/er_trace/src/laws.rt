@@ -1,7 +1,7 @@
 //! Laws of the definitions that the contracts cite. Each is a function that does nothing, whose
 //! contract is the law.
 
-ghost use Rattle.std.specs.Prelude.{◌≡◌, ◌≢◌, ℕ, ◌+◌, ◌<◌, List, ◌++◌, length};
+ghost use Rattle.std.specs.Prelude.{◌≡◌, ◌≢◌, ℕ, ◌+◌, List, ◌++◌};
 ghost use Rattle.std.specs.List.{AllByRecursion};
 ghost use Rattle.er_text.specs.Bytes.{count_of_lf};
 ghost use Rattle.er_text.specs.declared.causes.Cause.{Cause};
@@ -41,11 +41,6 @@ pub fn line_of_a_place()
 /// A refusal for another cause than `no-end` is that of every longer input.
 pub fn longer_input()
     ensures { (bytes more : List ℕ) (place : Place) (c : Cause) → Refuses bytes place c → c ≢ NoEnd → Refuses (bytes ++ more) place c }
-{}
-
-/// Each proper front of the text of a trace is refused for `no-end`.
-pub fn cut_text()
-    ensures { (v : Version) (records : List Record) (bytes more : List ℕ) → IsTrace records → text v records ≡ bytes ++ more → 0 < length more → (place : Place) × Refuses bytes place NoEnd }
 {}
 
 /// The line of `no-end` is one more than the LFs of the bytes.

@@ -1,7 +1,7 @@
 //! Words that are accepted, and what they ask for.
 
 use crate::reading::read;
-use er_words::{Asked, Command};
+use er_words::{Asked, Command, Input};
 use std::test::Fail;
 
 static CHECKS: [(&str, bool); 6] = [
@@ -11,6 +11,13 @@ static CHECKS: [(&str, bool); 6] = [
     ("--json", true),
     ("check --json", true),
     ("--json check", true),
+];
+
+static LINES: [(&str, bool); 4] = [
+    ("jsonl", false),
+    ("jsonl --json", true),
+    ("--json -- jsonl", true),
+    ("--json jsonl", true),
 ];
 
 static NUMBERS: [(&str, u32); 6] = [
@@ -36,17 +43,33 @@ static PAIRS: [(&str, u32, u32); 4] = [
     ("explain --from 4294967295 --to 0", 4_294_967_295, 0),
 ];
 
-static SHARDS: [(&str, u32); 4] = [
+static SHARDS: [(&str, u32); 5] = [
     ("--shards 1", 1),
     ("check --shards 64", 64),
     ("--shards 8 gen --number 5", 8),
+    ("jsonl --shards 2 --json", 2),
     ("schedule --race 1 --shards 3", 3),
 ];
 
 #[test]
 fn checks(rt: HostRuntime) -> Result<(), Fail> {
     for (line, json) in &CHECKS {
-        let command = Command::Check { json: *json };
+        let command = Command::Check {
+            json: *json,
+            input: Input::Text,
+        };
+        assert_eq!(rt; read(rt.alloc(), line)?, Ok(Asked { command, shards: 1 }));
+    }
+    Ok(())
+}
+
+#[test]
+fn lines(rt: HostRuntime) -> Result<(), Fail> {
+    for (line, json) in &LINES {
+        let command = Command::Check {
+            json: *json,
+            input: Input::Json,
+        };
         assert_eq!(rt; read(rt.alloc(), line)?, Ok(Asked { command, shards: 1 }));
     }
     Ok(())

@@ -4,7 +4,7 @@ use crate::reading::read;
 use er_words::{WordsFault, read_words};
 use std::test::Fail;
 
-static REFUSED: [&str; 61] = [
+static REFUSED: [&str; 66] = [
     "check check",
     "check gen",
     "nonsense",
@@ -36,6 +36,11 @@ static REFUSED: [&str; 61] = [
     "-j",
     "--jso",
     "check --race 1",
+    "json",
+    "jsonlines",
+    "jsonl check",
+    "jsonl --number 5",
+    "jsonl --race 1",
     "check --from 0 --to 1",
     "gen --number 5 --race 1",
     "schedule",

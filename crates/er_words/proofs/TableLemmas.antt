@@ -1,9 +1,12 @@
 -- The table of modes has one command for what is given.
-use Rattle.std.proofs.Common.{◌≡◌, ◌∙◌, ◌∷◌, arith, ap, sym, ℕ, List, Option, Some, None, codes}
+use Rattle.std.proofs.Common.{◌≡◌, ◌∙◌, ◌∷◌, arith, true≢false, refl, ap, sym, ℕ, List, Option, Some, None, codes}
 use Rattle.std.proofs.lemmas.Fmt.{decimal_injective}
+use Rattle.std.specs.Str.{bytes_eq}
 use Rattle.er_text.specs.Number.{IsNumber}
 use Rattle.clap.specs.Words.{Text, matches_of}
-use Rattle.er_words.specs.Words.{Asks, AreOptions, Given, Has, HasShards, IsNumberGiven, IsRaceGiven, given_in, mode_of, syntax}
+use Rattle.er_words.specs.Words.{Asks, AreOptions, Given, Has, HasShards, IsNumberGiven, IsRaceGiven, given_in, mode_of, syntax, word_of}
+use Rattle.er_words.specs.declared.commands.Input.{Input}
+use Rattle.er_words.specs.declared.commands.Input.TheVariants as inputs
 use Rattle.er_words.specs.declared.commands.Asked.{Asked}
 use Rattle.er_words.specs.declared.commands.Command.{Command}
 use Rattle.er_words.specs.declared.commands.Command.TheVariants.{Check, Gen, Schedule, Explain}
@@ -31,8 +34,37 @@ one_split (Some word) m n first second = one_value word m n first.0 second.0
 
 -- a mode has one command
 
+-- words of one length
+two_words : codes "check" ≡ codes "jsonl" → ⊥
+two_words e = true≢false (ap (bytes_eq (codes "check")) e)
+
+one_input : (i j : Input) → word_of i ≡ word_of j → i ≡ j
+one_input inputs.Text inputs.Text e = refl
+one_input inputs.Text inputs.Json e = absurd (two_words e)
+one_input inputs.Json inputs.Text e = absurd (two_words (sym e))
+one_input inputs.Json inputs.Json e = refl
+
+-- no other mode has the word of one that reads lines
+no_gen : (i : Input) → word_of i ≡ codes "gen" → ⊥
+no_gen inputs.Text e = cc
+no_gen inputs.Json e = cc
+
+no_schedule : (i : Input) → word_of i ≡ codes "schedule" → ⊥
+no_schedule inputs.Text e = cc
+no_schedule inputs.Json e = cc
+
+no_explain : (i : Input) → word_of i ≡ codes "explain" → ⊥
+no_explain inputs.Text e = cc
+no_explain inputs.Json e = cc
+
 one_row : (g : Given) (c d : Command) → mode_of c ≡ mode_of d → AreOptions g c → AreOptions g d → c ≡ d
-one_row g (Check a) (Check b) mode first second = ap (λ asked. Check asked) (ap (λ (x : Given). x.json) (sym first ∙ second))
+one_row g (Check a i) (Check b j) mode first second = ap (λ asked. Check asked i) (ap (λ (x : Given). x.json) (sym first ∙ second)) ∙ ap (λ input. Check b input) (one_input i j mode)
+one_row g (Check a i) (Gen n) mode first second = absurd (no_gen i mode)
+one_row g (Check a i) (Schedule k) mode first second = absurd (no_schedule i mode)
+one_row g (Check a i) (Explain m n) mode first second = absurd (no_explain i mode)
+one_row g (Gen n) (Check a i) mode first second = absurd (no_gen i (sym mode))
+one_row g (Schedule k) (Check a i) mode first second = absurd (no_schedule i (sym mode))
+one_row g (Explain m n) (Check a i) mode first second = absurd (no_explain i (sym mode))
 one_row g (Gen m) (Gen n) mode first second = ap (λ k. Gen k) (one_number g.number m n first.0 second.0)
 one_row g (Schedule m) (Schedule n) mode first second = ap (λ k. Schedule k) (one_race g.race m n first.0 second.0)
 one_row g (Explain i j) (Explain m n) mode first second =

@@ -8,6 +8,8 @@ use Rattle.clap.specs.declared.builder.action.ArgAction.TheVariants.{SetTrue}
 use Rattle.er_text.specs.Number.{IsNumber}
 use Rattle.er_gen.specs.Generated.{most_rounds}
 use Rattle.er_words.specs.declared.commands.Asked.{Asked}
+use Rattle.er_words.specs.declared.commands.Input.{Input}
+use Rattle.er_words.specs.declared.commands.Input.TheVariants as inputs
 use Rattle.er_words.specs.declared.commands.Command.{Command}
 use Rattle.er_words.specs.declared.commands.Command.TheVariants.{Check, Gen, Schedule, Explain}
 use Rattle.er_words.specs.declared.modes.Options.{Options}
@@ -114,16 +116,21 @@ HasShards (Some word) n = IsShardsGiven word n
 abbrev pub nothing : Given
 nothing = record { number = None; race = None; from = None; to = None; shards = None; json = false }
 
+-- the word for the mode that reads such lines
+abbrev pub word_of : Input → Text
+word_of inputs.Text = codes "check"
+word_of inputs.Json = codes "jsonl"
+
 -- the word for the mode of a command
 abbrev pub mode_of : Command → Text
-mode_of (Check json) = codes "check"
+mode_of (Check json input) = word_of input
 mode_of (Gen n) = codes "gen"
 mode_of (Schedule k) = codes "schedule"
 mode_of (Explain i j) = codes "explain"
 
 -- no options are given but those that belong to the mode, and those that it requires are
 abbrev pub AreOptions : Given → Command → Type 0
-AreOptions g (Check asked) = g ≡ record nothing { shards = g.shards; json = asked }
+AreOptions g (Check asked input) = g ≡ record nothing { shards = g.shards; json = asked }
 AreOptions g (Gen n) = Has IsNumberGiven g.number n × (g ≡ record nothing { shards = g.shards; number = g.number })
 AreOptions g (Schedule k) = Has IsRaceGiven g.race k × (g ≡ record nothing { shards = g.shards; race = g.race })
 AreOptions g (Explain i j) = Has IsNumber g.from i × Has IsNumber g.to j × (g ≡ record nothing { from = g.from; to = g.to })

@@ -1,10 +1,19 @@
 //! What a user's words ask for.
 
+/// How the lines of the input are written.
+#[derive(Clone, Copy, Debug, PartialEq, Eq)]
+pub enum Input {
+    /// As text.
+    Text,
+    /// As JSON.
+    Json,
+}
+
 /// What the words ask for.
 #[derive(Clone, Copy, Debug, PartialEq, Eq)]
 pub enum Command {
-    /// The races of the trace that is read.
-    Check { json: bool },
+    /// The races of the trace that is read, told as lines of text or as JSON.
+    Check { json: bool, input: Input },
     /// The counts of the generated trace of this number.
     Gen { number: u32 },
     /// Two orders of the actions for the race of this number, from 1.

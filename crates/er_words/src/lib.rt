@@ -9,5 +9,5 @@ mod modes;
 mod syntax;
 mod words;
 
-pub use commands::{Asked, Command, WordsFault};
+pub use commands::{Asked, Command, Input, WordsFault};
 pub use words::read_words;

@@ -3,9 +3,9 @@
 ghost use Rattle.std.specs.Prelude.{◌≡◌, ℕ, IfOk, Ok, codes};
 ghost use Rattle.er_text.specs.Number.{IsNumber};
 ghost use Rattle.er_words.specs.Words.{HasShards, IsCommand, IsNumberGiven, IsRaceGiven, IsShardsGiven};
-ghost use Rattle.er_words.specs.Words.{given_of, text_of};
+ghost use Rattle.er_words.specs.Words.{given_of, text_of, word_of};
 
-use crate::commands::{Command, WordsFault};
+use crate::commands::{Command, Input, WordsFault};
 use er_gen::Generator;
 use er_text::read_number;
 
@@ -32,7 +32,8 @@ pub(crate) fn command_of(mode: &str, options: Options) -> Result<Command, WordsF
     ensures exact { (c : Command) → IsCommand mode.now (given_of options.entry) c → result ≡ Ok c }
 {
     match mode {
-        "check" => check(options),
+        "check" => check(Input::Text, options),
+        "jsonl" => check(Input::Json, options),
         "gen" => generate(options),
         "schedule" => schedule(options),
         "explain" => explain(options),
@@ -40,10 +41,10 @@ pub(crate) fn command_of(mode: &str, options: Options) -> Result<Command, WordsF
     }
 }
 
-/// `--shards` and `--json` belong to it.
-fn check(options: Options) -> Result<Command, WordsFault>
-    ensures asked { IfOk result (IsCommand (codes "check") (given_of options.entry)) }
-    ensures exact { (c : Command) → IsCommand (codes "check") (given_of options.entry) c
+/// `--shards` and `--json` belong to it, whatever the input.
+fn check(input: Input, options: Options) -> Result<Command, WordsFault>
+    ensures asked { IfOk result (IsCommand (word_of input) (given_of options.entry)) }
+    ensures exact { (c : Command) → IsCommand (word_of input) (given_of options.entry) c
         → result ≡ Ok c }
 {
     match options {
@@ -54,7 +55,7 @@ fn check(options: Options) -> Result<Command, WordsFault>
             to: None,
             shards: _,
             json,
-        } => Ok(Command::Check { json }),
+        } => Ok(Command::Check { json, input }),
         _ => Err(WordsFault::Usage),
     }
 }

@@ -1,6 +1,7 @@
 use Rattle.std.proofs.Common.{None, reverse}
 use Rattle.er_trace.specs.Trace.{text}
 use Rattle.er_trace.specs.declared.version.Version.TheVariants.{One}
+use Rattle.er_lines.specs.Text.{text as text_lines}
 use Rattle.er_gen.specs.Generated.{generated}
 use Rattle.er_run.specs.Session.{StandsFor}
 use Rattle.er_run.specs.Reading.{IsReading}
@@ -15,16 +16,16 @@ judge-requires g c = rw (c.as_slice.ensures.value, c.in-Ok.ensures) (few_generat
 pub returns-in-Ok-judge-clause-verdict : goal.returns-in-Ok-judge-clause-verdict
 returns-in-Ok-judge-clause-verdict g c =
     let stands : StandsFor c.in-Ok-judge.session (reverse (generated c.args.number)) = rw (c.as_slice.ensures.value, c.in-Ok.ensures) at c.in-Ok-judge.ensures.stands in
-    let read : IsReading c.in-Ok-judge.session.graph.version (text One (generated c.args.number)) (generated c.args.number) None = rw c.in-Ok-judge.ensures.version (generated_read c.args.number c.requires.most) in
-    verdict_by c.args.asked.command (text One (generated c.args.number)) (generated c.args.number) c.in-Ok-judge.session c.judge_end.result stands read c.judge_end.ensures.version c.judge_end.ensures.accepted c.judge_end.ensures.refused
+    let read : IsReading text_lines c.in-Ok-judge.session.graph.version (text One (generated c.args.number)) (generated c.args.number) None = rw c.in-Ok-judge.ensures.version (generated_read c.args.number c.requires.most) in
+    verdict_by text_lines c.args.asked.command (text One (generated c.args.number)) (generated c.args.number) c.in-Ok-judge.session c.judge_end.result stands read c.judge_end.ensures.version c.judge_end.ensures.accepted c.judge_end.ensures.refused
 
 pub returns-in-Err-Refused-clause-verdict : goal.returns-in-Err-Refused-clause-verdict
 returns-in-Err-Refused-clause-verdict g c =
     let judged = rw (c.in-Err-Refused.field-0-is, c.as_slice.ensures.value, c.in-Ok.ensures) at c.in-Err-Refused.ensures.refused in
-    rw (c.in-Err-Refused.line-is, c.in-Err-Refused.cause-is) (refused_judged c.args.asked.command One (text One (generated c.args.number)) (generated c.args.number) None c.in-Err-Refused.line c.in-Err-Refused.cause (generated_read c.args.number c.requires.most) judged)
+    rw (c.in-Err-Refused.line-is, c.in-Err-Refused.cause-is) (refused_judged text_lines c.args.asked.command One (text One (generated c.args.number)) (generated c.args.number) None c.in-Err-Refused.line c.in-Err-Refused.cause (generated_read c.args.number c.requires.most) judged)
 
 pub judge_end-requires-clause-some : goal.judge_end-requires-clause-some
 judge_end-requires-clause-some g c κs within =
     let stands : StandsFor c.in-Ok-judge.session (reverse (generated c.args.number)) = rw (c.as_slice.ensures.value, c.in-Ok.ensures) at c.in-Ok-judge.ensures.stands in
-    let read : IsReading c.in-Ok-judge.session.graph.version (text One (generated c.args.number)) (generated c.args.number) None = rw c.in-Ok-judge.ensures.version (generated_read c.args.number c.requires.most) in
-    reportable (text One (generated c.args.number)) (generated c.args.number) c.in-Ok-judge.session None stands read
+    let read : IsReading text_lines c.in-Ok-judge.session.graph.version (text One (generated c.args.number)) (generated c.args.number) None = rw c.in-Ok-judge.ensures.version (generated_read c.args.number c.requires.most) in
+    reportable text_lines (text One (generated c.args.number)) (generated c.args.number) c.in-Ok-judge.session None stands read

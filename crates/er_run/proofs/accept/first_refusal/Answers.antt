@@ -11,8 +11,8 @@ pub returns-then-refusal-session-clause-refused : goal.returns-then-refusal-sess
 returns-then-refusal-session-clause-refused g c = λ n cause is bytes records stands reading.
     let count = stands.count in
     let up_to = c.if-refusal-session.true in
-    as_refused c.args.asked.command bytes c.args.refusal c.of_line.result n cause c.of_line.ensures is
-    (refused_line c.args.asked.command c.args.session.now.graph.version bytes records (Some c.args.refusal) c.args.refusal reading refl stands.legal (λ behind. absurd (omega (arith, behind, up_to, count, length-reverse records))))
+    as_refused g.L.Lines.format c.args.asked.command bytes c.args.refusal c.of_line.result n cause c.of_line.ensures is
+    (refused_line g.L.Lines.format c.args.asked.command c.args.session.now.graph.version bytes records (Some c.args.refusal) c.args.refusal reading refl stands.legal (λ behind. absurd (omega (arith, behind, up_to, count, length-reverse records))))
 
 pub returns-in-Err-clause-refused : goal.returns-in-Err-clause-refused
 returns-in-Err-clause-refused g c = λ n cause is bytes records stands reading.
@@ -20,10 +20,10 @@ returns-in-Err-clause-refused g c = λ n cause is bytes records stands reading.
     let limit = subst (IsEndFault (end_cause_for c.args.asked.command c.args.session.now.graph.version (reverse records)) (reverse records)) fault (c.in-Err.ensures.refused (reverse records) stands) in
     let count = stands.count in
     let past = c.if-refusal-session.false in
-    refused_end c.args.asked.command c.args.session.now.graph.version bytes records (Some c.args.refusal) n cause reading (omega (arith, past, count, length-reverse records)) stands.legal (omega (arith, limit.0, length-reverse records)) limit.1
+    refused_end g.L.Lines.format c.args.asked.command c.args.session.now.graph.version bytes records (Some c.args.refusal) n cause reading (omega (arith, past, count, length-reverse records)) stands.legal (omega (arith, limit.0, length-reverse records)) limit.1
 
 pub returns-clause-refused : goal.returns-clause-refused
 returns-clause-refused g c = λ n cause is bytes records stands reading.
     let judged = c.in_default.ensures.found (reverse records) stands in
-    as_refused c.args.asked.command bytes c.args.refusal c.of_line-2.result n cause c.of_line-2.ensures is
-    (refused_line c.args.asked.command c.args.session.now.graph.version bytes records (Some c.args.refusal) c.args.refusal reading refl stands.legal (λ behind. judged.within))
+    as_refused g.L.Lines.format c.args.asked.command bytes c.args.refusal c.of_line-2.result n cause c.of_line-2.ensures is
+    (refused_line g.L.Lines.format c.args.asked.command c.args.session.now.graph.version bytes records (Some c.args.refusal) c.args.refusal reading refl stands.legal (λ behind. judged.within))

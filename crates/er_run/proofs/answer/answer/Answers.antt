@@ -5,32 +5,32 @@ use Rattle.er_run.proofs.answer.answer.Goals as goal
 pub returns-in-Ok-clause-answered : goal.returns-in-Ok-clause-answered
 returns-in-Ok-clause-answered g c = λ bytes verdict answer.
     let accepted = rw c.in-Ok.is at verdict in
-    given_report c.in-Ok.judged.session.graph.version _ bytes accepted.records _ _ _ accepted.legal (c.tell.ensures.reported c.args.asked (reverse accepted.records) accepted.is_judged) answer
+    given_report g.L.Lines.format c.in-Ok.judged.session.graph.version _ bytes accepted.records _ _ _ accepted.legal (c.tell.ensures.reported c.args.asked (reverse accepted.records) accepted.is_judged) answer
 
 pub returns-in-Ok-clause-cut_short : goal.returns-in-Ok-clause-cut_short
 returns-in-Ok-clause-cut_short g c = λ bytes verdict.
     let accepted = rw c.in-Ok.is at verdict in
-    cut_report c.in-Ok.judged.session.graph.version _ bytes accepted.records _ _ _ accepted.legal (c.tell.ensures.reported c.args.asked (reverse accepted.records) accepted.is_judged)
+    cut_report g.L.Lines.format c.in-Ok.judged.session.graph.version _ bytes accepted.records _ _ _ accepted.legal (c.tell.ensures.reported c.args.asked (reverse accepted.records) accepted.is_judged)
 
 pub returns-in-Ok-clause-compared : goal.returns-in-Ok-clause-compared
 returns-in-Ok-clause-compared g c = λ bytes old new verdict by.
-    compares_report c.args.asked bytes c.in-Ok.judged _ old new (rw c.in-Ok.is at verdict) (rw c.in-Ok.is at by)
+    compares_report g.L.Lines.format g.met.L.Lines.is_format c.args.asked bytes c.in-Ok.judged _ old new (rw c.in-Ok.is at verdict) (rw c.in-Ok.is at by)
 
 pub returns-in-Ok-clause-tested : goal.returns-in-Ok-clause-tested
 returns-in-Ok-clause-tested g c = λ bytes old new verdict by.
-    tests_report c.args.asked bytes c.in-Ok.judged _ old new (rw c.in-Ok.is at verdict) (rw c.in-Ok.is at by)
+    tests_report g.L.Lines.format g.met.L.Lines.is_format c.args.asked bytes c.in-Ok.judged _ old new (rw c.in-Ok.is at verdict) (rw c.in-Ok.is at by)
 
 pub returns-in-Err-clause-answered : goal.returns-in-Err-clause-answered
-returns-in-Err-clause-answered g c = λ bytes verdict. given_fault _ bytes c.in-Err.fault _ _ _ (rw c.in-Err.is at verdict) c.tell_fault.ensures.failed
+returns-in-Err-clause-answered g c = λ bytes verdict. given_fault g.L.Lines.format _ bytes c.in-Err.fault _ _ _ (rw c.in-Err.is at verdict) c.tell_fault.ensures.failed
 
 pub returns-in-Err-clause-cut_short : goal.returns-in-Err-clause-cut_short
-returns-in-Err-clause-cut_short g c = λ bytes verdict. cut_fault _ bytes c.in-Err.fault _ _ _ (rw c.in-Err.is at verdict) c.tell_fault.ensures.failed
+returns-in-Err-clause-cut_short g c = λ bytes verdict. cut_fault g.L.Lines.format _ bytes c.in-Err.fault _ _ _ (rw c.in-Err.is at verdict) c.tell_fault.ensures.failed
 
 pub returns-in-Err-clause-compared : goal.returns-in-Err-clause-compared
-returns-in-Err-clause-compared g c = λ bytes old new verdict by. compares_fault _ bytes c.in-Err.fault _ _ _ old new c.tell_fault.ensures.failed
+returns-in-Err-clause-compared g c = λ bytes old new verdict by. compares_fault g.L.Lines.format _ bytes c.in-Err.fault _ _ _ old new c.tell_fault.ensures.failed
 
 pub returns-in-Err-clause-tested : goal.returns-in-Err-clause-tested
-returns-in-Err-clause-tested g c = λ bytes old new verdict by. tests_fault _ bytes c.in-Err.fault _ _ _ old new c.tell_fault.ensures.failed
+returns-in-Err-clause-tested g c = λ bytes old new verdict by. tests_fault g.L.Lines.format _ bytes c.in-Err.fault _ _ _ old new c.tell_fault.ensures.failed
 
 pub returns-in-Err-clause-no_usage : goal.returns-in-Err-clause-no_usage
 returns-in-Err-clause-no_usage g c = failed_no_usage c.args.asked c.in-Err.fault c.tell_fault.result (g.K.Sink.got c.args.sink.now) (g.K.Sink.got c.tell_fault.new.sink) c.tell_fault.ensures.failed

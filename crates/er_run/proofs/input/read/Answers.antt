@@ -1,12 +1,12 @@
-use Rattle.std.proofs.Common.{[], ◌++◌, refl, ◌∙◌, arith, length-append}
+use Rattle.std.proofs.Common.{[], ◌++◌, refl, sym, ◌∙◌, arith, length-append}
 use Rattle.er_outside.proofs.Puts.{gives_again, gives_nothing}
-use Rattle.er_run.proofs.ReadingLemmas.{none_begins, none_spelled, going_short, undecided}
+use Rattle.er_run.proofs.ReadingLemmas.{none_begins, none_open, going_short, undecided}
 use Rattle.er_run.proofs.input.read.Goals as goal
 
 pub loop-turn-init : goal.loop-turn-init
 loop-turn-init g c = record {
-  here = record { bytes = []; records = []; at = record { fed = c.new-feed.ensures.stands; stands = c.in-Ok.ensures.stands; by = λ v begins. none_begins v begins.0 begins.1 } };
-  ahead = λ trace e. none_spelled e.0 [] e.1;
+  here = record { bytes = []; records = []; at = record { fed = c.new-feed.ensures.stands; stands = c.in-Ok.ensures.stands; by = λ v begins. absurd (none_begins g.L.Lines.format v begins) } };
+  ahead = none_open g.L.Lines.format [];
   gave = gives_nothing (g.S.Source.left c.args.source.now);
   going = c.new-feed.ensures.going;
   long = omega arith;
@@ -33,7 +33,7 @@ returns-in-Ok-Ended-clause-read g c =
     record {
       bytes = i.here.bytes;
       left = g.S.Source.left c.loop-turn.source;
-      before = record { gave = i.gave; fresh = λ asked. undecided asked c.loop-turn.feed c.loop-turn.session i.here.bytes i.here.records i.here.at i.going i.ahead };
+      before = record { gave = i.gave; fresh = λ asked. undecided g.L.Lines.format g.met.L.Lines.is_format asked c.loop-turn.feed.mark c.loop-turn.feed.line.items c.loop-turn.feed.fault c.loop-turn.session i.here.bytes i.here.records i.here.at i.going i.ahead };
       ends = c.in-Ok-Ended.ensures.ended c.in-Ok-Ended.refused (cc) i.here.bytes i.here.records i.here.at;
     }
 
@@ -43,7 +43,7 @@ returns-in-Err-clause-refused g c = λ n cause is.
     record {
       bytes = i.here.bytes;
       left = g.S.Source.left c.loop-turn.source;
-      before = record { gave = i.gave; fresh = λ asked. undecided asked c.loop-turn.feed c.loop-turn.session i.here.bytes i.here.records i.here.at i.going i.ahead };
+      before = record { gave = i.gave; fresh = λ asked. undecided g.L.Lines.format g.met.L.Lines.is_format asked c.loop-turn.feed.mark c.loop-turn.feed.line.items c.loop-turn.feed.fault c.loop-turn.session i.here.bytes i.here.records i.here.at i.going i.ahead };
       refused = c.in-Err.ensures.refused n cause (cc) i.here.bytes i.here.records i.here.at;
     }
 
@@ -59,6 +59,6 @@ returns-in-Err-clause-stands g c = λ other. c.in-Err.ensures.stands (λ e. othe
 pub unreachable-requires : goal.unreachable-requires
 unreachable-requires g c =
     let h = c.loop-turn.invariant.here in
-    let short = going_short c.loop-turn.feed h.bytes h.records c.loop-turn.invariant.going h.at.fed in
+    let short = going_short g.L.Lines.format c.loop-turn.feed.mark c.loop-turn.feed.line.items c.loop-turn.feed.fault h.bytes h.records (rw (sym g.met.L.Lines.most) g.met.L.Lines.small) c.loop-turn.invariant.going h.at.fed in
     let long = c.loop-turn.invariant.long in
     omega (arith, short, long, c.loop-turn-test.false)

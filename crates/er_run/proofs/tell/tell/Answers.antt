@@ -8,7 +8,7 @@ returns-in-Report-clause-reported g c = λ asked h j.
     let v = c.args.judged.now.session.graph.version in
     let f = rw c.in-Report.is at j.is_found in
     let put = c.put_report-written.ensures h j.stands in
-    told asked _ v h c.outcome_of.result c.put_report-written.result c.ends_as.result (g.K.Sink.got c.args.sink.now) (g.K.Sink.got c.put_report-written.new.sink) f.0 (outcome_found v h _ f.1.listed ∙ sym (rw c.deref.ensures.value at c.outcome_of.ensures)) c.ends_as.ensures put.whole put.part
+    told asked _ v h c.outcome_of.result c.put_report-written.result c.ends_as.result (g.K.Sink.got c.args.sink.now) (g.K.Sink.got c.put_report-written.new.sink) f.0.1 (outcome_found v h _ f.1.listed ∙ sym (rw c.deref.ensures.value at c.outcome_of.ensures)) c.ends_as.ensures put.whole put.part
 
 pub returns-in-Report-clause-write_fault : goal.returns-in-Report-clause-write_fault
 returns-in-Report-clause-write_fault g c =
@@ -138,7 +138,7 @@ returns-in-Steps-clause-writes g c =
 pub returns-in-Line-clause-reported : goal.returns-in-Line-clause-reported
 returns-in-Line-clause-reported g c = λ asked h j.
     let f = rw c.in-Line.is at j.is_found in
-    rw f.0 (c.tell_line.ensures.reported h j.stands f.1)
+    rw f.0.1 (c.tell_line.ensures.reported f.0.0 h j.stands f.1)
 
 pub tell_line-requires : goal.tell_line-requires
 tell_line-requires g c =

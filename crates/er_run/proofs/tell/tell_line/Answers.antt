@@ -4,10 +4,10 @@ use Rattle.er_run.proofs.TellLemmas.{ends_report, told, of_found, outcome_found}
 use Rattle.er_run.proofs.tell.tell_line.Goals as goal
 
 pub returns-in-Ok-clause-reported : goal.returns-in-Ok-clause-reported
-returns-in-Ok-clause-reported g c = λ h stands is.
+returns-in-Ok-clause-reported g c = λ input h stands is.
     let due = c.in-Ok.ensures h stands in
     let put = rw (c.as_slice.ensures.value, due) at c.put_line-written.ensures in
-    told (Check true) (Check true) c.args.session.now.graph.version h c.outcome_of.result c.put_line-written.result c.ends_as.result (g.K.Sink.got c.args.sink.now) (g.K.Sink.got c.put_line-written.new.sink) refl
+    told (Check true input) (Check true input) c.args.session.now.graph.version h c.outcome_of.result c.put_line-written.result c.ends_as.result (g.K.Sink.got c.args.sink.now) (g.K.Sink.got c.put_line-written.new.sink) refl
     (outcome_found c.args.session.now.graph.version h _ is.listed ∙ sym (rw c.deref.ensures.value at c.outcome_of.ensures)) c.ends_as.ensures put.whole put.part
 
 pub returns-in-Ok-clause-write_fault : goal.returns-in-Ok-clause-write_fault

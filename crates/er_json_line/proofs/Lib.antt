@@ -1,0 +1,4 @@
+pub mod WordLemmas
+pub mod ShapeLemmas
+pub mod RecordLemmas
+pub mod HeaderLemmas

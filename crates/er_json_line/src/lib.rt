@@ -1,0 +1,9 @@
+//! One line of JSON: an array of the tokens of a line of a trace.
+#![tactic(auto)]
+
+mod kinds;
+mod letters;
+mod line;
+mod members;
+
+pub use line::{parse_json_line, read_header, read_later};

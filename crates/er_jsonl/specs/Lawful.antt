@@ -1,0 +1,8 @@
+-- What the format of JSON lines keeps: one version of a first line, one record of a line, and none of the last line.
+use Rattle.er_lines.specs.Format.{IsFormat}
+use Rattle.er_jsonl.specs.Trace.{json}
+use Rattle.er_json_line.proofs.HeaderLemmas.{one_version}
+use Rattle.er_json_line.proofs.RecordLemmas.{one_of_line, end_is_none}
+
+pub json_is_format : IsFormat json
+json_is_format = record { one_version = one_version; one_record = one_of_line; not_end = end_is_none }

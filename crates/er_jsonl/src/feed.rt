@@ -1,0 +1,53 @@
+//! Reading a trace of JSON lines that comes in pieces.
+
+ghost use Rattle.std.specs.Prelude.{◌≡◌, Err, IfOk};
+ghost use Rattle.std.proofs.Common.{refl, lit<};
+ghost use Rattle.er_trace.specs.declared.record.Record.{Record};
+ghost use Rattle.er_lines.specs.Format.{IsVersionOf};
+ghost use Rattle.er_lines.specs.Steps.{IsLater};
+ghost use Rattle.er_json_line.specs.Members.{Spells, IsHeader, IsEnd};
+ghost use Rattle.er_jsonl.specs.Trace.{json, most_line_bytes};
+ghost use Rattle.er_jsonl.specs.Lawful.{json_is_format};
+
+use er_lines::feed::LineFeed;
+use er_lines::format::{Later, Lines};
+use er_outside::NoMemory;
+use er_trace::fault::LineFault;
+use er_trace::version::Version;
+use std::alloc::Global;
+
+/// The most bytes of a line, without its LF.
+pub const MOST_LINE_BYTES: usize = 4_096;
+
+/// Lines of JSON.
+pub struct JsonLines;
+
+/// Reads a trace of JSON lines that comes in pieces of any length.
+pub type JsonFeed = LineFeed<JsonLines>;
+
+impl Lines for JsonLines {
+    ghost format = { json };
+
+    const MOST: usize = MOST_LINE_BYTES;
+
+    ghost MOST = { most_line_bytes };
+
+    fn read_header(alloc: Global, line: &[u8]) -> Result<Option<Version>, NoMemory>
+        ensures { IfOk result (IsVersionOf IsHeader line.now) }
+    {
+        er_json_line::read_header(alloc, line)
+    }
+
+    fn read_later(alloc: Global, line: &[u8]) -> Result<Later, LineFault>
+        ensures read { IfOk result (IsLater IsEnd Spells line.now) }
+        ensures bad { result ≡ Err LineFault.BadRecord → ¬ IsEnd line.now × ((x : Record) → ¬ Spells line.now x) }
+    {
+        er_json_line::read_later(alloc, line)
+    }
+
+    ghost most = { refl };
+
+    ghost small = { lit< tt };
+
+    ghost is_format = { json_is_format };
+}

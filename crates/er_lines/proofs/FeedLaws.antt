@@ -1,0 +1,310 @@
+-- What a feed keeps, from line to line.
+use Rattle.std.proofs.Common.{◌≡◌, ℕ, ◌+◌, ◌<◌, ◌≤◌, List, [], ◌∷◌, ◌++◌, length, take, true, ◌&&◌, ◌-◌, Option, Some, None, Ok, Err, refl, ap, sym, ◌∙◌, subst, arith, append_assoc, append-nil, length-append}
+use Rattle.std.specs.Prelude.{◌≢◌, nat_lt}
+use Rattle.er_text.specs.Bytes.{has_no_lf}
+use Rattle.er_text.specs.declared.causes.Cause.{Cause}
+use Rattle.er_text.specs.declared.causes.Cause.TheVariants.{LongLine, NoEnd}
+use Rattle.er_trace.specs.declared.record.Record.{Record}
+use Rattle.er_trace.specs.declared.fault.FeedFault.{FeedFault}
+use Rattle.er_trace.specs.declared.fault.FeedFault.TheVariants.{Refused}
+use Rattle.er_trace.specs.declared.version.Version.{Version}
+use Rattle.er_trace.specs.Trace.{most_lines, line as with_end}
+use Rattle.er_lines.specs.declared.mark.Mark.{Mark}
+use Rattle.er_lines.specs.declared.mark.Mark.TheVariants as marks
+use Rattle.er_lines.specs.Format.{Format}
+use Rattle.er_lines.specs.Lines.{Place, Start, After, Ended, line_number, records_before, IsShort, AreLines, AreBehind, AreBefore, whole_line, LineCause}
+use Rattle.er_lines.specs.Marks.{mark_of, number_at, IsOpen, IsClosed}
+use Rattle.er_lines.specs.Feed.{IsUnfinished, Stands}
+use Rattle.er_lines.specs.Steps.{IsLine, IsBadLine, IsFront, IsFrontAt, Leads, LeadsPart, Took}
+use Rattle.er_lines.proofs.CauseLaws.{whole_short, short_whole, start_err, start_bad, start_no_end, cause_many, cause_err, cause_bad, cause_no_end, no_bytes_many, few_many, some_many, short_both, whole_both, long_both}
+
+-- a line that is not at its end yet is short
+pub unfinished_short : (f : Format) (place : Place) (line : List ℕ) → IsUnfinished f place line → IsShort f.most line
+unfinished_short f Start line h = short_whole f.most line (start_no_end f (whole_line f.most line) h)
+unfinished_short f (After v records) line h = short_whole f.most line (cause_no_end f (nat_lt most_lines (length records + 2) && nat_lt 0 (length line)) (whole_line f.most line) h)
+unfinished_short f (Ended v records) line h = rw h record { clear = refl; few = omega arith }
+
+-- where a line may stand, a short one is not at its end yet
+pub short_unfinished : (f : Format) (place : Place) (line : List ℕ) → IsOpen (mark_of place) → IsShort f.most line → IsUnfinished f place line
+short_unfinished f Start line free h = start_err f (whole_line f.most line) NoEnd (whole_short f.most line h)
+short_unfinished f (After v records) line free h =
+    cause_err f (nat_lt most_lines (length records + 2) && nat_lt 0 (length line)) (whole_line f.most line) NoEnd (few_many (length records + 2) line free) (whole_short f.most line h)
+short_unfinished f (Ended v records) line free h = elim free [ ]
+
+none_short : (most : ℕ) → IsShort most []
+none_short most = record { clear = refl; few = omega arith }
+
+-- no byte of a line has come
+pub none_unfinished : (f : Format) (place : Place) → IsUnfinished f place []
+none_unfinished f Start = start_err f (whole_line f.most []) NoEnd (whole_short f.most [] (none_short f.most))
+none_unfinished f (After v records) = cause_err f (nat_lt most_lines (length records + 2) && nat_lt 0 0) (whole_line f.most []) NoEnd (no_bytes_many (length records + 2)) (whole_short f.most [] (none_short f.most))
+none_unfinished f (Ended v records) = refl
+
+pub number_of_place : (place : Place) → number_at (mark_of place) ≡ line_number place
+number_of_place Start = refl
+number_of_place (After v records) = refl
+number_of_place (Ended v records) = refl
+
+-- the bytes with a whole line more
+line_behind : (before kept front bytes l : List ℕ) → bytes ≡ before ++ kept → kept ++ front ≡ l → bytes ++ with_end front ≡ before ++ with_end l
+line_behind before kept front bytes l begins is =
+    (ap (λ b. b ++ with_end front) begins ∙ append_assoc before kept (with_end front))
+    ∙ ap (λ b. before ++ b) (sym (append_assoc kept front (10 ∷ [])) ∙ ap with_end is)
+
+-- lines with one more
+pub lines_more : (f : Format) (bytes : List ℕ) (records : List Record) (l : List ℕ) (x : Record) → AreLines f bytes records → IsShort f.most l → f.Spells l x → AreLines f (bytes ++ with_end l) (records ++ x ∷ [])
+lines_more f bytes [] l x are short spells = (l, [], short, spells, ap (λ b. b ++ with_end l) are ∙ sym (append-nil (with_end l)), refl)
+lines_more f bytes (y ∷ records) l x are short spells = (
+  are.0,
+  are.1 ++ with_end l,
+  are.2,
+  are.3,
+  ap (λ b. b ++ with_end l) are.4 ∙ append_assoc (with_end are.0) are.1 (with_end l),
+  lines_more f are.1 records l x are.5 short spells,
+)
+
+pub behind_more : (f : Format) (v : Version) (bytes : List ℕ) (records : List Record) (l : List ℕ) (x : Record) → AreBehind f v bytes records → IsShort f.most l → f.Spells l x
+    → AreBehind f v (bytes ++ with_end l) (records ++ x ∷ [])
+behind_more f v bytes records l x are short spells = record {
+  first = are.first;
+  short = are.short;
+  header = are.header;
+  later = are.later ++ with_end l;
+  begins = ap (λ b. b ++ with_end l) are.begins ∙ append_assoc (with_end are.first) are.later (with_end l);
+  lines = lines_more f are.later records l x are.lines short spells;
+}
+
+pub stands_line : (f : Format) (place : Place) (next : Mark) (before kept front bytes : List ℕ) (came earlier : List Record) → AreBefore f place before → line_number place ≤ most_lines + 1 → IsOpen (mark_of place) → IsShort f.most (kept ++ front)
+    → bytes ≡ before ++ kept → earlier ≡ records_before place → IsLine f (mark_of place) (kept ++ front) next came
+    → Stands f next [] None (bytes ++ with_end front) (earlier ++ came)
+stands_line f Start (marks.After w m) before kept front bytes came earlier are few free short begins listed leads = record {
+  place = After w [];
+  before = with_end (kept ++ front);
+  rest = [];
+  are = record { first = kept ++ front; short = short; header = leads.0; later = []; begins = sym (append-nil (with_end (kept ++ front))); lines = refl };
+  few = omega arith;
+  begins = (line_behind before kept front bytes (kept ++ front) begins refl ∙ ap (λ b. b ++ with_end (kept ++ front)) are) ∙ sym (append-nil (with_end (kept ++ front)));
+  marked = ap (marks.After w) leads.1;
+  records_are = cc;
+  kept = (none_unfinished f (After w []), refl);
+}
+stands_line f Start marks.Start before kept front bytes came earlier are few free short begins listed leads = elim leads [ ]
+stands_line f Start (marks.Ended w m) before kept front bytes came earlier are few free short begins listed leads = elim leads [ ]
+stands_line f (After v records) marks.Start before kept front bytes came earlier are few free short begins listed leads = elim leads [ ]
+stands_line f (Ended v records) next before kept front bytes came earlier are few free short begins listed leads = elim free [ ]
+stands_line f (After v records) (marks.After w m) before kept front bytes came earlier are few free short begins listed leads = record {
+  place = After v (records ++ leads.0 ∷ []);
+  before = before ++ with_end (kept ++ front);
+  rest = [];
+  are = behind_more f v before records (kept ++ front) leads.0 are short leads.1;
+  few = omega (arith, length-append records (leads.0 ∷ []));
+  begins = line_behind before kept front bytes (kept ++ front) begins refl ∙ sym (append-nil (before ++ with_end (kept ++ front)));
+  marked = leads.2 ∙ ap (marks.After v) (sym (length-append records (leads.0 ∷ [])));
+  records_are = cc;
+  kept = (none_unfinished f (After v (records ++ leads.0 ∷ [])), refl);
+}
+stands_line f (After v records) (marks.Ended w m) before kept front bytes came earlier are few free short begins listed leads = record {
+  place = Ended v records;
+  before = before ++ with_end (kept ++ front);
+  rest = [];
+  are = record { front = before; behind = are; last = kept ++ front; short = short; end = leads.0; begins = refl };
+  few = omega arith;
+  begins = line_behind before kept front bytes (kept ++ front) begins refl ∙ sym (append-nil (before ++ with_end (kept ++ front)));
+  marked = leads.1;
+  records_are = (ap (λ l. earlier ++ l) leads.2 ∙ append-nil earlier) ∙ listed;
+  kept = (refl, refl);
+}
+
+-- a line came to its end
+pub took_line : (f : Format) (mark next : Mark) (kept piece front later : List ℕ) (came old new : List Record) → IsOpen mark → has_no_lf front ≡ true → length kept + length front ≤ f.most → IsLine f mark (kept ++ front) next came
+    → piece ≡ front ++ 10 ∷ later → new ≡ old ++ came → Took f mark kept piece next [] later old new
+took_line f mark next kept piece front later came old new free clear few is e grown = record {
+  front = with_end front;
+  taken = e ∙ sym (append_assoc front (10 ∷ []) later);
+  leads = record {
+    more = came;
+    grown = grown;
+    stands = λ bytes earlier h.
+        let short : IsShort f.most kept = subst (IsShort f.most) (sym h.kept.1) (unfinished_short f h.place h.rest h.kept.0) in
+        stands_line f h.place next h.before kept front bytes came earlier h.are h.few
+        (subst IsOpen h.marked free)
+        (short_both f.most kept front short clear few)
+        (h.begins ∙ ap (λ r. h.before ++ r) (sym h.kept.1))
+        h.records_are
+        (subst (λ (m : Mark). IsLine f m (kept ++ front) next came) h.marked is);
+  };
+}
+
+more_behind : (before kept rest piece bytes : List ℕ) → bytes ≡ before ++ rest → kept ≡ rest → bytes ++ piece ≡ before ++ (kept ++ piece)
+more_behind before kept rest piece bytes begins same = (ap (λ b. b ++ piece) begins ∙ append_assoc before rest piece) ∙ ap (λ r. before ++ (r ++ piece)) (sym same)
+
+-- the line of a record stands at the front
+pub front_at : (f : Format) (mark : Mark) (kept piece left : List ℕ) (x : Record) (v : Version) (n : ℕ) → mark ≡ marks.After v n → n + 2 ≤ most_lines → kept ≡ [] → IsFront f.most f.Spells piece x left
+    → IsFrontAt f mark kept piece (marks.After v (n + 1)) x left
+front_at f mark kept piece left x v n at few none front = record {
+  free = subst IsOpen (sym at) few;
+  none = none;
+  front = front;
+  line = subst (λ (m : Mark). IsLine f m front.l (marks.After v (n + 1)) (x ∷ [])) (sym at) (x, front.spells, refl, refl);
+}
+
+-- so it was taken, where nothing is kept
+pub took_front : (f : Format) (mark next : Mark) (kept piece left : List ℕ) (x : Record) (old new : List Record) → IsFrontAt f mark kept piece next x left → new ≡ old ++ x ∷ []
+    → Took f mark kept piece next kept left old new
+took_front f mark next kept piece left x old new is grown =
+    subst (λ (l : List ℕ). Took f mark l piece next l left old new) (sym is.none)
+    (took_line f mark next [] piece is.front.l left (x ∷ []) old new is.free is.front.short.clear (omega (arith, is.front.short.few)) is.line is.front.cut grown)
+
+-- all bytes are of the line
+pub took_all : (f : Format) (mark : Mark) (kept piece : List ℕ) (old : List Record) → IsOpen mark → has_no_lf piece ≡ true → length kept + length piece ≤ f.most → Took f mark kept piece mark (kept ++ piece) [] old old
+took_all f mark kept piece old free clear few = record {
+  front = piece;
+  taken = sym (append-nil piece);
+  leads = record {
+    more = [];
+    grown = sym (append-nil old);
+    stands = λ bytes earlier h.
+        let short : IsShort f.most kept = subst (IsShort f.most) (sym h.kept.1) (unfinished_short f h.place h.rest h.kept.0) in
+        record {
+          place = h.place;
+          before = h.before;
+          rest = kept ++ piece;
+          are = h.are;
+          few = h.few;
+          begins = more_behind h.before kept h.rest piece bytes h.begins h.kept.1;
+          marked = h.marked;
+          records_are = append-nil earlier ∙ h.records_are;
+          kept = (short_unfinished f h.place (kept ++ piece) (subst IsOpen h.marked free) (short_both f.most kept piece short clear few), refl);
+        };
+  };
+}
+
+-- the line has the cause with the piece behind what is kept
+abbrev pub RefusesWith : Format → Mark → List ℕ → List ℕ → Cause → Type 0
+RefusesWith f mark kept piece c = (place : Place) → mark ≡ mark_of place → IsShort f.most kept → LineCause f place (kept ++ piece) c
+
+refused : (f : Format) (mark : Mark) (kept piece later : List ℕ) (n : ℕ) (c : Cause) (old new : List Record) → RefusesWith f mark kept piece c → c ≢ NoEnd → n ≡ number_at mark → new ≡ old → Leads f mark kept piece mark later (Some (Refused n c)) old new
+refused f mark kept piece later n c old new why other numbered same = record {
+  more = [];
+  grown = same ∙ sym (append-nil old);
+  stands = λ bytes earlier h.
+      let short : IsShort f.most kept = subst (IsShort f.most) (sym h.kept.1) (unfinished_short f h.place h.rest h.kept.0) in
+      record {
+        place = h.place;
+        before = h.before;
+        rest = kept ++ piece;
+        are = h.are;
+        few = h.few;
+        begins = more_behind h.before kept h.rest piece bytes h.begins h.kept.1;
+        marked = h.marked;
+        records_are = append-nil earlier ∙ h.records_are;
+        kept = ((numbered ∙ ap number_at h.marked) ∙ number_of_place h.place, why h.place h.marked short, other);
+      };
+}
+
+bad_cause : (f : Format) (place : Place) (l rest bytes : List ℕ) (c : Cause) → IsOpen (mark_of place) → IsBadLine f (mark_of place) l c → whole_line f.most bytes ≡ Ok (l, rest) → LineCause f place bytes c
+bad_cause f Start l rest bytes c free is whole = start_bad f (whole_line f.most bytes) l rest c whole is
+bad_cause f (After v records) l rest bytes c free is whole =
+    cause_bad f (nat_lt most_lines (length records + 2) && nat_lt 0 (length bytes)) (whole_line f.most bytes) l rest c (few_many (length records + 2) bytes free) whole is
+bad_cause f (Ended v records) l rest bytes c free is whole = elim free [ ]
+
+bad_is_no_end : (f : Format) (mark : Mark) (l : List ℕ) (c : Cause) → IsBadLine f mark l c → c ≢ NoEnd
+bad_is_no_end f marks.Start l c is e = let same = is.1 in absurd (cc)
+bad_is_no_end f (marks.After v n) l c is e = let same = is.2 in absurd (cc)
+bad_is_no_end f (marks.Ended v n) l c is e = elim is [ ]
+
+-- a whole line is refused
+pub refused_line : (f : Format) (mark next : Mark) (kept piece front later left : List ℕ) (n : ℕ) (c : Cause) (old new : List Record) → IsOpen mark → IsBadLine f mark (kept ++ front) c → piece ≡ front ++ 10 ∷ later → has_no_lf front ≡ true → length kept + length front ≤ f.most
+    → n ≡ number_at mark → next ≡ mark → new ≡ old → Leads f mark kept piece next left (Some (Refused n c)) old new
+refused_line f mark next kept piece front later left n c old new free is e clear few numbered stays same =
+    let why : RefusesWith f mark kept piece c = λ place marked short.
+    bad_cause f place (kept ++ front) later (kept ++ piece) c (subst IsOpen marked free) (subst (λ (m : Mark). IsBadLine f m (kept ++ front) c) marked is)
+    (whole_both f.most kept front later piece (short_both f.most kept front short clear few) e) in
+    subst (λ (m : Mark). Leads f mark kept piece m left (Some (Refused n c)) old new) (sym stays)
+    (refused f mark kept piece left n c old new why (bad_is_no_end f mark (kept ++ front) c is) numbered same)
+
+long_cause : (f : Format) (place : Place) (bytes : List ℕ) → IsOpen (mark_of place) → whole_line f.most bytes ≡ Err LongLine → LineCause f place bytes LongLine
+long_cause f Start bytes free long = start_err f (whole_line f.most bytes) LongLine long
+long_cause f (After v records) bytes free long =
+    cause_err f (nat_lt most_lines (length records + 2) && nat_lt 0 (length bytes)) (whole_line f.most bytes) LongLine (few_many (length records + 2) bytes free) long
+long_cause f (Ended v records) bytes free long = elim free [ ]
+
+-- a line is too long
+pub refused_long : (f : Format) (mark : Mark) (kept piece left : List ℕ) (n : ℕ) (c : Cause) (old : List Record) → IsOpen mark → has_no_lf (take (f.most + 1 - length kept) piece) ≡ true → f.most < length kept + length piece
+    → n ≡ number_at mark → c ≡ LongLine → Leads f mark kept piece mark left (Some (Refused n c)) old old
+refused_long f mark kept piece left n c old free clear many numbered is =
+    let why : RefusesWith f mark kept piece LongLine = λ place marked short. long_cause f place (kept ++ piece) (subst IsOpen marked free) (long_both f.most kept piece short clear many) in
+    let why_c : RefusesWith f mark kept piece c = subst (RefusesWith f mark kept piece) (sym is) why in
+    refused f mark kept piece left n c old old why_c (λ e. absurd (cc)) numbered refl
+
+closed_cause : (f : Format) (place : Place) (kept piece : List ℕ) (c : Cause) → IsClosed (mark_of place) c → 0 < length piece → LineCause f place (kept ++ piece) c
+closed_cause f (After v records) kept piece c is some =
+    let many : (nat_lt most_lines (length records + 2) && nat_lt 0 (length (kept ++ piece))) ≡ true = some_many (length records + 2) (kept ++ piece) is.0 (omega (arith, length-append kept piece)) in
+    cause_many f (nat_lt most_lines (length records + 2) && nat_lt 0 (length (kept ++ piece))) (whole_line f.most (kept ++ piece)) c many is.1
+closed_cause f (Ended v records) kept piece c is some = ((λ e. absurd (omega (arith, ap length e, length-append kept piece))), is)
+closed_cause f Start kept piece c is some = elim is [ ]
+
+closed_is_no_end : (mark : Mark) (c : Cause) → IsClosed mark c → c ≢ NoEnd
+closed_is_no_end (marks.After v n) c is e = let same = is.1 in absurd (cc)
+closed_is_no_end (marks.Ended v n) c is e = absurd (cc)
+closed_is_no_end marks.Start c is e = elim is [ ]
+
+-- no byte may stand there
+pub refused_closed : (f : Format) (mark : Mark) (kept piece left : List ℕ) (n : ℕ) (c : Cause) (old : List Record) → IsClosed mark c → 0 < length piece → n ≡ number_at mark → Leads f mark kept piece mark left (Some (Refused n c)) old old
+refused_closed f mark kept piece left n c old is some numbered =
+    let why : RefusesWith f mark kept piece c = λ place marked short. closed_cause f place kept piece c (subst (λ (m : Mark). IsClosed m c) marked is) some in
+    refused f mark kept piece left n c old old why (closed_is_no_end mark c is) numbered refl
+
+-- from step to step
+
+pub took_none : (f : Format) (mark : Mark) (kept piece : List ℕ) (old : List Record) → Took f mark kept piece mark kept piece old old
+took_none f mark kept piece old = record {
+  front = [];
+  taken = refl;
+  leads = record {
+    more = [];
+    grown = sym (append-nil old);
+    stands = λ before earlier h. rw (append-nil before, append-nil earlier) h;
+  };
+}
+
+pub leads_more : (f : Format) (mark next last : Mark) (kept piece later left end : List ℕ) (fault : Option FeedFault) (old mid new : List Record) → Took f mark kept piece next later left old mid → Leads f next later left last end fault mid new → Leads f mark kept piece last end fault old new
+leads_more f mark next last kept piece later left end fault old mid new h then = record {
+  more = h.leads.more ++ then.more;
+  grown = (then.grown ∙ ap (λ l. l ++ then.more) h.leads.grown) ∙ append_assoc old h.leads.more then.more;
+  stands = λ before earlier s.
+      let t = then.stands (before ++ h.front) (earlier ++ h.leads.more) (h.leads.stands before earlier s) in
+      let bytes : (before ++ h.front) ++ left ≡ before ++ piece = append_assoc before h.front left ∙ ap (λ p. before ++ p) (sym h.taken) in
+      subst (λ (r : List Record). Stands f last end fault (before ++ piece) r) (append_assoc earlier h.leads.more then.more)
+      (subst (λ (b : List ℕ). Stands f last end fault b ((earlier ++ h.leads.more) ++ then.more)) bytes t);
+}
+
+pub took_more : (f : Format) (mark next last : Mark) (kept piece later left end rest : List ℕ) (old mid new : List Record) → Took f mark kept piece next later left old mid → Took f next later left last end rest mid new → Took f mark kept piece last end rest old new
+took_more f mark next last kept piece later left end rest old mid new h then = record {
+  front = h.front ++ then.front;
+  taken = (h.taken ∙ ap (λ l. h.front ++ l) then.taken) ∙ sym (append_assoc h.front then.front rest);
+  leads = leads_more f mark next last kept (h.front ++ then.front) later then.front end None old mid new (record { front = h.front; taken = refl; leads = h.leads }) then.leads;
+}
+
+pub leads_all : (f : Format) (mark next : Mark) (kept piece later left : List ℕ) (old new : List Record) → Took f mark kept piece next later left old new → left ≡ [] → Leads f mark kept piece next later None old new
+leads_all f mark next kept piece later left old new h none =
+    let all : piece ≡ h.front = (h.taken ∙ ap (λ l. h.front ++ l) none) ∙ append-nil h.front in
+    let leads : Leads f mark kept h.front next later None old new = h.leads in
+    subst (λ (p : List ℕ). Leads f mark kept p next later None old new) (sym all) leads
+
+pub leads_part : (f : Format) (mark next : Mark) (kept piece later left : List ℕ) (old mid new : List Record) → Took f mark kept piece next later left old mid → new ≡ mid → LeadsPart f mark kept piece old new
+leads_part f mark next kept piece later left old mid new h same = record {
+  more = h.leads.more;
+  grown = same ∙ h.leads.grown;
+  part = λ before earlier s.
+      let t = h.leads.stands before earlier s in
+      let bytes : before ++ piece ≡ (before ++ h.front) ++ left = ap (λ p. before ++ p) h.taken ∙ sym (append_assoc before h.front left) in (
+        t.place,
+        t.before,
+        t.rest ++ left,
+        t.are,
+        t.few,
+        (bytes ∙ ap (λ b. b ++ left) t.begins) ∙ append_assoc t.before t.rest left,
+        t.records_are,
+      );
+}

@@ -1,0 +1,10 @@
+pub mod CutLaws
+pub mod LineLaws
+pub mod CauseLaws
+pub mod OneReading
+pub mod FeedLaws
+pub mod StopLaws
+pub mod HeaderLaws
+pub mod LinesBefore
+pub mod TextLaws
+pub mod CutTraces

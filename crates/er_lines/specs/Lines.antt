@@ -1,0 +1,154 @@
+-- A whole trace of a format, and the causes for which a line is no line of one. Records stand oldest first.
+use Rattle.std.specs.Prelude.{◌≡◌, ◌≢◌, ℕ, ◌+◌, ◌≤◌, Bool, true, ◌&&◌, nat_lt, List, [], ◌∷◌, ◌++◌, length, take, if◌then◌else◌, Option, Some, None, Result, Err, MatchResult, MatchBool}
+use Rattle.std.specs.Option.{ok_or}
+use Rattle.er_text.specs.Bytes.{has_no_lf}
+use Rattle.er_text.specs.Lines.{first_line}
+use Rattle.er_text.specs.declared.causes.Cause.{Cause}
+use Rattle.er_text.specs.declared.causes.Cause.TheVariants.{BadHeader, LongLine, BadRecord, NoEnd, AfterEnd, TooManyLines}
+use Rattle.er_trace.specs.declared.record.Record.{Record}
+use Rattle.er_trace.specs.declared.version.Version.{Version}
+use Rattle.er_trace.specs.Trace.{most_lines, line}
+use Rattle.er_lines.specs.Format.{Format}
+
+-- Where a line begins: at the start, behind a first line of that version and lines of these records, or behind the last line.
+pub data Place : Type 0 where
+  Start : Place
+  After : (version : Version) → (records : List Record) → Place
+  Ended : (version : Version) → (records : List Record) → Place
+
+-- the version that the first line gave
+abbrev pub version_before : Place → Option Version
+version_before Start = None
+version_before (After v records) = Some v
+version_before (Ended v records) = Some v
+
+-- the records before it
+abbrev pub records_before : Place → List Record
+records_before Start = []
+records_before (After v records) = records
+records_before (Ended v records) = records
+
+-- the number of the line
+abbrev pub line_number : Place → ℕ
+line_number Start = 1
+line_number (After v records) = length records + 2
+line_number (Ended v records) = length records + 3
+
+-- the bytes are a line without its LF, or a front of one
+pub record IsShort (most : ℕ) (bytes : List ℕ) : Type 0 where
+  pub clear : has_no_lf bytes ≡ true
+  pub few : length bytes ≤ most
+
+-- the bytes are lines that spell the records
+abbrev pub AreLines : Format → List ℕ → List Record → Type 0
+AreLines f bytes [] = bytes ≡ []
+AreLines f bytes (x ∷ records) = (l : List ℕ) × (later : List ℕ) × IsShort f.most l × f.Spells l x × (bytes ≡ line l ++ later) × AreLines f later records
+
+-- the bytes are a first line of the version, and lines that spell the records
+pub record AreBehind (f : Format) (v : Version) (bytes : List ℕ) (records : List Record) : Type 0 where
+  pub first : List ℕ
+  pub short : IsShort f.most first
+  pub header : f.IsHeader v first
+  pub later : List ℕ
+  pub begins : bytes ≡ line first ++ later
+  pub lines : AreLines f later records
+
+-- the bytes are a first line of the version, lines that spell the records, and a last line
+pub record AreWhole (f : Format) (v : Version) (bytes : List ℕ) (records : List Record) : Type 0 where
+  pub front : List ℕ
+  pub behind : AreBehind f v front records
+  pub last : List ℕ
+  pub short : IsShort f.most last
+  pub end : f.IsEnd last
+  pub begins : bytes ≡ front ++ line last
+
+-- the bytes are the lines before that place
+abbrev pub AreBefore : Format → Place → List ℕ → Type 0
+AreBefore f Start bytes = bytes ≡ []
+AreBefore f (After v records) bytes = AreBehind f v bytes records
+AreBefore f (Ended v records) bytes = AreWhole f v bytes records
+
+-- too many bytes came without an LF
+abbrev pub is_long : ℕ → List ℕ → Bool
+is_long most bytes = nat_lt most (length bytes) && has_no_lf (take (most + 1) bytes)
+
+-- the whole line at the front of the bytes and the bytes after its LF, or why there is none
+abbrev pub whole_line : ℕ → List ℕ → Result (List ℕ × List ℕ) Cause
+whole_line most bytes = if is_long most bytes then Err LongLine else ok_or (first_line bytes) NoEnd
+
+-- it is the first line of no version
+abbrev pub IsNoHeader : Format → List ℕ → Type 0
+IsNoHeader f l = (v : Version) → ¬ f.IsHeader v l
+
+-- no record is spelled so
+abbrev pub SpellsNone : Format → List ℕ → Type 0
+SpellsNone f l = (x : Record) → f.Spells l x → ⊥
+
+-- Why the first line, with these bytes from it on, is no header.
+abbrev pub StartCause : Format → List ℕ → Cause → Type 0
+StartCause f rest c = MatchResult (whole_line f.most rest) (λ l. IsNoHeader f l.0 × (c ≡ BadHeader)) (λ why. c ≡ why)
+
+-- Why the line of that number, with these bytes from it on, is neither a record nor the end: the first cause that applies.
+abbrev pub RecordCause : Format → ℕ → List ℕ → Cause → Type 0
+RecordCause f number rest c =
+    MatchBool (nat_lt most_lines number && nat_lt 0 (length rest))
+    (c ≡ TooManyLines)
+    (MatchResult (whole_line f.most rest)
+    (λ l. ¬ f.IsEnd l.0 × SpellsNone f l.0 × (c ≡ BadRecord))
+    (λ why. c ≡ why))
+
+-- Why the line that begins there, with these bytes from it on, is no line of a trace: the first of these that applies.
+-- after-end: there are bytes after the last line
+-- too-many-lines: there are bytes, and the number of the line is above the most
+-- long-line: more bytes than a line may have came without an LF
+-- no-end: no LF comes, also where there are no bytes
+-- bad-header: the first line is the header of no version
+-- bad-record: a later line is neither a last one nor spells a record
+abbrev pub LineCause : Format → Place → List ℕ → Cause → Type 0
+LineCause f Start rest c = StartCause f rest c
+LineCause f (After v records) rest c = RecordCause f (length records + 2) rest c
+LineCause f (Ended v records) rest c = (rest ≢ []) × (c ≡ AfterEnd)
+
+-- the bytes are a whole trace of that version with these records
+pub record IsTrace (f : Format) (v : Version) (bytes : List ℕ) (records : List Record) : Type 0 where
+  pub whole : AreWhole f v bytes records
+  pub few : length records + 2 ≤ most_lines
+
+-- they are one in some version
+abbrev pub IsTraceOf : Format → List ℕ → List Record → Type 0
+IsTraceOf f bytes records = (v : Version) × IsTrace f v bytes records
+
+-- the first line gives that version
+pub record BeginsWith (f : Format) (v : Version) (bytes : List ℕ) : Type 0 where
+  pub first : List ℕ
+  pub short : IsShort f.most first
+  pub header : f.IsHeader v first
+  pub rest : List ℕ
+  pub begins : bytes ≡ line first ++ rest
+
+-- The bytes begin with the lines before that place, and the line there has the cause.
+pub record Refuses (f : Format) (bytes : List ℕ) (place : Place) (c : Cause) : Type 0 where
+  pub before : List ℕ
+  pub rest : List ℕ
+  pub are : AreBefore f place before
+  pub few : line_number place ≤ most_lines + 1
+  pub begins : bytes ≡ before ++ rest
+  pub cause : LineCause f place rest c
+
+-- the line of that number has the cause, and these are the records before it
+abbrev pub ReadsUntil : Format → List ℕ → ℕ → Cause → List Record → Type 0
+ReadsUntil f bytes number c records = (place : Place) × Refuses f bytes place c × (number ≡ line_number place) × (records ≡ records_before place)
+
+-- the bytes begin with some lines of a trace, and these are their records
+abbrev pub ReadsPart : Format → List ℕ → List Record → Type 0
+ReadsPart f bytes records = (place : Place) × (before rest : List ℕ) × AreBefore f place before × (line_number place ≤ most_lines + 1) × (bytes ≡ before ++ rest) × (records ≡ records_before place)
+
+-- the first line, or the one behind some of the records
+abbrev pub IsWithin : Version → List Record → Place → Type 0
+IsWithin v records Start = Unit {0}
+IsWithin v records (After w front) = (w ≡ v) × ((back : List Record) × (records ≡ front ++ back))
+IsWithin v records (Ended w front) = ⊥
+
+-- a trace of these records was cut: its bytes end within the first line, or within the one behind some of the records
+abbrev pub IsCutTrace : Format → Version → List Record → List ℕ → Type 0
+IsCutTrace f v records bytes = (place : Place) × Refuses f bytes place NoEnd × IsWithin v records place

@@ -1,0 +1,10 @@
+//! Reading a trace of any format that comes in pieces: a format says how one line is read.
+#![tactic(auto)]
+
+mod cut;
+pub mod feed;
+pub mod format;
+pub mod laws;
+mod line;
+mod mark;
+pub mod text;

@@ -1,0 +1,55 @@
+//! Lines of text, as er_trace spells them.
+
+ghost use Rattle.std.specs.Prelude.{◌≡◌, Err, IfOk};
+ghost use Rattle.std.proofs.Common.{refl, lit<};
+ghost use Rattle.er_trace.specs.declared.record.Record.{Record};
+ghost use Rattle.er_trace.specs.Trace.{header, end_word, most_line_bytes};
+ghost use Rattle.er_lines.specs.Format.{IsVersionOf};
+ghost use Rattle.er_lines.specs.Steps.{IsLater};
+ghost use Rattle.er_lines.specs.Text.{text, IsSpelled, text_is_format};
+
+use crate::format::{Later, Lines};
+use er_outside::NoMemory;
+use er_trace::fault::LineFault;
+use er_trace::parse::parse_record;
+use er_trace::trace::MOST_LINE_BYTES;
+use er_trace::version::{Version, version_of};
+use std::alloc::Global;
+
+const END: &str = "end";
+
+/// Lines of text.
+pub struct TextLines;
+
+impl Lines for TextLines {
+    ghost format = { text };
+
+    const MOST: usize = MOST_LINE_BYTES;
+
+    ghost MOST = { most_line_bytes };
+
+    fn read_header(_alloc: Global, line: &[u8]) -> Result<Option<Version>, NoMemory>
+        ensures { IfOk result (IsVersionOf (λ v l. l ≡ header v) line.now) }
+    {
+        Ok(version_of(line))
+    }
+
+    fn read_later(alloc: Global, line: &[u8]) -> Result<Later, LineFault>
+        ensures read { IfOk result (IsLater (λ l. l ≡ end_word) IsSpelled line.now) }
+        ensures bad { result ≡ Err LineFault.BadRecord → ¬ (line.now ≡ end_word) × ((x : Record) → ¬ IsSpelled line.now x) }
+    {
+        if line == END.as_bytes() {
+            return Ok(Later::End);
+        }
+        match parse_record(alloc, line) {
+            Ok(found) => Ok(Later::One(found)),
+            Err(fault) => Err(fault),
+        }
+    }
+
+    ghost most = { refl };
+
+    ghost small = { lit< tt };
+
+    ghost is_format = { text_is_format };
+}
