@@ -3,7 +3,9 @@
  * It counts the program's requests for memory, its reads of standard input and its writes to standard output, and answers
  * those otherwise that the environment names. bench/faults.py compiles it, sets the environment and reads the counts. */
 #define _GNU_SOURCE
+#include <dlfcn.h>
 #include <errno.h>
+#include <pthread.h>
 #include <signal.h>
 #include <stdatomic.h>
 #include <stdlib.h>
@@ -13,7 +15,7 @@
 #include <unistd.h>
 
 /* a run that takes longer is ended, in seconds */
-#define MOST_SECONDS 60
+#define MOST_SECONDS 120
 
 extern void *__libc_malloc(size_t);
 extern void *__libc_calloc(size_t, size_t);
@@ -34,6 +36,9 @@ struct end {
     int over;
 };
 
+typedef int start_thread(pthread_t *, const pthread_attr_t *, void *(*)(void *), void *);
+
+static start_thread *real_start;
 static struct counts own_counts;
 static struct counts *counts = &own_counts;
 static struct end input, output;
@@ -80,6 +85,8 @@ __attribute__((constructor)) static void begin(void)
         interrupt_each(setting("FAULT_INTERRUPTS", 0));
     else
         alarm(MOST_SECONDS);
+    real_start = (start_thread *)dlsym(RTLD_NEXT, "pthread_create");
+    counts->requests = 0;
     refused_request = setting("FAULT_MEMORY", 0);
 }
 
@@ -121,6 +128,12 @@ int posix_memalign(void **block, size_t alignment, size_t size)
         return ENOMEM;
     *block = got;
     return 0;
+}
+
+/* A thread asks for memory too, its stack. */
+int pthread_create(pthread_t *thread, const pthread_attr_t *attributes, void *(*body)(void *), void *argument)
+{
+    return is_refused() ? EAGAIN : real_start(thread, attributes, body, argument);
 }
 
 /* How many bytes a call of this number asks for, or -1 with errno where it fails. */

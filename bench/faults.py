@@ -24,7 +24,7 @@ def build(folder):
     """The compiled library."""
     library = os.path.join(folder, "faults.so")
     compiler = shutil.which("cc") or sys.exit("bench/faults.c: install a C compiler first (cc)")
-    subprocess.run([compiler, "-O2", "-Wall", "-shared", "-fPIC", "-o", library, os.path.join(TOP, "bench", "faults.c")], check=True)
+    subprocess.run([compiler, "-O2", "-Wall", "-shared", "-fPIC", "-o", library, os.path.join(TOP, "bench", "faults.c"), "-ldl"], check=True)
     return library
 
 
@@ -79,5 +79,5 @@ def runner():
 
 
 def workers(program, library):
-    """As many processes as there are processors, each with a runner."""
-    return multiprocessing.get_context("fork").Pool(len(os.sched_getaffinity(0)), _begin, (program, library))
+    """Some processes, each with a runner: more than there are processors, since each waits for the run that it started."""
+    return multiprocessing.get_context("fork").Pool(4 * len(os.sched_getaffinity(0)), _begin, (program, library))
