@@ -1,11 +1,12 @@
 'use strict';
 // Records one page: drives the browser, and hands over what it did.
 
-const { Chromium } = require('./browser/chromium.js');
+const { Chromium, BrowserFault } = require('./browser/chromium.js');
 const { Tab } = require('./browser/tab.js');
 const { Responses } = require('./browser/responses.js');
 const { resolveAddress } = require('./browser/folder.js');
 const { User } = require('./browser/user.js');
+const { sleep, within } = require('./browser/time.js');
 const { Sources } = require('./sources.js');
 const { Intake } = require('./trace/intake.js');
 const { pageScript } = require('./page-script.js');
@@ -18,6 +19,8 @@ const GRACE = 1000;
 const QUIET = 400;
 /** A page that is never quiet, as one with an interval, is waited for so long. */
 const LONGEST_UNREST = 3000;
+/** The last lines of the page are waited for so long. */
+const LONGEST_FLUSH = 2000;
 
 const LOAD_TIME = "(() => { const [one] = performance.getEntriesByType('navigation'); return one && one.loadEventEnd ? one.loadEventEnd - one.startTime : null; })()";
 
@@ -29,8 +32,6 @@ function browserFacts() {
   const hasHandlers = (name) => Object.getOwnPropertyNames(prototypeOf(name)).some((property) => /^on[a-z]/.test(property));
   return { names, handlerOwners: Object.getOwnPropertyNames(window).filter(hasHandlers) };
 }
-
-const sleep = (time) => new Promise((resolve) => setTimeout(resolve, time));
 
 /** Why a recording ended before its end. */
 class RecordingFault extends Error {
@@ -73,11 +74,17 @@ class Recorder {
       await Promise.race([this.recordToEnd(), this.stopped]);
     } catch (fault) {
       if (fault.status === STATUS.stopped && this.tab) await this.finish();
-      throw fault;
+      if (!(fault instanceof BrowserFault)) throw fault;
+      throw new RecordingFault(`the browser failed: ${fault.message}`, STATUS.noBrowser);
     } finally {
-      if (this.options.browser) await this.tab?.close();
-      else if (this.browser) await this.browser.close();
+      await this.closeBrowser();
     }
+  }
+
+  /** A browser that was handed in stays; its tab goes. */
+  async closeBrowser() {
+    if (this.options.browser) await this.tab?.close().catch(() => {});
+    else if (this.browser) await this.browser.close();
   }
 
   async recordToEnd() {
@@ -115,6 +122,7 @@ class Recorder {
       if (!this.options.browser) {
         this.browser.start(SIZE.width, SIZE.height);
         if (!this.options.isRaw) this.sources.warmUp(); // while the browser starts
+        await this.browser.hasStarted();
       }
       this.tab = await Tab.open(this.browser, SIZE);
     } catch (fault) {
@@ -128,8 +136,10 @@ class Recorder {
     for (const domain of ['Page', 'Runtime', 'Inspector']) await tab.send(`${domain}.enable`);
     const { names, handlerOwners } = await tab.evaluate(`(${browserFacts})()`);
     this.sources.builtins = new Set(names);
-    this.responses = new Responses(tab, { sources: options.isRaw ? null : this.sources, folder, slow: options.slow });
+    const longest = options.time * 1000 + GRACE;
+    this.responses = new Responses(tab, { sources: options.isRaw ? null : this.sources, folder, slow: options.slow, longest });
     await this.responses.start();
+    await tab.closeOpenedWindows(() => { this.windows++; });
     if (!options.isRaw) {
       await tab.send('Runtime.addBinding', { name: '__erSend' });
       await tab.send('Page.addScriptToEvaluateOnNewDocument', { source: pageScript(handlerOwners) });
@@ -142,7 +152,6 @@ class Recorder {
     tab.on('Runtime.exceptionThrown', ({ exceptionDetails }) => this.errors.push(errorOf(exceptionDetails)));
     tab.on('Page.loadEventFired', () => { this.isLoaded = true; });
     tab.on('Page.javascriptDialogOpening', () => tab.send('Page.handleJavaScriptDialog', { accept: true }).catch(() => {}));
-    tab.on('Page.windowOpen', () => { this.windows++; });
     tab.on('Inspector.targetCrashed', () => this.stop(new RecordingFault('the page crashed the browser', STATUS.noBrowser)));
   }
 
@@ -150,7 +159,7 @@ class Recorder {
 
   async load(address) {
     this.isLoaded = false;
-    const navigation = this.tab.send('Page.navigate', { url: address });
+    const navigation = this.tab.send('Page.navigate', { url: address }, this.options.time * 1000 + GRACE);
     const early = this.options.actions.filter((action) => action.isEarly);
     const { errorText } = await Promise.race([navigation, this.noAnswer()]);
     this.hasAnswered = true;
@@ -208,7 +217,7 @@ class Recorder {
   async callRecording(method) {
     if (this.options.isRaw) return;
     const answer = this.tab.evaluate(`typeof __er === 'object' && __er.recording && __er.recording.${method}()`);
-    await Promise.race([answer.catch(() => {}), sleep(2000)]);
+    await within(answer.catch(() => {}), LONGEST_FLUSH);
   }
 
   // ---- what was not recorded
@@ -219,8 +228,9 @@ class Recorder {
     for (const [what, count] of this.sources.missed) lines.push(`${what}, kept as they are: ${count}`);
     for (const [what, count] of this.sources.dropped) lines.push(`${what} dropped in the copy that the page sees: ${count}`);
     if (this.responses?.notFollowed) lines.push(`steps to another page not followed: ${this.responses.notFollowed}`);
+    if (this.responses?.unfinished) lines.push(`pages that did not end to come, shown as far as they came: ${this.responses.unfinished}`);
     if (this.hasAnswered && !this.isUsed) lines.push('what came later: the recording ended before the page was quiet');
-    if (this.windows) lines.push(`windows opened and not recorded: ${this.windows}`);
+    if (this.windows) lines.push(`windows that the page opened, closed at once: ${this.windows}`);
     return lines;
   }
 }

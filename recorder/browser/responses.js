@@ -1,15 +1,15 @@
 'use strict';
 // Takes each response on its way (the protocol's Fetch domain): answers from a folder, marks pages and scripts, holds files back.
 
+const { BrowserFault } = require('./chromium.js');
 const { decodeText } = require('./text.js');
+const { sleep, within } = require('./time.js');
 
 const PAGE_TYPE = /^text\/html\b/i;
 const XML_PAGE_TYPE = /^application\/xhtml\+xml\b/i;
 const SCRIPT_TYPE = /javascript|ecmascript|^text\/plain\b|^application\/octet-stream\b/i;
 const DROPPED_HEADERS = /^(content-security-policy(-report-only)?|content-length|content-encoding|transfer-encoding|content-type|sourcemap|x-sourcemap)$/i;
 const POLICY_HEADER = /^content-security-policy/i;
-
-const sleep = (time) => new Promise((resolve) => setTimeout(resolve, time));
 
 /** A number for a text, the same in each run, so that `--slow` holds the same files back by the same times. */
 function hash(text) {
@@ -18,24 +18,27 @@ function hash(text) {
   return value;
 }
 
+const bytesOf = ({ body, base64Encoded }) => Buffer.from(body, base64Encoded ? 'base64' : 'utf8');
+
 class Responses {
   /**
    * @param {import('./tab.js').Tab} tab
-   * @param {{sources: import('../sources.js').Sources|null, folder: import('./folder.js').Folder|null, slow: number}} options
-   *   Without `sources` pages and scripts pass as they are.
+   * @param {{sources: import('../sources.js').Sources|null, folder: import('./folder.js').Folder|null, slow: number, longest: number}} options
+   *   Without `sources` pages and scripts pass as they are. A file that takes longer than `longest` milliseconds does not come.
    */
-  constructor(tab, { sources, folder, slow }) {
-    Object.assign(this, { tab, sources, folder, slow });
+  constructor(tab, { sources, folder, slow, longest }) {
+    Object.assign(this, { tab, sources, folder, slow, longest });
     this.open = new Set();
     this.mainFrame = null;
     this.navigations = 0;
     this.notFollowed = 0;
+    this.unfinished = 0;
     this.failures = [];
   }
 
   async start() {
     this.mainFrame = await this.tab.mainFrame();
-    this.tab.on('Fetch.requestPaused', (event) => this.pass(event).catch(() => this.giveUp(event)));
+    this.tab.on('Fetch.requestPaused', (event) => this.pass(event).catch((fault) => this.giveUp(event, fault)));
     this.tab.on('Network.requestWillBeSent', ({ requestId, type }) => this.isShort(type) && this.open.add(requestId));
     this.tab.on('Network.loadingFinished', ({ requestId }) => this.open.delete(requestId));
     this.tab.on('Network.loadingFailed', ({ requestId }) => this.open.delete(requestId));
@@ -49,8 +52,9 @@ class Responses {
     return type !== 'EventSource' && type !== 'WebSocket';
   }
 
-  /** A request that the page gave up meanwhile can't be passed on: nothing is left to do. */
-  giveUp({ requestId }) {
+  /** A request that the page gave up meanwhile can't be passed on: nothing is left to do. A file that can't be marked stays as it is. */
+  giveUp({ requestId }, fault) {
+    if (!(fault instanceof BrowserFault)) this.sources?.count(this.sources.missed, `files that could not be marked (${fault.message})`);
     this.tab.send('Fetch.continueRequest', { requestId }).catch(() => {});
   }
 
@@ -100,11 +104,30 @@ class Responses {
       await this.tab.send('Fetch.continueRequest', { requestId: event.requestId });
       return;
     }
-    const { body, base64Encoded } = await this.tab.send('Fetch.getResponseBody', { requestId: event.requestId });
-    const bytes = Buffer.from(body, base64Encoded ? 'base64' : 'utf8');
+    const bytes = event.resourceType === 'Document' ? await this.readPage(event) : await this.readScript(event);
     if (event.responseHeaders.some(({ name }) => POLICY_HEADER.test(name))) this.sources.count(this.sources.dropped, 'content policies');
     const headers = event.responseHeaders.filter(({ name }) => !DROPPED_HEADERS.test(name));
     await this.fulfill(event, status, headers, this.contentType(event), bytes);
+  }
+
+  async readScript({ requestId }) {
+    return bytesOf(await this.tab.send('Fetch.getResponseBody', { requestId }, this.longest));
+  }
+
+  /** A page that does not end to come is shown as it is after half of the recording's time; a browser would show it meanwhile. */
+  async readPage({ requestId }) {
+    const { stream: handle } = await this.tab.send('Fetch.takeResponseBodyAsStream', { requestId });
+    const until = Date.now() + this.longest / 2;
+    const pieces = [];
+    for (let isAtEnd = false; !isAtEnd;) {
+      const read = this.tab.send('IO.read', { handle }, this.longest).catch(() => null);
+      const piece = await within(read, until - Date.now(), null);
+      if (!piece) this.unfinished++;
+      else pieces.push({ body: piece.data, base64Encoded: piece.base64Encoded });
+      isAtEnd = !piece || piece.eof;
+    }
+    this.tab.send('IO.close', { handle }).catch(() => {});
+    return Buffer.concat(pieces.map(bytesOf));
   }
 
   contentType(event) {

@@ -274,8 +274,9 @@ class Instrumenter {
 
   BlockStatement(node, scope) { this.visitChildren(node, Scope.ofBlock(scope, node.body)); }
   StaticBlock(node, scope) {
-    const inner = Scope.ofBlock(scope, node.body);
+    const inner = new Scope(scope);
     node.body.forEach((statement) => addHoisted(statement, inner.names));
+    addLexical(node.body, inner.names);
     this.visitChildren(node, inner);
   }
 
@@ -376,12 +377,17 @@ function declaredFunctions(instrumenter, program, scope) {
     .map((statement) => [statement.id.name, instrumenter.options.site(statement.id.start)]);
 }
 
-/** The classes that a script declares become global variables where they stand. */
-function markClasses(instrumenter, program, scope) {
+/** A class that a script declares becomes a global variable where it stands. */
+function markClass(instrumenter, statement, scope) {
+  const write = instrumenter.access('w', statement.id.name, scope, statement.id.start);
+  if (write) instrumenter.insert(statement.end, `;${write};`);
+}
+
+/** What is inserted behind a statement is handed in before what is inserted at the begin of the next one. */
+function visitProgram(instrumenter, program, scope, kind) {
   for (const statement of program.body) {
-    if (statement.type !== 'ClassDeclaration') continue;
-    const write = instrumenter.access('w', statement.id.name, scope, statement.id.start);
-    if (write) instrumenter.insert(statement.end, `;${write};`);
+    instrumenter.visit(statement, scope);
+    if (statement.type === 'ClassDeclaration' && kind !== 'handler') markClass(instrumenter, statement, scope);
   }
 }
 
@@ -405,8 +411,7 @@ function instrument(code, options) {
   const scope = topScope(program, options.kind);
   const begin = placeOfBegin(program, code);
   instrumenter.insert(begin, beginCall(instrumenter, program, scope));
-  instrumenter.visitAll(program.body, scope);
-  if (options.kind !== 'handler') markClasses(instrumenter, program, scope);
+  visitProgram(instrumenter, program, scope, options.kind);
   instrumenter.insert(placeOfEnd(program, begin), endCall(options));
   return { edits: instrumenter.edits };
 }

@@ -10,6 +10,7 @@ function takeNatives(window) {
     getAttribute: Element.prototype.getAttribute,
     setAttribute: Element.prototype.setAttribute,
     hasAttribute: Element.prototype.hasAttribute,
+    getAttributeNames: Element.prototype.getAttributeNames,
     isConnected: Object.getOwnPropertyDescriptor(Node.prototype, 'isConnected').get,
     MutationObserver: window.MutationObserver,
     promise: Promise,

@@ -63,13 +63,18 @@ class Recording {
   }
 
   access(mode, location, place) {
-    if (this.isOver) return;
+    if (this.mayAccess()) this.accessNow(mode, location, place);
+  }
+
+  /** Whether an access can be written now. What returned meanwhile is over then. */
+  mayAccess() {
+    if (this.isOver) return false;
     if (!this.isRunning()) {
       this.log.miss('accesses while nothing recorded ran');
-      return;
+      return false;
     }
     this.finishReturned();
-    this.accessNow(mode, location, place);
+    return true;
   }
 
   /** An access of the running action, without a look at what returned meanwhile. */
