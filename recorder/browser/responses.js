@@ -39,7 +39,7 @@ class Responses {
   async start() {
     this.mainFrame = await this.tab.mainFrame();
     this.tab.on('Fetch.requestPaused', (event) => this.pass(event).catch((fault) => this.giveUp(event, fault)));
-    this.tab.on('Network.requestWillBeSent', ({ requestId, type }) => this.isShort(type) && this.open.add(requestId));
+    this.tab.on('Network.requestWillBeSent', (request) => this.isAwaited(request) && this.open.add(request.requestId));
     this.tab.on('Network.loadingFinished', ({ requestId }) => this.open.delete(requestId));
     this.tab.on('Network.loadingFailed', ({ requestId }) => this.open.delete(requestId));
     await this.tab.send('Network.enable');
@@ -48,8 +48,9 @@ class Responses {
     await this.tab.send('Fetch.enable', { patterns: [{ urlPattern: '*', requestStage: 'Request' }, { urlPattern: '*', requestStage: 'Response' }] });
   }
 
-  isShort(type) {
-    return type !== 'EventSource' && type !== 'WebSocket';
+  /** A stream has no end, and the end of a worker's requests (those without a loader) is not told to the page's session. */
+  isAwaited({ type, loaderId }) {
+    return type !== 'EventSource' && type !== 'WebSocket' && loaderId !== '';
   }
 
   /** A request that the page gave up meanwhile can't be passed on: nothing is left to do. A file that can't be marked stays as it is. */
@@ -147,7 +148,7 @@ class Responses {
 
   /** Answers a request; pages and scripts are marked before. */
   async fulfill(event, status, headers, type, bytes) {
-    const isMarked = this.sources && status === 200 && this.isText(event, type) && !this.isWorker(event);
+    const isMarked = this.sources && status === 200 && this.isText(event, type);
     const body = isMarked ? this.mark(event, type, bytes) : bytes;
     const contentType = isMarked ? `${type.replace(/;.*$/, '') || 'text/javascript'}; charset=utf-8` : type;
     await this.tab.send('Fetch.fulfillRequest', {
@@ -156,12 +157,6 @@ class Responses {
       responseHeaders: [...headers, { name: 'content-type', value: contentType }],
       body: body.toString('base64'),
     });
-  }
-
-  /** A worker has no recorder in it, so its script stays as it is. */
-  isWorker({ request }) {
-    const destination = Object.entries(request.headers).find(([name]) => name.toLowerCase() === 'sec-fetch-dest');
-    return destination !== undefined && /worker/.test(destination[1]);
   }
 
   mark(event, type, bytes) {

@@ -13,6 +13,9 @@ const MARK_BEGIN = '/*<*/';
 const MARK_END = '/*>*/';
 const BLANK = '\u2005';
 
+/** A script may also be imported by a worker, in which there is no recorder: there its marks do nothing. */
+const IDLE = 'globalThis.__er||(globalThis.__er=new Proxy({},{get:(t,n)=>/^[rwu]o$/.test(n)?o=>o:()=>{}}));';
+
 const mark = (text) => MARK_BEGIN + text + MARK_END;
 const quote = (name) => JSON.stringify(name);
 
@@ -420,9 +423,9 @@ function beginCall({ options }, program, scope) {
   const site = options.site(0);
   if (options.kind === 'handler') return `;__er.handlerBegins(this,event,${quote(options.type)});try{`;
   if (options.kind === 'address') return ';__er.addressBegins();try{';
-  if (options.kind === 'module') return `;__er.moduleBegins(import.meta.url,${site});`;
+  if (options.kind === 'module') return `;${IDLE}__er.moduleBegins(import.meta.url,${site});`;
   const functions = declaredFunctions({ options }, program, scope);
-  return `;__er.scriptBegins(document.currentScript,${site},${JSON.stringify(functions)});`;
+  return `;${IDLE}__er.scriptBegins(globalThis.document&&document.currentScript,${site},${JSON.stringify(functions)});`;
 }
 
 function endCall({ kind }) {

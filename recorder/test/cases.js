@@ -73,7 +73,7 @@ exports.cases = [
   },
   {
     page: 'class-and-call.html',
-    due: ['exec script', 'w made', 'w Shop', 'r Shop', 'w Other', 'exec script', 'r Other', 'w seen'],
+    due: ['exec script', 'w made', 'w Shop', 'r Shop', 'w Other', 'exec script', 'w seen', 'r Other'],
   },
   {
     page: 'own-arrays.html',
@@ -150,6 +150,14 @@ exports.cases = [
   },
   {
     page: 'worker.html',
+    words: ['--time', '20'],
+    due: [
+      'new Worker plain', 'fire Worker message', 'run answered', 'w answer',
+    ],
+  },
+  {
+    page: 'worker-file.html',
+    words: ['--time', '20'],
     due: [
       'new Worker plain', 'fire Worker message', 'run answered', 'w answer',
     ],
@@ -327,7 +335,7 @@ exports.cases = [
   {
     page: 'endless-handler.html',
     words: [...CLICK, '--time', '4'],
-    due: ['inline button click'],
+    due: ['on click', 'dcl', 'load'],
     losses: [/what came later: the recording ended before the page was quiet/],
   },
 
