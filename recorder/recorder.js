@@ -7,6 +7,7 @@ const { Responses } = require('./browser/responses.js');
 const { resolveAddress } = require('./browser/folder.js');
 const { User } = require('./browser/user.js');
 const { sleep, within } = require('./browser/time.js');
+const { markAhead } = require('./instrument/ahead.js');
 const { Sources } = require('./sources.js');
 const { Intake } = require('./trace/intake.js');
 const { pageScript } = require('./page-script.js');
@@ -89,7 +90,7 @@ class Recorder {
 
   async recordToEnd() {
     const { address, folder } = this.resolve();
-    await this.openBrowser();
+    await this.openBrowser(address, folder);
     await this.prepareTab(folder);
     this.until = Date.now() + this.options.time * 1000; // the browser's own start does not count
     await Promise.race([this.loadAndUse(address), this.timeIsUp()]);
@@ -98,8 +99,7 @@ class Recorder {
 
   async loadAndUse(address) {
     await this.load(address);
-    await this.useAndWait();
-    this.isUsed = true;
+    this.isUsed = await this.useAndWait();
   }
 
   /** A page that never ends its work answers nothing: what came until then is the recording. */
@@ -115,19 +115,23 @@ class Recorder {
     }
   }
 
-  async openBrowser() {
+  async openBrowser(address, folder) {
     try {
       this.browser = this.options.browser || new Chromium();
       this.browser.once('gone', (why) => this.stop(new RecordingFault(`the browser has gone: ${why}`, STATUS.noBrowser)));
       if (!this.options.browser) {
         this.browser.start(SIZE.width, SIZE.height);
-        if (!this.options.isRaw) this.sources.warmUp(); // while the browser starts
+        if (!this.options.isRaw) this.prepareScripts(address, folder); // while the browser starts
         await this.browser.hasStarted();
       }
       this.tab = await Tab.open(this.browser, SIZE);
     } catch (fault) {
       throw new RecordingFault(`the browser could not be started: ${fault.message}`, STATUS.noBrowser);
     }
+  }
+
+  prepareScripts(address, folder) {
+    if (!folder || !folder.has(address) || !markAhead(this.sources, folder, address)) this.sources.warmUp();
   }
 
   async prepareTab(folder) {
@@ -177,18 +181,19 @@ class Recorder {
   /** Where nothing comes of the page until the recording's time is over. */
   async noAnswer() {
     while (!this.hasAnswered && Date.now() < this.until) await sleep(POLL);
-    return { errorText: 'no answer came in time' };
+    return { errorText: this.responses.hasPageBegun ? 'it did not come to its end in time' : 'no answer came in time' };
   }
 
   // ---- use
 
+  /** Answers whether the page was quiet, or as quiet as it gets, within its time. */
   async useAndWait() {
     await this.waitForQuiet();
     for (const action of this.options.actions.filter((one) => !one.isEarly)) {
       if (Date.now() < this.until) await this.user.act(action);
     }
     await this.user.clickAround(this.options.clicks, this.options.seed);
-    await this.waitForQuiet();
+    return this.waitForQuiet();
   }
 
   async waitForQuiet() {
@@ -200,9 +205,10 @@ class Recorder {
       if (this.openRequests() || this.intake.actions !== actions) quietSince = Date.now();
       actions = this.intake.actions;
       const isTooLong = Date.now() - begin > LONGEST_UNREST && !this.openRequests();
-      if (Date.now() - quietSince >= QUIET || isTooLong) return;
+      if (Date.now() - quietSince >= QUIET || isTooLong) return true;
       await sleep(POLL);
     }
+    return false;
   }
 
   async flush() {
@@ -228,7 +234,6 @@ class Recorder {
     for (const [what, count] of this.sources.missed) lines.push(`${what}, kept as they are: ${count}`);
     for (const [what, count] of this.sources.dropped) lines.push(`${what} dropped in the copy that the page sees: ${count}`);
     if (this.responses?.notFollowed) lines.push(`steps to another page not followed: ${this.responses.notFollowed}`);
-    if (this.responses?.unfinished) lines.push(`pages that did not end to come, shown as far as they came: ${this.responses.unfinished}`);
     if (this.hasAnswered && !this.isUsed) lines.push('what came later: the recording ended before the page was quiet');
     if (this.windows) lines.push(`windows that the page opened, closed at once: ${this.windows}`);
     return lines;

@@ -3,7 +3,7 @@
 
 const { BrowserFault } = require('./chromium.js');
 const { decodeText } = require('./text.js');
-const { sleep, within } = require('./time.js');
+const { sleep } = require('./time.js');
 
 const PAGE_TYPE = /^text\/html\b/i;
 const XML_PAGE_TYPE = /^application\/xhtml\+xml\b/i;
@@ -18,8 +18,6 @@ function hash(text) {
   return value;
 }
 
-const bytesOf = ({ body, base64Encoded }) => Buffer.from(body, base64Encoded ? 'base64' : 'utf8');
-
 class Responses {
   /**
    * @param {import('./tab.js').Tab} tab
@@ -32,7 +30,7 @@ class Responses {
     this.mainFrame = null;
     this.navigations = 0;
     this.notFollowed = 0;
-    this.unfinished = 0;
+    this.hasPageBegun = false;
     this.failures = [];
   }
 
@@ -105,30 +103,12 @@ class Responses {
       await this.tab.send('Fetch.continueRequest', { requestId: event.requestId });
       return;
     }
-    const bytes = event.resourceType === 'Document' ? await this.readPage(event) : await this.readScript(event);
+    this.hasPageBegun = true;
+    const { body, base64Encoded } = await this.tab.send('Fetch.getResponseBody', { requestId: event.requestId }, this.longest);
+    const bytes = Buffer.from(body, base64Encoded ? 'base64' : 'utf8');
     if (event.responseHeaders.some(({ name }) => POLICY_HEADER.test(name))) this.sources.count(this.sources.dropped, 'content policies');
     const headers = event.responseHeaders.filter(({ name }) => !DROPPED_HEADERS.test(name));
     await this.fulfill(event, status, headers, this.contentType(event), bytes);
-  }
-
-  async readScript({ requestId }) {
-    return bytesOf(await this.tab.send('Fetch.getResponseBody', { requestId }, this.longest));
-  }
-
-  /** A page that does not end to come is shown as it is after half of the recording's time; a browser would show it meanwhile. */
-  async readPage({ requestId }) {
-    const { stream: handle } = await this.tab.send('Fetch.takeResponseBodyAsStream', { requestId });
-    const until = Date.now() + this.longest / 2;
-    const pieces = [];
-    for (let isAtEnd = false; !isAtEnd;) {
-      const read = this.tab.send('IO.read', { handle }, this.longest).catch(() => null);
-      const piece = await within(read, until - Date.now(), null);
-      if (!piece) this.unfinished++;
-      else pieces.push({ body: piece.data, base64Encoded: piece.base64Encoded });
-      isAtEnd = !piece || piece.eof;
-    }
-    this.tab.send('IO.close', { handle }).catch(() => {});
-    return Buffer.concat(pieces.map(bytesOf));
   }
 
   contentType(event) {

@@ -3,7 +3,7 @@
 // What is inserted calls the helpers of page/scripts.js and stands between marks, so that the page sees its own text in `toString`.
 
 const acorn = require('/usr/share/nodejs/acorn');
-const { Scope, ModuleScope, childrenOf, namesOfPattern, addHoisted, addLexical } = require('./scopes.js');
+const { Scope, ModuleScope, keysOf, isNode, namesOfPattern, addHoisted, addLexical } = require('./scopes.js');
 
 /** Names by which scripts commonly reach the window; whether one does is asked when the code runs. */
 const WINDOW_NAMES = new Set(['window', 'self', 'globalThis', 'top', 'parent', 'root', 'global', 'win', 'w', 'exports', 'context']);
@@ -87,11 +87,10 @@ class Instrumenter {
   }
 
   visitChildren(node, scope, skipped) {
-    let done = node.start;
-    for (const child of childrenOf(node)) {
-      if (child === skipped || child.start < done) continue; // the key and the value of `{x}` are one text
-      this.visit(child, scope);
-      done = child.end;
+    for (const key of keysOf(node)) {
+      const value = node[key];
+      if (Array.isArray(value)) value.forEach((one) => isNode(one) && one !== skipped && this.visit(one, scope));
+      else if (isNode(value) && value !== skipped) this.visit(value, scope);
     }
   }
 

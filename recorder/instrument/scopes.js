@@ -5,9 +5,9 @@ const NOT_CHILDREN = new Set(['type', 'start', 'end', 'loc', 'range', 'name', 'o
 
 const isNode = (value) => value !== null && typeof value === 'object' && typeof value.type === 'string';
 
-/** The keys under which nodes of a type may have child nodes, in acorn's order; all nodes of a type have the same keys. */
 const keysOfType = new Map();
 
+/** The keys under which a node may have child nodes; all nodes of a type have the same keys. */
 function keysOf(node) {
   let keys = keysOfType.get(node.type);
   if (!keys) {
@@ -15,30 +15,6 @@ function keysOf(node) {
     keysOfType.set(node.type, keys);
   }
   return keys;
-}
-
-/** The child nodes of a node, in the order of the text. */
-function childrenOf(node) {
-  const children = [];
-  for (const key of keysOf(node)) {
-    const value = node[key];
-    if (Array.isArray(value)) addNodes(value, children);
-    else if (isNode(value)) children.push(value);
-  }
-  return isInOrder(children) ? children : children.sort((a, b) => a.start - b.start);
-}
-
-function addNodes(values, children) {
-  for (const value of values) {
-    if (isNode(value)) children.push(value);
-  }
-}
-
-function isInOrder(nodes) {
-  for (let k = 1; k < nodes.length; k++) {
-    if (nodes[k - 1].start > nodes[k].start) return false;
-  }
-  return true;
 }
 
 /** The names that a pattern binds, as `a` and `b` of `{a, x: [b]}`. */
@@ -154,4 +130,4 @@ class ModuleScope extends Scope {
   }
 }
 
-module.exports = { Scope, ModuleScope, childrenOf, namesOfPattern, addHoisted, addLexical };
+module.exports = { Scope, ModuleScope, keysOf, isNode, namesOfPattern, addHoisted, addLexical };

@@ -98,8 +98,8 @@ test('why two actions are ordered', () => {
     assert.match(ordered.stderr, /^er_view: no explanation: /);
     return;
   }
-  assert.match(ordered.stdout, /^These steps put action 0 .* and action 4 .* in order:\n {2}.*by rule \d+/);
-  assert.match(ask('4', '5').stdout, /^Nothing puts action 4 .* and action 5 .* in this order\./);
+  assert.match(ordered.stdout, /^These steps put action 0 .* before action 4 .*:\n {2}.*by rule \d+: /);
+  assert.match(ask('4', '5').stdout, /^Nothing puts action 4 .* before action 5 .*\./);
 });
 
 test('a trace without names', { timeout: 60000 }, async () => {
