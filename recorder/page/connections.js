@@ -19,7 +19,9 @@ class Connections {
 
   start() {
     const { window } = this.page;
-    each(keep(CONNECTIONS, (name) => window[name]), (name) => this.replaceConstructor(window, name));
+    each(CONNECTIONS, (name) => replaceConstructor(window, name, (made, words) => {
+      this.ask(made, { method: name, address: String(words[0]).slice(0, 200) });
+    }));
     this.replaceCalls(READERS, (target) => target);
     this.replaceCalls(ASKERS, (target, result) => result);
   }
@@ -29,21 +31,6 @@ class Connections {
     if (this.recording.isOver || !target) return;
     const { dispatches, requests } = this.page;
     dispatches.requests.set(target, requests.send(facts));
-  }
-
-  replaceConstructor(window, name) {
-    const connections = this;
-    const Native = window[name];
-    function Connection(...words) {
-      const made = Reflect.construct(Native, words, new.target && new.target !== Connection ? new.target : Native);
-      connections.ask(made, { method: name, address: String(words[0]).slice(0, 200) });
-      return made;
-    }
-    Connection.prototype = Native.prototype;
-    Object.setPrototypeOf(Connection, Native);
-    Object.defineProperty(Connection, 'name', { value: name });
-    Object.defineProperty(Native.prototype, 'constructor', { configurable: true, writable: true, value: Connection });
-    Object.defineProperty(window, name, { configurable: true, writable: true, value: Connection });
   }
 
   replaceCalls(owners, answering) {

@@ -32,6 +32,23 @@ function replaceMethod(owner, name, make) {
   Object.defineProperty(owner, name, { ...descriptor, value: replacement });
 }
 
+/** Puts a constructor in place of another one; `note` is told of each object that is made. */
+function replaceConstructor(window, name, note) {
+  const Native = window[name];
+  if (!Native) return;
+  function Replacement(...words) {
+    const made = Reflect.construct(Native, words, new.target && new.target !== Replacement ? new.target : Native);
+    note(made, words);
+    return made;
+  }
+  Replacement.prototype = Native.prototype;
+  Object.setPrototypeOf(Replacement, Native);
+  Object.defineProperty(Replacement, 'name', { value: name });
+  replacedFunctions.set(Replacement, Native);
+  Object.defineProperty(Native.prototype, 'constructor', { configurable: true, writable: true, value: Replacement });
+  Object.defineProperty(window, name, { configurable: true, writable: true, value: Replacement });
+}
+
 /** Puts a getter and a setter in place of those of a property. */
 function replaceProperty(owner, name, make) {
   const descriptor = Object.getOwnPropertyDescriptor(owner, name);

@@ -149,6 +149,11 @@ exports.cases = [
     races: ['last'],
   },
   {
+    page: 'broadcast.html',
+    due: ['on got', 'timer', 'fire ? message', 'run got', 'w last', 'timer', 'fire ? message', 'run got', 'w last'],
+    races: ['last'],
+  },
+  {
     page: 'worker.html',
     words: ['--time', '20'],
     due: [
