@@ -3,7 +3,7 @@
 const LINES_A_BATCH = 200;
 const MILLISECONDS_A_BATCH = 100;
 const LONGEST_NAME = 255;
-const STACK_DEPTH = 12;
+const STACK_DEPTH = 10;
 
 const spelledNames = new Map();
 const MOST_SPELLED = 20000;

@@ -143,14 +143,13 @@ exports.cases = [
   {
     page: 'messages.html',
     due: [
-      'on got', 'timer', 'w b', 'new ? plain', 'fire ? message', 'run got', 'timer', 'w a', 'fire ? message',
-      'run got',
+      'on got', 'timer', 'w b', 'new ? plain', 'fire ? message', 'run got', 'fire ? message', 'run got',
     ],
     races: ['last'],
   },
   {
     page: 'broadcast.html',
-    due: ['on got', 'timer', 'fire ? message', 'run got', 'w last', 'timer', 'fire ? message', 'run got', 'w last'],
+    due: ['on got', 'timer', 'fire ? message', 'run got', 'w last', 'fire ? message', 'run got', 'w last'],
     races: ['last'],
   },
   {

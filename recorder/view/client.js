@@ -87,7 +87,8 @@ model.links.forEach(([from, to, rule]) => {
   if (!linksInto.has(to)) linksInto.set(to, []);
   linksInto.get(to).push({ from, rule });
 });
-const racesOfPair = new Map(model.races.map((race) => [race.actions.join(' '), race]));
+/** The first race of each pair of actions. */
+const racesOfPair = new Map([...model.races].reverse().map((race) => [race.actions.join(' '), race]));
 
 /** The steps from one action to another over links that the program printed, or null where these lead to no answer. */
 function stepsBetween(from, to) {
@@ -137,10 +138,10 @@ function whyBox(race) {
   });
   const { common } = race;
   const told = common === null
-    ? 'They come from no common action.'
+    ? 'Nothing that was recorded asked for both.'
     : `Both come from action ${common}: ${wordsOf(common)}. From there on no rule leads from the one to the other.`;
   box.append(columns, make('p', {}, told));
-  if (common !== null) box.append(waysFrom(common, race.actions));
+  box.append(waysFrom(common === null ? 0 : common, race.actions));
   return box;
 }
 

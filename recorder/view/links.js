@@ -5,9 +5,9 @@
 const { runProgram } = require('./program.js');
 
 const AT_ONCE = 4;
-const MOST_PAIRS = 400;
+const MOST_PAIRS = 300;
 /** A view is not held up for longer than this by questions. */
-const LONGEST = 8000;
+const LONGEST = 4000;
 
 /**
  * The steps that lead from one action to another.

@@ -35,13 +35,17 @@ class Model {
     this.origins = new Map();
   }
 
-  /** The pairs of actions of which the view shows why they are ordered: what the first race of each group comes from, largest first. */
+  /**
+   * The pairs of actions of which the view shows why they are ordered: what the first race of each group comes from, the largest
+   * group first, and the ways from the first action to each other one.
+   */
   pairsToExplain() {
     const firsts = [...this.report.groups].sort((a, b) => b.size - a.size).map(({ race }) => this.report.races[race - 1]);
-    return firsts.flatMap(({ actions }) => {
+    const ofRaces = firsts.flatMap(({ actions }) => {
       const common = this.commonOrigin(actions) ?? 0;
       return actions.filter((action) => action !== common).map((action) => [common, action]);
     });
+    return [...ofRaces, ...this.actions.list.slice(1).map(({ number }) => [0, number])];
   }
 
   /** @param {[number, number, number][]} links those that the program printed: from, to, rule */
