@@ -5,6 +5,8 @@
 const TURNS_OF_A_CHECKPOINT = 24;
 /** How far the events before the running one are searched. */
 const LONGEST_CHAIN = 20;
+/** How many inline dispatches may be open (docs/format.md). */
+const MOST_OPEN = 256;
 /** Events in which a script may dispatch another one. */
 const MAY_DISPATCH = new Set(['exec', 'timer', 'tick', 'handler', 'close']);
 
@@ -165,7 +167,7 @@ class Recording {
   // ---- dispatches
 
   mayDispatch() {
-    return MAY_DISPATCH.has(this.running.kind);
+    return MAY_DISPATCH.has(this.running.kind) && this.dispatches.length < MOST_OPEN;
   }
 
   top() {
