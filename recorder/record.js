@@ -24,7 +24,7 @@ function writeFiles(recorder, options, traceFile) {
   fs.writeFileSync(namesFile(traceFile), names.toJson({ page: recorder.given, trace: traceFile.replace(/^.*\//, '') }));
   const lines = [];
   if (leftOut) lines.push(`parse steps in which nothing happened, left out for the limit on actions: ${leftOut}`);
-  if (cut) lines.push(`records behind the limits on actions and lines, cut off: ${cut}`);
+  if (cut) lines.push(`records behind the limits on actions, accesses and lines, cut off: ${cut}`);
   return lines;
 }
 

@@ -1,11 +1,13 @@
 'use strict';
 // Records one page: drives the browser, and hands over what it did.
 
-const { Chromium } = require('./browser/chromium.js');
+const { Chromium, BrowserFault } = require('./browser/chromium.js');
 const { Tab } = require('./browser/tab.js');
 const { Responses } = require('./browser/responses.js');
 const { resolveAddress } = require('./browser/folder.js');
 const { User } = require('./browser/user.js');
+const { sleep, within } = require('./browser/time.js');
+const { markAhead } = require('./instrument/ahead.js');
 const { Sources } = require('./sources.js');
 const { Intake } = require('./trace/intake.js');
 const { pageScript } = require('./page-script.js');
@@ -18,6 +20,8 @@ const GRACE = 1000;
 const QUIET = 400;
 /** A page that is never quiet, as one with an interval, is waited for so long. */
 const LONGEST_UNREST = 3000;
+/** The last lines of the page are waited for so long. */
+const LONGEST_FLUSH = 2000;
 
 const LOAD_TIME = "(() => { const [one] = performance.getEntriesByType('navigation'); return one && one.loadEventEnd ? one.loadEventEnd - one.startTime : null; })()";
 
@@ -29,8 +33,6 @@ function browserFacts() {
   const hasHandlers = (name) => Object.getOwnPropertyNames(prototypeOf(name)).some((property) => /^on[a-z]/.test(property));
   return { names, handlerOwners: Object.getOwnPropertyNames(window).filter(hasHandlers) };
 }
-
-const sleep = (time) => new Promise((resolve) => setTimeout(resolve, time));
 
 /** Why a recording ended before its end. */
 class RecordingFault extends Error {
@@ -73,16 +75,22 @@ class Recorder {
       await Promise.race([this.recordToEnd(), this.stopped]);
     } catch (fault) {
       if (fault.status === STATUS.stopped && this.tab) await this.finish();
-      throw fault;
+      if (!(fault instanceof BrowserFault)) throw fault;
+      throw new RecordingFault(`the browser failed: ${fault.message}`, STATUS.noBrowser);
     } finally {
-      if (this.options.browser) await this.tab?.close();
-      else if (this.browser) await this.browser.close();
+      await this.closeBrowser();
     }
+  }
+
+  /** A browser that was handed in stays; its tab goes. */
+  async closeBrowser() {
+    if (this.options.browser) await this.tab?.close().catch(() => {});
+    else if (this.browser) await this.browser.close();
   }
 
   async recordToEnd() {
     const { address, folder } = this.resolve();
-    await this.openBrowser();
+    await this.openBrowser(address, folder);
     await this.prepareTab(folder);
     this.until = Date.now() + this.options.time * 1000; // the browser's own start does not count
     await Promise.race([this.loadAndUse(address), this.timeIsUp()]);
@@ -91,8 +99,7 @@ class Recorder {
 
   async loadAndUse(address) {
     await this.load(address);
-    await this.useAndWait();
-    this.isUsed = true;
+    this.isUsed = await this.useAndWait();
   }
 
   /** A page that never ends its work answers nothing: what came until then is the recording. */
@@ -108,18 +115,23 @@ class Recorder {
     }
   }
 
-  async openBrowser() {
+  async openBrowser(address, folder) {
     try {
       this.browser = this.options.browser || new Chromium();
       this.browser.once('gone', (why) => this.stop(new RecordingFault(`the browser has gone: ${why}`, STATUS.noBrowser)));
       if (!this.options.browser) {
         this.browser.start(SIZE.width, SIZE.height);
-        if (!this.options.isRaw) this.sources.warmUp(); // while the browser starts
+        if (!this.options.isRaw) this.prepareScripts(address, folder); // while the browser starts
+        await this.browser.hasStarted();
       }
       this.tab = await Tab.open(this.browser, SIZE);
     } catch (fault) {
       throw new RecordingFault(`the browser could not be started: ${fault.message}`, STATUS.noBrowser);
     }
+  }
+
+  prepareScripts(address, folder) {
+    if (!folder || !folder.has(address) || !markAhead(this.sources, folder, address)) this.sources.warmUp();
   }
 
   async prepareTab(folder) {
@@ -128,8 +140,10 @@ class Recorder {
     for (const domain of ['Page', 'Runtime', 'Inspector']) await tab.send(`${domain}.enable`);
     const { names, handlerOwners } = await tab.evaluate(`(${browserFacts})()`);
     this.sources.builtins = new Set(names);
-    this.responses = new Responses(tab, { sources: options.isRaw ? null : this.sources, folder, slow: options.slow });
+    const longest = options.time * 1000 + GRACE;
+    this.responses = new Responses(tab, { sources: options.isRaw ? null : this.sources, folder, slow: options.slow, longest });
     await this.responses.start();
+    await tab.closeOpenedWindows(() => { this.windows++; });
     if (!options.isRaw) {
       await tab.send('Runtime.addBinding', { name: '__erSend' });
       await tab.send('Page.addScriptToEvaluateOnNewDocument', { source: pageScript(handlerOwners) });
@@ -142,7 +156,6 @@ class Recorder {
     tab.on('Runtime.exceptionThrown', ({ exceptionDetails }) => this.errors.push(errorOf(exceptionDetails)));
     tab.on('Page.loadEventFired', () => { this.isLoaded = true; });
     tab.on('Page.javascriptDialogOpening', () => tab.send('Page.handleJavaScriptDialog', { accept: true }).catch(() => {}));
-    tab.on('Page.windowOpen', () => { this.windows++; });
     tab.on('Inspector.targetCrashed', () => this.stop(new RecordingFault('the page crashed the browser', STATUS.noBrowser)));
   }
 
@@ -150,7 +163,7 @@ class Recorder {
 
   async load(address) {
     this.isLoaded = false;
-    const navigation = this.tab.send('Page.navigate', { url: address });
+    const navigation = this.tab.send('Page.navigate', { url: address }, this.options.time * 1000 + GRACE);
     const early = this.options.actions.filter((action) => action.isEarly);
     const { errorText } = await Promise.race([navigation, this.noAnswer()]);
     this.hasAnswered = true;
@@ -168,18 +181,19 @@ class Recorder {
   /** Where nothing comes of the page until the recording's time is over. */
   async noAnswer() {
     while (!this.hasAnswered && Date.now() < this.until) await sleep(POLL);
-    return { errorText: 'no answer came in time' };
+    return { errorText: this.responses.hasPageBegun ? 'it did not come to its end in time' : 'no answer came in time' };
   }
 
   // ---- use
 
+  /** Answers whether the page was quiet, or as quiet as it gets, within its time. */
   async useAndWait() {
     await this.waitForQuiet();
     for (const action of this.options.actions.filter((one) => !one.isEarly)) {
       if (Date.now() < this.until) await this.user.act(action);
     }
     await this.user.clickAround(this.options.clicks, this.options.seed);
-    await this.waitForQuiet();
+    return this.waitForQuiet();
   }
 
   async waitForQuiet() {
@@ -191,9 +205,10 @@ class Recorder {
       if (this.openRequests() || this.intake.actions !== actions) quietSince = Date.now();
       actions = this.intake.actions;
       const isTooLong = Date.now() - begin > LONGEST_UNREST && !this.openRequests();
-      if (Date.now() - quietSince >= QUIET || isTooLong) return;
+      if (Date.now() - quietSince >= QUIET || isTooLong) return true;
       await sleep(POLL);
     }
+    return false;
   }
 
   async flush() {
@@ -208,7 +223,7 @@ class Recorder {
   async callRecording(method) {
     if (this.options.isRaw) return;
     const answer = this.tab.evaluate(`typeof __er === 'object' && __er.recording && __er.recording.${method}()`);
-    await Promise.race([answer.catch(() => {}), sleep(2000)]);
+    await within(answer.catch(() => {}), LONGEST_FLUSH);
   }
 
   // ---- what was not recorded
@@ -220,7 +235,7 @@ class Recorder {
     for (const [what, count] of this.sources.dropped) lines.push(`${what} dropped in the copy that the page sees: ${count}`);
     if (this.responses?.notFollowed) lines.push(`steps to another page not followed: ${this.responses.notFollowed}`);
     if (this.hasAnswered && !this.isUsed) lines.push('what came later: the recording ended before the page was quiet');
-    if (this.windows) lines.push(`windows opened and not recorded: ${this.windows}`);
+    if (this.windows) lines.push(`windows that the page opened, closed at once: ${this.windows}`);
     return lines;
   }
 }

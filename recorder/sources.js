@@ -78,6 +78,8 @@ class Sources {
 
   /** The text of a script as the browser shall get it; a script that is no JavaScript stays as it is. */
   rewriteScript(address, code) {
+    const known = this.byAddress.get(address);
+    if (known && known.edited && known.text === code) return known.edited.text; // as in each of several frames
     const source = this.addSource(address, code);
     let result = instrument(code, source.options('script', 0)); // a module that looks like a script is told apart when it runs
     if (result.fault) result = instrument(code, source.options('module', 0));

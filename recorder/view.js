@@ -7,6 +7,7 @@ const fs = require('node:fs');
 const { Actions } = require('./view/actions.js');
 const { Model } = require('./view/model.js');
 const { renderPage } = require('./view/html.js');
+const { linksBetween } = require('./view/links.js');
 const { judge } = require('./view/program.js');
 const { why } = require('./view/why.js');
 
@@ -28,12 +29,14 @@ function readNames(traceFile) {
 
 /**
  * Writes the view of a judged trace.
- * @returns {object} the model that it shows
+ * @returns {Promise<object>} the model that it shows
  */
-function writeView(traceFile, report) {
-  const model = new Model(report, readNames(traceFile), new Actions(fs.readFileSync(traceFile, 'utf8').replace(/end\n$/, ''))).build();
-  fs.writeFileSync(besides(traceFile, '.html'), renderPage(model));
-  return model;
+async function writeView(traceFile, report) {
+  const model = new Model(report, readNames(traceFile), new Actions(fs.readFileSync(traceFile, 'utf8').replace(/end\n$/, '')));
+  const links = await linksBetween(traceFile, model.pairsToExplain());
+  const shown = { ...model.build(links), question: `./er_view ${traceFile} --why` };
+  fs.writeFileSync(besides(traceFile, '.html'), renderPage(shown));
+  return shown;
 }
 
 /** Judges a trace and writes its view. Answers the exit status, and the model where there is one. */
@@ -47,7 +50,7 @@ async function view(traceFile, name) {
     console.error(`${name}: the trace is refused at line ${report.refused.line}: ${report.refused.cause}`);
     return { status };
   }
-  return { status, report, model: writeView(traceFile, report) };
+  return { status, report, model: await writeView(traceFile, report) };
 }
 
 /** Tells why two actions are ordered. */

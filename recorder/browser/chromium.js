@@ -6,6 +6,7 @@ const { EventEmitter } = require('node:events');
 const fs = require('node:fs');
 const os = require('node:os');
 const path = require('node:path');
+const { within } = require('./time.js');
 
 const PROGRAM = process.env.CHROMIUM || '/usr/bin/chromium';
 const FLAGS = [
@@ -17,8 +18,16 @@ const FLAGS = [
   '--remote-debugging-pipe',
 ];
 
+/** No answer of the browser is waited for longer than this, where the caller does not say otherwise; its start has a limit of its own. */
+const LONGEST_ANSWER = 20000;
+const LONGEST_START = 60000;
+const LONGEST_END = 2000;
+
 /** The browser does not run as root with its sandbox. */
 const sandboxFlags = () => (process.getuid && process.getuid() === 0 ? ['--no-sandbox'] : []);
+
+/** Why the browser did not do what it was asked for. */
+class BrowserFault extends Error {}
 
 /** Events: each message of the protocol under its method's name, and `gone` once the browser has ended. */
 class Chromium extends EventEmitter {
@@ -30,7 +39,12 @@ class Chromium extends EventEmitter {
   static async launch({ width, height }) {
     const browser = new Chromium();
     browser.start(width, height);
-    await browser.send('Browser.getVersion');
+    try {
+      await browser.hasStarted();
+    } catch (fault) {
+      await browser.close();
+      throw fault;
+    }
     return browser;
   }
 
@@ -63,25 +77,39 @@ class Chromium extends EventEmitter {
       this.emit(message.method, message.params, message.sessionId);
       return;
     }
-    const answer = this.answers.get(message.id);
-    this.answers.delete(message.id);
-    if (message.error) answer?.reject(new Error(message.error.message));
+    const answer = this.takeAnswer(message.id);
+    if (message.error) answer?.reject(new BrowserFault(message.error.message));
     else answer?.resolve(message.result);
   }
 
-  /** Calls a method of the protocol. Fails where the browser has ended. */
-  send(method, params = {}, sessionId = undefined) {
-    if (this.isGone) return Promise.reject(new Error('the browser has ended'));
+  /** Who waits for an answer; nobody, where it came too late. */
+  takeAnswer(id) {
+    const answer = this.answers.get(id);
+    this.answers.delete(id);
+    clearTimeout(answer?.timer);
+    return answer;
+  }
+
+  /** The first answer of the browser. */
+  hasStarted() {
+    return this.send('Browser.getVersion', {}, undefined, LONGEST_START);
+  }
+
+  /** Calls a method of the protocol. Fails where the browser has ended, or does not answer within `limit` milliseconds. */
+  send(method, params = {}, sessionId = undefined, limit = LONGEST_ANSWER) {
+    if (this.isGone) return Promise.reject(new BrowserFault('the browser has ended'));
     const id = ++this.lastId;
     this.process.stdio[3].write(`${JSON.stringify({ id, method, params, sessionId })}\0`);
-    return new Promise((resolve, reject) => this.answers.set(id, { resolve, reject }));
+    return new Promise((resolve, reject) => {
+      const late = () => this.takeAnswer(id)?.reject(new BrowserFault(`no answer to ${method} in ${limit / 1000} s`));
+      this.answers.set(id, { resolve, reject, timer: setTimeout(late, limit) });
+    });
   }
 
   end(why) {
     if (this.isGone) return;
     this.isGone = true;
-    for (const { reject } of this.answers.values()) reject(new Error(why));
-    this.answers.clear();
+    for (const id of [...this.answers.keys()]) this.takeAnswer(id).reject(new BrowserFault(why));
     this.emit('gone', why);
   }
 
@@ -91,16 +119,16 @@ class Chromium extends EventEmitter {
     } catch {
       // they have ended
     }
-    fs.rmSync(this.folder, { recursive: true, force: true, maxRetries: 5 });
+    fs.rmSync(this.folder, { recursive: true, force: true, maxRetries: 10, retryDelay: 50 });
   }
 
   async close() {
     const ended = this.isGone ? Promise.resolve() : new Promise((resolve) => this.once('gone', resolve));
-    this.send('Browser.close').catch(() => {});
-    await Promise.race([ended, new Promise((resolve) => setTimeout(resolve, 2000).unref())]);
+    this.send('Browser.close', {}, undefined, LONGEST_END).catch(() => {});
+    await within(ended, LONGEST_END);
     process.off('exit', this.onProcessExit);
     this.killNow();
   }
 }
 
-module.exports = { Chromium };
+module.exports = { Chromium, BrowserFault };

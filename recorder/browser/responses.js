@@ -1,15 +1,15 @@
 'use strict';
 // Takes each response on its way (the protocol's Fetch domain): answers from a folder, marks pages and scripts, holds files back.
 
+const { BrowserFault } = require('./chromium.js');
 const { decodeText } = require('./text.js');
+const { sleep } = require('./time.js');
 
 const PAGE_TYPE = /^text\/html\b/i;
 const XML_PAGE_TYPE = /^application\/xhtml\+xml\b/i;
 const SCRIPT_TYPE = /javascript|ecmascript|^text\/plain\b|^application\/octet-stream\b/i;
 const DROPPED_HEADERS = /^(content-security-policy(-report-only)?|content-length|content-encoding|transfer-encoding|content-type|sourcemap|x-sourcemap)$/i;
 const POLICY_HEADER = /^content-security-policy/i;
-
-const sleep = (time) => new Promise((resolve) => setTimeout(resolve, time));
 
 /** A number for a text, the same in each run, so that `--slow` holds the same files back by the same times. */
 function hash(text) {
@@ -21,22 +21,23 @@ function hash(text) {
 class Responses {
   /**
    * @param {import('./tab.js').Tab} tab
-   * @param {{sources: import('../sources.js').Sources|null, folder: import('./folder.js').Folder|null, slow: number}} options
-   *   Without `sources` pages and scripts pass as they are.
+   * @param {{sources: import('../sources.js').Sources|null, folder: import('./folder.js').Folder|null, slow: number, longest: number}} options
+   *   Without `sources` pages and scripts pass as they are. A file that takes longer than `longest` milliseconds does not come.
    */
-  constructor(tab, { sources, folder, slow }) {
-    Object.assign(this, { tab, sources, folder, slow });
+  constructor(tab, { sources, folder, slow, longest }) {
+    Object.assign(this, { tab, sources, folder, slow, longest });
     this.open = new Set();
     this.mainFrame = null;
     this.navigations = 0;
     this.notFollowed = 0;
+    this.hasPageBegun = false;
     this.failures = [];
   }
 
   async start() {
     this.mainFrame = await this.tab.mainFrame();
-    this.tab.on('Fetch.requestPaused', (event) => this.pass(event).catch(() => this.giveUp(event)));
-    this.tab.on('Network.requestWillBeSent', ({ requestId, type }) => this.isShort(type) && this.open.add(requestId));
+    this.tab.on('Fetch.requestPaused', (event) => this.pass(event).catch((fault) => this.giveUp(event, fault)));
+    this.tab.on('Network.requestWillBeSent', (request) => this.isAwaited(request) && this.open.add(request.requestId));
     this.tab.on('Network.loadingFinished', ({ requestId }) => this.open.delete(requestId));
     this.tab.on('Network.loadingFailed', ({ requestId }) => this.open.delete(requestId));
     await this.tab.send('Network.enable');
@@ -45,12 +46,14 @@ class Responses {
     await this.tab.send('Fetch.enable', { patterns: [{ urlPattern: '*', requestStage: 'Request' }, { urlPattern: '*', requestStage: 'Response' }] });
   }
 
-  isShort(type) {
-    return type !== 'EventSource' && type !== 'WebSocket';
+  /** A stream has no end, and the end of a worker's requests (those without a loader) is not told to the page's session. */
+  isAwaited({ type, loaderId }) {
+    return type !== 'EventSource' && type !== 'WebSocket' && loaderId !== '';
   }
 
-  /** A request that the page gave up meanwhile can't be passed on: nothing is left to do. */
-  giveUp({ requestId }) {
+  /** A request that the page gave up meanwhile can't be passed on: nothing is left to do. A file that can't be marked stays as it is. */
+  giveUp({ requestId }, fault) {
+    if (!(fault instanceof BrowserFault)) this.sources?.count(this.sources.missed, `files that could not be marked (${fault.message})`);
     this.tab.send('Fetch.continueRequest', { requestId }).catch(() => {});
   }
 
@@ -100,7 +103,8 @@ class Responses {
       await this.tab.send('Fetch.continueRequest', { requestId: event.requestId });
       return;
     }
-    const { body, base64Encoded } = await this.tab.send('Fetch.getResponseBody', { requestId: event.requestId });
+    this.hasPageBegun = true;
+    const { body, base64Encoded } = await this.tab.send('Fetch.getResponseBody', { requestId: event.requestId }, this.longest);
     const bytes = Buffer.from(body, base64Encoded ? 'base64' : 'utf8');
     if (event.responseHeaders.some(({ name }) => POLICY_HEADER.test(name))) this.sources.count(this.sources.dropped, 'content policies');
     const headers = event.responseHeaders.filter(({ name }) => !DROPPED_HEADERS.test(name));
@@ -124,7 +128,7 @@ class Responses {
 
   /** Answers a request; pages and scripts are marked before. */
   async fulfill(event, status, headers, type, bytes) {
-    const isMarked = this.sources && status === 200 && this.isText(event, type) && !this.isWorker(event);
+    const isMarked = this.sources && status === 200 && this.isText(event, type);
     const body = isMarked ? this.mark(event, type, bytes) : bytes;
     const contentType = isMarked ? `${type.replace(/;.*$/, '') || 'text/javascript'}; charset=utf-8` : type;
     await this.tab.send('Fetch.fulfillRequest', {
@@ -133,12 +137,6 @@ class Responses {
       responseHeaders: [...headers, { name: 'content-type', value: contentType }],
       body: body.toString('base64'),
     });
-  }
-
-  /** A worker has no recorder in it, so its script stays as it is. */
-  isWorker({ request }) {
-    const destination = Object.entries(request.headers).find(([name]) => name.toLowerCase() === 'sec-fetch-dest');
-    return destination !== undefined && /worker/.test(destination[1]);
   }
 
   mark(event, type, bytes) {

@@ -4,30 +4,47 @@
 class Tab {
   static async open(browser, { width, height }) {
     const { browserContextId } = await browser.send('Target.createBrowserContext');
+    await browser.send('Browser.setDownloadBehavior', { behavior: 'deny', browserContextId });
     const { targetId } = await browser.send('Target.createTarget', { url: 'about:blank', browserContextId, width, height });
     const { sessionId } = await browser.send('Target.attachToTarget', { targetId, flatten: true });
-    return new Tab(browser, browserContextId, sessionId);
+    return new Tab(browser, { contextId: browserContextId, targetId, sessionId });
   }
 
-  constructor(browser, contextId, sessionId) {
-    this.browser = browser;
-    this.contextId = contextId;
-    this.sessionId = sessionId;
+  constructor(browser, { contextId, targetId, sessionId }) {
+    Object.assign(this, { browser, contextId, targetId, sessionId });
+    this.listeners = [];
   }
 
   /** Closes the tab and forgets what its page stored. */
   async close() {
+    this.listeners.forEach(([method, listener]) => this.browser.off(method, listener));
     await this.browser.send('Target.disposeBrowserContext', { browserContextId: this.contextId });
   }
 
-  send(method, params) {
-    return this.browser.send(method, params, this.sessionId);
+  send(method, params, limit) {
+    return this.browser.send(method, params, this.sessionId, limit);
   }
 
   on(method, listener) {
-    this.browser.on(method, (params, sessionId) => {
-      if (sessionId === this.sessionId) listener(params);
+    this.onAny(method, (params, sessionId) => sessionId === this.sessionId && listener(params));
+  }
+
+  onAny(method, listener) {
+    this.listeners.push([method, listener]);
+    this.browser.on(method, listener);
+  }
+
+  /**
+   * Closes each window that the page opens. It would run in the page's own process, with no recorder in it: its dialogs and
+   * its endless loops would stop the page.
+   */
+  async closeOpenedWindows(note) {
+    this.onAny('Target.targetCreated', ({ targetInfo }) => {
+      if (targetInfo.type !== 'page' || targetInfo.browserContextId !== this.contextId || targetInfo.targetId === this.targetId) return;
+      note();
+      this.browser.send('Target.closeTarget', { targetId: targetInfo.targetId }).catch(() => {});
     });
+    await this.browser.send('Target.setDiscoverTargets', { discover: true });
   }
 
   async mainFrame() {

@@ -1,13 +1,13 @@
 'use strict';
 // What a user does: clicks, keys and waits, by the browser's own input, so that the page sees trusted events.
 
+const { sleep, within } = require('./time.js');
+
 const KEY_CODES = { Escape: 27, Enter: 13, Tab: 9, Backspace: 8, Delete: 46, ArrowDown: 40, ArrowUp: 38, ArrowRight: 39, ArrowLeft: 37, ' ': 32 };
 const KEY_PAUSE = 30;
 const ACTION_PAUSE = 120;
 const LONGEST_ACTION = 4000;
 const EARLY_POLL = 10;
-
-const sleep = (time) => new Promise((resolve) => setTimeout(resolve, time));
 
 /** Runs in the page: where an element of a selector can be clicked, or null. */
 function findTarget(selector) {
@@ -48,8 +48,10 @@ class User {
     this.did = [];
   }
 
+  /** What a function answers in the page; null where it does not answer in time, as in a loop without an end, or fails. */
   call(found, word) {
-    return this.tab.evaluateApart(`(${found})(${JSON.stringify(word)})`);
+    const answer = this.tab.evaluateApart(`(${found})(${JSON.stringify(word)})`).catch(() => null);
+    return within(answer, LONGEST_ACTION, null);
   }
 
   async click({ x, y }) {
@@ -75,7 +77,7 @@ class User {
 
   /** An action that opens a dialog or stops in the page does not hold the recording up. */
   async guarded(work) {
-    await Promise.race([work.catch(() => {}), sleep(LONGEST_ACTION)]);
+    await within(work.catch(() => {}), LONGEST_ACTION);
   }
 
   async act(action) {
@@ -98,7 +100,7 @@ class User {
   /** Waits until the target of an early action is there. */
   async waitFor(action, until) {
     if (action.kind === 'wait' || action.kind === 'key') return;
-    while (Date.now() < until && !(await this.call(findTarget, action.target).catch(() => null))) await sleep(EARLY_POLL);
+    while (Date.now() < until && !(await this.call(findTarget, action.target))) await sleep(EARLY_POLL);
   }
 
   async clickAround(clicks, seed) {

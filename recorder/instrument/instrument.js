@@ -3,7 +3,7 @@
 // What is inserted calls the helpers of page/scripts.js and stands between marks, so that the page sees its own text in `toString`.
 
 const acorn = require('/usr/share/nodejs/acorn');
-const { Scope, ModuleScope, childrenOf, namesOfPattern, addHoisted, addLexical } = require('./scopes.js');
+const { Scope, ModuleScope, keysOf, isNode, namesOfPattern, addHoisted, addLexical } = require('./scopes.js');
 
 /** Names by which scripts commonly reach the window; whether one does is asked when the code runs. */
 const WINDOW_NAMES = new Set(['window', 'self', 'globalThis', 'top', 'parent', 'root', 'global', 'win', 'w', 'exports', 'context']);
@@ -12,6 +12,9 @@ const NEVER_RECORDED = new Set(['undefined', 'arguments', 'eval', 'NaN', 'Infini
 const MARK_BEGIN = '/*<*/';
 const MARK_END = '/*>*/';
 const BLANK = '\u2005';
+
+/** A script may also be imported by a worker, in which there is no recorder: there its marks do nothing. */
+const IDLE = 'globalThis.__er||(globalThis.__er=new Proxy({},{get:(t,n)=>/^[rwu]o$/.test(n)?o=>o:()=>{}}));';
 
 const mark = (text) => MARK_BEGIN + text + MARK_END;
 const quote = (name) => JSON.stringify(name);
@@ -84,11 +87,10 @@ class Instrumenter {
   }
 
   visitChildren(node, scope, skipped) {
-    let done = node.start;
-    for (const child of childrenOf(node)) {
-      if (child === skipped || child.start < done) continue; // the key and the value of `{x}` are one text
-      this.visit(child, scope);
-      done = child.end;
+    for (const key of keysOf(node)) {
+      const value = node[key];
+      if (Array.isArray(value)) value.forEach((one) => isNode(one) && one !== skipped && this.visit(one, scope));
+      else if (isNode(value) && value !== skipped) this.visit(value, scope);
     }
   }
 
@@ -274,8 +276,9 @@ class Instrumenter {
 
   BlockStatement(node, scope) { this.visitChildren(node, Scope.ofBlock(scope, node.body)); }
   StaticBlock(node, scope) {
-    const inner = Scope.ofBlock(scope, node.body);
+    const inner = new Scope(scope);
     node.body.forEach((statement) => addHoisted(statement, inner.names));
+    addLexical(node.body, inner.names);
     this.visitChildren(node, inner);
   }
 
@@ -376,12 +379,17 @@ function declaredFunctions(instrumenter, program, scope) {
     .map((statement) => [statement.id.name, instrumenter.options.site(statement.id.start)]);
 }
 
-/** The classes that a script declares become global variables where they stand. */
-function markClasses(instrumenter, program, scope) {
+/** A class that a script declares becomes a global variable where it stands. */
+function markClass(instrumenter, statement, scope) {
+  const write = instrumenter.access('w', statement.id.name, scope, statement.id.start);
+  if (write) instrumenter.insert(statement.end, `;${write};`);
+}
+
+/** What is inserted behind a statement is handed in before what is inserted at the begin of the next one. */
+function visitProgram(instrumenter, program, scope, kind) {
   for (const statement of program.body) {
-    if (statement.type !== 'ClassDeclaration') continue;
-    const write = instrumenter.access('w', statement.id.name, scope, statement.id.start);
-    if (write) instrumenter.insert(statement.end, `;${write};`);
+    instrumenter.visit(statement, scope);
+    if (statement.type === 'ClassDeclaration' && kind !== 'handler') markClass(instrumenter, statement, scope);
   }
 }
 
@@ -405,8 +413,7 @@ function instrument(code, options) {
   const scope = topScope(program, options.kind);
   const begin = placeOfBegin(program, code);
   instrumenter.insert(begin, beginCall(instrumenter, program, scope));
-  instrumenter.visitAll(program.body, scope);
-  if (options.kind !== 'handler') markClasses(instrumenter, program, scope);
+  visitProgram(instrumenter, program, scope, options.kind);
   instrumenter.insert(placeOfEnd(program, begin), endCall(options));
   return { edits: instrumenter.edits };
 }
@@ -415,9 +422,9 @@ function beginCall({ options }, program, scope) {
   const site = options.site(0);
   if (options.kind === 'handler') return `;__er.handlerBegins(this,event,${quote(options.type)});try{`;
   if (options.kind === 'address') return ';__er.addressBegins();try{';
-  if (options.kind === 'module') return `;__er.moduleBegins(import.meta.url,${site});`;
+  if (options.kind === 'module') return `;${IDLE}__er.moduleBegins(import.meta.url,${site});`;
   const functions = declaredFunctions({ options }, program, scope);
-  return `;__er.scriptBegins(document.currentScript,${site},${JSON.stringify(functions)});`;
+  return `;${IDLE}__er.scriptBegins(globalThis.document&&document.currentScript,${site},${JSON.stringify(functions)});`;
 }
 
 function endCall({ kind }) {

@@ -1,16 +1,13 @@
 'use strict';
 // Which names a piece of JavaScript declares where. Works on the trees that acorn gives.
 
-const FUNCTIONS = new Set(['FunctionDeclaration', 'FunctionExpression', 'ArrowFunctionExpression']);
 const NOT_CHILDREN = new Set(['type', 'start', 'end', 'loc', 'range', 'name', 'operator', 'raw', 'kind', 'computed', 'optional', 'directive', 'regex', 'bigint']);
 
 const isNode = (value) => value !== null && typeof value === 'object' && typeof value.type === 'string';
 
-/** The keys under which nodes of a type may have child nodes, in acorn's order; all nodes of a type have the same keys. */
 const keysOfType = new Map();
-/** The child nodes of a node, kept at the node, as they are asked for more than once. */
-const CHILDREN = Symbol('children');
 
+/** The keys under which a node may have child nodes; all nodes of a type have the same keys. */
 function keysOf(node) {
   let keys = keysOfType.get(node.type);
   if (!keys) {
@@ -18,35 +15,6 @@ function keysOf(node) {
     keysOfType.set(node.type, keys);
   }
   return keys;
-}
-
-/** The child nodes of a node, in the order of the text. */
-function childrenOf(node) {
-  if (!node[CHILDREN]) node[CHILDREN] = collectChildren(node);
-  return node[CHILDREN];
-}
-
-function collectChildren(node) {
-  const children = [];
-  for (const key of keysOf(node)) {
-    const value = node[key];
-    if (Array.isArray(value)) addNodes(value, children);
-    else if (isNode(value)) children.push(value);
-  }
-  return isInOrder(children) ? children : children.sort((a, b) => a.start - b.start);
-}
-
-function addNodes(values, children) {
-  for (const value of values) {
-    if (isNode(value)) children.push(value);
-  }
-}
-
-function isInOrder(nodes) {
-  for (let k = 1; k < nodes.length; k++) {
-    if (nodes[k - 1].start > nodes[k].start) return false;
-  }
-  return true;
 }
 
 /** The names that a pattern binds, as `a` and `b` of `{a, x: [b]}`. */
@@ -64,14 +32,37 @@ function namesOfPattern(pattern) {
 
 const namesOfDeclaration = (declaration) => declaration.declarations.flatMap((one) => namesOfPattern(one.id));
 
-/** Adds the `var` names of a function's body, and its functions in blocks, but nothing of inner functions. */
-function addHoisted(node, names) {
-  if (FUNCTIONS.has(node.type)) {
-    if (node.type === 'FunctionDeclaration' && node.id) names.add(node.id.name);
-    return;
+/** The parts of a statement that are statements themselves: a `var` stands in a statement, and never in an expression. */
+const INNER_STATEMENTS = {
+  BlockStatement: (node) => node.body,
+  IfStatement: (node) => [node.consequent, node.alternate],
+  ForStatement: (node) => [node.init, node.body],
+  ForInStatement: (node) => [node.left, node.body],
+  ForOfStatement: (node) => [node.left, node.body],
+  WhileStatement: (node) => [node.body],
+  DoWhileStatement: (node) => [node.body],
+  LabeledStatement: (node) => [node.body],
+  WithStatement: (node) => [node.body],
+  TryStatement: (node) => [node.block, node.handler && node.handler.body, node.finalizer],
+  SwitchStatement: (node) => node.cases.flatMap((one) => one.consequent),
+};
+
+/** Adds the `var` names of a statement, and its functions in blocks, but nothing of inner functions. */
+function addHoisted(statement, names) {
+  if (statement.type === 'FunctionDeclaration') {
+    if (statement.id) names.add(statement.id.name);
+  } else if (statement.type === 'VariableDeclaration') {
+    if (statement.kind === 'var') namesOfDeclaration(statement).forEach((name) => names.add(name));
+  } else {
+    const inner = INNER_STATEMENTS[statement.type];
+    if (inner) inner(statement).forEach((one) => one && addHoisted(one, names));
   }
-  if (node.type === 'VariableDeclaration' && node.kind === 'var') namesOfDeclaration(node).forEach((name) => names.add(name));
-  childrenOf(node).forEach((child) => addHoisted(child, names));
+}
+
+/** Whether a statement declares something for its own block alone. */
+function declaresForBlock(statement) {
+  if (statement.type === 'VariableDeclaration') return statement.kind !== 'var';
+  return statement.type === 'ClassDeclaration' || statement.type === 'FunctionDeclaration';
 }
 
 /** Adds the names that the statements of one block declare for this block alone. */
@@ -93,7 +84,9 @@ class Scope {
     this.dynamic = dynamic;
   }
 
+  /** The scope of a block: its parent's, where the block declares nothing for itself. */
   static ofBlock(parent, statements) {
+    if (!statements.some(declaresForBlock)) return parent;
     const scope = new Scope(parent);
     addLexical(statements, scope.names);
     return scope;
@@ -137,4 +130,4 @@ class ModuleScope extends Scope {
   }
 }
 
-module.exports = { Scope, ModuleScope, childrenOf, namesOfPattern, addHoisted, addLexical };
+module.exports = { Scope, ModuleScope, keysOf, isNode, namesOfPattern, addHoisted, addLexical };

@@ -131,7 +131,7 @@ class Dispatches {
     const { recording } = this;
     recording.endPiece();
     if (!recording.mayDispatch()) {
-      recording.log.miss('dispatches that a parse step or the begin of a dispatch called');
+      recording.log.miss('dispatches that a parse step or the begin of a dispatch called, or that were too deep');
       return false;
     }
     this.writeInline(dispatch, 'a script dispatched an event at it');

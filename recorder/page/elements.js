@@ -17,6 +17,8 @@ class Elements {
     this.loads = new WeakMap();
     this.makers = new WeakMap();
     this.late = [];
+    /** The place of the code whose changes of the tree are written now; it is asked for once. */
+    this.placeOfChanges = null;
     /** What a blocking script made and load waits for: it is written as parse steps directly behind the script's run. */
     this.joining = new Map();
     this.observer = new this.natives.MutationObserver((records) => {
@@ -36,6 +38,11 @@ class Elements {
 
   attribute(element, name) {
     return this.natives.getAttribute.call(element, name);
+  }
+
+  /** A form may have a field that is called `id`, so the attribute is asked. */
+  idOf(element) {
+    return this.attribute(element, 'id');
   }
 
   has(element, name) {
@@ -160,7 +167,7 @@ class Elements {
     const source = this.attribute(target, 'src');
     return {
       tag: target.localName,
-      id: target.id || undefined,
+      id: this.idOf(target) || undefined,
       field: typeof target.name === 'string' && target.name ? target.name : undefined,
       source: source ? source.slice(0, 200) : undefined,
       document: this.page.numberOfDocumentOf(target),
@@ -199,6 +206,7 @@ class Elements {
       this.recording.finishAll();
       this.writeJoining();
     }
+    this.placeOfChanges = null;
     each(records, (record) => this.handleOne(record, maker));
   }
 
@@ -206,27 +214,34 @@ class Elements {
   writeLate() {
     const records = this.late;
     this.late = [];
+    this.placeOfChanges = '';
     each(records, (record) => this.handleOne(record, 'script'));
   }
 
   handleOne(record, maker) {
     if (record.type === 'attributes') {
-      this.writeId(record.oldValue);
-      this.writeId(record.target.id);
+      this.writeId(record.oldValue, maker);
+      this.writeId(this.idOf(record.target), maker);
       return;
     }
-    each(record.removedNodes, (node) => this.removeTree(node));
+    each(record.removedNodes, (node) => this.removeTree(node, maker));
     each(record.addedNodes, (node) => (maker === 'parser' ? this.add(node, maker) : this.addTree(node, maker)));
   }
 
-  writeId(id) {
-    if (id) this.recording.accessNow('w', `elem ${this.page.number} ${spellName(id)}`, '');
+  writeId(id, maker) {
+    if (id) this.recording.accessNow('w', `elem ${this.page.number} ${spellName(id)}`, maker === 'parser' ? '' : this.placeOfCode());
   }
 
-  removeTree(node) {
+  /** The place of the code that made the changes which are written now. */
+  placeOfCode() {
+    if (this.placeOfChanges === null) this.placeOfChanges = placeOnStack();
+    return this.placeOfChanges;
+  }
+
+  removeTree(node, maker) {
     if (node.nodeType !== 1) return;
-    this.writeId(node.id);
-    each(this.natives.querySelectorAll.call(node, '[id]'), (element) => this.writeId(element.id));
+    this.writeId(this.idOf(node), maker);
+    each(this.natives.querySelectorAll.call(node, '[id]'), (element) => this.writeId(this.idOf(element), maker));
   }
 
   addTree(node, maker) {
@@ -241,10 +256,10 @@ class Elements {
       if (maker === 'parser') this.addParsed(node);
       else this.addMade(node);
       this.page.handlers.readAttributes(node);
-    } else if (node.id) {
-      this.recording.log.name('element', this.number(node), { id: node.id });
+    } else if (this.idOf(node)) {
+      this.recording.log.name('element', this.number(node), { id: this.idOf(node) });
     }
-    this.writeId(node.id);
+    this.writeId(this.idOf(node), maker);
   }
 
   addParsed(element) {
@@ -265,7 +280,7 @@ class Elements {
     const kind = this.declaration(element, false);
     this.markDeclared(element, kind);
     if (this.joinsParsing(element, kind)) return;
-    this.recording.log.line(`new ${this.page.number} ${this.number(element)} ${kind}`, placeOnStack());
+    this.recording.log.line(`new ${this.page.number} ${this.number(element)} ${kind}`, this.placeOfCode());
   }
 
   // ---- loads

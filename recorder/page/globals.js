@@ -1,5 +1,16 @@
 // Global variables: reads and writes that marked code tells, and writes that no mark sees.
 
+const FIRST_SITES = 4096;
+
+const { hasOwn } = Object;
+
+/** A longer list of numbers with the same begin, which has room for an index. */
+function enlarged(numbers, index) {
+  const longer = new Uint32Array(2 * (index + 1));
+  longer.set(numbers);
+  return longer;
+}
+
 class Globals {
   constructor(page) {
     this.page = page;
@@ -9,16 +20,30 @@ class Globals {
       Object.getOwnPropertyNames(owner).forEach((name) => this.builtins.add(name));
     }
     this.values = new Map();
+    /** For each site in marked code the number of the last action that had its access. */
+    this.lastActions = new Uint32Array(FIRST_SITES);
   }
 
   location(name) {
     return `var ${this.page.number} ${spellName(name)}`;
   }
 
+  /** Whether the running action has had this access already: most accesses of code that loops are such, and cost no more. */
+  isRepeat(site) {
+    const { actions } = this.recording;
+    if (site >= this.lastActions.length) this.lastActions = enlarged(this.lastActions, site);
+    if (this.lastActions[site] === actions) return true;
+    this.lastActions[site] = actions;
+    return false;
+  }
+
   read(name, site) {
+    if (!this.recording.mayAccess()) return;
+    const isVariable = hasOwn(this.page.window, name);
+    if (isVariable && this.isRepeat(site)) return;
     if (this.builtins.has(name)) return;
-    this.recording.access('r', this.location(name), site);
-    if (!Object.prototype.hasOwnProperty.call(this.page.window, name)) this.readNamedElement(name, site);
+    this.recording.accessNow('r', this.location(name), site);
+    if (!isVariable) this.readNamedElement(name, site);
   }
 
   /** A name that is no variable is looked up among the elements with an id. */
@@ -28,7 +53,14 @@ class Globals {
   }
 
   write(name, site) {
-    if (!this.builtins.has(name)) this.recording.access('w', this.location(name), site);
+    if (!this.recording.mayAccess() || this.isRepeat(site) || this.builtins.has(name)) return;
+    this.recording.accessNow('w', this.location(name), site);
+  }
+
+  update(name, site) {
+    if (!this.recording.mayAccess() || this.isRepeat(site) || this.builtins.has(name)) return;
+    this.recording.accessNow('r', this.location(name), site);
+    this.recording.accessNow('w', this.location(name), site);
   }
 
   /** Writes that no mark saw, as `root.x = 1`: the window's own properties are compared at the end of each piece. */

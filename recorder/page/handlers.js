@@ -171,10 +171,11 @@ class Handlers {
   // ---- on.. attributes
 
   readAttributes(element) {
-    for (const { name, value } of [...element.attributes]) {
-      if (/^on[a-z]+$/.test(name)) this.registerAttribute(element, name.slice(2), value);
+    const { getAttribute, getAttributeNames } = this.natives;
+    each(getAttributeNames.call(element), (name) => {
+      if (/^on[a-z]+$/.test(name)) this.registerAttribute(element, name.slice(2), getAttribute.call(element, name));
       else if (name === 'href') this.page.scripts.markAddress(element);
-    }
+    });
   }
 
   attributesOf(owner) {

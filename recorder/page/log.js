@@ -3,7 +3,7 @@
 const LINES_A_BATCH = 200;
 const MILLISECONDS_A_BATCH = 100;
 const LONGEST_NAME = 255;
-const STACK_DEPTH = 12;
+const STACK_DEPTH = 10;
 
 const spelledNames = new Map();
 const MOST_SPELLED = 20000;
@@ -43,19 +43,24 @@ function cutName(text, bytes) {
   return Array.from(text).slice(0, 55).join('') + digits;
 }
 
-/** The first place of the page's own code on the stack: `address:line:column` in the browser's copy, or ''. */
-function placeOnStack() {
+const PAGE_ADDRESS = /^(?:https?|file|about|data|blob):/;
+/** Gives the calls of a stack in place of its text, which would cost many times as much. */
+const callsOfStack = (error, calls) => calls;
+
+function takeStack() {
   const { stackTraceLimit, prepareStackTrace } = Error;
   Error.stackTraceLimit = STACK_DEPTH;
-  Error.prepareStackTrace = undefined;
-  const stack = String(new Error().stack);
+  Error.prepareStackTrace = callsOfStack;
+  const { stack } = new Error();
   Error.stackTraceLimit = stackTraceLimit;
   Error.prepareStackTrace = prepareStackTrace;
-  for (const line of stack.split('\n').slice(1)) {
-    const found = /\(?((?:https?|file|about|data|blob):[^\s()]*:\d+:\d+)\)?$/.exec(line);
-    if (found && !found[1].includes('__er-recorder')) return found[1];
-  }
-  return '';
+  return typeof stack === 'string' ? [] : stack;
+}
+
+/** The first place of the page's own code on the stack: `address:line:column` in the browser's copy, or ''. */
+function placeOnStack() {
+  const call = findItem(takeStack(), (one) => PAGE_ADDRESS.test(one.getScriptNameOrSourceURL() || ''));
+  return call ? `${call.getScriptNameOrSourceURL()}:${call.getLineNumber()}:${call.getColumnNumber()}` : '';
 }
 
 class Log {

@@ -16,6 +16,7 @@ class Page {
     this.timers = new Timers(this);
     this.jobs = new Jobs(this);
     this.requests = new Requests(this);
+    this.connections = new Connections(this);
     this.messages = new Messages(this);
     this.scripts = new Scripts(this);
   }
@@ -25,7 +26,7 @@ class Page {
     documents.splice(0, documents.length, ...keep(documents, (page) => page.window !== this.window), this);
     this.recording.elementNumbers.delete(this.window); // a frame's window stays the same object for its next page
     this.beginDocument();
-    const parts = [this.handlers, this.dispatches, this.calls, this.lookups, this.fields, this.timers, this.jobs, this.requests, this.messages];
+    const parts = [this.handlers, this.dispatches, this.calls, this.lookups, this.fields, this.timers, this.jobs, this.requests, this.connections, this.messages];
     parts.forEach((part) => part.start());
     this.replaceToString();
     this.elements.start();
@@ -76,7 +77,7 @@ function helpersOf(page) {
     && (name in element || name in page.document || (element.form && name in element.form));
   const read = (name, site) => globals.read(name, site);
   const write = (name, site) => globals.write(name, site);
-  const update = (name, site) => { read(name, site); write(name, site); };
+  const update = (name, site) => globals.update(name, site);
   const inHandler = (access) => (element, name, site) => { if (!isOfElement(element, name)) access(name, site); };
   const ofObject = (access) => (object, name, site) => { if (object === window) access(name, site); return object; };
   const ofModule = (modes) => (module, name, site) => each(modes, (mode) => recording.access(mode, `var ${module} ${spellName(name)}`, site));

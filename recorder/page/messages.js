@@ -1,4 +1,4 @@
-// Messages: `postMessage` of windows and of ports. Each message has a plain element that its sender makes, so that it comes after
+// Messages: `postMessage` of windows, of ports and of broadcast channels. Each message has a plain element that its sender makes, so that it comes after
 // its sender and no rule joins it with another message.
 
 class Messages {
@@ -8,6 +8,7 @@ class Messages {
     if (!this.recording.posted) {
       this.recording.posted = new WeakMap();
       this.recording.peers = new WeakMap();
+      this.recording.channels = [];
     }
   }
 
@@ -19,6 +20,19 @@ class Messages {
       return native.apply(window, arguments);
     });
     this.replaceChannel(window);
+    this.replaceBroadcasts(window);
+  }
+
+  /** Each channel of a name gets the messages of the others. */
+  replaceBroadcasts(window) {
+    const messages = this;
+    const { channels } = this.recording;
+    if (!window.BroadcastChannel) return;
+    replaceConstructor(window, 'BroadcastChannel', (made) => { channels[channels.length] = made; });
+    replaceMethod(window.BroadcastChannel.prototype, 'postMessage', (native) => function postMessage() {
+      each(channels, (one) => { if (one !== this && one.name === this.name) messages.post(one); });
+      return native.apply(this, arguments);
+    });
   }
 
   replaceChannel(window) {

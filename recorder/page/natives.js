@@ -10,6 +10,7 @@ function takeNatives(window) {
     getAttribute: Element.prototype.getAttribute,
     setAttribute: Element.prototype.setAttribute,
     hasAttribute: Element.prototype.hasAttribute,
+    getAttributeNames: Element.prototype.getAttributeNames,
     isConnected: Object.getOwnPropertyDescriptor(Node.prototype, 'isConnected').get,
     MutationObserver: window.MutationObserver,
     promise: Promise,
@@ -29,6 +30,23 @@ function replaceMethod(owner, name, make) {
   Object.defineProperty(replacement, 'length', { value: native.length, configurable: true });
   replacedFunctions.set(replacement, native);
   Object.defineProperty(owner, name, { ...descriptor, value: replacement });
+}
+
+/** Puts a constructor in place of another one; `note` is told of each object that is made. */
+function replaceConstructor(window, name, note) {
+  const Native = window[name];
+  if (!Native) return;
+  function Replacement(...words) {
+    const made = Reflect.construct(Native, words, new.target && new.target !== Replacement ? new.target : Native);
+    note(made, words);
+    return made;
+  }
+  Replacement.prototype = Native.prototype;
+  Object.setPrototypeOf(Replacement, Native);
+  Object.defineProperty(Replacement, 'name', { value: name });
+  replacedFunctions.set(Replacement, Native);
+  Object.defineProperty(Native.prototype, 'constructor', { configurable: true, writable: true, value: Replacement });
+  Object.defineProperty(window, name, { configurable: true, writable: true, value: Replacement });
 }
 
 /** Puts a getter and a setter in place of those of a property. */

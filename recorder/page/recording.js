@@ -5,6 +5,8 @@
 const TURNS_OF_A_CHECKPOINT = 24;
 /** How far the events before the running one are searched. */
 const LONGEST_CHAIN = 20;
+/** How many inline dispatches may be open (docs/format.md). */
+const MOST_OPEN = 256;
 /** Events in which a script may dispatch another one. */
 const MAY_DISPATCH = new Set(['exec', 'timer', 'tick', 'handler', 'close']);
 
@@ -63,13 +65,18 @@ class Recording {
   }
 
   access(mode, location, place) {
-    if (this.isOver) return;
+    if (this.mayAccess()) this.accessNow(mode, location, place);
+  }
+
+  /** Whether an access can be written now. What returned meanwhile is over then. */
+  mayAccess() {
+    if (this.isOver) return false;
     if (!this.isRunning()) {
       this.log.miss('accesses while nothing recorded ran');
-      return;
+      return false;
     }
     this.finishReturned();
-    this.accessNow(mode, location, place);
+    return true;
   }
 
   /** An access of the running action, without a look at what returned meanwhile. */
@@ -160,7 +167,7 @@ class Recording {
   // ---- dispatches
 
   mayDispatch() {
-    return MAY_DISPATCH.has(this.running.kind);
+    return MAY_DISPATCH.has(this.running.kind) && this.dispatches.length < MOST_OPEN;
   }
 
   top() {

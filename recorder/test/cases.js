@@ -72,6 +72,10 @@ exports.cases = [
     ],
   },
   {
+    page: 'class-and-call.html',
+    due: ['exec script', 'w made', 'w Shop', 'r Shop', 'w Other', 'exec script', 'w seen', 'r Other'],
+  },
+  {
     page: 'own-arrays.html',
     due: [
       'w calls', 'parse button#go plain', 'new p#added plain', 'w #added', 'inline button#go click', 'w clicked',
@@ -139,19 +143,41 @@ exports.cases = [
   {
     page: 'messages.html',
     due: [
-      'on got', 'timer', 'w b', 'new ? plain', 'fire ? message', 'run got', 'timer', 'w a', 'fire ? message',
-      'run got',
+      'on got', 'timer', 'w b', 'new ? plain', 'fire ? message', 'run got', 'fire ? message', 'run got',
     ],
     races: ['last'],
   },
   {
+    page: 'broadcast.html',
+    due: ['on got', 'timer', 'fire ? message', 'run got', 'w last', 'fire ? message', 'run got', 'w last'],
+    races: ['last'],
+  },
+  {
     page: 'worker.html',
+    words: ['--time', '20'],
+    due: [
+      'new Worker plain', 'fire Worker message', 'run answered', 'w answer',
+    ],
+  },
+  {
+    page: 'worker-file.html',
+    words: ['--time', '20'],
     due: [
       'new Worker plain', 'fire Worker message', 'run answered', 'w answer',
     ],
   },
 
   // ---- requests
+  {
+    page: 'file-reader.html',
+    due: ['timer', 'w text', 'on onText', 'send', 'reply', 'run onText', 'w text', 'close'],
+    races: [],
+  },
+  {
+    page: 'indexed-db.html',
+    due: ['send', 'on upgrade', 'on opened', 'reply', 'run upgrade', 'reply', 'run opened', 'w kept', 'send', 'send', 'on stored', 'reply', 'run stored', 'w kept'],
+    races: [],
+  },
   {
     page: 'xhr.html',
     due: [
@@ -285,6 +311,36 @@ exports.cases = [
     due: [
       'dcl', 'run onState', 'run parsed', 'close', 'load', 'run onState', 'run loaded', 'run shown', 'close',
     ],
+  },
+
+  // ---- what could hold a recording up
+  {
+    page: 'dialogs.html',
+    words: [...CLICK, '--do', 'click:#away', '--do', 'wait:300'],
+    due: ['exec script', 'w asked', 'inline button click', 'w answered', 'inline a#away click', 'wfire beforeunload', 'run leaving'],
+    races: ['beforeunload of window'],
+    losses: [/steps to another page not followed: 1/],
+  },
+  {
+    page: 'opened-window.html',
+    words: CLICK,
+    due: ['inline button click', 'w opened', 'w after', 'close'],
+    losses: [/windows that the page opened, closed at once: 1/],
+  },
+  {
+    page: 'download.html',
+    words: ['--do', 'click:#file', ...CLICK],
+    due: ['inline a#file click', 'inline button click', 'w saved'],
+  },
+  {
+    page: 'stops.html',
+    due: ['exec script', 'w behindDebugger', 'w behindPrint', 'dcl', 'load'],
+  },
+  {
+    page: 'endless-handler.html',
+    words: [...CLICK, '--time', '4'],
+    due: ['on click', 'dcl', 'load'],
+    losses: [/what came later: the recording ended before the page was quiet/],
   },
 
   // ---- elements and what they load

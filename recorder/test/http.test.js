@@ -10,6 +10,7 @@ const { recordPage, judge, firstMissing } = require('./support.js');
 
 const PAGE = Buffer.from('<!doctype html><title>h</title><p id="caf\u00e9">caf\u00e9</p><script src="code.js" integrity="sha256-x"></script><script src="lost.js"></script><script>seen = word</script>', 'latin1');
 const ANSWERS = {
+  '/source': [200, { 'content-type': 'text/html' }, '<!doctype html><script>var last; var source = new EventSource("stream"); source.onmessage = function onMessage(event) { last = event.data; };</script>'],
   '/start': [302, { location: '/page' }, ''],
   '/page': [200, { 'content-type': 'text/html; charset=iso-8859-1', 'content-security-policy': "script-src 'none'" }, PAGE],
   '/code.js': [200, { 'content-type': 'text/javascript', 'content-encoding': 'gzip' }, zlib.gzipSync("var word = document.getElementById('caf\u00e9').textContent;\nif (word !== 'caf\u00e9') throw new Error(word);\n")],
@@ -22,6 +23,18 @@ before(async () => {
   browser = await Chromium.launch({ width: 1100, height: 800 });
   server = http.createServer((request, response) => {
     if (request.url === '/never') return;
+    if (request.url === '/half') {
+      response.writeHead(200, { 'content-type': 'text/html' }).write('<!doctype html><p id="first">1</p><script>came = 1</script><p>');
+      return;
+    }
+    if (request.url === '/stalls') {
+      response.writeHead(200, { 'content-type': 'text/html' }).end('<!doctype html><p id="first">1</p><script src="never"></script>');
+      return;
+    }
+    if (request.url === '/stream') {
+      response.writeHead(200, { 'content-type': 'text/event-stream' }).write('data: one\n\ndata: two\n\n');
+      return;
+    }
     const [status, headers, body] = ANSWERS[request.url] || [404, {}, 'no'];
     response.writeHead(status, headers).end(body);
   });
@@ -46,5 +59,23 @@ test('a page that is redirected, compressed, in another encoding, under a policy
 });
 
 test('a page that never answers', { timeout: 60000 }, async () => {
-  await assert.rejects(recordPage(browser, `${origin}/never`, ['--time', '2']), /did not load/);
+  await assert.rejects(recordPage(browser, `${origin}/never`, ['--time', '2']), /did not load: no answer came in time/);
+});
+
+test('a page that does not come to its end', { timeout: 60000 }, async () => {
+  await assert.rejects(recordPage(browser, `${origin}/half`, ['--time', '2']), /did not load: it did not come to its end in time/);
+});
+
+test('a page that waits for a script which never comes', { timeout: 60000 }, async () => {
+  const trace = await recordPage(browser, `${origin}/stalls`, ['--time', '3']);
+  assert.strictEqual(firstMissing(trace.readable, ['parse p#first plain', 'parse script sync']), null, trace.readable.join('\n'));
+  assert.ok(!trace.readable.includes('load'));
+  assert.ok(trace.losses.some((line) => /ended before the page was quiet/.test(line)), trace.losses.join('\n'));
+});
+
+test('the events of an event source are replies', { timeout: 60000 }, async () => {
+  const trace = await recordPage(browser, `${origin}/source`, ['--time', '6']);
+  const due = ['send', 'on onMessage', 'reply', 'run onMessage', 'w last', 'close', 'reply', 'run onMessage', 'w last'];
+  assert.strictEqual(firstMissing(trace.readable, due), null, trace.readable.join('\n'));
+  assert.deepStrictEqual(judge(trace).races, []);
 });

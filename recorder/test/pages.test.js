@@ -12,7 +12,7 @@ before(async () => { browser = await Chromium.launch({ width: 1100, height: 800 
 after(async () => { await browser.close(); });
 
 for (const one of cases) {
-  test(one.page, { timeout: 120000 }, async () => {
+  test(one.page, { timeout: 60000 }, async () => {
     const trace = await recordPage(browser, one.page, one.words);
     const missing = firstMissing(trace.readable, one.due || []);
     assert.strictEqual(missing, null, `missing or out of its order: ${missing}\n${trace.readable.join('\n')}`);
@@ -20,6 +20,7 @@ for (const one of cases) {
     const { refused, races } = judge(trace);
     assert.strictEqual(refused, '', `${refused}\n${trace.text.split('\n').map((line, k) => `${k + 1} ${line}`).join('\n')}`);
     assert.deepStrictEqual([...new Set(races)].sort(), [...(one.races || [])].sort(), `${trace.text.split('\n').map((line, k) => `${k + 1} ${line}`).join('\n')}`);
+    for (const loss of one.losses || []) assert.ok(trace.losses.some((line) => loss.test(line)), trace.losses.join('\n'));
     if (!one.throws) assert.deepStrictEqual(trace.errors, []);
   });
 }

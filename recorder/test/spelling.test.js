@@ -39,5 +39,6 @@ test('over the limit quiet parse steps are left out, then the end', () => {
   const texts = (most) => keepWithin(records, most).records.map(({ text }) => text);
   assert.deepStrictEqual(texts(6).length, 7);
   assert.deepStrictEqual(texts(5), ['parse 0 1 plain', 'parse 0 2 plain', 'w elem 0 a', 'parse 0 4 plain', 'fire 1 4 click', 'close 1']);
+  assert.deepStrictEqual(keepWithin(['parse 0 1 plain', 'w var 0 a', 'r var 0 a', 'w var 0 b'].map((text) => ({ text })), 9, 2).cut, 1);
   assert.deepStrictEqual(texts(4), ['parse 0 1 plain', 'parse 0 2 plain', 'w elem 0 a', 'parse 0 4 plain', 'fire 1 4 click']);
 });

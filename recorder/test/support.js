@@ -9,6 +9,7 @@ const { Names } = require('../trace/names.js');
 const { Spelling, NEWEST_VERSION } = require('../trace/spelling.js');
 const { PROGRAM } = require('../view/program.js');
 
+const LONGEST_ANSWER = 60000;
 const PAGES = path.join(__dirname, 'pages');
 
 /** Records a page of pages/ in a browser that runs. */
@@ -77,7 +78,7 @@ function readable(line, names) {
 
 /** What the program says of a trace. */
 function judge(trace) {
-  const answer = spawnSync('/bin/sh', ['-c', PROGRAM], { input: trace.text, encoding: 'utf8', maxBuffer: 1 << 28 });
+  const answer = spawnSync('/bin/sh', ['-c', PROGRAM], { input: trace.text, encoding: 'utf8', maxBuffer: 1 << 28, timeout: LONGEST_ANSWER });
   const races = [...answer.stdout.matchAll(/^race \d+ (\d+) (\d+) (\w\w) \d+ \d+ (.*)$/gm)];
   return {
     refused: /^refused .*$/m.exec(answer.stdout)?.[0] || (answer.stdout.startsWith('report') ? '' : answer.stderr || 'no report'),

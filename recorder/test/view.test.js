@@ -46,6 +46,8 @@ async function clickAt(tab, selector) {
   await new Promise((resolve) => setTimeout(resolve, 200));
 }
 
+/** Clicks at an action in the first picture; the recorded load has eight. */
+const pick = (tab, action) => tab.evaluate(`(() => { const svg = document.querySelector('svg'); const box = svg.getBoundingClientRect(); svg.dispatchEvent(new MouseEvent('click', { clientX: box.left + box.width * (120 + ${action} / 7 * 868) / 1000, clientY: box.top })); })()`);
 const count = (tab, selector) => tab.evaluate(`document.querySelectorAll(${JSON.stringify(selector)}).length`);
 const textOf = (tab, selector) => tab.evaluate(`document.querySelector(${JSON.stringify(selector)}).textContent`);
 const choose = (tab, id, value) => tab.evaluate(`(() => { const one = document.getElementById('${id}'); one.value = ${JSON.stringify(value)}; one.dispatchEvent(new Event(one.type === 'search' ? 'input' : 'change')); })()`);
@@ -78,8 +80,16 @@ test('groups in words, a filter, and what folds out', { timeout: 60000 }, async 
   assert.strictEqual(await count(tab, 'details.group svg .dot'), 2);
   assert.match(await textOf(tab, '.source .place'), /<script>alert\("x"\)<\/script>/);
   assert.match(await textOf(tab, '.why'), /asked for by the script shop\.js/);
-  await tab.evaluate("(() => { const svg = document.querySelector('svg'); const box = svg.getBoundingClientRect(); svg.dispatchEvent(new MouseEvent('click', { clientX: box.right - 8, clientY: box.top })); })()");
+  await pick(tab, 7);
   assert.match(await textOf(tab, '.picked'), /^Action 7, line 20: .*click/);
+  await pick(tab, 0);
+  assert.match(await textOf(tab, '.picked'), /Action 0, .*Action 7, .*From action 0 these steps lead to action 7, as the program explains it:.*\(action 7\) by rule 16/);
+  await pick(tab, 4);
+  await pick(tab, 5);
+  assert.match(await textOf(tab, '.picked'), /Nothing orders action 4 and action 5: they race on "cart"\./);
+  await pick(tab, 3);
+  await pick(tab, 7);
+  assert.match(await textOf(tab, '.picked'), /does not hold whether something orders action 3 and action 7\. The program tells it:\.\/er_view .*shop\.trace --why 3 7$/);
   assert.match(await textOf(tab, '.others summary'), /1 more race/);
   await clickAt(tab, '.others > summary');
   await clickAt(tab, '.one > summary');
@@ -98,8 +108,8 @@ test('why two actions are ordered', () => {
     assert.match(ordered.stderr, /^er_view: no explanation: /);
     return;
   }
-  assert.match(ordered.stdout, /^These steps put action 0 .* and action 4 .* in order:\n {2}.*by rule \d+/);
-  assert.match(ask('4', '5').stdout, /^Nothing puts action 4 .* and action 5 .* in this order\./);
+  assert.match(ordered.stdout, /^These steps put action 0 .* before action 4 .*:\n {2}.*by rule \d+: /);
+  assert.match(ask('4', '5').stdout, /^Nothing puts action 4 .* before action 5 .*\./);
 });
 
 test('a trace without names', { timeout: 60000 }, async () => {

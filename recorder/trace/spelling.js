@@ -7,6 +7,8 @@ const { BEGINS, wordOf } = require('./intake.js');
 const MOST_ACTIONS = 32768;
 /** How many records: a trace has a line more at its begin and one at its end. */
 const MOST_RECORDS = 2097150;
+/** How many accesses. */
+const MOST_ACCESSES = 1048576;
 const NEWEST_VERSION = 2;
 /** Numbers of intervals that stand for timeouts of other windows, and for runs of modules that nobody asked for. */
 const FIRST_FOREIGN_TIMEOUT = 3000000000;
@@ -206,8 +208,10 @@ function usedElements(records) {
  * has no more actions than it may have. A parse step without accesses gives no race, and its neighbours keep their order.
  * @returns {{records: {text: string, place: string|undefined}[], leftOut: number, cut: number}}
  */
-function keepWithin(all, most = MOST_ACTIONS) {
-  const records = all.slice(0, MOST_RECORDS);
+function keepWithin(all, most = MOST_ACTIONS, mostAccesses = MOST_ACCESSES) {
+  let accesses = 0;
+  const tooMuch = all.findIndex(({ text }, k) => k >= MOST_RECORDS || (/^[rw] /.test(text) && ++accesses > mostAccesses));
+  const records = tooMuch < 0 ? all : all.slice(0, tooMuch);
   const tooMany = all.length - records.length;
   const begins = records.map(({ text }) => BEGINS.has(wordOf(text)));
   let spare = begins.filter(Boolean).length - most;

@@ -79,6 +79,55 @@ function originList(action, depth = 0) {
   return list;
 }
 
+// ---- why two actions are ordered
+
+/** The links that the program printed, by the action to which they lead. */
+const linksInto = new Map();
+model.links.forEach(([from, to, rule]) => {
+  if (!linksInto.has(to)) linksInto.set(to, []);
+  linksInto.get(to).push({ from, rule });
+});
+/** The first race of each pair of actions. */
+const racesOfPair = new Map([...model.races].reverse().map((race) => [race.actions.join(' '), race]));
+
+/** The steps from one action to another over links that the program printed, or null where these lead to no answer. */
+function stepsBetween(from, to) {
+  const next = new Map([[to, null]]);
+  const queue = [to];
+  for (let k = 0; k < queue.length && !next.has(from); k++) {
+    for (const link of linksInto.get(queue[k]) || []) {
+      if (next.has(link.from)) continue;
+      next.set(link.from, { action: queue[k], rule: link.rule });
+      queue.push(link.from);
+    }
+  }
+  if (!next.has(from)) return null;
+  const steps = [];
+  for (let step = next.get(from); step; step = next.get(step.action)) steps.push(step);
+  return steps;
+}
+
+function stepList(steps) {
+  const list = make('ol', { class: 'steps' });
+  for (const { action, rule } of steps) {
+    const why = model.rules[rule] ? `rule ${rule}: ${model.rules[rule]}` : `rule ${rule}`;
+    list.append(make('li', {}, `${wordsOf(action)} `, make('small', {}, `(action ${action}) by ${why}`)));
+  }
+  return list;
+}
+
+/** What is known of two actions, the earlier one first. Only the program decides what is ordered: a pair it was not asked for is told so. */
+function pairBox(from, to) {
+  const both = `action ${from} and action ${to}`;
+  const race = racesOfPair.get(`${from} ${to}`);
+  if (race) return make('p', {}, `Nothing orders ${both}: they race on "${race.location}".`);
+  const steps = stepsBetween(from, to);
+  if (steps) return make('div', {}, make('p', {}, `From action ${from} these steps lead to action ${to}, as the program explains it:`), stepList(steps));
+  const box = make('div', {}, make('p', {}, `This page does not hold whether something orders ${both}. The program tells it:`));
+  box.append(make('pre', { class: 'question' }, `${model.question} ${from} ${to}`));
+  return box;
+}
+
 function whyBox(race) {
   const box = make('section', { class: 'why' }, make('h4', {}, 'Where the two come from'));
   const columns = make('div', { class: 'columns' });
@@ -87,13 +136,24 @@ function whyBox(race) {
     column.append(originList(action));
     columns.append(column);
   });
-  const [first, second] = race.actions.map(originsOf);
-  const common = [...first.keys()].filter((action) => second.has(action)).sort((a, b) => b - a)[0];
-  const told = common === undefined
-    ? 'They come from no common action.'
+  const { common } = race;
+  const told = common === null
+    ? 'Nothing that was recorded asked for both.'
     : `Both come from action ${common}: ${wordsOf(common)}. From there on no rule leads from the one to the other.`;
   box.append(columns, make('p', {}, told));
+  box.append(waysFrom(common === null ? 0 : common, race.actions));
   return box;
+}
+
+/** The ways that lead from a common action to the two, where the program was asked for them. */
+function waysFrom(common, actions) {
+  const columns = make('div', { class: 'columns' });
+  actions.forEach((action, k) => {
+    const steps = action === common ? null : stepsBetween(common, action);
+    if (!steps) return;
+    columns.append(make('div', {}, make('p', { class: k ? 'second' : 'first' }, `From action ${common} to action ${action}:`), stepList(steps)));
+  });
+  return columns;
 }
 
 // ---- the picture
@@ -160,7 +220,7 @@ class Picture {
 
   /** Tells the action under the pointer. */
   caption(svg) {
-    const text = 'Recorded order from left to right. Filled: the two that race; lines: what they come from. Click at an action to see where it comes from.';
+    const text = 'Recorded order from left to right. Filled: the two that race; lines: what they come from. Click at an action to see where it comes from, and at a second one to see why the two are ordered.';
     const caption = make('figcaption', {}, text);
     svg.addEventListener('mousemove', (event) => {
       const action = this.actionAt(svg, event);
@@ -170,13 +230,16 @@ class Picture {
     return caption;
   }
 
-  /** Where an action comes from that a reader picks. */
+  /** Where an action comes from that a reader picks, and of two picked ones why they are ordered. */
   picked(svg) {
     const box = make('div', { class: 'picked' });
+    let picks = [];
     svg.addEventListener('click', (event) => {
       const action = this.actionAt(svg, event);
       if (action === undefined) return;
-      box.replaceChildren(make('p', {}, `Action ${action}, line ${model.actions[action][1]}: ${wordsOf(action)}`), originList(action));
+      picks = picks.length === 1 && picks[0] !== action ? [picks[0], action].sort((a, b) => a - b) : [action];
+      box.replaceChildren(...picks.map((one) => make('p', {}, `Action ${one}, line ${model.actions[one][1]}: ${wordsOf(one)}`)));
+      box.append(picks.length === 2 ? pairBox(...picks) : originList(action));
     });
     return box;
   }

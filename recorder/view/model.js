@@ -1,10 +1,12 @@
 'use strict';
 // All that the page of the view shows, as one plain value: groups, races, actions, and the lines of source around the places.
 
+const { RULES } = require('./rules.js');
 const { Words } = require('./words.js');
 
 const LINES_AROUND = 2;
 const LONGEST_LINE = 240;
+const MOST_ORIGINS = 400;
 const LANES = ['Parser', 'Scripts', 'Timers', 'Network', 'Loading', 'User and events', 'Handlers'];
 const LANE_OF = {
   parse: 0, exec: 1, timer: 2, tick: 2, anim: 2, job: 2, reply: 3, message: 3, dcl: 4, load: 4, eload: 4, fire: 5, wfire: 5, inline: 5, close: 5, run: 6,
@@ -18,6 +20,11 @@ function cutLine(text, column) {
 }
 
 class Model {
+  /**
+   * @param {object} report the program's report, as JSON gives it
+   * @param {object} names what OUT.names.json holds
+   * @param {import('./actions.js').Actions} actions
+   */
   constructor(report, names, actions) {
     this.report = report;
     this.names = names;
@@ -25,9 +32,24 @@ class Model {
     this.words = new Words(names, actions);
     this.excerpts = {};
     this.texts = new Map();
+    this.origins = new Map();
   }
 
-  build() {
+  /**
+   * The pairs of actions of which the view shows why they are ordered: what the first race of each group comes from, the largest
+   * group first, and the ways from the first action to each other one.
+   */
+  pairsToExplain() {
+    const firsts = [...this.report.groups].sort((a, b) => b.size - a.size).map(({ race }) => this.report.races[race - 1]);
+    const ofRaces = firsts.flatMap(({ actions }) => {
+      const common = this.commonOrigin(actions) ?? 0;
+      return actions.filter((action) => action !== common).map((action) => [common, action]);
+    });
+    return [...ofRaces, ...this.actions.list.slice(1).map(({ number }) => [0, number])];
+  }
+
+  /** @param {[number, number, number][]} links those that the program printed: from, to, rule */
+  build(links) {
     const races = this.report.races.map((race) => this.race(race));
     return {
       page: this.names.page,
@@ -36,18 +58,35 @@ class Model {
       actions: this.actions.list.map((action) => this.action(action)),
       groups: this.report.groups.map((group) => ({ race: group.race - 1, size: group.size })),
       races,
+      links,
+      rules: RULES,
       excerpts: this.excerpts,
     };
   }
 
   action(action) {
     const own = this.actions.list[action.first];
-    return [LANE_OF[own.words[0]] ?? 1, action.line, this.words.action(action.number), this.origins(action.number)];
+    const origins = action.origins.map(({ action: from, word }) => [word, from]);
+    return [LANE_OF[own.words[0]] ?? 1, action.line, this.words.action(action.number), origins];
   }
 
-  /** The actions that an action comes from, one a step: of a handler its registration, else what asked for it. */
-  origins(number) {
-    return this.actions.list[number].origins.map(({ action, word }) => [word, action]);
+  /** The actions from which one comes, over the notes of the trace, itself among them. */
+  originsOf(number) {
+    if (this.origins.has(number)) return this.origins.get(number);
+    const seen = new Set([number]);
+    for (const one of seen) {
+      if (seen.size > MOST_ORIGINS) break;
+      this.actions.list[one].origins.forEach(({ action }) => seen.add(action));
+    }
+    this.origins.set(number, seen);
+    return seen;
+  }
+
+  /** The last action from which two come, or null. */
+  commonOrigin([first, second]) {
+    const others = this.originsOf(second);
+    const common = [...this.originsOf(first)].filter((one) => others.has(one));
+    return common.length ? Math.max(...common) : null;
   }
 
   race(race) {
@@ -59,6 +98,7 @@ class Model {
       modes: race.modes,
       lines: race.lines,
       actions: race.actions,
+      common: this.commonOrigin(race.actions),
       group: race.group - 1,
       words: this.words.race(race),
       places: race.lines.map((line, k) => this.excerpt(this.placeOfAccess(line, race.actions[k]))),
