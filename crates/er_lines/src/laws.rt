@@ -1,7 +1,7 @@
 //! Laws of the definitions that the contracts cite, for every format. Each is a function that does nothing,
 //! whose contract is the law.
 
-ghost use Rattle.std.specs.Prelude.{◌≡◌, ◌≢◌, ℕ, ◌+◌, List, ◌++◌, Option, None};
+ghost use Rattle.std.specs.Prelude.{◌≡◌, ◌≢◌, ◌<◌, ℕ, ◌+◌, List, ◌++◌, length, Option, None};
 ghost use Rattle.er_text.specs.Bytes.{count_of_lf};
 ghost use Rattle.er_text.specs.declared.causes.Cause.{Cause};
 ghost use Rattle.er_text.specs.declared.causes.Cause.TheVariants.{NoEnd};
@@ -51,6 +51,12 @@ pub fn line_of_a_place<L: Lines>()
 /// A refusal for another cause than `no-end` is that of every longer input.
 pub fn longer_input<L: Lines>()
     ensures { (bytes more : List ℕ) (place : Place) (c : Cause) → Refuses L.format bytes place c → c ≢ NoEnd → Refuses L.format (bytes ++ more) place c }
+{}
+
+/// A whole trace that lacks some of its last bytes is refused for `no-end`.
+pub fn cut_trace<L: Lines>()
+    ensures { (v : Version) (whole bytes more : List ℕ) (records : List Record) → IsTrace L.format v whole records
+        → whole ≡ bytes ++ more → 0 < length more → ((place : Place) × Refuses L.format bytes place NoEnd) }
 {}
 
 /// The line of `no-end` is one more than the LFs of the bytes.
