@@ -1,5 +1,6 @@
 -- What a source gives and a sink takes. The bytes of an end are told (`Some`) or not (`None`).
-use Rattle.std.specs.Prelude.{◌≡◌, ◌⊎◌, ℕ, ◌<◌, ◌≤◌, List, [], ◌++◌, length, take, Option, None, option_map, IfSome, Result, OnOk, OnErr}
+use Rattle.std.specs.Prelude.{◌≡◌, ◌⊎◌, ℕ, ◌+◌, ◌<◌, ◌≤◌, List, [], ◌++◌, length, take, min, Option, None, option_map, IfSome, Result, OnOk, OnErr}
+use Rattle.std.specs.Io.KnownBytes.{Appends}
 
 -- the bytes of an end that does not tell them
 abbrev pub untold : Option (List ℕ)
@@ -17,13 +18,25 @@ Gets old more new = new ≡ option_map (λ got. got ++ more) old
 abbrev pub IsSpent : Option (List ℕ) → Type 0
 IsSpent left = IfSome left (λ rest. rest ≡ [])
 
--- the last value of a count of faults: 2 ^ 64 - 1
+-- the last value of a count: 2 ^ 64 - 1
 abbrev pub last_count : ℕ
 last_count = 18446744073709551615
+
+-- the count of an end whose calls never fail
+abbrev pub no_faults : ℕ
+no_faults = 0
+
+-- the count after one more
+abbrev pub one_more : ℕ → ℕ
+one_more count = min (count + 1) last_count
 
 -- a fault came: the count is greater, or stands at its last value
 abbrev pub Rose : ℕ → ℕ → Type 0
 Rose old new = (old < new) ⊎ (new ≡ last_count)
+
+-- what a writer of the standard library is known to hold grew by one front of the piece at most
+abbrev pub AppendsFront : Option (List ℕ) → Option (List ℕ) → List ℕ → Type 0
+AppendsFront old new piece = (n : ℕ) × (n ≤ length piece) × Appends old new (take n piece)
 
 -- a proper front of the bytes that are due came
 unfoldable pub GetsPart : Option (List ℕ) → List ℕ → Option (List ℕ) → Type 0

@@ -1,6 +1,5 @@
 -- What a caller sees of a source and of a sink in memory.
 use Rattle.std.specs.Prelude.{ℕ, ◌+◌, List, min}
-use Rattle.er_outside.specs.Ends.{last_count}
 
 -- a source: the bytes still to come, the most that one call gives, the numbers of the calls that fail, how many calls came, and how many failed
 pub record Input : Type 0 where
@@ -26,7 +25,3 @@ last_call = 4294967295
 -- the number of the next call, counted from 1
 abbrev pub next_call : ℕ → ℕ
 next_call calls = min (calls + 1) last_call
-
--- the count after one fault more
-abbrev pub one_more : ℕ → ℕ
-one_more faults = min (faults + 1) last_count

@@ -1,7 +1,8 @@
 //! The calls of an end in memory, of which some fail.
 
 ghost use Rattle.std.specs.Prelude.{◌≡◌, ◌↔◌, IsTrue, Contains};
-ghost use Rattle.er_outside.specs.Memory.{next_call, one_more};
+ghost use Rattle.er_outside.specs.Ends.{one_more};
+ghost use Rattle.er_outside.specs.Memory.{next_call};
 
 /// The numbers of the calls that fail, how many calls came, and how many failed.
 #[derive(Drop)]
@@ -39,6 +40,13 @@ impl Calls {
         ensures { self.new ≡ record self.old { faults = one_more self.old.faults } }
     {
         self.faults = self.faults.saturating_add(1);
+    }
+
+    /// How many calls came, those that failed too.
+    pub fn made(&self) -> u32
+        ensures { result ≡ self.now.made }
+    {
+        self.made
     }
 
     /// How many calls have failed.

@@ -1,7 +1,7 @@
 //! The two traits of the outside, and what they answer when they fail.
 
 ghost use Rattle.std.specs.Prelude.{◌≡◌, ℕ, ◌<◌, ◌≤◌, List, length, take, Option, OnErr, IfOk, OnOk};
-ghost use Rattle.er_outside.specs.Ends.{Gives, Gets, IsSpent, Rose};
+ghost use Rattle.er_outside.specs.Ends.{Gives, Gets, IsSpent, Rose, one_more};
 
 use std::alloc::{AllocError, AllocFailed};
 
@@ -39,7 +39,7 @@ impl<T: Drop> From<AllocFailed<T>> for NoMemory {
 pub trait Source {
     /// The bytes still to come, where the source tells them.
     ghost left: { Self → Option (List ℕ) };
-    /// How many reads have failed. Nothing else changes it, and it stands still at its type's end.
+    /// How many reads have failed: each raises it by one, up to its last value, and nothing else changes it.
     ghost faults: { Self → ℕ };
 
     /// Fills a front of the buffer, and answers how many bytes it placed.
@@ -50,6 +50,7 @@ pub trait Source {
         ensures end { IfOk result (λ n. n ≡ 0 → 0 < length buf.new → IsSpent (left self.new)) }
         ensures kept { OnErr result (left self.new ≡ left self.old) }
         ensures cause { OnErr result (Rose (faults self.old) (faults self.new)) }
+        ensures raised { OnErr result (faults self.new ≡ one_more (faults self.old)) }
         ensures count { faults self.old ≤ faults self.new }
         ensures stands { OnOk result (faults self.new ≡ faults self.old) };
 }
@@ -58,7 +59,7 @@ pub trait Source {
 pub trait Sink {
     /// The bytes taken so far, where the sink tells them.
     ghost got: { Self → Option (List ℕ) };
-    /// How many writes have failed. Nothing else changes it, and it stands still at its type's end.
+    /// How many writes have failed: each raises it by one, up to its last value, and nothing else changes it.
     ghost faults: { Self → ℕ };
 
     /// Takes a front of the piece, and answers its length: at least one byte of a piece that is not empty.
@@ -68,6 +69,7 @@ pub trait Sink {
         ensures some { IfOk result (λ n. 0 < length piece.now → 0 < n) }
         ensures kept { OnErr result (got self.new ≡ got self.old) }
         ensures cause { OnErr result (Rose (faults self.old) (faults self.new)) }
+        ensures raised { OnErr result (faults self.new ≡ one_more (faults self.old)) }
         ensures count { faults self.old ≤ faults self.new }
         ensures stands { OnOk result (faults self.new ≡ faults self.old) };
 }

@@ -1,8 +1,8 @@
 //! A sink into memory, whose calls fail where they are told to.
 
 ghost use Rattle.std.specs.Prelude.{◌≡◌, ◌↔◌, ◌⊎◌, ◌<◌, ◌≤◌, ◌-◌, ◌++◌, [], ℕ, min, length, take, Contains, Some, IfOk, OnOk, OnErr, IsErr};
-ghost use Rattle.er_outside.specs.Ends.{Gets, Rose};
-ghost use Rattle.er_outside.specs.Memory.{next_call, one_more};
+ghost use Rattle.er_outside.specs.Ends.{Gets, Rose, one_more};
+ghost use Rattle.er_outside.specs.Memory.{next_call};
 
 use crate::calls::Calls;
 use crate::ends::{Failed, NoMemory, Sink};
@@ -63,6 +63,13 @@ impl MemorySink {
         self.bytes.as_slice()
     }
 
+    /// How many writes came, those that failed too. It stands still at its type's end.
+    pub fn calls(&self) -> u32
+        ensures { result ≡ self.now.calls }
+    {
+        self.calls.made()
+    }
+
     /// How many writes have failed.
     pub fn fault_count(&self) -> u64
         ensures { result ≡ self.now.faults }
@@ -92,6 +99,7 @@ impl Sink for MemorySink {
         ensures some { IfOk result (λ n. 0 < length piece.now → 0 < n) }
         ensures kept { OnErr result (Some self.new.got ≡ Some self.old.got) }
         ensures cause { OnErr result (Rose self.old.faults self.new.faults) }
+        ensures raised { OnErr result (self.new.faults ≡ one_more self.old.faults) }
         ensures count { self.old.faults ≤ self.new.faults }
         ensures stands { OnOk result (self.new.faults ≡ self.old.faults) }
         ensures fails { IsErr result ↔ ((0 < length piece.now) × (Contains self.old.failing (next_call self.old.calls) ⊎ (self.old.room ≤ length self.old.got))) }

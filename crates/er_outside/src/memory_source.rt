@@ -1,8 +1,8 @@
 //! A source over bytes in memory, whose calls fail where they are told to.
 
 ghost use Rattle.std.specs.Prelude.{◌≡◌, ◌↔◌, ◌<◌, ◌≤◌, ℕ, min, length, take, drop, Contains, Some, IfOk, OnOk, OnErr, IsErr};
-ghost use Rattle.er_outside.specs.Ends.{Gives, IsSpent, Rose};
-ghost use Rattle.er_outside.specs.Memory.{next_call, one_more};
+ghost use Rattle.er_outside.specs.Ends.{Gives, IsSpent, Rose, one_more};
+ghost use Rattle.er_outside.specs.Memory.{next_call};
 
 use crate::calls::Calls;
 use crate::ends::{Failed, Source};
@@ -49,6 +49,13 @@ impl MemorySource {
         }
     }
 
+    /// How many reads came, those that failed too. It stands still at its type's end.
+    pub fn calls(&self) -> u32
+        ensures { result ≡ self.now.calls }
+    {
+        self.calls.made()
+    }
+
     /// How many reads have failed.
     pub fn fault_count(&self) -> u64
         ensures { result ≡ self.now.faults }
@@ -77,6 +84,7 @@ impl Source for MemorySource {
         ensures end { IfOk result (λ n. n ≡ 0 → 0 < length buf.new → IsSpent (Some self.new.left)) }
         ensures kept { OnErr result (Some self.new.left ≡ Some self.old.left) }
         ensures cause { OnErr result (Rose self.old.faults self.new.faults) }
+        ensures raised { OnErr result (self.new.faults ≡ one_more self.old.faults) }
         ensures count { self.old.faults ≤ self.new.faults }
         ensures stands { OnOk result (self.new.faults ≡ self.old.faults) }
         ensures fails { IsErr result ↔ Contains self.old.failing (next_call self.old.calls) }

@@ -1,6 +1,8 @@
 //! Each public call once, with ample memory, and what no clause says.
 
-use crate::{Failed, FromRead, MemorySink, MemorySource, Sink, Source, ToWrite, put_all};
+use crate::{
+    Failed, FromRead, MemorySink, MemorySource, Sink, Source, SureSink, SureSource, ToWrite, put_all,
+};
 use std::io;
 use std::io::{ErrorKind, Read, Write};
 use std::test::Fail;
@@ -63,6 +65,7 @@ fn a_source_in_memory_gives_its_bytes(rt: HostRuntime) -> Result<(), Fail> {
     assert_eq!(rt; buf, *b"ed\0");
     assert_eq!(rt; read_some(&mut source, &mut buf), Ok(0));
     assert_eq!(rt; source.fault_count(), 1);
+    assert_eq!(rt; source.calls(), 5);
     Ok(())
 }
 
@@ -78,6 +81,7 @@ fn a_piece_is_put_whole(rt: HostRuntime) -> Result<(), Fail> {
     assert_eq!(rt; sink.write(b""), Ok(0));
     assert_eq!(rt; sink.write(b"g"), Err(Failed));
     assert_eq!(rt; sink.fault_count(), 1);
+    assert_eq!(rt; sink.calls(), 6);
     assert_eq!(rt; sink.bytes(), b"abcdef".as_slice());
     Ok(())
 }
@@ -89,6 +93,7 @@ fn a_piece_is_put_in_part(rt: HostRuntime) -> Result<(), Fail> {
     assert_eq!(rt; put_all(&mut sink, b"abcde"), Err(Failed));
     assert_eq!(rt; sink.bytes(), b"ab".as_slice());
     assert_eq!(rt; sink.fault_count(), 1);
+    assert_eq!(rt; sink.calls(), 2);
     // what is still due can be put later, until the room is used up
     assert_eq!(rt; put_all(&mut sink, b"cdefg"), Err(Failed));
     assert_eq!(rt; sink.bytes(), b"abcdef".as_slice());
@@ -131,4 +136,19 @@ fn a_writer_is_a_sink(rt: HostRuntime) {
     });
     assert_eq!(rt; put_all(&mut full, b""), Ok(()));
     assert_eq!(rt; full.write(b""), Ok(0));
+}
+
+#[test]
+fn sure_ends_never_fail(rt: HostRuntime) -> Result<(), Fail> {
+    let mut source = SureSource::new(Vec::from_slice(rt.alloc(), b"abcd")?);
+    let mut buf = [0; 3];
+    assert_eq!(rt; read_some(&mut source, &mut buf), Ok(3));
+    assert_eq!(rt; buf, *b"abc");
+    assert_eq!(rt; read_some(&mut source, &mut buf), Ok(1));
+    assert_eq!(rt; buf, *b"dbc");
+    assert_eq!(rt; read_some(&mut source, &mut buf), Ok(0));
+    let mut sink = SureSink::new();
+    assert_eq!(rt; put_all(&mut sink, b"abc"), Ok(()));
+    assert_eq!(rt; sink.count(), 3);
+    Ok(())
 }

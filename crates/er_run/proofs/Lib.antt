@@ -8,6 +8,7 @@ pub mod RaceOrders
 pub mod JudgedLemmas
 pub mod CompleteLemmas
 pub mod OneAnswer
+pub mod CutTraces
 pub mod EveryText
 pub mod EveryAnswer
 pub mod TellLemmas

@@ -67,7 +67,7 @@ no_start f v bytes front records rest c h are e =
     no_header_by f (whole_line f.most bytes) c v are.first (are.later ++ rest) h (front_of f.most bytes are.first (are.later ++ rest) are.short (behind_line f v bytes front records rest are e)) are.header
 
 -- in a legal list no record has a cause
-legal_older : (table : List (ℕ × Rule)) (newer older : List Record) → IsLegal table (newer ++ older) → IsLegal table older
+pub legal_older : (table : List (ℕ × Rule)) (newer older : List Record) → IsLegal table (newer ++ older) → IsLegal table older
 legal_older table [] older h = h
 legal_older table (x ∷ newer) older h = legal_older table newer older h.1
 

@@ -77,3 +77,14 @@ no_rise (Check json input) old new reads without = without
 no_rise (Gen n) old new reads without = absurd (reads n refl)
 no_rise (Schedule k) old new reads without = without
 no_rise (Explain i j) old new reads without = without
+
+-- ends that never fail
+
+pub never_rose : Rose 0 0 → ⊥
+never_rose rose = elim rose [ inl more ↦ absurd (omega arith) | inr last ↦ absurd (omega (arith, last)) ]
+
+pub reads_surely : (asked : Command) → ReadsWithout asked 0 0
+reads_surely (Check json input) = never_rose
+reads_surely (Gen n) = tt
+reads_surely (Schedule k) = never_rose
+reads_surely (Explain i j) = never_rose

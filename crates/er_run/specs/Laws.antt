@@ -1,19 +1,24 @@
 -- What holds of the definitions.
-use Rattle.std.specs.Prelude.{◌≡◌, ◌≢◌, ℕ, true, List, ◌++◌, length, Some}
+use Rattle.std.specs.Prelude.{◌≡◌, ◌≢◌, ◌<◌, ◌+◌, ℕ, true, List, ◌++◌, length, reverse, Some}
 use Rattle.std.specs.List.{slice_get}
 use Rattle.er_paths.specs.Paths.{joins}
+use Rattle.er_text.specs.Bytes.{count_of_lf}
 use Rattle.er_text.specs.declared.causes.Cause.{Cause}
 use Rattle.er_text.specs.declared.causes.Cause.TheVariants.{NoEnd}
 use Rattle.er_run.specs.declared.outcome.Outcome.{Outcome}
+use Rattle.er_run.specs.declared.outcome.Outcome.TheVariants.{Refused}
 use Rattle.er_words.specs.declared.commands.Command.{Command}
 use Rattle.er_trace.specs.declared.record.Record.{Record}
 use Rattle.er_trace.specs.declared.version.Version.{Version}
+use Rattle.er_lines.specs.Lines.{IsTrace}
 use Rattle.er_history.specs.History.{told}
 use Rattle.er_history.specs.Rules.{rules}
 use Rattle.er_history.specs.Edges.{edges}
 use Rattle.er_access.specs.Kept.{Kept}
 use Rattle.er_orders.specs.Orders.{is_lawful, is_next, before_order, after_order}
 use Rattle.er_run.specs.Answer.{format_of, FirstIllegal, Answers}
+use Rattle.er_run.specs.Legal.{IsLegal}
+use Rattle.er_run.specs.Report.{refusal_for}
 use Rattle.er_run.specs.Races.{races}
 
 -- to each command a byte string has one outcome, and one text is due for it
@@ -29,6 +34,12 @@ EveryAnswer = (asked : Command) (bytes : List ℕ) → ¬ ¬ ((o : Outcome) × (
 abbrev pub LongerInput : Type 0
 LongerInput = (asked : Command) (bytes more : List ℕ) (n : ℕ) (c : Cause) → FirstIllegal (format_of asked) asked bytes n c → c ≢ NoEnd
     → FirstIllegal (format_of asked) asked (bytes ++ more) n c
+
+-- A legal trace, without some of its last bytes, is refused for `no-end`, at the line behind its last LF.
+abbrev pub CutTrace : Type 0
+CutTrace = (asked : Command) (v : Version) (whole bytes more : List ℕ) (records : List Record)
+    → IsTrace (format_of asked) v whole records → IsLegal (rules v) (reverse records) → whole ≡ bytes ++ more → 0 < length more
+    → Answers (format_of asked) asked bytes (Refused (count_of_lf bytes + 1) NoEnd) (refusal_for asked (count_of_lf bytes + 1) NoEnd)
 
 -- by these lists no edge leads back in either order of the two actions, and each order shows them side by side
 pub record AreBothLawful (lists : List (List ℕ)) (i j : ℕ) : Type 0 where

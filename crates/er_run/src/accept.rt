@@ -1,7 +1,7 @@
 //! What an input comes to, at its end: the trace that was read, or a generated one.
 
 ghost use Rattle.std.specs.Prelude.{◌≡◌, ◌≢◌, ℕ, ◌<◌, ◌≤◌, ◌^◌, List, Option, Some, None, Err, reverse, IfOk, IfErr, IsErrOf};
-ghost use Rattle.er_outside.specs.Ends.{Rose};
+ghost use Rattle.er_outside.specs.Ends.{Rose, one_more};
 ghost use Rattle.er_text.specs.declared.causes.Cause.{Cause};
 ghost use Rattle.er_trace.specs.declared.record.Record.{Record};
 ghost use Rattle.er_trace.specs.declared.version.Version.TheVariants.{One};
@@ -55,6 +55,8 @@ pub(crate) fn accept_input<L: Lines, R: Threads + Sync, S: Source, G: Gate + Syn
         IsTestedFor asked.command judged.session tests.old tests.new) }
     ensures failed { IsErrOf result InputFault.Failed
         → Rose (S.faults source.old) (S.faults source.new) }
+    ensures once { IsErrOf result InputFault.Failed
+        → S.faults source.new ≡ one_more (S.faults source.old) }
     ensures stands { result ≢ Err InputFault.Failed → S.faults source.new ≡ S.faults source.old }
     ensures count { S.faults source.old ≤ S.faults source.new }
     ensures compares_rise { compares.old ≤ compares.new }
@@ -101,6 +103,8 @@ fn accept_end<L: Lines, R: Threads + Sync, S: Source, G: Gate + Sync>(
         IsTestedFor asked.command judged.session tests.old tests.new) }
     ensures failed { IsErrOf result InputFault.Failed
         → Rose (S.faults source.old) (S.faults source.new) }
+    ensures once { IsErrOf result InputFault.Failed
+        → S.faults source.new ≡ one_more (S.faults source.old) }
     ensures stands { result ≢ Err InputFault.Failed → S.faults source.new ≡ S.faults source.old }
     ensures count { S.faults source.old ≤ S.faults source.new }
     ensures compares_rise { compares.old ≤ compares.new }

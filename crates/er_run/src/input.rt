@@ -1,7 +1,7 @@
 //! Reads a trace piece by piece, and judges each record as its line ends.
 
 ghost use Rattle.std.specs.Prelude.{◌≡◌, ◌≢◌, ℕ, ◌+◌, ◌<◌, ◌≤◌, List, [], ◌++◌, length, reverse, Option, Ok, Err, Some, None, IfOk, OnOk, IfErr, IsErrOf};
-ghost use Rattle.er_outside.specs.Ends.{Rose};
+ghost use Rattle.er_outside.specs.Ends.{Rose, one_more};
 ghost use Rattle.er_trace.specs.Trace.{most_lines};
 ghost use Rattle.er_lines.specs.Lines.{IsTraceOf};
 ghost use Rattle.er_lines.specs.Feed.{Stands};
@@ -60,6 +60,8 @@ pub(crate) fn read<L: Lines, S: Source>(
         → IsReadTo L.format (S.left source.old) (S.left source.new) n c }
     ensures failed { IsErrOf result InputFault.Failed
         → Rose (S.faults source.old) (S.faults source.new) }
+    ensures once { IsErrOf result InputFault.Failed
+        → S.faults source.new ≡ one_more (S.faults source.old) }
     ensures stands { result ≢ Err InputFault.Failed → S.faults source.new ≡ S.faults source.old }
     ensures count { S.faults source.old ≤ S.faults source.new }
 {
@@ -106,6 +108,8 @@ fn read_piece<L: Lines, S: Source>(
         → IsRefusedBehind L.format (S.left source.old) (S.left source.new) n c bytes }
     ensures failed { IsErrOf result InputFault.Failed
         → Rose (S.faults source.old) (S.faults source.new) }
+    ensures once { IsErrOf result InputFault.Failed
+        → S.faults source.new ≡ one_more (S.faults source.old) }
     ensures stands { result ≢ Err InputFault.Failed → S.faults source.new ≡ S.faults source.old }
     ensures count { S.faults source.old ≤ S.faults source.new }
 {

@@ -1,7 +1,7 @@
 //! Laws of the definitions that the contracts cite. Each is a function that does nothing, whose
 //! contract is the law.
 
-ghost use Rattle.er_run.specs.Laws.{EveryAnswer, LongerInput, OneAnswer, OrdersKeepRules};
+ghost use Rattle.er_run.specs.Laws.{CutTrace, EveryAnswer, LongerInput, OneAnswer, OrdersKeepRules};
 
 /// No byte string has two outcomes, and no two texts are due for it.
 pub fn one_answer()
@@ -16,6 +16,12 @@ pub fn every_answer()
 /// A refusal other than `no-end` is that of every longer input.
 pub fn longer_input()
     ensures { LongerInput }
+{}
+
+/// To each command, a legal trace that lacks some of its last bytes is refused for `no-end`, at
+/// the line behind its last LF.
+pub fn cut_trace()
+    ensures { CutTrace }
 {}
 
 /// No edge leads back in either order of the actions of a race: the rules keep both, and each shows the two side

@@ -2,7 +2,7 @@
 #![tactic(auto)]
 
 ghost use Rattle.std.specs.Prelude.{◌≡◌, ◌≢◌, ◌⊎◌, ℕ, ◌<◌, ◌≤◌, ◌^◌, List, map, string_bytes};
-ghost use Rattle.er_outside.specs.Ends.{Rose};
+ghost use Rattle.er_outside.specs.Ends.{Rose, one_more};
 ghost use Rattle.er_words.specs.Words.{Asks};
 ghost use Rattle.er_run.specs.Answer.{Answers, format_of};
 ghost use Rattle.er_run.specs.Promise.{IsAnswer, IsAnswered, IsCutShort, IsSilent, Holds, ReadsWithout};
@@ -25,6 +25,7 @@ pub mod laws;
 mod modes;
 pub mod outcome;
 mod session;
+pub mod sure;
 mod tell;
 
 /// Does what the words ask for: reads the trace that the source gives, at most 4,096 bytes at a time, to its
@@ -61,6 +62,9 @@ pub fn run<R: Threads + Sync, S: Source, K: Sink, G: Gate + Sync>(
         → (result ≡ Outcome.Usage) ⊎ (result ≡ Outcome.NoMemory) }
     ensures read_fault { result ≡ Outcome.ReadFault
         → Rose (S.faults source.old) (S.faults source.new) }
+    // One read failed and no more.
+    ensures once { result ≡ Outcome.ReadFault
+        → S.faults source.new ≡ one_more (S.faults source.old) }
     ensures write_fault { result ≡ Outcome.WriteFault
         → Rose (K.faults sink.old) (K.faults sink.new) }
     // At a failed write a proper front of the text that is due was written.

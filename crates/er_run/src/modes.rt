@@ -1,7 +1,7 @@
 //! What a mode judges: the trace that is read, or a generated one.
 
 ghost use Rattle.std.specs.Prelude.{◌≡◌, ◌≢◌, ◌⊎◌, ℕ, ◌<◌, ◌≤◌, ◌^◌, List, Some};
-ghost use Rattle.er_outside.specs.Ends.{Rose};
+ghost use Rattle.er_outside.specs.Ends.{Rose, one_more};
 ghost use Rattle.er_trace.specs.Trace.{text};
 ghost use Rattle.er_trace.specs.declared.version.Version.TheVariants.{One};
 ghost use Rattle.er_gen.specs.Generated.{generated, most_rounds};
@@ -47,6 +47,8 @@ pub(crate) fn judge_input<R: Threads + Sync, S: Source, K: Sink, G: Gate + Sync>
     ensures no_usage { result ≢ Outcome.Usage }
     ensures read_fault { result ≡ Outcome.ReadFault
         → Rose (S.faults source.old) (S.faults source.new) }
+    ensures once { result ≡ Outcome.ReadFault
+        → S.faults source.new ≡ one_more (S.faults source.old) }
     ensures write_fault { result ≡ Outcome.WriteFault
         → Rose (K.faults sink.old) (K.faults sink.new) }
     ensures cut_short { result ≡ Outcome.WriteFault
@@ -106,6 +108,8 @@ fn judge_lines<L: Lines, R: Threads + Sync, S: Source, K: Sink, G: Gate + Sync>(
     ensures no_usage { result ≢ Outcome.Usage }
     ensures read_fault { result ≡ Outcome.ReadFault
         → Rose (S.faults source.old) (S.faults source.new) }
+    ensures once { result ≡ Outcome.ReadFault
+        → S.faults source.new ≡ one_more (S.faults source.old) }
     ensures write_fault { result ≡ Outcome.WriteFault
         → Rose (K.faults sink.old) (K.faults sink.new) }
     ensures cut_short { result ≡ Outcome.WriteFault

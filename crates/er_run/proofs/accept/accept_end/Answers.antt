@@ -28,5 +28,8 @@ returns-in-Ok-read-clause-refused g c = λ n cause is first r.
     (refused_more g.L.Lines.format g.met.L.Lines.is_format c.args.asked.command first (g.S.Source.left c.args.source.now) (g.S.Source.left c.read.new.self) c.args.session c.in-Ok.judged (take c.in-Ok-read.field-0 c.read.new.buf) n c.in-Ok.ensures.version r (c.in-Ok.ensures.accepted (reverse r.ends.records) r.ends.stands)
     c.in-Ok-read.ensures.given some (few_taken c.in-Ok-read.field-0 c.read.new.buf c.in-Ok-read.ensures.placed (omega arith)) (omega (arith, line, count, length-reverse r.ends.records)))
 
+pub returns-in-Err-read-clause-once : goal.returns-in-Err-read-clause-once
+returns-in-Err-read-clause-once g c = λ is. c.in-Err-read.ensures.raised
+
 pub returns-in-Err-read-clause-failed : goal.returns-in-Err-read-clause-failed
 returns-in-Err-read-clause-failed g c = λ is. c.in-Err-read.ensures.cause

@@ -17,6 +17,9 @@ returns-in-None-clause-refused g c = λ n cause is.
 pub returns-in-None-clause-stands : goal.returns-in-None-clause-stands
 returns-in-None-clause-stands g c = λ other. c.accept_end.ensures.stands other ∙ c.in-Ok.ensures.stands (λ e. cc)
 
+pub returns-in-None-clause-once : goal.returns-in-None-clause-once
+returns-in-None-clause-once g c = λ is. rw (c.in-Ok.ensures.stands (λ e. cc)) at (c.accept_end.ensures.once is)
+
 pub returns-in-Some-clause-refused : goal.returns-in-Some-clause-refused
 returns-in-Some-clause-refused g c = λ n cause is.
     let r = rw c.in-Some.is at c.in-Ok.ensures.read in

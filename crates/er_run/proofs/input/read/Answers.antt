@@ -50,6 +50,9 @@ returns-in-Err-clause-refused g c = λ n cause is.
 pub returns-in-Err-clause-failed : goal.returns-in-Err-clause-failed
 returns-in-Err-clause-failed g c = λ is. rw c.loop-turn.invariant.stands at (c.in-Err.ensures.failed (cc))
 
+pub returns-in-Err-clause-once : goal.returns-in-Err-clause-once
+returns-in-Err-clause-once g c = λ is. rw c.loop-turn.invariant.stands at (c.in-Err.ensures.once (cc))
+
 pub returns-in-Err-clause-stands : goal.returns-in-Err-clause-stands
 returns-in-Err-clause-stands g c = λ other. c.in-Err.ensures.stands (λ e. other (cc)) ∙ c.loop-turn.invariant.stands
 

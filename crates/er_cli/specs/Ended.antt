@@ -1,0 +1,19 @@
+-- With which statuses the program may end.
+use Rattle.std.specs.Prelude.{◌≡◌, ◌⊎◌, ℕ, List}
+use Rattle.er_outside.specs.Ends.{untold}
+use Rattle.er_words.specs.declared.commands.Asked.{Asked}
+use Rattle.er_words.specs.Words.{Asks}
+use Rattle.er_run.specs.declared.outcome.Outcome.{Outcome}
+use Rattle.er_run.specs.declared.outcome.Outcome.TheVariants.{Usage, NoMemory}
+use Rattle.er_run.specs.Promise.{IsAnswer, IsAnswered}
+use Rattle.er_run.specs.Status.{status_of}
+
+-- The status is that of an outcome to which `run` may come for all of these words, over ends that tell nothing, by so many comparisons and tests.
+pub record EndsWith (words : List (List ℕ)) (status : ℕ) : Type 0 where
+  pub outcome : Outcome
+  pub compared : ℕ
+  pub tested : ℕ
+  pub is : status ≡ status_of outcome
+  pub usage : outcome ≡ Usage → (asked : Asked) → Asks words asked → ⊥
+  pub refused : ((asked : Asked) → Asks words asked → ⊥) → (outcome ≡ Usage) ⊎ (outcome ≡ NoMemory)
+  pub answered : (asked : Asked) → Asks words asked → IsAnswer outcome → IsAnswered asked.command untold untold untold untold 0 compared 0 tested outcome
