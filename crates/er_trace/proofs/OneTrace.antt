@@ -17,14 +17,14 @@ use Rattle.er_trace.proofs.OneRecord.{one_record}
 abbrev Front : Type 0
 Front = Option (List ℕ × List ℕ)
 
-a_front : List ℕ → List ℕ → Front
+abbrev a_front : List ℕ → List ℕ → Front
 a_front l rest = Some (l, rest)
 
-line_of : Front → List ℕ
+abbrev line_of : Front → List ℕ
 line_of None = []
 line_of (Some l) = l.0
 
-rest_of : Front → List ℕ
+abbrev rest_of : Front → List ℕ
 rest_of None = []
 rest_of (Some l) = l.1
 

@@ -1,5 +1,5 @@
 -- A whole trace as text. Records stand oldest first.
-use Rattle.std.specs.Prelude.{◌≡◌, ◌≢◌, ℕ, ◌+◌, ◌≤◌, List, [], ◌∷◌, ◌++◌, length, codes}
+use Rattle.std.specs.Prelude.{◌≢◌, ℕ, ◌+◌, ◌≤◌, List, [], ◌∷◌, ◌++◌, length, codes}
 use Rattle.std.specs.List.{AllByRecursion, flat_map}
 use Rattle.er_text.specs.Bytes.{line_end}
 use Rattle.er_trace.specs.declared.record.Record.{Record}
