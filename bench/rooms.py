@@ -20,6 +20,13 @@ SOURCES = ("src", "specs", "proofs")
 MEMORY = 2_000_000_000
 # the most jobs that one check gains from
 MOST_JOBS = 4
+# rt, which sums up a crate's sources anew for each way down crates.txt that leads to it: at the upper crates a minute a call. Nothing in a room changes, so once is enough.
+STAMPED_ONCE = """
+import functools, runpy, sys
+rt = runpy.run_path(sys.argv[1])
+rt["rtlib"].Crate.stamp = functools.cache(rt["rtlib"].Crate.stamp)
+sys.exit(rt["main"](sys.argv[2:]))
+"""
 
 started = set()
 ends_early = False
@@ -80,7 +87,9 @@ def workers(count):
 def call_rt(room, folder, *words):
     """Runs rt in a folder of the room. Gives its status and what it said."""
     how = {"stdin": subprocess.DEVNULL, "stdout": subprocess.PIPE, "stderr": subprocess.STDOUT, "errors": "replace"}
-    with subprocess.Popen(["rt", *words], cwd=f"{room}/{folder}", env={**os.environ, "TMPDIR": f"{room}/tmp"}, **how) as it:
+    how["env"] = {**os.environ, "TMPDIR": f"{room}/tmp"}
+    call = [sys.executable, "-c", STAMPED_ONCE, shutil.which("rt"), *words]
+    with subprocess.Popen(call, cwd=f"{room}/{folder}", **how) as it:
         started.add(it)
         if ends_early:
             it.terminate()
@@ -183,12 +192,15 @@ def build_all(names, tell):
     with held(names), workers(most) as pool:
         while left or running:
             ready = [it for it in left if all(low in built for low in below[it])]
-            idle = most - sum(jobs for _, jobs in running.values())
+            idle = most - sum(share for _, share in running.values())
+            longest = max(behind[it] for it in [*left, *[name for name, _ in running.values()]])
             for at, name in enumerate(ready[: max(idle, 0)]):
-                jobs = min(MOST_JOBS, max(1, idle // (len(ready) - at)))
-                idle -= jobs
+                share = min(MOST_JOBS, max(1, idle // (len(ready) - at)))
+                idle -= share
                 left.remove(name)
-                running[pool.submit(build, name, lines, below, jobs)] = name, jobs
+                # the crate with most behind it, which holds up the end, takes all that it gains from also of processors that others use
+                jobs = MOST_JOBS if behind[name] == longest else share
+                running[pool.submit(build, name, lines, below, jobs)] = name, share
             for it in wait(running, timeout=1, return_when=FIRST_COMPLETED).done:
                 name, _ = running.pop(it)
                 is_built, said = it.result()

@@ -5,6 +5,6 @@ pub mod OneReading
 pub mod FeedLaws
 pub mod StopLaws
 pub mod HeaderLaws
-pub mod FrontLaws
 pub mod LinesBefore
 pub mod TextLaws
+pub mod CutTraces

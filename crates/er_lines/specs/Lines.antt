@@ -142,3 +142,13 @@ ReadsUntil f bytes number c records = (place : Place) × Refuses f bytes place c
 -- the bytes begin with some lines of a trace, and these are their records
 abbrev pub ReadsPart : Format → List ℕ → List Record → Type 0
 ReadsPart f bytes records = (place : Place) × (before rest : List ℕ) × AreBefore f place before × (line_number place ≤ most_lines + 1) × (bytes ≡ before ++ rest) × (records ≡ records_before place)
+
+-- the first line, or the one behind some of the records
+abbrev pub IsWithin : Version → List Record → Place → Type 0
+IsWithin v records Start = Unit {0}
+IsWithin v records (After w front) = (w ≡ v) × ((back : List Record) × (records ≡ front ++ back))
+IsWithin v records (Ended w front) = ⊥
+
+-- a trace of these records was cut: its bytes end within the first line, or within the one behind some of the records
+abbrev pub IsCutTrace : Format → Version → List Record → List ℕ → Type 0
+IsCutTrace f v records bytes = (place : Place) × Refuses f bytes place NoEnd × IsWithin v records place

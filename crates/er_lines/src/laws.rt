@@ -1,13 +1,13 @@
 //! Laws of the definitions that the contracts cite, for every format. Each is a function that does nothing,
 //! whose contract is the law.
 
-ghost use Rattle.std.specs.Prelude.{◌≡◌, ◌≢◌, ◌<◌, ℕ, ◌+◌, List, ◌++◌, length, Option, None};
+ghost use Rattle.std.specs.Prelude.{◌≡◌, ◌≢◌, ℕ, ◌+◌, ◌<◌, List, ◌++◌, length, Option, None};
 ghost use Rattle.er_text.specs.Bytes.{count_of_lf};
 ghost use Rattle.er_text.specs.declared.causes.Cause.{Cause};
 ghost use Rattle.er_text.specs.declared.causes.Cause.TheVariants.{NoEnd};
 ghost use Rattle.er_trace.specs.declared.record.Record.{Record};
 ghost use Rattle.er_trace.specs.declared.version.Version.{Version};
-ghost use Rattle.er_lines.specs.Lines.{Place, line_number, AreBefore, IsTrace, BeginsWith, Refuses};
+ghost use Rattle.er_lines.specs.Lines.{Place, line_number, AreBefore, IsTrace, IsCutTrace, BeginsWith, Refuses};
 ghost use Rattle.er_lines.specs.Feed.{Stands};
 ghost use Rattle.er_lines.specs.declared.mark.Mark.{Mark};
 ghost use Rattle.er_trace.specs.declared.fault.FeedFault.{FeedFault};
@@ -53,10 +53,11 @@ pub fn longer_input<L: Lines>()
     ensures { (bytes more : List ℕ) (place : Place) (c : Cause) → Refuses L.format bytes place c → c ≢ NoEnd → Refuses L.format (bytes ++ more) place c }
 {}
 
-/// A whole trace that lacks some of its last bytes is refused for `no-end`.
+/// A trace without some of its last bytes is refused for `no-end`, at its first line or behind the lines of
+/// some of its records.
 pub fn cut_trace<L: Lines>()
-    ensures { (v : Version) (whole bytes more : List ℕ) (records : List Record) → IsTrace L.format v whole records
-        → whole ≡ bytes ++ more → 0 < length more → ((place : Place) × Refuses L.format bytes place NoEnd) }
+    ensures { (v : Version) (records : List Record) (bytes more : List ℕ) → IsTrace L.format v (bytes ++ more) records
+        → 0 < length more → IsCutTrace L.format v records bytes }
 {}
 
 /// The line of `no-end` is one more than the LFs of the bytes.

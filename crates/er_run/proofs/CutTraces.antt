@@ -6,9 +6,8 @@ use Rattle.er_text.specs.declared.causes.Cause.TheVariants.{NoEnd}
 use Rattle.er_trace.specs.declared.record.Record.{Record}
 use Rattle.er_trace.specs.declared.version.Version.{Version}
 use Rattle.er_lines.specs.Format.{Format}
-use Rattle.er_lines.specs.Lines.{Place, Start, After, Ended, IsTrace}
-use Rattle.er_lines.proofs.FrontLaws.{IsWithin}
-use Rattle.er_lines.proofs.FrontLaws as fronts
+use Rattle.er_lines.specs.Lines.{Place, Start, After, Ended, IsTrace, IsWithin}
+use Rattle.er_lines.proofs.CutTraces.{cut_trace as place_of_cut}
 use Rattle.er_lines.proofs.LinesBefore.{line_of_no_end}
 use Rattle.er_history.specs.Rules.{rules}
 use Rattle.er_words.specs.declared.commands.Command.{Command}
@@ -25,8 +24,7 @@ legal_within asked v records (After w front) within legal =
     subst (λ u. IsLegal (rules u) (reverse front)) (sym within.0) older
 legal_within asked v records (Ended w front) within legal = absurd within
 
-pub cut_trace : (f : Format) (asked : Command) (v : Version) (whole bytes more : List ℕ) (records : List Record) → IsTrace f v whole records → IsLegal (rules v) (reverse records) → whole ≡ bytes ++ more → 0 < length more
-    → FirstIllegal f asked bytes (count_of_lf bytes + 1) NoEnd
-cut_trace f asked v whole bytes more records is legal e some =
-    let cut = fronts.cut_trace f v whole bytes more records is e some in
+pub cut_trace : (f : Format) (asked : Command) (v : Version) (records : List Record) (bytes more : List ℕ) → IsTrace f v (bytes ++ more) records → IsLegal (rules v) (reverse records) → 0 < length more → FirstIllegal f asked bytes (count_of_lf bytes + 1) NoEnd
+cut_trace f asked v records bytes more is legal some =
+    let cut = place_of_cut f v records bytes more is some in
     OfLine cut.0 (sym (line_of_no_end f bytes cut.0 cut.1)) (legal_within asked v records cut.0 cut.2 legal) cut.1

@@ -35,10 +35,10 @@ abbrev pub LongerInput : Type 0
 LongerInput = (asked : Command) (bytes more : List ℕ) (n : ℕ) (c : Cause) → FirstIllegal (format_of asked) asked bytes n c → c ≢ NoEnd
     → FirstIllegal (format_of asked) asked (bytes ++ more) n c
 
--- A legal trace, without some of its last bytes, is refused for `no-end`, at the line behind its last LF.
+-- The bytes of a legal trace, without some of the last, are refused for `no-end`, at the line behind their last LF.
 abbrev pub CutTrace : Type 0
-CutTrace = (asked : Command) (v : Version) (whole bytes more : List ℕ) (records : List Record)
-    → IsTrace (format_of asked) v whole records → IsLegal (rules v) (reverse records) → whole ≡ bytes ++ more → 0 < length more
+CutTrace = (asked : Command) (v : Version) (records : List Record) (bytes more : List ℕ)
+    → IsTrace (format_of asked) v (bytes ++ more) records → IsLegal (rules v) (reverse records) → 0 < length more
     → Answers (format_of asked) asked bytes (Refused (count_of_lf bytes + 1) NoEnd) (refusal_for asked (count_of_lf bytes + 1) NoEnd)
 
 -- by these lists no edge leads back in either order of the two actions, and each order shows them side by side

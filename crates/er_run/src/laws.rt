@@ -18,8 +18,8 @@ pub fn longer_input()
     ensures { LongerInput }
 {}
 
-/// To each command, a legal trace that lacks some of its last bytes is refused for `no-end`, at
-/// the line behind its last LF.
+/// To each command, the bytes of a legal trace that lack some of the last are refused for `no-end`, at the
+/// line behind their last LF.
 pub fn cut_trace()
     ensures { CutTrace }
 {}

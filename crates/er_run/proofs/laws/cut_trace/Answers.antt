@@ -4,4 +4,4 @@ use Rattle.er_run.proofs.CutTraces as cuts
 use Rattle.er_run.proofs.laws.cut_trace.Goals as goal
 
 pub returns : goal.returns
-returns c = λ asked v whole bytes more records is legal e some. (cuts.cut_trace (format_of asked) asked v whole bytes more records is legal e some, refl)
+returns c = λ asked v records bytes more is legal some. (cuts.cut_trace (format_of asked) asked v records bytes more is legal some, refl)
