@@ -6,7 +6,7 @@ use Rattle.std.proofs.Math.Seq.{take-length}
 use Rattle.er_text.specs.Bytes.{has_no_lf}
 use Rattle.er_text.specs.Lines.{first_line}
 use Rattle.er_text.proofs.LineLaws.{first_line_parts, first_line_some}
-use Rattle.er_trace.proofs.LineLaws.{front_line, front_within}
+use Rattle.er_lines.proofs.LineLaws.{front_line, front_within}
 
 -- the bytes that are looked at: one more than the line has room for
 abbrev pub near : ℕ → ℕ → List ℕ → ℕ

@@ -1,7 +1,8 @@
 -- Whole lines.
-use Rattle.std.proofs.Common.{◌≡◌, ℕ, ◌+◌, ◌<◌, zero, suc, List, [], ◌∷◌, ◌++◌, length, take, Bool, true, false, Option, Some, None, Ok, Err, refl, ap, ◌∙◌, arith, append_assoc}
+use Rattle.std.proofs.Common.{◌≡◌, ℕ, ◌+◌, ◌<◌, ◌≤◌, zero, suc, List, [], ◌∷◌, ◌++◌, length, take, drop, Bool, true, false, Option, Some, None, Ok, Err, refl, ap, sym, ◌∙◌, arith, append_assoc, length-append}
 use Rattle.std.specs.Prelude.{if◌then◌else◌}
 use Rattle.std.specs.Option.{ok_or}
+use Rattle.std.proofs.lemmas.List.{take-append-drop}
 use Rattle.std.proofs.lemmas.Bool.Decides.{nat_tests}
 use Rattle.std.proofs.lemmas.Grind.{common_steps}
 use Rattle.er_text.specs.Bytes.{has_no_lf}
@@ -10,6 +11,27 @@ use Rattle.er_text.specs.declared.causes.Cause.TheVariants.{LongLine, NoEnd}
 use Rattle.er_text.proofs.LineLaws.{first_line-at, first_line_parts}
 use Rattle.er_trace.specs.Trace.{line}
 use Rattle.er_lines.specs.Lines.{IsShort, whole_line, is_long}
+
+drop_line : (line rest : List ℕ) → drop (length line + 1) (line ++ 10 ∷ rest) ≡ rest
+drop_line [] rest = refl
+drop_line (b ∷ line) rest = grind (arith, common_steps, drop_line line rest)
+
+-- a front of the bytes has the first line
+front_parts : (n : ℕ) (bytes line rest : List ℕ) → first_line (take n bytes) ≡ Some (line, rest) → bytes ≡ line ++ 10 ∷ (rest ++ drop n bytes)
+front_parts n bytes line rest h =
+    let parts : take n bytes ≡ line ++ 10 ∷ rest = (first_line_parts (take n bytes) line rest h).1 in
+    (sym (take-append-drop n bytes) ∙ ap (λ front. front ++ drop n bytes) parts) ∙ append_assoc line (10 ∷ rest) (drop n bytes)
+
+pub front_within : (n : ℕ) (bytes line rest : List ℕ) → Some (line, rest) ≡ first_line (take n bytes) → length line + 1 ≤ length bytes
+front_within n bytes line rest h =
+    omega (arith, ap length (front_parts n bytes line rest (sym h)), length-append line (10 ∷ (rest ++ drop n bytes)))
+
+pub front_line : (n : ℕ) (bytes line rest : List ℕ) → first_line (take n bytes) ≡ Some (line, rest) → first_line bytes ≡ Some (line, drop (length line + 1) bytes)
+front_line n bytes line rest h =
+    let parts : bytes ≡ line ++ 10 ∷ (rest ++ drop n bytes) = front_parts n bytes line rest h in
+    let clear : has_no_lf line ≡ true = (first_line_parts (take n bytes) line rest h).0 in
+    let there : drop (length line + 1) bytes ≡ rest ++ drop n bytes = ap (λ b. drop (length line + 1) b) parts ∙ drop_line line (rest ++ drop n bytes) in
+    (ap first_line parts ∙ first_line-at line (rest ++ drop n bytes) clear) ∙ ap (λ r. Some (line, r)) (sym there)
 
 -- a line end within the first n bytes
 lf_within : (n : ℕ) (line rest : List ℕ) → length line < n → has_no_lf (take n (line ++ 10 ∷ rest)) ≡ false

@@ -7,7 +7,7 @@ use Rattle.er_trace.specs.declared.record.Record.{Record}
 use Rattle.er_trace.specs.declared.version.Version.{Version}
 use Rattle.er_trace.specs.Trace.{most_lines, line}
 use Rattle.er_lines.specs.Format.{Format, IsFormat}
-use Rattle.er_lines.specs.Lines.{Place, Start, After, Ended, IsShort, AreLines, AreBehind, whole_line, IsNoHeader, SpellsNone, StartCause, RecordCause, IsTrace, BeginsWith, Refuses}
+use Rattle.er_lines.specs.Lines.{Place, Start, After, Ended, IsShort, AreLines, AreBehind, whole_line, SpellsNone, StartCause, RecordCause, IsTrace, BeginsWith, Refuses}
 use Rattle.er_lines.proofs.LineLaws.{whole_line-with}
 use Rattle.er_lines.proofs.CauseLaws.{Line, StartBy, CauseBy, few_many}
 

@@ -1,6 +1,8 @@
 -- Whole traces of lines of text are the texts of er_trace.
-use Rattle.std.proofs.Common.{◌≡◌, ℕ, List, [], ◌∷◌, ◌++◌, refl, ap, ◌∙◌, arith}
+use Rattle.std.proofs.Common.{◌≡◌, ℕ, List, [], ◌∷◌, ◌++◌, Option, Some, None, Bor, refl, ap, ◌∙◌, arith}
+use Rattle.std.specs.Prelude.{IfSome}
 use Rattle.std.specs.List.{AllByRecursion}
+use Rattle.er_text.specs.Bytes.{line_end}
 use Rattle.er_trace.specs.declared.record.Record.{Record}
 use Rattle.er_trace.specs.declared.version.Version.{Version}
 use Rattle.er_trace.specs.declared.version.Version.TheVariants.{One, Two}
@@ -8,11 +10,18 @@ use Rattle.er_trace.specs.Spelling.{spelling, IsRecord}
 use Rattle.er_trace.specs.Trace.{most_line_bytes, header, end_word, line, lines}
 use Rattle.er_trace.specs.Trace as trace
 use Rattle.er_trace.proofs.RecordLaws.{spelling_is_short, spelling_has_no_lf}
-use Rattle.er_lines.specs.Lines.{IsShort, AreLines, AreBehind, AreWhole, IsTrace}
-use Rattle.er_lines.specs.Text.{text}
+use Rattle.er_lines.specs.Lines.{IsShort, AreLines, AreBehind, IsTrace}
+use Rattle.er_lines.specs.Steps.{IsFront}
+use Rattle.er_lines.specs.Text.{text, IsSpelled}
 
 pub short_spelling : (x : Record) → IsRecord x → IsShort most_line_bytes (spelling x)
 short_spelling x is = record { clear = spelling_has_no_lf x is; few = spelling_is_short x is }
+
+-- the line of an access at the front is one that spells it
+pub front_by : (piece : List ℕ) (found : Option (Record × Bor (List ℕ))) → IfSome found (λ pair. IsRecord pair.0 × (piece ≡ spelling pair.0 ++ line_end ∷ pair.1.now))
+    → IfSome found (λ pair. IsFront most_line_bytes IsSpelled piece pair.0 pair.1.now)
+front_by piece None h = h
+front_by piece (Some pair) h = record { l = spelling pair.0; short = short_spelling pair.0 h.0; spells = (h.0, refl); cut = h.1 }
 
 short_header : (v : Version) → IsShort most_line_bytes (header v)
 short_header One = record { clear = refl; few = omega arith }

@@ -7,4 +7,6 @@ pub mod format;
 pub mod laws;
 mod line;
 mod mark;
+#[cfg(test)]
+mod tests;
 pub mod text;

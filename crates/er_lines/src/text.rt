@@ -1,17 +1,19 @@
 //! Lines of text, as er_trace spells them.
 
-ghost use Rattle.std.specs.Prelude.{◌≡◌, Err, IfOk};
+ghost use Rattle.std.specs.Prelude.{◌≡◌, Err, IfOk, IfSome};
 ghost use Rattle.std.proofs.Common.{refl, lit<};
 ghost use Rattle.er_trace.specs.declared.record.Record.{Record};
 ghost use Rattle.er_trace.specs.Trace.{header, end_word, most_line_bytes};
 ghost use Rattle.er_lines.specs.Format.{IsVersionOf};
-ghost use Rattle.er_lines.specs.Steps.{IsLater};
+ghost use Rattle.er_lines.specs.Steps.{IsLater, IsFront};
 ghost use Rattle.er_lines.specs.Text.{text, IsSpelled, text_is_format};
 
 use crate::format::{Later, Lines};
 use er_outside::NoMemory;
 use er_trace::fault::LineFault;
 use er_trace::parse::parse_record;
+use er_trace::plain::plain_line;
+use er_trace::record::Record;
 use er_trace::trace::MOST_LINE_BYTES;
 use er_trace::version::{Version, version_of};
 use std::alloc::Global;
@@ -45,6 +47,12 @@ impl Lines for TextLines {
             Ok(found) => Ok(Later::One(found)),
             Err(fault) => Err(fault),
         }
+    }
+
+    fn front<'a>(alloc: Global, piece: &'a [u8]) -> Option<(Record, &'a [u8])>
+        ensures { IfSome result (λ pair. IsFront most_line_bytes IsSpelled piece.now pair.0 pair.1.now) }
+    {
+        plain_line(alloc, piece)
     }
 
     ghost most = { refl };

@@ -47,6 +47,8 @@ pub(crate) fn judge_input<R: Threads + Sync, S: Source, K: Sink, G: Gate + Sync>
     ensures no_usage { result ≢ Outcome.Usage }
     ensures read_fault { result ≡ Outcome.ReadFault
         → Rose (S.faults source.old) (S.faults source.new) }
+    ensures once { result ≡ Outcome.ReadFault
+        → S.faults source.new ≡ one_more (S.faults source.old) }
     ensures write_fault { result ≡ Outcome.WriteFault
         → Rose (K.faults sink.old) (K.faults sink.new) }
     ensures cut_short { result ≡ Outcome.WriteFault

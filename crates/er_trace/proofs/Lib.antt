@@ -1,14 +1,7 @@
 pub mod HeadLaws
 pub mod FormLaws
-pub mod LineLaws
 pub mod RecordLaws
-pub mod ReadLaws
 pub mod PrintLaws
 pub mod OneRecord
 pub mod OneTrace
-pub mod LinesBefore
-pub mod CutLaws
-pub mod CauseLaws
-pub mod FeedLaws
-pub mod StopLaws
 pub mod PlainLaws

@@ -4,8 +4,5 @@ pub mod Kinds
 pub mod Heads
 pub mod Tokens
 pub mod Trace
-pub mod Marks
-pub mod Feed
-pub mod Steps
 pub mod Forms
 pub mod Held

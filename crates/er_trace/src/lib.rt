@@ -1,20 +1,15 @@
-//! The trace format `webtrace 1`: its records, how they are spelled, and how a whole trace is read.
+//! The trace format `webtrace`: its records, and how they and whole traces are spelled.
 #![tactic(auto)]
 
 pub mod fault;
-pub mod feed;
-#[cfg(test)]
-mod feed_tests;
 mod forms;
 mod head;
 mod items;
 pub mod laws;
-mod lines;
-mod mark;
 pub mod name;
 mod named_forms;
 pub mod parse;
-mod plain;
+pub mod plain;
 pub mod print;
 pub mod record;
 pub mod sharing;

@@ -1,13 +1,16 @@
-//! Traces that come in pieces, however they are cut.
+//! Traces of lines of text that come in pieces, however they are cut.
 
-use crate::fault::FeedFault;
-use crate::feed::Feed;
-use crate::print::print_record;
-use crate::record::Record;
-use crate::version::Version;
+use crate::feed::LineFeed;
+use crate::text::TextLines;
 use er_outside::{MemorySink, WriteFault, put_all};
 use er_text::Cause;
+use er_trace::fault::FeedFault;
+use er_trace::print::print_record;
+use er_trace::record::Record;
+use er_trace::version::Version;
 use std::alloc::{AllocError, Global};
+
+type TextFeed = LineFeed<TextLines>;
 
 /// Texts, the lines of the records that come of each, and the line that is refused.
 static ROWS: [(&str, &str, Option<(u32, Cause)>); 15] = [
@@ -75,7 +78,7 @@ fn feed_in_two(
     out: &mut Vec<Record>,
 ) -> Result<(), FeedFault> {
     let place = place.min(text.len());
-    let mut feed = Feed::new(alloc);
+    let mut feed = TextFeed::new(alloc);
     let first = feed.feed(&text[..place], out);
     let second = first.and(feed.feed(&text[place..], out));
     second.and(feed.finish())
@@ -83,7 +86,7 @@ fn feed_in_two(
 
 /// What comes of the text byte by byte.
 fn feed_bytes(alloc: Global, text: &[u8], out: &mut Vec<Record>) -> Result<(), FeedFault> {
-    let mut feed = Feed::new(alloc);
+    let mut feed = TextFeed::new(alloc);
     let mut answer = Ok(());
     for byte in text {
         answer = answer.and(feed.feed(&[*byte], out));
@@ -215,7 +218,7 @@ fn names_of_any_length(rt: HostRuntime) {
 }
 
 /// What one call answers, and how many records it hands on.
-fn fed(alloc: Global, feed: &mut Feed, piece: &str) -> (Result<(), FeedFault>, usize) {
+fn fed(alloc: Global, feed: &mut TextFeed, piece: &str) -> (Result<(), FeedFault>, usize) {
     let mut out = Vec::new(alloc);
     let answer = feed.feed(piece.as_bytes(), &mut out);
     (answer, out.len())
@@ -223,7 +226,7 @@ fn fed(alloc: Global, feed: &mut Feed, piece: &str) -> (Result<(), FeedFault>, u
 
 #[test]
 fn refusals_stay(rt: HostRuntime) {
-    let mut feed = Feed::new(rt.alloc());
+    let mut feed = TextFeed::new(rt.alloc());
     let refused = Err(FeedFault::Refused {
         line: 3,
         cause: Cause::BadRecord,
@@ -247,7 +250,7 @@ static MARKS: [(&str, usize, u32, bool); 6] = [
 ];
 
 /// Whether a feed tells these marks.
-fn tells_marks(alloc: Global, feed: &mut Feed) -> bool {
+fn tells_marks(alloc: Global, feed: &mut TextFeed) -> bool {
     let mut tells = true;
     for (piece, came, records, ended) in &MARKS {
         let (answer, count) = fed(alloc, feed, piece);
@@ -259,7 +262,7 @@ fn tells_marks(alloc: Global, feed: &mut Feed) -> bool {
 
 #[test]
 fn marks(rt: HostRuntime) {
-    let mut feed = Feed::new(rt.alloc());
+    let mut feed = TextFeed::new(rt.alloc());
     let told = tells_marks(rt.alloc(), &mut feed);
     let last = feed.finish();
     assert!(rt; told);
@@ -268,7 +271,7 @@ fn marks(rt: HostRuntime) {
 
 /// The version that a feed tells after these bytes.
 fn version_of(alloc: Global, bytes: &str) -> Option<Version> {
-    let mut feed = Feed::new(alloc);
+    let mut feed = TextFeed::new(alloc);
     let _answer = fed(alloc, &mut feed, bytes);
     feed.version()
 }
