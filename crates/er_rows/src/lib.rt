@@ -22,6 +22,8 @@ mod grouped;
 #[cfg(test)]
 mod handed;
 #[cfg(test)]
+mod inputs;
+#[cfg(test)]
 mod large;
 #[cfg(test)]
 mod limits;
