@@ -1,4 +1,4 @@
-//! Failing reads and writes, and want of memory. After a failed call all later ones would fail too, so one fault shows that none came.
+//! Failing reads and writes, how many calls come, and want of memory.
 
 use crate::through::{Call, SOUND, Written, through};
 use er_run::outcome::Outcome;
@@ -20,110 +20,35 @@ const JSON: &str =
 const GENERATED: &str =
     "generated 1\ngroup 1 1 1\ngroup 2 2 1\ngroup 3 3 1\nactions 12\naccesses 6\npairs 6\nraces 3\ngroups 3\nchains 4\nlinks 12\nend\n";
 
-/// A call whose ends may fail, what is due between sound ones, and what comes of it.
+/// A call, what is due between ends that never fail, and what comes of it.
 struct Row {
     call: Call<'static, 'static>,
     due: &'static str,
     written: Written,
     status: u8,
-    read_faults: u64,
-    write_faults: u64,
+    /// How many reads come, and how many writes.
+    calls: (u32, u32),
 }
 
-/// All of these give what they would between sound ends: no call comes that would fail.
-static SPARED: [Row; 13] = [
+static ROWS: [Row; 24] = [
     // the read that gives nothing is the last
     Row {
         call: Call {
             input: TIMEOUTS,
             piece: 1000,
-            failing_read: Some(3),
             ..SOUND
         },
         due: REPORT,
         written: Written::Whole,
         status: 1,
-        read_faults: 0,
-        write_faults: 0,
+        calls: (2, 1),
     },
     Row {
-        call: Call {
-            input: "",
-            failing_read: Some(2),
-            ..SOUND
-        },
+        call: Call { input: "", ..SOUND },
         due: "refused 1 no-end\n",
         written: Written::Whole,
         status: 3,
-        read_faults: 0,
-        write_faults: 0,
-    },
-    // the read of the byte that decides is the last
-    Row {
-        call: Call {
-            input: "nonsense\n",
-            piece: 1,
-            failing_read: Some(10),
-            ..SOUND
-        },
-        due: "refused 1 bad-header\n",
-        written: Written::Whole,
-        status: 3,
-        read_faults: 0,
-        write_faults: 0,
-    },
-    Row {
-        call: Call {
-            input: "webtrace 1\nnonsense\n",
-            piece: 1,
-            failing_read: Some(21),
-            ..SOUND
-        },
-        due: "refused 2 bad-record\n",
-        written: Written::Whole,
-        status: 3,
-        read_faults: 0,
-        write_faults: 0,
-    },
-    Row {
-        call: Call {
-            input: "webtrace 1\ntimer 9\n",
-            piece: 1,
-            failing_read: Some(20),
-            ..SOUND
-        },
-        due: "refused 2 unknown\n",
-        written: Written::Whole,
-        status: 3,
-        read_faults: 0,
-        write_faults: 0,
-    },
-    Row {
-        call: Call {
-            input: "webtrace 1\nend\n\n",
-            piece: 1,
-            failing_read: Some(17),
-            ..SOUND
-        },
-        due: "refused 3 after-end\n",
-        written: Written::Whole,
-        status: 3,
-        read_faults: 0,
-        write_faults: 0,
-    },
-    // a generated trace takes nothing of the source
-    Row {
-        call: Call {
-            words: "gen --number 1",
-            input: "webtrace 1\n",
-            failing_read: Some(1),
-            ..SOUND
-        },
-        due: GENERATED,
-        written: Written::Whole,
-        status: 1,
-        read_faults: 0,
-        write_faults: 0,
+        calls: (1, 1),
     },
     // however the source cuts its bytes
     Row {
@@ -135,8 +60,7 @@ static SPARED: [Row; 13] = [
         due: REPORT,
         written: Written::Whole,
         status: 1,
-        read_faults: 0,
-        write_faults: 0,
+        calls: (85, 1),
     },
     Row {
         call: Call {
@@ -147,8 +71,7 @@ static SPARED: [Row; 13] = [
         due: REPORT,
         written: Written::Whole,
         status: 1,
-        read_faults: 0,
-        write_faults: 0,
+        calls: (43, 1),
     },
     Row {
         call: Call {
@@ -159,8 +82,7 @@ static SPARED: [Row; 13] = [
         due: REPORT,
         written: Written::Whole,
         status: 1,
-        read_faults: 0,
-        write_faults: 0,
+        calls: (29, 1),
     },
     Row {
         call: Call {
@@ -171,8 +93,7 @@ static SPARED: [Row; 13] = [
         due: REPORT,
         written: Written::Whole,
         status: 1,
-        read_faults: 0,
-        write_faults: 0,
+        calls: (13, 1),
     },
     Row {
         call: Call {
@@ -183,8 +104,7 @@ static SPARED: [Row; 13] = [
         due: REPORT,
         written: Written::Whole,
         status: 1,
-        read_faults: 0,
-        write_faults: 0,
+        calls: (7, 1),
     },
     Row {
         call: Call {
@@ -195,14 +115,101 @@ static SPARED: [Row; 13] = [
         due: REPORT,
         written: Written::Whole,
         status: 1,
-        read_faults: 0,
-        write_faults: 0,
+        calls: (2, 1),
     },
-];
-
-/// The first call that fails is the last.
-static FAILING: [Row; 8] = [
-    // a read
+    // the read of the byte that decides is the last
+    Row {
+        call: Call {
+            input: "nonsense\nnonsense\n",
+            piece: 1,
+            ..SOUND
+        },
+        due: "refused 1 bad-header\n",
+        written: Written::Whole,
+        status: 3,
+        calls: (9, 1),
+    },
+    Row {
+        call: Call {
+            input: "webtrace 1\nnonsense\nnonsense\n",
+            piece: 1,
+            ..SOUND
+        },
+        due: "refused 2 bad-record\n",
+        written: Written::Whole,
+        status: 3,
+        calls: (20, 1),
+    },
+    Row {
+        call: Call {
+            input: "webtrace 1\ntimer 9\nnonsense\n",
+            piece: 1,
+            ..SOUND
+        },
+        due: "refused 2 unknown\n",
+        written: Written::Whole,
+        status: 3,
+        calls: (19, 1),
+    },
+    Row {
+        call: Call {
+            input: "webtrace 1\nend\n\nnonsense\n",
+            piece: 1,
+            ..SOUND
+        },
+        due: "refused 3 after-end\n",
+        written: Written::Whole,
+        status: 3,
+        calls: (16, 1),
+    },
+    // a generated trace takes nothing of the source
+    Row {
+        call: Call {
+            words: "gen --number 1",
+            input: "webtrace 1\n",
+            ..SOUND
+        },
+        due: GENERATED,
+        written: Written::Whole,
+        status: 1,
+        calls: (0, 1),
+    },
+    // no write is empty
+    Row {
+        call: Call {
+            input: TIMEOUTS,
+            taken: 16,
+            ..SOUND
+        },
+        due: REPORT,
+        written: Written::Whole,
+        status: 1,
+        calls: (2, 8),
+    },
+    Row {
+        call: Call {
+            words: "--json",
+            input: TIMEOUTS,
+            taken: 1,
+            ..SOUND
+        },
+        due: JSON,
+        written: Written::Whole,
+        status: 1,
+        calls: (2, 187),
+    },
+    Row {
+        call: Call {
+            input: "nonsense\n",
+            taken: 7,
+            ..SOUND
+        },
+        due: "refused 1 bad-header\n",
+        written: Written::Whole,
+        status: 3,
+        calls: (1, 3),
+    },
+    // a read fails
     Row {
         call: Call {
             input: TIMEOUTS,
@@ -213,8 +220,7 @@ static FAILING: [Row; 8] = [
         due: REPORT,
         written: Written::Front(0),
         status: 4,
-        read_faults: 1,
-        write_faults: 0,
+        calls: (2, 0),
     },
     // a read where the input would have ended
     Row {
@@ -227,8 +233,7 @@ static FAILING: [Row; 8] = [
         due: REPORT,
         written: Written::Front(0),
         status: 4,
-        read_faults: 1,
-        write_faults: 0,
+        calls: (2, 0),
     },
     Row {
         call: Call {
@@ -239,10 +244,9 @@ static FAILING: [Row; 8] = [
         due: "refused 1 no-end\n",
         written: Written::Front(0),
         status: 4,
-        read_faults: 1,
-        write_faults: 0,
+        calls: (1, 0),
     },
-    // a write
+    // a write fails
     Row {
         call: Call {
             input: "webtrace 1\nend\n",
@@ -252,8 +256,7 @@ static FAILING: [Row; 8] = [
         due: NOTHING,
         written: Written::Front(0),
         status: 5,
-        read_faults: 0,
-        write_faults: 1,
+        calls: (2, 1),
     },
     // with little room a front is written
     Row {
@@ -265,8 +268,7 @@ static FAILING: [Row; 8] = [
         due: REPORT,
         written: Written::Front(12),
         status: 5,
-        read_faults: 0,
-        write_faults: 1,
+        calls: (2, 2),
     },
     Row {
         call: Call {
@@ -277,8 +279,7 @@ static FAILING: [Row; 8] = [
         due: "refused 1 bad-header\n",
         written: Written::Front(12),
         status: 5,
-        read_faults: 0,
-        write_faults: 1,
+        calls: (1, 2),
     },
     // a line is cut as any text
     Row {
@@ -292,8 +293,7 @@ static FAILING: [Row; 8] = [
         due: JSON,
         written: Written::Front(32),
         status: 5,
-        read_faults: 0,
-        write_faults: 1,
+        calls: (2, 3),
     },
     Row {
         call: Call {
@@ -305,29 +305,21 @@ static FAILING: [Row; 8] = [
         due: GENERATED,
         written: Written::Front(32),
         status: 5,
-        read_faults: 0,
-        write_faults: 1,
+        calls: (0, 3),
     },
 ];
 
-/// Whether this comes of the call.
+/// Whether this comes of the call, and no call behind one that fails.
 fn comes(rt: &(impl Threads + Sync), alloc: Global, row: &Row) -> Result<bool, AllocError> {
     let done = through(rt, alloc, &row.call, row.due)?;
-    Ok(
-        (done.written == row.written)
-            & (done.outcome.status() == row.status)
-            & (done.read_faults == row.read_faults)
-            & (done.write_faults == row.write_faults),
-    )
+    Ok(done.is(row.status, row.written, row.calls))
 }
 
 #[test]
-fn ends_that_fail(rt: HostRuntime) {
-    for rows in [SPARED.as_slice(), &FAILING] {
-        for row in rows {
-            let came = comes(&rt, rt.alloc(), row);
-            assert!(rt; came == Ok(true), "{} {}", row.call.words, row.call.input);
-        }
+fn calls_of_the_ends(rt: HostRuntime) {
+    for row in &ROWS {
+        let came = comes(&rt, rt.alloc(), row);
+        assert!(rt; came == Ok(true), "{} {}", row.call.words, row.call.input);
     }
 }
 

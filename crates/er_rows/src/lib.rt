@@ -10,6 +10,8 @@ mod dispatches;
 #[cfg(test)]
 mod endless;
 #[cfg(test)]
+mod every_fault;
+#[cfg(test)]
 mod faults;
 #[cfg(test)]
 mod first_path;

@@ -4,7 +4,7 @@ use crate::inputs::Lines::{Reader, Set, Step, Timer, Writer};
 use crate::inputs::Part::{self, Down, Text, Up};
 use crate::inputs::input_of;
 use crate::row::{Counts, report};
-use crate::through::{Call, SOUND, through};
+use crate::through::{Call, SOUND, Written, through};
 use std::alloc::{AllocError, Global};
 use std::thread::Threads;
 
@@ -123,7 +123,12 @@ static REFUSED: [(&[Part], &str); 7] = [
     ),
 ];
 
-/// Whether the input is refused, with the read that brings its last line: those after it would fail.
+/// How many reads give the text.
+fn reads_for(text: &str) -> u32 {
+    u32::try_from(text.len().div_ceil(4096)).unwrap_or(u32::MAX)
+}
+
+/// Whether the input is refused with the read that brings its last line, and no read comes behind it.
 fn is_refused(
     rt: &(impl Threads + Sync),
     alloc: Global,
@@ -131,14 +136,13 @@ fn is_refused(
     due: &str,
 ) -> Result<bool, AllocError> {
     let input = input_of(alloc, parts)?;
-    let reads = input.len().div_ceil(4096) as u32;
+    let reads = reads_for(&input);
     let call = Call {
         input: &input,
-        failing_read: Some(reads.saturating_add(1)),
         ..SOUND
     };
     let done = through(rt, alloc, &call, due)?;
-    Ok(done.is_whole(3) & (done.read_faults == 0))
+    Ok(done.is(3, Written::Whole, (reads, 1)))
 }
 
 #[test]
@@ -242,7 +246,8 @@ fn report_of(alloc: Global, count: u32, counts: &Counts) -> Result<String, Alloc
     report(alloc, &races, &groups, counts)
 }
 
-/// Whether the report comes, by one comparison a pair, and at most four for each class and group.
+/// Whether the report comes, by one comparison a pair, at most four for each class and group, one read for each 4,096
+/// bytes and one that gives nothing, and one write for each 4,096 bytes less a line.
 fn is_each_a_group(
     rt: &(impl Threads + Sync),
     alloc: Global,
@@ -268,7 +273,14 @@ fn is_each_a_group(
     };
     let done = through(rt, alloc, &call, &due)?;
     let most = counts.races.saturating_mul(counts.groups).saturating_mul(4);
-    Ok(done.is_whole(1) & (done.compares == counts.pairs) & (done.tests <= most))
+    let reads = reads_for(&input).saturating_add(1);
+    let (_, writes) = done.calls;
+    Ok(
+        done.is(1, Written::Whole, (reads, writes))
+            && writes as usize <= due.len().div_ceil(4032)
+            && done.compares == counts.pairs
+            && done.tests <= most,
+    )
 }
 
 #[test]

@@ -15,11 +15,11 @@ pub(crate) struct Call<'w, 'i> {
     pub(crate) input: &'i str,
     /// The most bytes that a read gives, at least one.
     pub(crate) piece: u32,
-    /// The first read that fails, if one does; the next fails too.
+    /// The read that fails, if one does.
     pub(crate) failing_read: Option<u32>,
     /// The most bytes that a write takes, at least one.
     pub(crate) taken: u32,
-    /// The first write that fails, if one does; the next fails too.
+    /// The write that fails, if one does.
     pub(crate) failing_write: Option<u32>,
     pub(crate) room: u32,
 }
@@ -59,14 +59,25 @@ pub(crate) struct Done {
     /// How many comparisons of classes were counted.
     pub(crate) tests: u64,
     pub(crate) written: Written,
-    pub(crate) read_faults: u64,
-    pub(crate) write_faults: u64,
+    /// How many reads came, and how many writes.
+    pub(crate) calls: (u32, u32),
+    /// How many of each failed.
+    pub(crate) faults: (u64, u64),
 }
 
 impl Done {
     /// Whether all that is due was written, and the call ended with this status.
     pub(crate) fn is_whole(&self, status: u8) -> bool {
         self.written == Written::Whole && self.outcome.status() == status
+    }
+
+    /// Whether so much was written, by so many reads and writes, of which the one failed that the status tells.
+    pub(crate) fn is(&self, status: u8, written: Written, calls: (u32, u32)) -> bool {
+        let faults = (u64::from(status == 4), u64::from(status == 5));
+        self.outcome.status() == status
+            && self.written == written
+            && self.calls == calls
+            && self.faults == faults
     }
 }
 
@@ -89,10 +100,10 @@ fn words_of(alloc: Global, line: &str) -> Result<Vec<String>, AllocError> {
     Ok(words)
 }
 
-/// The numbers of the calls that fail.
-fn failing_of(alloc: Global, first: Option<u32>) -> Result<Vec<u32>, AllocError> {
-    match first {
-        Some(first) => Vec::from_slice(alloc, &[first, first.saturating_add(1)]),
+/// The numbers of the calls that fail, as a list.
+fn failing_of(alloc: Global, failing: Option<u32>) -> Result<Vec<u32>, AllocError> {
+    match failing {
+        Some(number) => Vec::from_slice(alloc, &[number]),
         None => Ok(Vec::new(alloc)),
     }
 }
@@ -161,7 +172,7 @@ fn between<R: Threads + Sync, G: Gate + Sync>(
         compares: compares.made(),
         tests: tests.made(),
         written: written_of(sink.bytes(), due.as_bytes()),
-        read_faults: source.fault_count(),
-        write_faults: sink.fault_count(),
+        calls: (source.calls(), sink.calls()),
+        faults: (source.fault_count(), sink.fault_count()),
     }
 }

@@ -2,7 +2,6 @@
 
 use crate::row::Asked;
 use crate::through::{Call, SOUND, Written, through};
-use er_run::outcome::Outcome;
 use std::alloc::{AllocError, Global};
 use std::thread::Threads;
 
@@ -134,7 +133,7 @@ fn commands(rt: HostRuntime) {
 const LINE: &str =
     "usage: er_cli [check|gen|schedule|explain] [--shards N] [--json] [--number N] [--race N] [--from N] [--to N]";
 
-/// Whether the words ask for nothing: nothing is written, and the line says what may be asked.
+/// Whether the words ask for nothing: nothing is read or written, and the line says what may be asked.
 fn is_usage(rt: &(impl Threads + Sync), alloc: Global, words: &str) -> Result<bool, AllocError> {
     let call = Call {
         words,
@@ -142,11 +141,7 @@ fn is_usage(rt: &(impl Threads + Sync), alloc: Global, words: &str) -> Result<bo
         ..SOUND
     };
     let done = through(rt, alloc, &call, "")?;
-    Ok(
-        (done.outcome == Outcome::Usage)
-            & (done.written == Written::Whole)
-            & (done.outcome.line() == Some(LINE)),
-    )
+    Ok(done.is(2, Written::Whole, (0, 0)) && done.outcome.line() == Some(LINE))
 }
 
 #[test]
