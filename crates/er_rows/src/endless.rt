@@ -6,12 +6,11 @@ use er_clocks::Meter;
 use er_outside::{Failed, MemorySink, Source};
 use er_run::run;
 use er_shard::FreeGate;
-use std::alloc::{AllocError, Global};
-use std::test::Fail;
+use std::alloc::Global;
 use std::thread::Threads;
 
 /// A source that gives a text, and then a line over and over.
-#[derive(Drop)]
+#[derive(Clone, Copy)]
 struct Endless {
     /// What is left of the text, or of the line.
     left: &'static [u8],
@@ -73,15 +72,23 @@ impl Source for Endless {
     }
 }
 
-/// What is written for the source, and with which status.
-fn told(
+/// Whether the source is refused with this text.
+fn is_refused(rt: &(impl Threads + Sync), alloc: Global, source: &mut Endless, due: &str) -> bool {
+    match MemorySink::new(alloc, 1000, 4096, Vec::new(alloc)) {
+        Ok(mut sink) => {
+            let status = status_between(rt, alloc, source, &mut sink);
+            (status == 3) & (sink.bytes() == due.as_bytes())
+        }
+        Err(_) => false,
+    }
+}
+
+fn status_between(
     rt: &(impl Threads + Sync),
     alloc: Global,
     source: &mut Endless,
-) -> Result<(Vec<u8>, u8), AllocError> {
-    let Ok(mut sink) = MemorySink::new(alloc, 1000, 4096, Vec::new(alloc)) else {
-        return Err(AllocError);
-    };
+    sink: &mut MemorySink,
+) -> u8 {
     let mut compares = Meter::new();
     let mut tests = Meter::new();
     let outcome = run(
@@ -89,43 +96,36 @@ fn told(
         alloc,
         &[],
         source,
-        &mut sink,
+        sink,
         &mut compares,
         &mut tests,
         &FreeGate,
     );
-    Ok((Vec::from_slice(alloc, sink.bytes())?, outcome.status()))
+    outcome.status()
 }
 
+/// Below 1,025 letters and the piece that brings the last. Of the accesses, two lines, 27 bytes together, those
+/// that may follow, and one byte more decide.
 #[test]
-fn a_line_without_an_end(rt: HostRuntime) -> Result<(), Fail> {
-    let alloc = rt.alloc();
-    for piece in [1, 7, 4096] {
-        let mut source = Endless::letters(piece);
-        let (written, status) = told(&rt, alloc, &mut source)?;
-        assert_eq!(rt; written.as_slice(), b"refused 1 long-line\n".as_slice());
-        assert_eq!(rt; status, 3);
-        assert!(rt; source.given < 1025 + piece as u64, "{piece}");
+fn lines_and_inputs_without_an_end(rt: HostRuntime) {
+    let lines = 27 + 10 * 2_097_150 + 1;
+    for (mut source, due, most) in [
+        (Endless::letters(1), "refused 1 long-line\n", 1026),
+        (Endless::letters(7), "refused 1 long-line\n", 1032),
+        (Endless::letters(4096), "refused 1 long-line\n", 5121),
+        (
+            Endless::accesses(10),
+            "refused 2097153 too-many-lines\n",
+            lines + 10,
+        ),
+        (
+            Endless::accesses(4096),
+            "refused 2097153 too-many-lines\n",
+            lines + 4096,
+        ),
+    ] {
+        let refused = is_refused(&rt, rt.alloc(), &mut source, due);
+        assert!(rt; refused, "{due}");
+        assert!(rt; source.given < most, "{due}");
     }
-    Ok(())
-}
-
-/// Two lines, 27 bytes together, those of the accesses, and one byte more decide.
-#[test]
-fn lines_without_an_end(rt: HostRuntime) -> Result<(), Fail> {
-    let alloc = rt.alloc();
-    for piece in [10, 4096] {
-        let mut source = Endless::accesses(piece);
-        let (written, status) = told(&rt, alloc, &mut source)?;
-        assert_eq!(rt;
-            written.as_slice(),
-            b"refused 2097153 too-many-lines\n".as_slice()
-        );
-        assert_eq!(rt; status, 3);
-        assert!(rt;
-            source.given < 27 + 10 * 2_097_150 + 1 + piece as u64,
-            "{piece}"
-        );
-    }
-    Ok(())
 }

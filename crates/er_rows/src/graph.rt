@@ -1,19 +1,24 @@
 //! Records handed straight to a graph, and what its clocks and its crates of rules answer.
+//!
+//! A record is forgotten where its end would come: its name lies in place, so that nothing is lost, and the proof of
+//! the end of a record takes as long as ten of these functions.
 
 ghost use Rattle.std.specs.Prelude.{◌≡◌, false, OnOk};
 
 use er_clocks::{Meter, Paths};
 use er_graph::{Graph, GraphFault};
+use er_outside::NoMemory;
 use er_rules_parse as parse;
 use er_rules_script as script;
 use er_text::Cause;
 use er_trace::fault::LineFault;
 use er_trace::parse::parse_record;
+use er_trace::record::Record;
 use er_trace::version::Version;
 use smallvec::SmallVec;
 use std::alloc::Global;
+use std::mem::forget;
 use std::process::Abort;
-use std::test::Fail;
 
 /// Lines that are handed in, each with its number and the cause against it, and what holds behind them.
 struct Row {
@@ -24,12 +29,19 @@ struct Row {
     paths: &'static [(u32, u32, Option<bool>)],
     /// Actions with their chains, their places there and the sources of their links.
     clocks: &'static [(u32, u32, u32, &'static [u16])],
-    /// A next record, and the pieces that the rules of parsing hand.
-    parse_handed: (&'static str, &'static [u32]),
-    /// A next record, and the pieces that the rules of scripts hand.
-    script_handed: (&'static str, &'static [u32]),
-    /// Next records, and whether the rules of scripts hold them back.
-    late: &'static [(&'static str, bool)],
+    /// Next records, and what the rules of parsing and of scripts answer.
+    next: &'static [Next],
+}
+
+/// A next record, and what two crates of rules answer.
+struct Next {
+    text: &'static str,
+    /// The pieces that the rules of parsing hand.
+    of_parsing: &'static [u32],
+    /// The pieces that the rules of scripts hand.
+    of_scripts: &'static [u32],
+    /// Whether the rules of scripts hold the record back. Those of parsing hold none back.
+    is_late: bool,
 }
 
 static ROWS: [Row; 2] = [
@@ -49,9 +61,20 @@ static ROWS: [Row; 2] = [
             (0, 3, None),
         ],
         clocks: &[(0, 0, 0, &[]), (1, 0, 1, &[0]), (2, 0, 2, &[1])],
-        parse_handed: ("parse 0 4 plain", &[2]),
-        script_handed: ("parse 0 4 plain", &[]),
-        late: &[("exec 1", true), ("parse 0 4 plain", false)],
+        next: &[
+            Next {
+                text: "parse 0 4 plain",
+                of_parsing: &[2],
+                of_scripts: &[],
+                is_late: false,
+            },
+            Next {
+                text: "exec 1",
+                of_parsing: &[],
+                of_scripts: &[0],
+                is_late: true,
+            },
+        ],
     },
     // an async script and a deferred one
     Row {
@@ -63,11 +86,30 @@ static ROWS: [Row; 2] = [
         lines_of: &[(0, Some(2)), (1, Some(3)), (2, Some(4)), (3, None)],
         paths: &[(0, 1, Some(true)), (0, 2, Some(true)), (1, 2, Some(false))],
         clocks: &[(0, 0, 0, &[]), (1, 0, 1, &[0]), (2, 1, 0, &[0])],
-        parse_handed: ("exec 2", &[]),
-        script_handed: ("exec 2", &[1, 1]),
-        late: &[("exec 2", false)],
+        next: &[Next {
+            text: "exec 2",
+            of_parsing: &[],
+            of_scripts: &[1, 1],
+            is_late: false,
+        }],
     },
 ];
+
+/// Hands in the record, and answers with which number and cause it was refused.
+fn hand_record(
+    graph: &mut Graph,
+    line: u32,
+    rec: &Record,
+) -> Result<Option<(u32, Cause)>, LineFault>
+    requires whole { graph.old.has_failed ≡ false }
+    ensures { OnOk result (graph.new.has_failed ≡ false) }
+{
+    match graph.accept(line, rec) {
+        Ok(()) => Ok(None),
+        Err(GraphFault::Refused { line, cause }) => Ok(Some((line, cause))),
+        Err(GraphFault::NoMemory) => Err(LineFault::NoMemory),
+    }
+}
 
 /// Hands in the line, and answers with which number and cause it was refused.
 pub(crate) fn hand(
@@ -80,11 +122,9 @@ pub(crate) fn hand(
     ensures { OnOk result (graph.new.has_failed ≡ false) }
 {
     let rec = parse_record(alloc, text.as_bytes())?;
-    match graph.accept(line, &rec) {
-        Ok(()) => Ok(None),
-        Err(GraphFault::Refused { line, cause }) => Ok(Some((line, cause))),
-        Err(GraphFault::NoMemory) => Err(LineFault::NoMemory),
-    }
+    let answer = hand_record(graph, line, &rec);
+    forget(rec);
+    answer
 }
 
 /// Hands in each line. A refusal names the line that was handed in.
@@ -139,34 +179,31 @@ fn has_clock(graph: &Graph, action: u32, chain: u32, place: u32, links: &[u16]) 
         && clocks.links_of(action) == links
 }
 
-/// The pieces that the rules of parsing hand to the action of a next record.
-fn parse_handed(graph: &Graph, alloc: Global, text: &str) -> Result<SmallVec<u32, 8>, LineFault> {
-    let rec = parse_record(alloc, text.as_bytes())?;
+/// Whether the rules of parsing hand these pieces to the action of a next record.
+fn is_handed_by_parsing(graph: &Graph, alloc: Global, rec: &Record, due: &[u32]) -> bool {
     let mut found = SmallVec::new(alloc);
-    match parse::predecessors::predecessors(graph.page(), &rec, &mut found) {
-        Ok(()) => Ok(found),
-        Err(_) => Err(LineFault::NoMemory),
-    }
+    let done = parse::predecessors::predecessors(graph.page(), rec, &mut found);
+    done.is_ok() & (found.as_slice() == due)
 }
 
-/// The pieces that the rules of scripts hand to the action of a next record.
-fn script_handed(graph: &Graph, alloc: Global, text: &str) -> Result<SmallVec<u32, 8>, LineFault> {
-    let rec = parse_record(alloc, text.as_bytes())?;
+/// Whether the rules of scripts hand these pieces to the action of a next record.
+fn is_handed_by_scripts(graph: &Graph, alloc: Global, rec: &Record, due: &[u32]) -> bool {
     let mut found = SmallVec::new(alloc);
-    match script::predecessors::predecessors(graph.page(), &rec, &mut found) {
-        Ok(()) => Ok(found),
-        Err(_) => Err(LineFault::NoMemory),
-    }
+    let done = script::predecessors::predecessors(graph.page(), rec, &mut found);
+    done.is_ok() & (found.as_slice() == due)
 }
 
-/// Whether the rules of parsing, and those of scripts, hold a next record back.
-fn held_back(graph: &Graph, alloc: Global, text: &str) -> Result<(bool, bool), LineFault> {
-    let rec = parse_record(alloc, text.as_bytes())?;
+/// Whether the rules of scripts alone hold a next record back, or none do.
+fn is_held_back(graph: &Graph, rec: &Record, due: bool) -> bool {
     let page = graph.page();
-    Ok((
-        parse::against::against(page, &rec),
-        script::against::against(page, &rec),
-    ))
+    !parse::against::against(page, rec) & (script::against::against(page, rec) == due)
+}
+
+/// Whether the crates of rules answer what is due.
+fn is_answered(graph: &Graph, alloc: Global, rec: &Record, due: &Next) -> bool {
+    is_handed_by_parsing(graph, alloc, rec, due.of_parsing)
+        & is_handed_by_scripts(graph, alloc, rec, due.of_scripts)
+        & is_held_back(graph, rec, due.is_late)
 }
 
 /// What the graph answers.
@@ -185,44 +222,41 @@ fn ask_graph(rt: &impl Abort, graph: &Graph, row: &Row) {
     }
 }
 
-/// What the crates of rules answer.
-fn ask_rules(rt: &impl Abort, graph: &Graph, alloc: Global, row: &Row) -> Result<(), LineFault> {
-    let (text, due) = row.parse_handed;
-    assert!(rt;
-        parse_handed(graph, alloc, text)?.as_slice() == due,
-        "{text}"
-    );
-    let (text, due) = row.script_handed;
-    assert!(rt;
-        script_handed(graph, alloc, text)?.as_slice() == due,
-        "{text}"
-    );
-    for (text, due) in row.late {
-        assert!(rt; held_back(graph, alloc, text)? == (false, *due), "{text}");
-    }
-    Ok(())
+/// Whether the crates of rules answer what is due for the record that the line spells.
+fn is_line_answered(graph: &Graph, alloc: Global, due: &Next) -> Result<bool, LineFault> {
+    let rec = parse_record(alloc, due.text.as_bytes())?;
+    let answered = is_answered(graph, alloc, &rec, due);
+    forget(rec);
+    Ok(answered)
 }
 
 /// Hands in the lines of the row, and asks the rest.
-fn go_through(rt: &impl Abort, graph: &mut Graph, alloc: Global, row: &Row) -> Result<(), LineFault>
+fn go_through(rt: &impl Abort, graph: &mut Graph, alloc: Global, row: &Row)
     requires whole { graph.old.has_failed ≡ false }
 {
-    hand_each(rt, graph, alloc, row.lines)?;
+    let handed = hand_each(rt, graph, alloc, row.lines);
+    assert!(rt; handed.is_ok());
     ask_graph(rt, graph, row);
-    ask_rules(rt, graph, alloc, row)
+    for due in row.next {
+        let answered = is_line_answered(graph, alloc, due);
+        assert!(rt; answered == Ok(true), "{}", due.text);
+    }
 }
 
 /// Lets the graph go. The proof of that is long, and a caller that goes through this needs none of its own.
 pub(crate) fn let_go(_graph: Graph) {}
 
-#[test]
-fn rows(rt: HostRuntime) -> Result<(), Fail> {
-    let alloc = rt.alloc();
-    for row in &ROWS {
-        let mut graph = Graph::new(alloc, Version::One)?;
-        let done = go_through(&rt, &mut graph, alloc, row);
-        let_go(graph);
-        done?;
-    }
+/// Goes through the row with a new graph.
+fn judge(rt: &impl Abort, alloc: Global, row: &Row) -> Result<(), NoMemory> {
+    let mut graph = Graph::new(alloc, Version::One)?;
+    go_through(rt, &mut graph, alloc, row);
+    let_go(graph);
     Ok(())
+}
+
+#[test]
+fn rows(rt: HostRuntime) {
+    for row in &ROWS {
+        assert!(rt; judge(&rt, rt.alloc(), row).is_ok());
+    }
 }

@@ -17,6 +17,7 @@ use er_trace::record::Record;
 use er_trace::version::Version;
 use std::alloc::Global;
 use std::marker::Model;
+use std::mem::forget;
 use std::process::Abort;
 use std::test::Fail;
 use std::thread::Threads;
@@ -116,11 +117,17 @@ fn names_of(alloc: Global, groups: &Groups, races: u32) -> Result<Vec<u32>, Cove
 /// Takes the record of the next line.
 fn take(graph: &mut Graph, kept: &mut Kept, alloc: Global, text: &str) -> Result<(), LineFault> {
     let rec = parse_record(alloc, text.as_bytes())?;
-    let Ok(()) = graph.accept(kept.line, &rec) else {
+    let taken = take_record(graph, kept, &rec);
+    forget(rec);
+    taken
+}
+
+fn take_record(graph: &mut Graph, kept: &mut Kept, rec: &Record) -> Result<(), LineFault> {
+    if graph.accept(kept.line, rec).is_err() {
         return Err(LineFault::NoMemory);
-    };
+    }
     match graph.page().running() {
-        Some(action) => kept.keep(action, &rec),
+        Some(action) => kept.keep(action, rec),
         None => Err(LineFault::NoMemory),
     }
 }

@@ -19,8 +19,8 @@ use er_trace::record::Record;
 use er_trace::version::Version;
 use smallvec::SmallVec;
 use std::alloc::Global;
+use std::mem::forget;
 use std::process::Abort;
-use std::test::Fail;
 
 /// The records of the realistic load, the most numbers that may be handed for each, and how many are: of parsing, scripts, loads, timers, requests and dispatches.
 pub(crate) static NUMBERS: [(&str, [usize; 6], [usize; 6]); 53] = [
@@ -84,40 +84,40 @@ fn steps(page: &Page, rec: &Record, alloc: Global) -> Result<usize, NoMemory>
     requires some { ∥ IsSomePage page.now ∥₁ }
 {
     let mut out = SmallVec::new(alloc);
-    parse::predecessors::predecessors(page, rec, &mut out)?;
-    Ok(out.len())
+    let done = parse::predecessors::predecessors(page, rec, &mut out);
+    done.and(Ok(out.len()))
 }
 
 fn runs(page: &Page, rec: &Record, alloc: Global) -> Result<usize, NoMemory>
     requires some { ∥ IsSomePage page.now ∥₁ }
 {
     let mut out = SmallVec::new(alloc);
-    script::predecessors::predecessors(page, rec, &mut out)?;
-    Ok(out.len())
+    let done = script::predecessors::predecessors(page, rec, &mut out);
+    done.and(Ok(out.len()))
 }
 
 fn loads(page: &Page, rec: &Record, alloc: Global) -> Result<usize, NoMemory>
     requires some { ∥ IsSomePage page.now ∥₁ }
 {
     let mut out = SmallVec::new(alloc);
-    load::predecessors::predecessors(page, rec, &mut out)?;
-    Ok(out.len())
+    let done = load::predecessors::predecessors(page, rec, &mut out);
+    done.and(Ok(out.len()))
 }
 
 fn replies(page: &Page, rec: &Record, alloc: Global) -> Result<usize, NoMemory>
     requires some { ∥ IsSomePage page.now ∥₁ }
 {
     let mut out = SmallVec::new(alloc);
-    request::predecessors::predecessors(page, rec, &mut out)?;
-    Ok(out.len())
+    let done = request::predecessors::predecessors(page, rec, &mut out);
+    done.and(Ok(out.len()))
 }
 
 fn dispatches(page: &Page, rec: &Record, alloc: Global) -> Result<usize, NoMemory>
     requires some { ∥ IsSomePage page.now ∥₁ }
 {
     let mut out = SmallVec::new(alloc);
-    dispatch::predecessors::predecessors(page, rec, &mut out)?;
-    Ok(out.len())
+    let done = dispatch::predecessors::predecessors(page, rec, &mut out);
+    done.and(Ok(out.len()))
 }
 
 /// How many numbers the rules of timers hand, which ask the clocks too.
@@ -125,14 +125,14 @@ fn timers(graph: &Graph, rec: &Record, alloc: Global) -> Result<usize, NoMemory>
     requires whole { graph.now.has_failed ≡ false }
 {
     let mut out = SmallVec::new(alloc);
-    timer::predecessors::predecessors(
+    let done = timer::predecessors::predecessors(
         graph.page(),
         graph.clocks(),
         graph.version(),
         rec,
         &mut out,
-    )?;
-    Ok(out.len())
+    );
+    done.and(Ok(out.len()))
 }
 
 /// How many numbers the six groups hand for the record.
@@ -155,10 +155,9 @@ fn handed_next(graph: &Graph, alloc: Global, text: &str) -> Result<[usize; 6], L
     requires whole { graph.now.has_failed ≡ false }
 {
     let rec = parse_record(alloc, text.as_bytes())?;
-    match handed(graph, &rec, alloc) {
-        Ok(counts) => Ok(counts),
-        Err(NoMemory) => Err(LineFault::NoMemory),
-    }
+    let counts = handed(graph, &rec, alloc);
+    forget(rec);
+    Ok(counts?)
 }
 
 /// How many numbers were handed in all, where each record gets no more than it may.
@@ -179,16 +178,17 @@ fn add_up(rt: &impl Abort, graph: &mut Graph, alloc: Global) -> Result<usize, Li
     Ok(sum)
 }
 
-/// Each link was handed, no number beyond the most, and just those that are due.
-#[test]
-fn realistic_load(rt: HostRuntime) -> Result<(), Fail> {
-    let alloc = rt.alloc();
+/// How many numbers were handed in all, and how many links there are.
+fn sum_and_links(rt: &impl Abort, alloc: Global) -> Result<(usize, u64), LineFault> {
     let mut graph = Graph::new(alloc, Version::One)?;
-    let sum = add_up(&rt, &mut graph, alloc);
+    let sum = add_up(rt, &mut graph, alloc);
     let links = graph.clocks().link_count();
     let_go(graph);
-    let sum = sum?;
-    assert!(rt; links == 40);
-    assert!(rt; sum == 64);
-    Ok(())
+    Ok((sum?, links))
+}
+
+/// Each link was handed, no number beyond the most, and just those that are due.
+#[test]
+fn realistic_load(rt: HostRuntime) {
+    assert!(rt; sum_and_links(&rt, rt.alloc()) == Ok((64, 40)));
 }

@@ -10,6 +10,8 @@ mod dispatches;
 #[cfg(test)]
 mod endless;
 #[cfg(test)]
+mod every_fault;
+#[cfg(test)]
 mod faults;
 #[cfg(test)]
 mod first_path;
@@ -21,6 +23,8 @@ mod graph;
 mod grouped;
 #[cfg(test)]
 mod handed;
+#[cfg(test)]
+mod inputs;
 #[cfg(test)]
 mod large;
 #[cfg(test)]

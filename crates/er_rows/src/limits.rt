@@ -1,36 +1,24 @@
 //! Rows at the limits on candidate pairs, races and classes, which are asked at the `end` line.
 
-ghost use Rattle.std.specs.Prelude.{◌≤◌};
-
+use crate::inputs::Lines::{Reader, Set, Step, Timer, Writer};
+use crate::inputs::Part::{self, Down, Text, Up};
+use crate::inputs::input_of;
 use crate::row::{Counts, report};
-use crate::through::{sound, through, words_of};
+use crate::through::{Call, SOUND, Written, through};
 use std::alloc::{AllocError, Global};
-use std::test::Fail;
 use std::thread::Threads;
 
-/// As many parse steps, each of which writes one variable.
-fn writes(alloc: Global, count: u32) -> Result<Vec<u8>, AllocError> {
-    let mut input = Vec::from_slice(alloc, b"webtrace 1\n")?;
-    for element in 1..=count {
-        input.extend_from_slice(format!(in alloc;
-            "parse 0 {element} plain\nw var 0 x\n"
-        )?.as_bytes())?;
-    }
-    input.extend_from_slice(b"end\n")?;
-    Ok(input)
+/// Parse steps, and how many of what there is. None race.
+struct Ordered {
+    parts: &'static [Part],
+    counts: Counts,
 }
 
-/// Each candidate pair costs one comparison, and none is a race.
-#[test]
-fn as_many_pairs_as_may_be(rt: HostRuntime) -> Result<(), Fail> {
-    let alloc = rt.alloc();
-    let input = writes(alloc, 5793)?;
-    let done = through(&rt, alloc, &[], &input, sound(alloc))?;
-    let due = report(
-        alloc,
-        "",
-        "",
-        &Counts {
+static ORDERED: [Ordered; 2] = [
+    // as many pairs as may be: each step writes one variable
+    Ordered {
+        parts: &[Up(Writer, 1, 5793), Text("end\n")],
+        counts: Counts {
             actions: 5793,
             accesses: 5793,
             pairs: 16_776_528,
@@ -39,52 +27,16 @@ fn as_many_pairs_as_may_be(rt: HostRuntime) -> Result<(), Fail> {
             chains: 1,
             links: 5792,
         },
-    )?;
-    assert_eq!(rt; done.written.as_slice(), due.as_bytes());
-    assert_eq!(rt; done.compares, 16_776_528);
-    Ok(())
-}
-
-/// The limit decides before a byte behind the `end` line.
-#[test]
-fn a_step_too_many(rt: HostRuntime) -> Result<(), Fail> {
-    let alloc = rt.alloc();
-    let mut input = writes(alloc, 5794)?;
-    let refusal = b"refused 11590 too-many-pairs\n";
-    let done = through(&rt, alloc, &[], &input, sound(alloc))?;
-    assert_eq!(rt; done.written.as_slice(), refusal.as_slice());
-    input.extend_from_slice(b"end\n")?;
-    let done = through(&rt, alloc, &[], &input, sound(alloc))?;
-    assert_eq!(rt; done.written.as_slice(), refusal.as_slice());
-    Ok(())
-}
-
-/// Parse steps, the first of which read a variable that the last write. Over the links a path would be long.
-fn far_apart(alloc: Global) -> Result<Vec<u8>, AllocError> {
-    let mut input = Vec::from_slice(alloc, b"webtrace 1\n")?;
-    for element in 1..=16_384u32 {
-        input.extend_from_slice(format!(in alloc; "parse 0 {element} plain\n")?.as_bytes())?;
-        if element <= 8000 {
-            input.extend_from_slice(b"r var 0 x\n")?;
-        }
-        if element > 14_584 {
-            input.extend_from_slice(b"w var 0 x\n")?;
-        }
-    }
-    input.extend_from_slice(b"end\n")?;
-    Ok(input)
-}
-
-#[test]
-fn pairs_far_apart(rt: HostRuntime) -> Result<(), Fail> {
-    let alloc = rt.alloc();
-    let input = far_apart(alloc)?;
-    let done = through(&rt, alloc, &[], &input, sound(alloc))?;
-    let due = report(
-        alloc,
-        "",
-        "",
-        &Counts {
+    },
+    // pairs far apart: over the links a path would be long
+    Ordered {
+        parts: &[
+            Up(Reader, 1, 8000),
+            Up(Step, 8001, 14_584),
+            Up(Writer, 14_585, 16_384),
+            Text("end\n"),
+        ],
+        counts: Counts {
             actions: 16_384,
             accesses: 9800,
             pairs: 16_019_100,
@@ -93,172 +45,248 @@ fn pairs_far_apart(rt: HostRuntime) -> Result<(), Fail> {
             chains: 1,
             links: 16_383,
         },
-    )?;
-    assert_eq!(rt; done.written.as_slice(), due.as_bytes());
-    assert_eq!(rt; done.compares, 16_019_100);
-    Ok(())
+    },
+];
+
+/// Whether each candidate pair costs one comparison, and none is a race.
+fn is_ordered(
+    rt: &(impl Threads + Sync),
+    alloc: Global,
+    row: &Ordered,
+) -> Result<bool, AllocError> {
+    let input = input_of(alloc, row.parts)?;
+    let due = report(alloc, "", "", &row.counts)?;
+    let call = Call {
+        input: &input,
+        ..SOUND
+    };
+    let done = through(rt, alloc, &call, &due)?;
+    Ok(done.is_whole(0) & (done.compares == row.counts.pairs))
 }
 
-/// Timeouts that fire against the order in which they were set, each with a delay that is less: all race.
-fn timeouts(alloc: Global, count: u32) -> Result<Vec<u8>, AllocError> {
-    let mut input = Vec::from_slice(alloc, b"webtrace 1\nparse 0 1 inline\nexec 1\n")?;
-    for timeout in 1..=count {
-        let delay = count - timeout;
-        input.extend_from_slice(format!(in alloc; "set {timeout} {delay}\n")?.as_bytes())?;
+#[test]
+fn as_many_pairs_as_may_be(rt: HostRuntime) {
+    for row in &ORDERED {
+        let ordered = is_ordered(&rt, rt.alloc(), row);
+        assert!(rt; ordered == Ok(true), "{}", row.counts.actions);
     }
-    for timeout in (1..=count).rev() {
-        input.extend_from_slice(format!(in alloc; "timer {timeout}\nw var 0 x\n")?.as_bytes())?;
-    }
-    input.extend_from_slice(b"end\n")?;
-    Ok(input)
 }
 
-/// The report of so many of them: each races with each later one, and no race covers another.
-fn report_of_timeouts(alloc: Global, count: u32, counts: &Counts) -> Result<String, AllocError>
-    requires { count ≤ 256 }
-{
-    let mut races = String::new(alloc);
-    let mut covers = String::new(alloc);
-    let mut groups = String::new(alloc);
+/// The begin of an input whose timeouts fire against the order in which they were set, each with a delay that is less.
+const SCRIPT: Part = Text("parse 0 1 inline\nexec 1\n");
+
+/// Inputs over a limit, and the refusal, which a byte behind the `end` line does not change.
+static REFUSED: [(&[Part], &str); 7] = [
+    (
+        &[Up(Writer, 1, 5794), Text("end\n")],
+        "refused 11590 too-many-pairs\n",
+    ),
+    (
+        &[Up(Writer, 1, 5794), Text("end\nend\n")],
+        "refused 11590 too-many-pairs\n",
+    ),
+    (
+        &[SCRIPT, Up(Set, 1, 257), Down(Timer, 1, 257), Text("end\n")],
+        "refused 775 too-many-classes\n",
+    ),
+    (
+        &[
+            SCRIPT,
+            Up(Set, 1, 257),
+            Down(Timer, 1, 257),
+            Text("end\nend\n"),
+        ],
+        "refused 775 too-many-classes\n",
+    ),
+    (
+        &[SCRIPT, Up(Set, 1, 725), Down(Timer, 1, 725), Text("end\n")],
+        "refused 2179 too-many-races\n",
+    ),
+    (
+        &[
+            SCRIPT,
+            Up(Set, 1, 725),
+            Down(Timer, 1, 725),
+            Text("end\nw var 0 x\n"),
+        ],
+        "refused 2179 too-many-races\n",
+    ),
+    // over several limits the number of pairs decides
+    (
+        &[
+            SCRIPT,
+            Up(Set, 1, 5794),
+            Down(Timer, 1, 5794),
+            Text("end\n"),
+        ],
+        "refused 17386 too-many-pairs\n",
+    ),
+];
+
+/// How many reads give the text.
+fn reads_for(text: &str) -> u32 {
+    u32::try_from(text.len().div_ceil(4096)).unwrap_or(u32::MAX)
+}
+
+/// Whether the input is refused with the read that brings its last line, and no read comes behind it.
+fn is_refused(
+    rt: &(impl Threads + Sync),
+    alloc: Global,
+    parts: &[Part],
+    due: &str,
+) -> Result<bool, AllocError> {
+    let input = input_of(alloc, parts)?;
+    let reads = reads_for(&input);
+    let call = Call {
+        input: &input,
+        ..SOUND
+    };
+    let done = through(rt, alloc, &call, due)?;
+    Ok(done.is(3, Written::Whole, (reads, 1)))
+}
+
+#[test]
+fn one_too_many(rt: HostRuntime) {
+    for (parts, due) in &REFUSED {
+        let refused = is_refused(&rt, rt.alloc(), parts, due);
+        assert!(rt; refused == Ok(true), "{due}");
+    }
+}
+
+/// How many timeouts fire against the order in which they were set, so that each races with each other, the words of
+/// the command, and the counts. No race covers another: each is a class, and each class a group.
+static APART: [(u32, &str, Counts); 4] = [
+    (
+        181,
+        "",
+        Counts {
+            actions: 183,
+            accesses: 181,
+            pairs: 16_290,
+            races: 16_290,
+            groups: 16_290,
+            chains: 181,
+            links: 182,
+        },
+    ),
+    (
+        182,
+        "",
+        Counts {
+            actions: 184,
+            accesses: 182,
+            pairs: 16_471,
+            races: 16_471,
+            groups: 16_471,
+            chains: 182,
+            links: 183,
+        },
+    ),
+    (
+        256,
+        "",
+        Counts {
+            actions: 258,
+            accesses: 256,
+            pairs: 32_640,
+            races: 32_640,
+            groups: 32_640,
+            chains: 256,
+            links: 257,
+        },
+    ),
+    (
+        256,
+        "--shards 64",
+        Counts {
+            actions: 258,
+            accesses: 256,
+            pairs: 32_640,
+            races: 32_640,
+            groups: 32_640,
+            chains: 256,
+            links: 257,
+        },
+    ),
+];
+
+fn put_races(text: &mut String, count: u32) -> Result<(), AllocError> {
+    let count = u64::from(count);
     let mut number = 0u32;
     for first in 2..count + 2 {
         for second in first + 1..count + 2 {
             number = number.saturating_add(1);
-            races.push_str(&format!(in alloc;
+            write!(
+                text,
                 "race {number} {} {} ww {first} {second} var 0 x\n",
                 count + 1 + 2 * first,
                 count + 1 + 2 * second
-            )?)?;
-            covers.push_str(&format!(in alloc; "cover {number} {number}\n")?)?;
-            groups.push_str(&format!(in alloc; "group {number} {number} 1\n")?)?;
+            )?;
         }
     }
-    covers.push_str(&groups)?;
-    report(alloc, &races, &covers, counts)
+    Ok(())
 }
 
-/// Whether each of so many races with each other, each race is a class, and each class a group.
+fn put_groups(text: &mut String, groups: u64) -> Result<(), AllocError> {
+    for number in 1..=groups {
+        write!(text, "cover {number} {number}\n")?;
+    }
+    for number in 1..=groups {
+        write!(text, "group {number} {number} 1\n")?;
+    }
+    Ok(())
+}
+
+/// The report of so many timeouts.
+fn report_of(alloc: Global, count: u32, counts: &Counts) -> Result<String, AllocError> {
+    let mut races = String::new(alloc);
+    put_races(&mut races, count)?;
+    let mut groups = String::new(alloc);
+    put_groups(&mut groups, counts.groups)?;
+    report(alloc, &races, &groups, counts)
+}
+
+/// Whether the report comes, by one comparison a pair, at most four for each class and group, one read for each 4,096
+/// bytes and one that gives nothing, and one write for each 4,096 bytes less a line.
 fn is_each_a_group(
     rt: &(impl Threads + Sync),
     alloc: Global,
-    line: &str,
     count: u32,
+    words: &str,
     counts: &Counts,
-) -> Result<bool, AllocError>
-    requires { count ≤ 256 }
-{
-    let input = timeouts(alloc, count)?;
-    let words = words_of(alloc, line)?;
-    let mut ends = sound(alloc);
-    ends.room = 4_000_000;
-    let done = through(rt, alloc, &words, &input, ends)?;
-    let due = report_of_timeouts(alloc, count, counts)?;
+) -> Result<bool, AllocError> {
+    let input = input_of(
+        alloc,
+        &[
+            SCRIPT,
+            Up(Set, 1, count),
+            Down(Timer, 1, count),
+            Text("end\n"),
+        ],
+    )?;
+    let due = report_of(alloc, count, counts)?;
+    let call = Call {
+        words,
+        input: &input,
+        room: 4_000_000,
+        ..SOUND
+    };
+    let done = through(rt, alloc, &call, &due)?;
     let most = counts.races.saturating_mul(counts.groups).saturating_mul(4);
+    let reads = reads_for(&input).saturating_add(1);
+    let (_, writes) = done.calls;
     Ok(
-        done.outcome.status() == 1
-            && done.written.as_slice() == due.as_bytes()
+        done.is(1, Written::Whole, (reads, writes))
+            && writes as usize <= due.len().div_ceil(4032)
             && done.compares == counts.pairs
             && done.tests <= most,
     )
 }
 
 #[test]
-fn each_race_a_group(rt: HostRuntime) -> Result<(), Fail> {
-    let counts = Counts {
-        actions: 183,
-        accesses: 181,
-        pairs: 16_290,
-        races: 16_290,
-        groups: 16_290,
-        chains: 181,
-        links: 182,
-    };
-    assert!(rt; is_each_a_group(&rt, rt.alloc(), "", 181, &counts)?);
-    let counts = Counts {
-        actions: 184,
-        accesses: 182,
-        pairs: 16_471,
-        races: 16_471,
-        groups: 16_471,
-        chains: 182,
-        links: 183,
-    };
-    assert!(rt; is_each_a_group(&rt, rt.alloc(), "", 182, &counts)?);
-    Ok(())
-}
-
-#[test]
-fn as_many_classes_as_may_be(rt: HostRuntime) -> Result<(), Fail> {
-    let counts = Counts {
-        actions: 258,
-        accesses: 256,
-        pairs: 32_640,
-        races: 32_640,
-        groups: 32_640,
-        chains: 256,
-        links: 257,
-    };
-    assert!(rt; is_each_a_group(&rt, rt.alloc(), "", 256, &counts)?);
-    assert!(rt; is_each_a_group(&rt, rt.alloc(), "--shards 64", 256, &counts)?);
-    Ok(())
-}
-
-/// The limit decides before a byte behind the `end` line.
-#[test]
-fn too_many_classes(rt: HostRuntime) -> Result<(), Fail> {
-    let alloc = rt.alloc();
-    let mut input = timeouts(alloc, 257)?;
-    let refusal = b"refused 775 too-many-classes\n";
-    let done = through(&rt, alloc, &[], &input, sound(alloc))?;
-    assert_eq!(rt; done.outcome.status(), 3);
-    assert_eq!(rt; done.written.as_slice(), refusal.as_slice());
-    input.extend_from_slice(b"end\n")?;
-    let done = through(&rt, alloc, &[], &input, sound(alloc))?;
-    assert_eq!(rt; done.written.as_slice(), refusal.as_slice());
-    Ok(())
-}
-
-#[test]
-fn too_many_races(rt: HostRuntime) -> Result<(), Fail> {
-    let alloc = rt.alloc();
-    let mut input = timeouts(alloc, 725)?;
-    let refusal = b"refused 2179 too-many-races\n";
-    let done = through(&rt, alloc, &[], &input, sound(alloc))?;
-    assert_eq!(rt; done.written.as_slice(), refusal.as_slice());
-    input.extend_from_slice(b"w var 0 x\n")?;
-    let done = through(&rt, alloc, &[], &input, sound(alloc))?;
-    assert_eq!(rt; done.written.as_slice(), refusal.as_slice());
-    Ok(())
-}
-
-/// Over several limits the number of pairs decides.
-#[test]
-fn too_many_of_all(rt: HostRuntime) -> Result<(), Fail> {
-    let alloc = rt.alloc();
-    let input = timeouts(alloc, 5794)?;
-    let done = through(&rt, alloc, &[], &input, sound(alloc))?;
-    assert_eq!(rt;
-        done.written.as_slice(),
-        b"refused 17386 too-many-pairs\n".as_slice()
-    );
-    Ok(())
-}
-
-/// A limit is asked with the read that brings the `end` line: those after it would fail.
-#[test]
-fn no_read_after_a_limit(rt: HostRuntime) -> Result<(), Fail> {
-    let alloc = rt.alloc();
-    for (count, reads, output) in [
-        (257, 2, "refused 775 too-many-classes\n"),
-        (725, 6, "refused 2179 too-many-races\n"),
-        (5794, 49, "refused 17386 too-many-pairs\n"),
-    ] {
-        let input = timeouts(alloc, count)?;
-        let mut ends = sound(alloc);
-        ends.failing_reads = vec![in alloc; reads + 1, reads + 2, reads + 3]?;
-        let done = through(&rt, alloc, &[], &input, ends)?;
-        assert_eq!(rt; done.written.as_slice(), output.as_bytes());
-        assert_eq!(rt; done.read_faults, 0, "{output}");
+fn each_race_a_group(rt: HostRuntime) {
+    for (count, words, counts) in &APART {
+        let same = is_each_a_group(&rt, rt.alloc(), *count, words, counts);
+        assert!(rt; same == Ok(true), "{count} {words}");
     }
-    Ok(())
 }

@@ -1,27 +1,8 @@
 //! The modes that order two actions: two schedules for a race, and why two actions are ordered.
 
-ghost use Rattle.std.specs.Prelude.{◌≤◌};
-
-use crate::realistic::LOAD;
-use crate::through::{Done, Ends, sound, through};
-use er_run::outcome::Outcome;
-use std::alloc::{AllocError, Global};
-use std::process::Abort;
-use std::test::Fail;
-use std::thread::Threads;
-
-/// An input, the words of a command, what is written for it, and how often pairs were compared.
-#[derive(Clone, Copy)]
-struct Asked {
-    input: &'static str,
-    words: &'static str,
-    written: &'static str,
-    status: u8,
-    compares: u64,
-}
-
-const TIMEOUTS: &str =
-    "webtrace 1\nparse 0 1 inline\nexec 1\nset 1 10\nset 2 0\ntimer 2\nw var 0 x\ntimer 1\nr var 0 x\nend\n";
+use crate::realistic::TRACE;
+use crate::row::Asked;
+use crate::words::TIMEOUTS;
 
 const IN_ORDER: &str =
     "webtrace 1\nparse 0 1 inline\nexec 1\nset 1 0\nset 2 10\ntimer 1\nw var 0 x\ntimer 2\nr var 0 x\nend\n";
@@ -77,7 +58,14 @@ static SCHEDULES: [Asked; 6] = [
     },
 ];
 
-static EXPLANATIONS: [Asked; 7] = [
+static EXPLANATIONS: [Asked; 8] = [
+    Asked {
+        input: TRACE,
+        words: "explain --from 12 --to 35",
+        written: "explain 12 35\nstep 12 34 15\nstep 34 35 16\nend\n",
+        status: 0,
+        compares: 0,
+    },
     Asked {
         input: IN_ORDER,
         words: "explain --from 0 --to 3",
@@ -129,93 +117,17 @@ static EXPLANATIONS: [Asked; 7] = [
     },
 ];
 
-static USAGE: [&str; 8] = [
-    "schedule",
-    "schedule --race 0",
-    "schedule --race 262145",
-    "schedule --race 1 --json",
-    "explain",
-    "explain --from 0",
-    "explain --to 0",
-    "explain --from 0 --to 1 --shards 1",
-];
-
-/// What a command does, whose words stand with a space between.
-fn told(
-    rt: &(impl Threads + Sync),
-    alloc: Global,
-    line: &str,
-    input: &str,
-    ends: Ends,
-) -> Result<Done, AllocError>
-    requires piece { 1 ≤ ends.piece }
-    requires taken { 1 ≤ ends.taken }
-{
-    let mut words = Vec::new(alloc);
-    for word in line.split_whitespace() {
-        words.push(String::from_str(alloc, word)?)?;
-    }
-    through(rt, alloc, &words, input.as_bytes(), ends)
-}
-
-/// Whether a command does what the row says.
-fn does(
-    rt: &(impl Abort + Threads + Sync),
-    alloc: Global,
-    asked: &Asked,
-) -> Result<(), AllocError> {
-    let done = told(rt, alloc, asked.words, asked.input, sound(alloc))?;
-    assert_eq!(rt;
-        done.written.as_slice(),
-        asked.written.as_bytes(),
-        "{}",
-        asked.words
-    );
-    assert_eq!(rt; done.outcome.status(), asked.status, "{}", asked.words);
-    assert_eq!(rt; done.compares, asked.compares, "{}", asked.words);
-    assert_eq!(rt; done.tests, 0, "{}", asked.words);
-    Ok(())
-}
-
+/// Classes are not compared.
 #[test]
-fn schedules(rt: HostRuntime) -> Result<(), Fail> {
-    let alloc = rt.alloc();
-    for asked in &SCHEDULES {
-        does(&rt, alloc, asked)?;
+fn schedules_and_explanations(rt: HostRuntime) {
+    for rows in [SCHEDULES.as_slice(), &EXPLANATIONS] {
+        for asked in rows {
+            let done = asked.answer(&rt, rt.alloc());
+            assert!(rt;
+                done.is_ok_and(|done| asked.is_due(&done) && done.tests == 0),
+                "{}",
+                asked.words
+            );
+        }
     }
-    Ok(())
-}
-
-#[test]
-fn explanations(rt: HostRuntime) -> Result<(), Fail> {
-    let alloc = rt.alloc();
-    for asked in &EXPLANATIONS {
-        does(&rt, alloc, asked)?;
-    }
-    Ok(())
-}
-
-#[test]
-fn an_explanation_of_the_realistic_load(rt: HostRuntime) -> Result<(), Fail> {
-    let alloc = rt.alloc();
-    let asked = Asked {
-        input: LOAD.trace,
-        words: "explain --from 12 --to 35",
-        written: "explain 12 35\nstep 12 34 15\nstep 34 35 16\nend\n",
-        status: 0,
-        compares: 0,
-    };
-    does(&rt, alloc, &asked)?;
-    Ok(())
-}
-
-#[test]
-fn wrong_usage(rt: HostRuntime) -> Result<(), Fail> {
-    let alloc = rt.alloc();
-    for line in &USAGE {
-        let done = told(&rt, alloc, line, TIMEOUTS, sound(alloc))?;
-        assert_eq!(rt; done.outcome, Outcome::Usage, "{line}");
-        assert_eq!(rt; done.written.len(), 0, "{line}");
-    }
-    Ok(())
 }

@@ -1,6 +1,8 @@
-//! A row of a table: a trace, and the report or the refusal that is due for it.
+//! A row of a table: a trace, and the report or the refusal that is due for it; a command, and its answer.
 
+use crate::through::{Call, Done, SOUND, through};
 use std::alloc::{AllocError, Global};
+use std::thread::Threads;
 
 /// A legal trace, and what its report says.
 pub(crate) struct Row {
@@ -31,6 +33,16 @@ pub(crate) struct Refusal {
     pub(crate) cause: &'static str,
 }
 
+/// The words of a command, an input, what is written for it, and how often pairs are compared.
+#[derive(Clone, Copy)]
+pub(crate) struct Asked {
+    pub(crate) words: &'static str,
+    pub(crate) input: &'static str,
+    pub(crate) written: &'static str,
+    pub(crate) status: u8,
+    pub(crate) compares: u64,
+}
+
 impl Row {
     /// The report that is due.
     pub(crate) fn report(&self, alloc: Global) -> Result<String, AllocError> {
@@ -47,6 +59,27 @@ impl Refusal {
     /// The refusal that is due.
     pub(crate) fn text(&self, alloc: Global) -> Result<String, AllocError> {
         format!(in alloc; "refused {} {}\n", self.line, self.cause)
+    }
+}
+
+impl Asked {
+    /// What comes of the command between sound ends.
+    pub(crate) fn answer(
+        &self,
+        rt: &(impl Threads + Sync),
+        alloc: Global,
+    ) -> Result<Done, AllocError> {
+        let call = Call {
+            words: self.words,
+            input: self.input,
+            ..SOUND
+        };
+        through(rt, alloc, &call, self.written)
+    }
+
+    /// Whether this is due.
+    pub(crate) fn is_due(&self, done: &Done) -> bool {
+        done.is_whole(self.status) && done.compares == self.compares
     }
 }
 

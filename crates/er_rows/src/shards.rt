@@ -1,12 +1,10 @@
 //! The realistic load in shards: in any number of them, held at the gate, and counted there.
 
 use crate::gates::{Counting, Holding};
-use crate::realistic::LOAD;
-use crate::through::{Done, sound, through, through_gate, words_of};
-use er_run::outcome::Outcome;
+use crate::realistic::{call_of_load, is_right, load_through};
+use crate::through::{Call, Done};
 use er_shard::{FreeGate, Gate};
 use std::alloc::{AllocError, Global};
-use std::test::Fail;
 use std::thread::Threads;
 
 /// The load in so many shards, past a gate.
@@ -16,45 +14,39 @@ fn in_shards<R: Threads + Sync, G: Gate + Sync>(
     shards: u32,
     gate: &G,
 ) -> Result<Done, AllocError> {
-    let line = format!(in alloc; "--shards {shards}")?;
-    let words = words_of(alloc, &line)?;
-    through_gate(rt, alloc, &words, LOAD.trace.as_bytes(), sound(alloc), gate)
+    let words = format!(in alloc; "--shards {shards}")?;
+    let call = Call {
+        words: &words,
+        ..call_of_load()
+    };
+    load_through(rt, alloc, &call, gate)
 }
 
 /// Each of two shards waits for the other, whichever is held: they run side by side.
 #[test]
-fn two_shards_at_once(rt: HostRuntime) -> Result<(), Fail> {
+fn two_shards_at_once(rt: HostRuntime) {
     for held in [0, 1] {
         let gate = Holding::new(held);
-        let done = in_shards(&rt, rt.alloc(), 2, &gate)?;
-        assert_eq!(rt; done.outcome, Outcome::Races);
+        let done = in_shards(&rt, rt.alloc(), 2, &gate);
+        assert!(rt; is_right(done), "{held}");
         assert!(rt; gate.saw_both(), "{held}");
     }
-    Ok(())
 }
 
 /// Once to list its races, and once to name their groups.
 #[test]
-fn each_shard_enters_twice(rt: HostRuntime) -> Result<(), Fail> {
+fn each_shard_enters_twice(rt: HostRuntime) {
     let gate = Counting::new();
-    let done = in_shards(&rt, rt.alloc(), 2, &gate)?;
-    assert_eq!(rt; done.outcome, Outcome::Races);
-    assert_eq!(rt; gate.counts(), (2, 2));
-    Ok(())
+    let done = in_shards(&rt, rt.alloc(), 2, &gate);
+    assert!(rt; is_right(done));
+    assert!(rt; gate.counts() == (2, 2));
 }
 
 /// The report and the comparisons are those of one shard.
 #[test]
-fn any_number_of_shards(rt: HostRuntime) -> Result<(), Fail> {
-    let alloc = rt.alloc();
-    let due = LOAD.report(alloc)?;
-    let alone = through(&rt, alloc, &[], LOAD.trace.as_bytes(), sound(alloc))?;
-    assert_eq!(rt; alone.compares, 10);
+fn any_number_of_shards(rt: HostRuntime) {
     for shards in 1..=64 {
-        let done = in_shards(&rt, alloc, shards, &FreeGate)?;
-        assert_eq!(rt; done.outcome, Outcome::Races, "{shards}");
-        assert_eq!(rt; done.written.as_slice(), due.as_bytes(), "{shards}");
-        assert_eq!(rt; done.compares, 10, "{shards}");
+        let done = in_shards(&rt, rt.alloc(), shards, &FreeGate);
+        assert!(rt; is_right(done), "{shards}");
     }
-    Ok(())
 }
