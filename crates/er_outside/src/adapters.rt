@@ -44,7 +44,8 @@ impl<R: Read> Source for FromRead<R> {
         ensures stands { OnOk result (self.new.inner.errors ≡ self.old.inner.errors) }
         // The reader was asked once, and what it gave is passed on.
         ensures asked { self.new.inner.reads ≡ one_more self.old.inner.reads }
-        ensures passed_on { ReadConsumes (R.remaining self.old.inner.inner) (R.remaining self.new.inner.inner) result buf.new }
+        ensures passed_on { ReadConsumes (R.remaining self.old.inner.inner)
+            (R.remaining self.new.inner.inner) result buf.new }
     {
         let Ok(placed) = self.inner.read(buf) else {
             return Err(Failed);
@@ -54,8 +55,8 @@ impl<R: Read> Source for FromRead<R> {
 }
 
 /// A sink over a writer, flushed after each write. It does not tell what it took.
-/// Each error of the writer is a fault, also an interruption, and so is a write that takes nothing of a piece that is not empty.
-/// The writer is not asked again to write what it was asked to write.
+/// Each error of the writer is a fault, also an interruption, and so is a write that takes nothing of a
+/// piece that is not empty. The writer is not asked again.
 #[derive(Drop)]
 pub struct ToWrite<W> {
     inner: CountedWriter<W>,
@@ -92,12 +93,15 @@ impl<W: Write> Sink for ToWrite<W> {
         ensures raised { OnErr result (self.new.faults ≡ one_more self.old.faults) }
         ensures count { self.old.faults ≤ self.new.faults }
         ensures stands { OnOk result (self.new.faults ≡ self.old.faults) }
-        // The writer was asked once to write, and once to flush where it did; none of its errors is passed over.
+        // The writer was asked once to write, and once to flush where it did; none of its errors is
+        // passed over.
         ensures asked { self.new.inner.writes ≡ one_more self.old.inner.writes }
         ensures flushed { OnOk result (self.new.inner.flushes ≡ one_more self.old.inner.flushes) }
         ensures heard { OnOk result (self.new.inner.errors ≡ self.old.inner.errors) }
-        ensures passed_on { IfOk result (λ n. Appends (W.contents self.old.inner.inner) (W.contents self.new.inner.inner) (take n piece.now)) }
-        ensures at_most { OnErr result (AppendsFront (W.contents self.old.inner.inner) (W.contents self.new.inner.inner) piece.now) }
+        ensures passed_on { IfOk result (λ n. Appends (W.contents self.old.inner.inner)
+            (W.contents self.new.inner.inner) (take n piece.now)) }
+        ensures at_most { OnErr result (AppendsFront (W.contents self.old.inner.inner)
+            (W.contents self.new.inner.inner) piece.now) }
     {
         let Some(taken) = write_and_flush(&mut self.inner, piece) else {
             self.faults = self.faults.saturating_add(1);
@@ -114,8 +118,10 @@ fn write_and_flush<W: Write>(writer: &mut CountedWriter<W>, piece: &[u8]) -> Opt
     ensures asked { writer.new.writes ≡ one_more writer.old.writes }
     ensures flushed { OnSome result (writer.new.flushes ≡ one_more writer.old.flushes) }
     ensures heard { OnSome result (writer.new.errors ≡ writer.old.errors) }
-    ensures appended { IfSome result (λ n. Appends (W.contents writer.old.inner) (W.contents writer.new.inner) (take n piece.now)) }
-    ensures at_most { IfNone result (AppendsFront (W.contents writer.old.inner) (W.contents writer.new.inner) piece.now) }
+    ensures appended { IfSome result (λ n. Appends (W.contents writer.old.inner)
+        (W.contents writer.new.inner) (take n piece.now)) }
+    ensures at_most { IfNone result (AppendsFront (W.contents writer.old.inner)
+        (W.contents writer.new.inner) piece.now) }
 {
     let taken = writer.write(piece).ok()?;
     if taken == 0 && !piece.is_empty() {

@@ -35,7 +35,8 @@ impl<R: Read> CountedReader<R> {
     /// Asks the reader, once.
     pub fn read(&mut self, buf: &mut [u8]) -> io::Result<usize>
         ensures placed { IfOk result (λ n. n ≤ length buf.new) }
-        ensures bytes { ReadConsumes (R.remaining self.old.inner) (R.remaining self.new.inner) result buf.new }
+        ensures bytes { ReadConsumes (R.remaining self.old.inner) (R.remaining self.new.inner)
+            result buf.new }
         ensures reads { self.new.reads ≡ one_more self.old.reads }
         ensures count { self.old.errors ≤ self.new.errors }
         ensures stands { OnOk result (self.new.errors ≡ self.old.errors) }
@@ -79,7 +80,8 @@ impl<W: Write> CountedWriter<W> {
     /// Asks the writer to take the piece, once.
     pub fn write(&mut self, piece: &[u8]) -> io::Result<usize>
         ensures taken { IfOk result (λ n. n ≤ length piece.now) }
-        ensures bytes { WriteAppends (W.contents self.old.inner) (W.contents self.new.inner) result piece.now }
+        ensures bytes { WriteAppends (W.contents self.old.inner) (W.contents self.new.inner)
+            result piece.now }
         ensures writes { self.new.writes ≡ one_more self.old.writes }
         ensures flushes { self.new.flushes ≡ self.old.flushes }
         ensures stands { OnOk result (self.new.errors ≡ self.old.errors) }

@@ -1,7 +1,8 @@
 //! Each public call once, with ample memory, and what no clause says.
 
 use crate::{
-    Failed, FromRead, MemorySink, MemorySource, Sink, Source, SureSink, SureSource, ToWrite, put_all,
+    Failed, FromRead, MemorySink, MemorySource, Sink, Source, SureSink, SureSource, ToWrite,
+    put_all,
 };
 use std::io;
 use std::io::{ErrorKind, Read, Write};

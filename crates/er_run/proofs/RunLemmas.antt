@@ -1,5 +1,5 @@
 -- From the words to the command that they ask for.
-use Rattle.std.proofs.Common.{◌≡◌, refl, ◌⊎◌, inl, inr, ◌≤◌, ℕ, List, Option, Some, None, Result, Ok, Err, subst, ap, ◌∙◌, arith}
+use Rattle.std.proofs.Common.{◌≡◌, refl, ◌⊎◌, inl, inr, ◌<◌, ◌≤◌, ℕ, List, Option, Some, None, Result, Ok, Err, subst, ap, ◌∙◌, arith}
 use Rattle.er_gen.specs.Generated.{most_rounds}
 use Rattle.er_words.specs.declared.commands.Asked.{Asked}
 use Rattle.er_words.specs.declared.commands.Command.{Command}
@@ -81,7 +81,10 @@ no_rise (Explain i j) old new reads without = without
 -- ends that never fail
 
 pub never_rose : Rose 0 0 → ⊥
-never_rose rose = elim rose [ inl more ↦ absurd (omega arith) | inr last ↦ absurd (omega (arith, last)) ]
+never_rose rose = elim rose [
+  | inl more ↦ (let no : 0 < 0 = more in absurd (omega (arith, no)))
+  | inr last ↦ (let no : 0 ≡ 18446744073709551615 = last in absurd (omega (arith, no)))
+]
 
 pub reads_surely : (asked : Command) → ReadsWithout asked 0 0
 reads_surely (Check json input) = never_rose

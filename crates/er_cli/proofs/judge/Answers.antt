@@ -8,5 +8,5 @@ returns g c = record {
   is = c.finish.ensures;
   usage = c.run.ensures.usage;
   refused = c.run.ensures.refused;
-  answered = c.run.ensures.answered;
+  answered = λ asked asks is. rw (c.new-compares.ensures, c.new-tests.ensures) at (c.run.ensures.answered asked asks is);
 }
