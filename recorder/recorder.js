@@ -21,7 +21,7 @@ const QUIET = 400;
 /** A page that is never quiet, as one with an interval, is waited for so long. */
 const LONGEST_UNREST = 3000;
 /** The last lines of the page are waited for so long. */
-const LONGEST_FLUSH = 2000;
+const LONGEST_FLUSH = 5000;
 
 const LOAD_TIME = "(() => { const [one] = performance.getEntriesByType('navigation'); return one && one.loadEventEnd ? one.loadEventEnd - one.startTime : null; })()";
 

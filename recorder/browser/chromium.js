@@ -19,8 +19,8 @@ const FLAGS = [
 ];
 
 /** No answer of the browser is waited for longer than this, where the caller does not say otherwise; its start has a limit of its own. */
-const LONGEST_ANSWER = 20000;
-const LONGEST_START = 60000;
+const LONGEST_ANSWER = 60000;
+const LONGEST_START = 120000;
 const LONGEST_END = 2000;
 
 /** The browser does not run as root with its sandbox. */

@@ -6,7 +6,7 @@ const { sleep, within } = require('./time.js');
 const KEY_CODES = { Escape: 27, Enter: 13, Tab: 9, Backspace: 8, Delete: 46, ArrowDown: 40, ArrowUp: 38, ArrowRight: 39, ArrowLeft: 37, ' ': 32 };
 const KEY_PAUSE = 30;
 const ACTION_PAUSE = 120;
-const LONGEST_ACTION = 4000;
+const LONGEST_ACTION = 8000;
 const EARLY_POLL = 10;
 
 /** Runs in the page: where an element of a selector can be clicked, or null. */

@@ -93,7 +93,7 @@ async function untilActions(child) {
   for (let k = 0; k < 300 && !/ [1-9]\d* actions/.test(child.said); k++) await new Promise((resolve) => setTimeout(resolve, 100));
 }
 
-test('Ctrl-C: what was recorded so far is written', { timeout: 60000 }, async () => {
+test('Ctrl-C: what was recorded so far is written', { timeout: 150000 }, async () => {
   const own = temporary('stopped');
   const child = startRecording('stopped', 'interval.html', own);
   await untilActions(child);
@@ -105,7 +105,7 @@ test('Ctrl-C: what was recorded so far is written', { timeout: 60000 }, async ()
   assertNothingLeft(own);
 });
 
-test('a browser that is gone: what was recorded so far is written', { timeout: 60000 }, async () => {
+test('a browser that is gone: what was recorded so far is written', { timeout: 150000 }, async () => {
   const own = temporary('gone');
   const child = startRecording('gone', 'interval.html', own);
   await untilActions(child);
@@ -116,7 +116,7 @@ test('a browser that is gone: what was recorded so far is written', { timeout: 6
   assertNothingLeft(own);
 });
 
-test('a page without an end is recorded for as long as was said', { timeout: 60000 }, () => {
+test('a page without an end is recorded for as long as was said', { timeout: 150000 }, () => {
   const own = temporary('endless');
   const { status, stderr } = run('er_record', [path.join(PAGES, 'endless.html'), traceFile('endless'), '--time', '4'], own);
   assert.strictEqual(status, 0, stderr);

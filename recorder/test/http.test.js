@@ -47,7 +47,7 @@ after(async () => {
   server.close();
 });
 
-test('a page that is redirected, compressed, in another encoding, under a policy', { timeout: 60000 }, async () => {
+test('a page that is redirected, compressed, in another encoding, under a policy', { timeout: 150000 }, async () => {
   const trace = await recordPage(browser, `${origin}/start`);
   const due = ['parse p#caf\u00e9 plain', 'parse script sync', 'exec script', 'w word', 'eload script', 'parse script sync', 'parse script inline', 'exec script', 'r word', 'dcl', 'load'];
   assert.strictEqual(firstMissing(trace.readable, due), null, trace.readable.join('\n'));
@@ -58,22 +58,22 @@ test('a page that is redirected, compressed, in another encoding, under a policy
   assert.strictEqual(judge(trace).refused, '');
 });
 
-test('a page that never answers', { timeout: 60000 }, async () => {
+test('a page that never answers', { timeout: 150000 }, async () => {
   await assert.rejects(recordPage(browser, `${origin}/never`, ['--time', '2']), /did not load: no answer came in time/);
 });
 
-test('a page that does not come to its end', { timeout: 60000 }, async () => {
+test('a page that does not come to its end', { timeout: 150000 }, async () => {
   await assert.rejects(recordPage(browser, `${origin}/half`, ['--time', '2']), /did not load: it did not come to its end in time/);
 });
 
-test('a page that waits for a script which never comes', { timeout: 60000 }, async () => {
+test('a page that waits for a script which never comes', { timeout: 150000 }, async () => {
   const trace = await recordPage(browser, `${origin}/stalls`, ['--time', '3']);
   assert.strictEqual(firstMissing(trace.readable, ['parse p#first plain', 'parse script sync']), null, trace.readable.join('\n'));
   assert.ok(!trace.readable.includes('load'));
   assert.ok(trace.losses.some((line) => /ended before the page was quiet/.test(line)), trace.losses.join('\n'));
 });
 
-test('the events of an event source are replies', { timeout: 60000 }, async () => {
+test('the events of an event source are replies', { timeout: 150000 }, async () => {
   const trace = await recordPage(browser, `${origin}/source`, ['--time', '6']);
   const due = ['send', 'on onMessage', 'reply', 'run onMessage', 'w last', 'close', 'reply', 'run onMessage', 'w last'];
   assert.strictEqual(firstMissing(trace.readable, due), null, trace.readable.join('\n'));

@@ -12,7 +12,7 @@ before(async () => { browser = await Chromium.launch({ width: 1100, height: 800 
 after(async () => { await browser.close(); });
 
 for (const one of cases) {
-  test(one.page, { timeout: 60000 }, async () => {
+  test(one.page, { timeout: 150000 }, async () => {
     const trace = await recordPage(browser, one.page, one.words);
     const missing = firstMissing(trace.readable, one.due || []);
     assert.strictEqual(missing, null, `missing or out of its order: ${missing}\n${trace.readable.join('\n')}`);

@@ -62,7 +62,7 @@ const NAMES = {
   intervals: {}, requests: {}, dispatches: {}, places: { 13: [0, 2, 2], 16: [0, 3, 1] },
 };
 
-test('groups in words, a filter, and what folds out', { timeout: 60000 }, async () => {
+test('groups in words, a filter, and what folds out', { timeout: 150000 }, async () => {
   const { tab, errors } = await openView('shop', SHOP, NAMES);
   assert.strictEqual(await textOf(tab, '#found'), '3 groups with 4 races');
   assert.match(await textOf(tab, 'details.group .sentence'), /"cart" is written by the timeout set at shop\.js:4 .*, and read by the timeout set at shop\.js:3; nothing orders them\./);
@@ -112,7 +112,7 @@ test('why two actions are ordered', () => {
   assert.match(ask('4', '5').stdout, /^Nothing puts action 4 .* before action 5 .*\./);
 });
 
-test('a trace without names', { timeout: 60000 }, async () => {
+test('a trace without names', { timeout: 150000 }, async () => {
   const { tab, errors } = await openView('bare', SHOP, null);
   assert.strictEqual(await textOf(tab, '#found'), '3 groups with 4 races');
   await clickAt(tab, 'details.group summary');
@@ -120,7 +120,7 @@ test('a trace without names', { timeout: 60000 }, async () => {
   assert.deepStrictEqual(errors, []);
 });
 
-test('ten thousand races', { timeout: 120000 }, async () => {
+test('ten thousand races', { timeout: 150000 }, async () => {
   const timers = Array.from({ length: 145 }, (_, k) => k + 1);
   const lines = ['parse 0 1 inline', 'exec 1', ...timers.map((k) => `set ${k} ${200 - k}`), ...timers.reverse().flatMap((k) => [`timer ${k}`, 'w var 0 x'])];
   const { tab, errors } = await openView('many', lines, null);
