@@ -70,6 +70,7 @@ _runner = None
 
 def _begin(program, library):
     global _runner
+    signal.signal(signal.SIGTERM, signal.SIG_DFL)
     _runner = Runner(program, library)
 
 
@@ -80,4 +81,6 @@ def runner():
 
 def workers(program, library):
     """Some processes, each with a runner: more than there are processors, since each waits for the run that it started."""
+    # (else they would outlive this process where it is ended from outside)
+    signal.signal(signal.SIGTERM, lambda *_: sys.exit(1))
     return multiprocessing.get_context("fork").Pool(4 * len(os.sched_getaffinity(0)), _begin, (program, library))
