@@ -247,7 +247,7 @@ fn report_of(alloc: Global, count: u32, counts: &Counts) -> Result<String, Alloc
 }
 
 /// Whether the report comes, by one comparison a pair, at most four for each class and group, one read for each 4,096
-/// bytes and one that gives nothing, and one write for each 4,096 bytes less a line.
+/// bytes and one that gives nothing, and at most one write for each 4,096 bytes and one more.
 fn is_each_a_group(
     rt: &(impl Threads + Sync),
     alloc: Global,
@@ -268,6 +268,7 @@ fn is_each_a_group(
     let call = Call {
         words,
         input: &input,
+        taken: 65_536,
         room: 4_000_000,
         ..SOUND
     };
@@ -277,7 +278,7 @@ fn is_each_a_group(
     let (_, writes) = done.calls;
     Ok(
         done.is(1, Written::Whole, (reads, writes))
-            && writes as usize <= due.len().div_ceil(4032)
+            && writes as usize <= due.len() / 4096 + 1
             && done.compares == counts.pairs
             && done.tests <= most,
     )
