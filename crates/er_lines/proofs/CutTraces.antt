@@ -91,27 +91,33 @@ cut_lines f (x ∷ records) all last bytes more are short e some =
     ]
 
 cut_first : (f : Format) (v : Version) (records : List Record) (first bytes back : List ℕ) → IsShort f.most first → first ≡ bytes ++ back → IsCutTrace f v records bytes
-cut_first f v records first bytes back short e =
-    (Start, record {
-      before = [];
-      rest = bytes;
-      are = refl;
-      few = omega arith;
-      begins = refl;
-      cause = start_err f (whole_line f.most bytes) NoEnd (whole_short f.most bytes (short_front f.most first bytes back short e));
-    }, tt)
+cut_first f v records first bytes back short e = (
+  Start,
+  record {
+    before = [];
+    rest = bytes;
+    are = refl;
+    few = omega arith;
+    begins = refl;
+    cause = start_err f (whole_line f.most bytes) NoEnd (whole_short f.most bytes (short_front f.most first bytes back short e));
+  },
+  tt,
+)
 
 cut_later : (f : Format) (v : Version) (records : List Record) (first bytes later : List ℕ) → length records + 2 ≤ most_lines → IsShort f.most first → f.IsHeader v first → bytes ≡ line first ++ later → IsCutBehind f records later → IsCutTrace f v records bytes
 cut_later f v records first bytes later within short header e cut =
-    let few : length cut.front + 2 ≤ most_lines = omega (arith, within, ap length cut.is, length-append cut.front cut.back) in
-    (After v cut.front, record {
-      before = line first ++ cut.before;
-      rest = cut.rest;
-      are = record { first = first; short = short; header = header; later = cut.before; begins = refl; lines = cut.are };
-      few = omega (arith, few);
-      begins = e ∙ (ap (λ r. line first ++ r) cut.begins ∙ sym (append_assoc (line first) cut.before cut.rest));
-      cause = cause_err f (nat_lt most_lines (length cut.front + 2) && nat_lt 0 (length cut.rest)) (whole_line f.most cut.rest) NoEnd (few_many (length cut.front + 2) cut.rest few) (whole_short f.most cut.rest cut.short);
-    }, (refl, (cut.back, cut.is)))
+    let few : length cut.front + 2 ≤ most_lines = omega (arith, within, ap length cut.is, length-append cut.front cut.back) in (
+      After v cut.front,
+      record {
+        before = line first ++ cut.before;
+        rest = cut.rest;
+        are = record { first = first; short = short; header = header; later = cut.before; begins = refl; lines = cut.are };
+        few = omega (arith, few);
+        begins = e ∙ (ap (λ r. line first ++ r) cut.begins ∙ sym (append_assoc (line first) cut.before cut.rest));
+        cause = cause_err f (nat_lt most_lines (length cut.front + 2) && nat_lt 0 (length cut.rest)) (whole_line f.most cut.rest) NoEnd (few_many (length cut.front + 2) cut.rest few) (whole_short f.most cut.rest cut.short);
+      },
+      (refl, (cut.back, cut.is)),
+    )
 
 pub cut_trace : (f : Format) (v : Version) (records : List Record) (bytes more : List ℕ) → IsTrace f v (bytes ++ more) records → 0 < length more → IsCutTrace f v records bytes
 cut_trace f v records bytes more is some =

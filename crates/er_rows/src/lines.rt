@@ -66,7 +66,11 @@ static ASKED: [Asked; 7] = [
 fn lines_of_json(rt: HostRuntime) {
     for asked in &ASKED {
         let done = asked.answer(&rt, rt.alloc());
-        assert!(rt; done.is_ok_and(|done| asked.is_due(&done)), "{}", asked.input);
+        assert!(rt;
+            done.is_ok_and(|done| asked.is_due(&done)),
+            "{}",
+            asked.input
+        );
     }
 }
 
@@ -116,7 +120,10 @@ fn are_refused(
 
 #[test]
 fn lines_at_the_limit(rt: HostRuntime) {
-    for (spaces, written) in [(4096, "refused 2 no-end\n"), (4097, "refused 2 long-line\n")] {
+    for (spaces, written) in [
+        (4096, "refused 2 no-end\n"),
+        (4097, "refused 2 long-line\n"),
+    ] {
         let refused = are_refused(&rt, rt.alloc(), spaces, written);
         assert!(rt; refused == Ok(true), "{spaces}");
     }

@@ -51,10 +51,13 @@ GoesOn f v bytes n = (records : List Record) (number : ℕ) (rest : List ℕ) �
 
 ends_by : (f : Format) (v : Version) (bytes : List ℕ) (records : List Record) (number : ℕ) (l rest later : List ℕ) → At f v bytes records number rest → number ≤ most_lines → IsShort f.most l → f.IsEnd l → rest ≡ l ++ 10 ∷ later → Reads f bytes
 ends_by f v bytes records number l rest [] at few short end is =
-    Whole records (v, record {
-      whole = record { front = at.before; behind = at.are; last = l; short = short; end = end; begins = at.begins ∙ ap (λ r. at.before ++ r) is };
-      few = omega (arith, at.numbered);
-    })
+    Whole records (
+      v,
+      record {
+        whole = record { front = at.before; behind = at.are; last = l; short = short; end = end; begins = at.begins ∙ ap (λ r. at.before ++ r) is };
+        few = omega (arith, at.numbered);
+      },
+    )
 ends_by f v bytes records number l rest (b ∷ later) at few short end is =
     Until (number + 1) AfterEnd records (
       Ended v records,
