@@ -12,6 +12,7 @@ use Rattle.er_text.specs.declared.causes.Cause.{Cause}
 use Rattle.er_text.specs.declared.causes.Cause.TheVariants.{BadHeader, LongLine, BadRecord, NoEnd, TooManyLines}
 use Rattle.er_text.proofs.ByteLaws.{lacks-append}
 use Rattle.er_text.proofs.LineLaws.{first_line_none, first_line_some, first_line_parts}
+use Rattle.er_trace.specs.declared.version.Version.{Version}
 use Rattle.er_trace.specs.Trace.{most_lines, most_line_bytes, end_word, is_long, whole_line, IsNoHeader, SpellsNone, Place, Start, After, Ended, LineCause}
 use Rattle.er_trace.proofs.LineLaws.{whole_line-at, whole_line_short, whole_line_parts}
 
@@ -52,8 +53,8 @@ short_whole bytes h = short_by bytes (is_long bytes) (first_line bytes) refl ref
 abbrev pub StartBy : Line → Cause → Type 0
 StartBy whole c = MatchResult whole (λ l. IsNoHeader l.0 × (c ≡ BadHeader)) (λ why. c ≡ why)
 
-abbrev pub CauseBy : Bool → Line → Cause → Type 0
-CauseBy many whole c = MatchBool many (c ≡ TooManyLines) (MatchResult whole (λ l. (l.0 ≢ end_word) × SpellsNone l.0 × (c ≡ BadRecord)) (λ why. c ≡ why))
+abbrev pub CauseBy : Version → Bool → Line → Cause → Type 0
+CauseBy v many whole c = MatchBool many (c ≡ TooManyLines) (MatchResult whole (λ l. (l.0 ≢ end_word) × SpellsNone v l.0 × (c ≡ BadRecord)) (λ why. c ≡ why))
 
 pub start_err : (whole : Line) (c : Cause) → whole ≡ Err c → StartBy whole c
 start_err (Ok l) c h = absurd (cc)
@@ -67,27 +68,27 @@ pub start_no_end : (whole : Line) → StartBy whole NoEnd → whole ≡ Err NoEn
 start_no_end (Ok l) h = absurd (cc)
 start_no_end (Err why) h = cc
 
-pub cause_many : (many : Bool) (whole : Line) (c : Cause) → many ≡ true → c ≡ TooManyLines → CauseBy many whole c
-cause_many true whole c is e = e
-cause_many false whole c is e = absurd (cc)
+pub cause_many : (v : Version) (many : Bool) (whole : Line) (c : Cause) → many ≡ true → c ≡ TooManyLines → CauseBy v many whole c
+cause_many v true whole c is e = e
+cause_many v false whole c is e = absurd (cc)
 
-cause_err_by : (whole : Line) (c : Cause) → whole ≡ Err c → CauseBy false whole c
-cause_err_by (Ok l) c h = absurd (cc)
-cause_err_by (Err why) c h = cc
+cause_err_by : (v : Version) (whole : Line) (c : Cause) → whole ≡ Err c → CauseBy v false whole c
+cause_err_by v (Ok l) c h = absurd (cc)
+cause_err_by v (Err why) c h = cc
 
-pub cause_err : (many : Bool) (whole : Line) (c : Cause) → many ≡ false → whole ≡ Err c → CauseBy many whole c
-cause_err true whole c few h = absurd (cc)
-cause_err false whole c few h = cause_err_by whole c h
+pub cause_err : (v : Version) (many : Bool) (whole : Line) (c : Cause) → many ≡ false → whole ≡ Err c → CauseBy v many whole c
+cause_err v true whole c few h = absurd (cc)
+cause_err v false whole c few h = cause_err_by v whole c h
 
-pub cause_bad : (many : Bool) (whole : Line) (l rest : List ℕ) (c : Cause) → many ≡ false → whole ≡ Ok (l, rest) → (l ≢ end_word) × SpellsNone l × (c ≡ BadRecord) → CauseBy many whole c
-cause_bad true whole l rest c few h is = absurd (cc)
-cause_bad false (Err why) l rest c few h is = absurd (cc)
-cause_bad false (Ok found) l rest c few h is = let same : l ≡ found.0 = cc in rw same at is
+pub cause_bad : (v : Version) (many : Bool) (whole : Line) (l rest : List ℕ) (c : Cause) → many ≡ false → whole ≡ Ok (l, rest) → (l ≢ end_word) × SpellsNone v l × (c ≡ BadRecord) → CauseBy v many whole c
+cause_bad v true whole l rest c few h is = absurd (cc)
+cause_bad v false (Err why) l rest c few h is = absurd (cc)
+cause_bad v false (Ok found) l rest c few h is = let same : l ≡ found.0 = cc in rw same at is
 
-pub cause_no_end : (many : Bool) (whole : Line) → CauseBy many whole NoEnd → whole ≡ Err NoEnd
-cause_no_end true whole h = absurd (cc)
-cause_no_end false (Ok l) h = absurd (cc)
-cause_no_end false (Err why) h = cc
+pub cause_no_end : (v : Version) (many : Bool) (whole : Line) → CauseBy v many whole NoEnd → whole ≡ Err NoEnd
+cause_no_end v true whole h = absurd (cc)
+cause_no_end v false (Ok l) h = absurd (cc)
+cause_no_end v false (Err why) h = cc
 
 -- whether the line of a number is one too many
 
@@ -178,9 +179,9 @@ more_bytes bytes more = record {
       long_whole (bytes ++ more) (is_long_by (bytes ++ more) (take (most_line_bytes + 1) bytes) front parts.0 (omega (arith, parts.1, length-append bytes more))) ∙ ap Err (sym long.1);
 }
 
-no_end_alone : (many : Bool) (c : Cause) → many ≡ false → CauseBy many (whole_line []) c → c ≡ NoEnd
-no_end_alone true c few h = absurd (cc)
-no_end_alone false c few h = h
+no_end_alone : (v : Version) (many : Bool) (c : Cause) → many ≡ false → CauseBy v many (whole_line []) c → c ≡ NoEnd
+no_end_alone v true c few h = absurd (cc)
+no_end_alone v false c few h = h
 
 start_more : (whole longer : Line) (more : List ℕ) (c : Cause) → IsMore whole longer more → StartBy whole c → c ≢ NoEnd → StartBy longer c
 start_more (Ok l) longer more c is h other = start_bad longer l.0 (l.1 ++ more) c (is.found l.0 l.1 refl) h
@@ -189,19 +190,19 @@ start_more (Err why) longer more c is h other = start_err longer c (is.refused c
 same_many : (first : Bool) (k m : ℕ) → 0 < k → 0 < m → (first && nat_lt 0 k) ≡ (first && nat_lt 0 m)
 same_many first k m some also = grind (arith, nat_tests)
 
-cause_more : (many also : Bool) (whole longer : Line) (more : List ℕ) (c : Cause) → many ≡ also → IsMore whole longer more → CauseBy many whole c → c ≢ NoEnd → CauseBy also longer c
-cause_more true true whole longer more c same is h other = h
-cause_more true false whole longer more c same is h other = absurd (cc)
-cause_more false true whole longer more c same is h other = absurd (cc)
-cause_more false false (Ok l) longer more c same is h other = cause_bad false longer l.0 (l.1 ++ more) c refl (is.found l.0 l.1 refl) h
-cause_more false false (Err why) longer more c same is h other = cause_err false longer c refl (is.refused c (cc) other)
+cause_more : (v : Version) (many also : Bool) (whole longer : Line) (more : List ℕ) (c : Cause) → many ≡ also → IsMore whole longer more → CauseBy v many whole c → c ≢ NoEnd → CauseBy v also longer c
+cause_more v true true whole longer more c same is h other = h
+cause_more v true false whole longer more c same is h other = absurd (cc)
+cause_more v false true whole longer more c same is h other = absurd (cc)
+cause_more v false false (Ok l) longer more c same is h other = cause_bad v false longer l.0 (l.1 ++ more) c refl (is.found l.0 l.1 refl) h
+cause_more v false false (Err why) longer more c same is h other = cause_err v false longer c refl (is.refused c (cc) other)
 
 -- a refusal other than for a missing end stays, whatever comes behind
 pub line_cause_more : (place : Place) (rest more : List ℕ) (c : Cause) → LineCause place rest c → c ≢ NoEnd → LineCause place (rest ++ more) c
 line_cause_more Start rest more c h other = start_more (whole_line rest) (whole_line (rest ++ more)) more c (more_bytes rest more) h other
-line_cause_more (After v records) [] more c h other = absurd (other (no_end_alone (nat_lt most_lines (length records + 2) && nat_lt 0 0) c (no_bytes_many (length records + 2)) h))
+line_cause_more (After v records) [] more c h other = absurd (other (no_end_alone v (nat_lt most_lines (length records + 2) && nat_lt 0 0) c (no_bytes_many (length records + 2)) h))
 line_cause_more (After v records) (b ∷ rest) more c h other =
-    cause_more (nat_lt most_lines (length records + 2) && nat_lt 0 (length (b ∷ rest))) (nat_lt most_lines (length records + 2) && nat_lt 0 (length ((b ∷ rest) ++ more))) (whole_line (b ∷ rest)) (whole_line ((b ∷ rest) ++ more)) more c
+    cause_more v (nat_lt most_lines (length records + 2) && nat_lt 0 (length (b ∷ rest))) (nat_lt most_lines (length records + 2) && nat_lt 0 (length ((b ∷ rest) ++ more))) (whole_line (b ∷ rest)) (whole_line ((b ∷ rest) ++ more)) more c
     (same_many (nat_lt most_lines (length records + 2)) (length (b ∷ rest)) (length ((b ∷ rest) ++ more)) (omega arith) (omega arith))
     (more_bytes (b ∷ rest) more) h other
 line_cause_more (Ended v records) [] more c h other = absurd (h.0 refl)

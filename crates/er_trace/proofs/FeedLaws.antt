@@ -21,20 +21,20 @@ use Rattle.er_trace.proofs.CauseLaws.{IsShort, whole_short, short_whole, start_e
 -- a line that is not at its end yet is short
 pub unfinished_short : (place : Place) (line : List ℕ) → IsUnfinished place line → IsShort line
 unfinished_short Start line h = short_whole line (start_no_end (whole_line line) h)
-unfinished_short (After v records) line h = short_whole line (cause_no_end (nat_lt most_lines (length records + 2) && nat_lt 0 (length line)) (whole_line line) h)
+unfinished_short (After v records) line h = short_whole line (cause_no_end v (nat_lt most_lines (length records + 2) && nat_lt 0 (length line)) (whole_line line) h)
 unfinished_short (Ended v records) line h = rw h record { clear = refl; few = omega arith }
 
 -- where a line may stand, a short one is not at its end yet
 pub short_unfinished : (place : Place) (line : List ℕ) → IsOpen (mark_of place) → IsShort line → IsUnfinished place line
 short_unfinished Start line free h = start_err (whole_line line) NoEnd (whole_short line h)
 short_unfinished (After v records) line free h =
-    cause_err (nat_lt most_lines (length records + 2) && nat_lt 0 (length line)) (whole_line line) NoEnd (few_many (length records + 2) line free) (whole_short line h)
+    cause_err v (nat_lt most_lines (length records + 2) && nat_lt 0 (length line)) (whole_line line) NoEnd (few_many (length records + 2) line free) (whole_short line h)
 short_unfinished (Ended v records) line free h = elim free [ ]
 
 -- no byte of a line has come
 pub none_unfinished : (place : Place) → IsUnfinished place []
 none_unfinished Start = refl
-none_unfinished (After v records) = cause_err (nat_lt most_lines (length records + 2) && nat_lt 0 0) (whole_line []) NoEnd (no_bytes_many (length records + 2)) refl
+none_unfinished (After v records) = cause_err v (nat_lt most_lines (length records + 2) && nat_lt 0 0) (whole_line []) NoEnd (no_bytes_many (length records + 2)) refl
 none_unfinished (Ended v records) = refl
 
 pub number_of_place : (place : Place) → number_at (mark_of place) ≡ line_number place
@@ -73,7 +73,7 @@ stands_line (Ended v records) next kept front bytes came earlier is free begins 
 stands_line (After v records) (marks.After w m) kept front bytes came earlier is free begins before leads = record {
   place = After v (records ++ leads.0 ∷ []);
   rest = [];
-  is_place = record { each = each-append records (leads.0 ∷ []) is.each (leads.1, tt); few = omega (arith, length-append records (leads.0 ∷ [])) };
+  is_place = record { each = each-append v records (leads.0 ∷ []) is.each (leads.1, tt); few = omega (arith, length-append records (leads.0 ∷ [])) };
   begins =
       (line_behind (with_end (header v) ++ lines records) kept front bytes (spelling leads.0) begins leads.2 ∙ lines_with v records leads.0)
       ∙ sym (append-nil (with_end (header v) ++ lines (records ++ leads.0 ∷ [])));
@@ -162,7 +162,7 @@ refused mark kept piece later n c old new why other numbered same = record {
 bad_cause : (place : Place) (l rest bytes : List ℕ) (c : Cause) → IsOpen (mark_of place) → IsBadLine (mark_of place) l c → whole_line bytes ≡ Ok (l, rest) → LineCause place bytes c
 bad_cause Start l rest bytes c free is whole = start_bad (whole_line bytes) l rest c whole is
 bad_cause (After v records) l rest bytes c free is whole =
-    cause_bad (nat_lt most_lines (length records + 2) && nat_lt 0 (length bytes)) (whole_line bytes) l rest c (few_many (length records + 2) bytes free) whole is
+    cause_bad v (nat_lt most_lines (length records + 2) && nat_lt 0 (length bytes)) (whole_line bytes) l rest c (few_many (length records + 2) bytes free) whole is
 bad_cause (Ended v records) l rest bytes c free is whole = elim free [ ]
 
 bad_is_no_end : (mark : Mark) (l : List ℕ) (c : Cause) → IsBadLine mark l c → c ≢ NoEnd
@@ -183,7 +183,7 @@ refused_line mark next kept piece front later left n c old new free is e clear f
 long_cause : (place : Place) (bytes : List ℕ) → IsOpen (mark_of place) → whole_line bytes ≡ Err LongLine → LineCause place bytes LongLine
 long_cause Start bytes free long = start_err (whole_line bytes) LongLine long
 long_cause (After v records) bytes free long =
-    cause_err (nat_lt most_lines (length records + 2) && nat_lt 0 (length bytes)) (whole_line bytes) LongLine (few_many (length records + 2) bytes free) long
+    cause_err v (nat_lt most_lines (length records + 2) && nat_lt 0 (length bytes)) (whole_line bytes) LongLine (few_many (length records + 2) bytes free) long
 long_cause (Ended v records) bytes free long = elim free [ ]
 
 -- a line is too long
@@ -197,7 +197,7 @@ refused_long mark kept piece left n c old free clear many numbered is =
 closed_cause : (place : Place) (kept piece : List ℕ) (c : Cause) → IsClosed (mark_of place) c → 0 < length piece → LineCause place (kept ++ piece) c
 closed_cause (After v records) kept piece c is some =
     let many : (nat_lt most_lines (length records + 2) && nat_lt 0 (length (kept ++ piece))) ≡ true = some_many (length records + 2) (kept ++ piece) is.0 (omega (arith, length-append kept piece)) in
-    cause_many (nat_lt most_lines (length records + 2) && nat_lt 0 (length (kept ++ piece))) (whole_line (kept ++ piece)) c many is.1
+    cause_many v (nat_lt most_lines (length records + 2) && nat_lt 0 (length (kept ++ piece))) (whole_line (kept ++ piece)) c many is.1
 closed_cause (Ended v records) kept piece c is some = ((λ e. absurd (omega (arith, ap length e, length-append kept piece))), is)
 closed_cause Start kept piece c is some = elim is [ ]
 

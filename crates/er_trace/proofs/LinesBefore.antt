@@ -6,8 +6,9 @@ use Rattle.er_text.specs.Bytes.{count_of_lf, has_no_lf}
 use Rattle.er_text.specs.declared.causes.Cause.TheVariants.{NoEnd, AfterEnd}
 use Rattle.er_trace.specs.declared.record.Record.{Record}
 use Rattle.er_trace.specs.declared.version.Version.{Version}
-use Rattle.er_trace.specs.declared.version.Version.TheVariants.{One, Two}
-use Rattle.er_trace.specs.Spelling.{spelling, IsRecord}
+use Rattle.er_trace.specs.declared.version.Version.TheVariants.{One, Two, Three}
+use Rattle.er_trace.specs.Spelling.{spelling}
+use Rattle.er_trace.specs.Versions.{IsRecordOf}
 use Rattle.er_trace.specs.Trace.{Place, Start, After, Ended, IsPlace, line, lines, header, end_word, line_number, bytes_before, Refuses, LineCause}
 use Rattle.er_trace.proofs.RecordLaws.{spelling_has_no_lf}
 use Rattle.er_trace.proofs.CauseLaws.{IsShort}
@@ -28,22 +29,23 @@ count_of_line a clear =
     let none : count_of_lf a ≡ 0 = count_of_none a clear in
     omega (arith, e, none)
 
-count_of_lines : (records : List Record) → AllByRecursion IsRecord records → count_of_lf (lines records) ≡ length records
-count_of_lines [] each = refl
-count_of_lines (x ∷ records) each =
+count_of_lines : (v : Version) (records : List Record) → AllByRecursion (IsRecordOf v) records → count_of_lf (lines records) ≡ length records
+count_of_lines v [] each = refl
+count_of_lines v (x ∷ records) each =
     let e : count_of_lf (lines (x ∷ records)) ≡ count_of_lf (line (spelling x)) + count_of_lf (lines records) = count_of_both (line (spelling x)) (lines records) in
-    let one : count_of_lf (line (spelling x)) ≡ 1 = count_of_line (spelling x) (spelling_has_no_lf x each.0) in
-    let later : count_of_lf (lines records) ≡ length records = count_of_lines records each.1 in
+    let one : count_of_lf (line (spelling x)) ≡ 1 = count_of_line (spelling x) (spelling_has_no_lf x each.0.0) in
+    let later : count_of_lf (lines records) ≡ length records = count_of_lines v records each.1 in
     omega (arith, e, one, later)
 
 count_of_first : (v : Version) → count_of_lf (line (header v)) ≡ 1
 count_of_first One = refl
 count_of_first Two = refl
+count_of_first Three = refl
 
-count_of_header : (v : Version) (records : List Record) → AllByRecursion IsRecord records → count_of_lf (line (header v) ++ lines records) ≡ length records + 1
+count_of_header : (v : Version) (records : List Record) → AllByRecursion (IsRecordOf v) records → count_of_lf (line (header v) ++ lines records) ≡ length records + 1
 count_of_header v records each =
     let e : count_of_lf (line (header v) ++ lines records) ≡ count_of_lf (line (header v)) + count_of_lf (lines records) = count_of_both (line (header v)) (lines records) in
-    let later : count_of_lf (lines records) ≡ length records = count_of_lines records each in
+    let later : count_of_lf (lines records) ≡ length records = count_of_lines v records each in
     omega (arith, e, count_of_first v, later)
 
 pub line_of_a_place : (p : Place) → IsPlace p → line_number p ≡ count_of_lf (bytes_before p) + 1

@@ -1,6 +1,6 @@
 -- The bytes of a trace have one reading.
 use Rattle.std.proofs.Common.{◌≡◌, ℕ, ◌+◌, ◌≤◌, suc, List, [], ◌∷◌, ◌++◌, length, Bool, true, false, ◌&&◌, Option, Some, None, Ok, Err, get_or, refl, ap, sym, ◌∙◌, subst, arith, append_assoc, append-nil}
-use Rattle.std.specs.Prelude.{◌≢◌, nat_lt, Result, MatchResult, MatchBool}
+use Rattle.std.specs.Prelude.{◌≢◌, ◌==◌, if◌then◌else◌, nat_lt, Result, MatchResult, MatchBool}
 use Rattle.std.specs.List.{AllByRecursion}
 use Rattle.std.proofs.lemmas.List.{append_cancel_left}
 use Rattle.std.proofs.lemmas.Bool.Decides.{nat_tests}
@@ -8,8 +8,9 @@ use Rattle.er_text.specs.declared.causes.Cause.{Cause}
 use Rattle.er_text.specs.declared.causes.Cause.TheVariants.{BadHeader, BadRecord, AfterEnd, TooManyLines}
 use Rattle.er_trace.specs.declared.record.Record.{Record}
 use Rattle.er_trace.specs.declared.version.Version.{Version}
-use Rattle.er_trace.specs.declared.version.Version.TheVariants.{One, Two}
+use Rattle.er_trace.specs.declared.version.Version.TheVariants.{One, Two, Three}
 use Rattle.er_trace.specs.Spelling.{spelling, IsRecord}
+use Rattle.er_trace.specs.Versions.{IsRecordOf}
 use Rattle.er_trace.specs.Trace.{most_lines, header, end_word, line, lines, text, whole_line, IsNoHeader, SpellsNone, Place, Start, After, Ended, version_before, records_before, line_number, IsTrace, Refuses, LineCause, RecordCause}
 use Rattle.er_trace.proofs.LineLaws.{whole_line-at}
 use Rattle.er_trace.proofs.RecordLaws.{spelling_is_short, spelling_has_no_lf, spelling_is_no_end}
@@ -20,9 +21,9 @@ pub data Stop : Type 0 where
   Faulty : (c : Cause) → Stop
   AtEnd : (later : List ℕ) → Stop
 
-abbrev pub StopsAt : ℕ → List ℕ → Stop → Type 0
-StopsAt number rest (Faulty c) = RecordCause number rest c
-StopsAt number rest (AtEnd later) = (number ≤ most_lines) × (rest ≡ line end_word ++ later)
+abbrev pub StopsAt : Version → ℕ → List ℕ → Stop → Type 0
+StopsAt v number rest (Faulty c) = RecordCause v number rest c
+StopsAt v number rest (AtEnd later) = (number ≤ most_lines) × (rest ≡ line end_word ++ later)
 
 abbrev pub a_line : List ℕ → List ℕ → Result (List ℕ × List ℕ) Cause
 a_line l rest = Ok (l, rest)
@@ -38,13 +39,20 @@ rest_of (Err why) = []
 pub whole_header : (v : Version) (rest : List ℕ) → whole_line (line (header v) ++ rest) ≡ Ok (header v, rest)
 whole_header One rest = whole_line-at (header One) rest refl (omega arith)
 whole_header Two rest = whole_line-at (header Two) rest refl (omega arith)
+whole_header Three rest = whole_line-at (header Three) rest refl (omega arith)
 
 -- one header has one version
+-- by the number in the header
+abbrev version_in : List ℕ → Version
+version_in bytes = if get_or bytes 9 0 == 49 then One else if get_or bytes 9 0 == 50 then Two else Three
+
+version_back : (v : Version) → version_in (header v) ≡ v
+version_back One = refl
+version_back Two = refl
+version_back Three = refl
+
 same_header : (v w : Version) → header v ≡ header w → v ≡ w
-same_header One One e = refl
-same_header Two Two e = refl
-same_header One Two e = let no : 49 ≡ 50 = ap (λ (l : List ℕ). get_or l 9 0) e in absurd (omega (arith, no))
-same_header Two One e = let no : 50 ≡ 49 = ap (λ (l : List ℕ). get_or l 9 0) e in absurd (omega (arith, no))
+same_header v w e = sym (version_back v) ∙ (ap version_in e ∙ version_back w)
 
 pub header_once : (bytes r s : List ℕ) (v w : Version) → bytes ≡ line (header v) ++ r → bytes ≡ line (header w) ++ s → (v ≡ w) × (r ≡ s)
 header_once bytes r s v w first second =
@@ -57,39 +65,39 @@ whole_end rest = whole_line-at end_word rest refl (omega arith)
 pub whole_record : (x : Record) (rest : List ℕ) → IsRecord x → whole_line (line (spelling x) ++ rest) ≡ Ok (spelling x, rest)
 whole_record x rest is = ap whole_line (append_assoc (spelling x) (10 ∷ []) rest) ∙ whole_line-at (spelling x) rest (spelling_has_no_lf x is) (spelling_is_short x is)
 
-abbrev CauseBy : Bool → Result (List ℕ × List ℕ) Cause → Cause → Type 0
-CauseBy many whole c = MatchBool many (c ≡ TooManyLines) (MatchResult whole (λ l. (l.0 ≢ end_word) × SpellsNone l.0 × (c ≡ BadRecord)) (λ why. c ≡ why))
+abbrev CauseBy : Version → Bool → Result (List ℕ × List ℕ) Cause → Cause → Type 0
+CauseBy v many whole c = MatchBool many (c ≡ TooManyLines) (MatchResult whole (λ l. (l.0 ≢ end_word) × SpellsNone v l.0 × (c ≡ BadRecord)) (λ why. c ≡ why))
 
-cause_once_by : (many : Bool) (whole : Result (List ℕ × List ℕ) Cause) (c d : Cause) → CauseBy many whole c → CauseBy many whole d → c ≡ d
-cause_once_by true whole c d first second = cc
-cause_once_by false (Ok l) c d first second = first.2 ∙ sym second.2
-cause_once_by false (Err why) c d first second = cc
+cause_once_by : (v : Version) (many : Bool) (whole : Result (List ℕ × List ℕ) Cause) (c d : Cause) → CauseBy v many whole c → CauseBy v many whole d → c ≡ d
+cause_once_by v true whole c d first second = cc
+cause_once_by v false (Ok l) c d first second = first.2 ∙ sym second.2
+cause_once_by v false (Err why) c d first second = cc
 
-cause_of_line : (many : Bool) (whole : Result (List ℕ × List ℕ) Cause) (c : Cause) (l rest : List ℕ) → CauseBy many whole c → many ≡ false → whole ≡ Ok (l, rest) → (l ≢ end_word) × SpellsNone l
-cause_of_line true whole c l rest h few is = cc
-cause_of_line false (Ok found) c l rest h few is = let same : found.0 ≡ l = cc in let both : (found.0 ≢ end_word) × SpellsNone found.0 = (h.0, h.1) in rw same at both
-cause_of_line false (Err why) c l rest h few is = cc
+cause_of_line : (v : Version) (many : Bool) (whole : Result (List ℕ × List ℕ) Cause) (c : Cause) (l rest : List ℕ) → CauseBy v many whole c → many ≡ false → whole ≡ Ok (l, rest) → (l ≢ end_word) × SpellsNone v l
+cause_of_line v true whole c l rest h few is = cc
+cause_of_line v false (Ok found) c l rest h few is = let same : found.0 ≡ l = cc in let both : (found.0 ≢ end_word) × SpellsNone v found.0 = (h.0, h.1) in rw same at both
+cause_of_line v false (Err why) c l rest h few is = cc
 
 not_many : (number : ℕ) (bytes : List ℕ) → number ≤ most_lines → (nat_lt most_lines number && nat_lt 0 (length bytes)) ≡ false
 not_many number bytes few = grind (arith, nat_tests)
 
 -- a line with a cause is neither a record nor the end
-no_line : (number : ℕ) (bytes l rest : List ℕ) (c : Cause) → RecordCause number bytes c → number ≤ most_lines → whole_line bytes ≡ Ok (l, rest) → (l ≢ end_word) × SpellsNone l
-no_line number bytes l rest c h few is = cause_of_line (nat_lt most_lines number && nat_lt 0 (length bytes)) (whole_line bytes) c l rest h (not_many number bytes few) is
+no_line : (v : Version) (number : ℕ) (bytes l rest : List ℕ) (c : Cause) → RecordCause v number bytes c → number ≤ most_lines → whole_line bytes ≡ Ok (l, rest) → (l ≢ end_word) × SpellsNone v l
+no_line v number bytes l rest c h few is = cause_of_line v (nat_lt most_lines number && nat_lt 0 (length bytes)) (whole_line bytes) c l rest h (not_many number bytes few) is
 
-stop_once : (number : ℕ) (rest : List ℕ) (p q : Stop) → StopsAt number rest p → StopsAt number rest q → p ≡ q
-stop_once number rest (Faulty c) (Faulty d) first second = ap Faulty (cause_once_by (nat_lt most_lines number && nat_lt 0 (length rest)) (whole_line rest) c d first second)
-stop_once number rest (Faulty c) (AtEnd later) first second = absurd ((no_line number rest end_word later c first second.0 (ap whole_line second.1 ∙ whole_end later)).0 refl)
-stop_once number rest (AtEnd later) (Faulty d) first second = absurd ((no_line number rest end_word later d second first.0 (ap whole_line first.1 ∙ whole_end later)).0 refl)
-stop_once number rest (AtEnd later) (AtEnd more) first second = ap AtEnd (append_cancel_left (line end_word) later more (sym first.1 ∙ second.1))
+stop_once : (v : Version) (number : ℕ) (rest : List ℕ) (p q : Stop) → StopsAt v number rest p → StopsAt v number rest q → p ≡ q
+stop_once v number rest (Faulty c) (Faulty d) first second = ap Faulty (cause_once_by v (nat_lt most_lines number && nat_lt 0 (length rest)) (whole_line rest) c d first second)
+stop_once v number rest (Faulty c) (AtEnd later) first second = absurd ((no_line v number rest end_word later c first second.0 (ap whole_line second.1 ∙ whole_end later)).0 refl)
+stop_once v number rest (AtEnd later) (Faulty d) first second = absurd ((no_line v number rest end_word later d second first.0 (ap whole_line first.1 ∙ whole_end later)).0 refl)
+stop_once v number rest (AtEnd later) (AtEnd more) first second = ap AtEnd (append_cancel_left (line end_word) later more (sym first.1 ∙ second.1))
 
 -- no record stands where the records stop
-no_record_at : (number : ℕ) (rest : List ℕ) (p : Stop) (x : Record) (later : List ℕ) → StopsAt number rest p → number ≤ most_lines → IsRecord x → rest ≡ line (spelling x) ++ later → ⊥
-no_record_at number rest (Faulty c) x later stops few is e =
-    (no_line number rest (spelling x) later c stops few (ap whole_line e ∙ whole_record x later is)).1 x is refl
-no_record_at number rest (AtEnd more) x later stops few is e =
-    let same : a_line end_word more ≡ a_line (spelling x) later = (sym (whole_end more) ∙ ap whole_line (sym stops.1 ∙ e)) ∙ whole_record x later is in
-    spelling_is_no_end x is (sym (ap bytes_of same))
+no_record_at : (v : Version) (number : ℕ) (rest : List ℕ) (p : Stop) (x : Record) (later : List ℕ) → StopsAt v number rest p → number ≤ most_lines → IsRecordOf v x → rest ≡ line (spelling x) ++ later → ⊥
+no_record_at v number rest (Faulty c) x later stops few is e =
+    (no_line v number rest (spelling x) later c stops few (ap whole_line e ∙ whole_record x later is.0)).1 x is refl
+no_record_at v number rest (AtEnd more) x later stops few is e =
+    let same : a_line end_word more ≡ a_line (spelling x) later = (sym (whole_end more) ∙ ap whole_line (sym stops.1 ∙ e)) ∙ whole_record x later is.0 in
+    spelling_is_no_end x is.0 (sym (ap bytes_of same))
 
 -- the first line of both is one record
 pub same_first : (x y : Record) (a b : List ℕ) → IsRecord x → IsRecord y → line (spelling x) ++ a ≡ line (spelling y) ++ b → (x ≡ y) × (a ≡ b)
@@ -102,36 +110,39 @@ no_record_is_end x later is e =
     let same : a_line end_word [] ≡ a_line (spelling x) later = (sym (whole_end []) ∙ ap whole_line (append-nil (line end_word) ∙ e)) ∙ whole_record x later is in
     spelling_is_no_end x is (sym (ap bytes_of same))
 
-lines_once : (a b : List Record) (number : ℕ) (r s : List ℕ) (p q : Stop) → AllByRecursion IsRecord a → AllByRecursion IsRecord b → lines a ++ r ≡ lines b ++ s
-    → number + length a ≤ most_lines + 1 → number + length b ≤ most_lines + 1 → StopsAt (number + length a) r p → StopsAt (number + length b) s q → (a ≡ b) × (p ≡ q)
-lines_once [] [] number r s p q first second e few_a few_b stops_a stops_b =
-    (refl, stop_once (number + 0) r p q stops_a (rw e stops_b))
-lines_once [] (y ∷ b) number r s p q first second e few_a few_b stops_a stops_b =
-    absurd (no_record_at (number + 0) r p y (lines b ++ s) stops_a (omega arith) second.0 (e ∙ append_assoc (line (spelling y)) (lines b) s))
-lines_once (x ∷ a) [] number r s p q first second e few_a few_b stops_a stops_b =
-    absurd (no_record_at (number + 0) s q x (lines a ++ r) stops_b (omega arith) first.0 (sym e ∙ append_assoc (line (spelling x)) (lines a) r))
-lines_once (x ∷ a) (y ∷ b) number r s p q first second e few_a few_b stops_a stops_b =
+lines_once : (v : Version) (a b : List Record) (number : ℕ) (r s : List ℕ) (p q : Stop) → AllByRecursion (IsRecordOf v) a → AllByRecursion (IsRecordOf v) b → lines a ++ r ≡ lines b ++ s
+    → number + length a ≤ most_lines + 1 → number + length b ≤ most_lines + 1 → StopsAt v (number + length a) r p → StopsAt v (number + length b) s q → (a ≡ b) × (p ≡ q)
+lines_once v [] [] number r s p q first second e few_a few_b stops_a stops_b =
+    (refl, stop_once v (number + 0) r p q stops_a (rw e stops_b))
+lines_once v [] (y ∷ b) number r s p q first second e few_a few_b stops_a stops_b =
+    absurd (no_record_at v (number + 0) r p y (lines b ++ s) stops_a (omega arith) second.0 (e ∙ append_assoc (line (spelling y)) (lines b) s))
+lines_once v (x ∷ a) [] number r s p q first second e few_a few_b stops_a stops_b =
+    absurd (no_record_at v (number + 0) s q x (lines a ++ r) stops_b (omega arith) first.0 (sym e ∙ append_assoc (line (spelling x)) (lines a) r))
+lines_once v (x ∷ a) (y ∷ b) number r s p q first second e few_a few_b stops_a stops_b =
     let apart : line (spelling x) ++ (lines a ++ r) ≡ line (spelling y) ++ (lines b ++ s) = (sym (append_assoc (line (spelling x)) (lines a) r) ∙ e) ∙ append_assoc (line (spelling y)) (lines b) s in
-    let same : (x ≡ y) × (lines a ++ r ≡ lines b ++ s) = same_first x y (lines a ++ r) (lines b ++ s) first.0 second.0 apart in
+    let same : (x ≡ y) × (lines a ++ r ≡ lines b ++ s) = same_first x y (lines a ++ r) (lines b ++ s) first.0.0 second.0.0 apart in
     let up_a : number + suc (length a) ≡ (number + 1) + length a = omega arith in
     let up_b : number + suc (length b) ≡ (number + 1) + length b = omega arith in
     let later : (a ≡ b) × (p ≡ q) =
-    lines_once a b (number + 1) r s p q first.1 second.1 same.1 (omega arith) (omega arith)
-    (subst (λ (n : ℕ). StopsAt n r p) up_a stops_a) (subst (λ (n : ℕ). StopsAt n s q) up_b stops_b) in
+    lines_once v a b (number + 1) r s p q first.1 second.1 same.1 (omega arith) (omega arith)
+    (subst (λ (n : ℕ). StopsAt v n r p) up_a stops_a) (subst (λ (n : ℕ). StopsAt v n s q) up_b stops_b) in
     (cc, later.1)
 
 -- behind the header these records stand, and stop so
 pub record Behind (bytes : List ℕ) (v : Version) (records : List Record) (stop : Stop) : Type 0 where
-  pub each : AllByRecursion IsRecord records
+  pub each : AllByRecursion (IsRecordOf v) records
   pub few : 2 + length records ≤ most_lines + 1
   pub rest : List ℕ
   pub begins : bytes ≡ line (header v) ++ (lines records ++ rest)
-  pub stops : StopsAt (2 + length records) rest stop
+  pub stops : StopsAt v (2 + length records) rest stop
 
 behind_once : (bytes : List ℕ) (v w : Version) (a b : List Record) (p q : Stop) → Behind bytes v a p → Behind bytes w b q → (v ≡ w) × (a ≡ b) × (p ≡ q)
 behind_once bytes v w a b p q first second =
     let front = header_once bytes (lines a ++ first.rest) (lines b ++ second.rest) v w first.begins second.begins in
-    let later = lines_once a b 2 first.rest second.rest p q first.each second.each front.1 first.few second.few first.stops second.stops in
+    let same : w ≡ v = sym front.0 in
+    let each : AllByRecursion (IsRecordOf v) b = subst (λ (u : Version). AllByRecursion (IsRecordOf u) b) same second.each in
+    let stops : StopsAt v (2 + length b) second.rest q = subst (λ (u : Version). StopsAt u (2 + length b) second.rest q) same second.stops in
+    let later = lines_once v a b 2 first.rest second.rest p q first.each each front.1 first.few second.few first.stops stops in
     (front.0, later.0, later.1)
 
 -- a refusal is at the header, at a line behind it, or after the end
@@ -160,7 +171,7 @@ refusal bytes (Ended v records) c h =
       stops = (omega (arith, h.is_place.few), refl);
     }) refl h.cause.1 refl
 
-trace_behind : (bytes : List ℕ) (v : Version) (records : List Record) → IsTrace records → bytes ≡ text v records → Behind bytes v records (AtEnd [])
+trace_behind : (bytes : List ℕ) (v : Version) (records : List Record) → IsTrace v records → bytes ≡ text v records → Behind bytes v records (AtEnd [])
 trace_behind bytes v records is e = record {
   each = is.each;
   few = omega (arith, is.few);
@@ -225,7 +236,7 @@ not_refused_by bytes v records place c behind (PastEnd w later some other n is g
     some cc
 
 -- the text of a trace is not refused
-pub trace_not_refused : (bytes : List ℕ) (v : Version) (records : List Record) (place : Place) (c : Cause) → IsTrace records → bytes ≡ text v records → Refuses bytes place c → ⊥
+pub trace_not_refused : (bytes : List ℕ) (v : Version) (records : List Record) (place : Place) (c : Cause) → IsTrace v records → bytes ≡ text v records → Refuses bytes place c → ⊥
 trace_not_refused bytes v records place c is e h = not_refused_by bytes v records place c (trace_behind bytes v records is e) (refusal bytes place c h)
 
 -- no record is spelled as the end, so both lists end at once
@@ -248,5 +259,9 @@ one_text v w a b first second e =
     (append_assoc (line (header v)) (lines a) (line end_word)) (e ∙ append_assoc (line (header w)) (lines b) (line end_word)) in
     (front.0, one_lines a b first second front.1)
 
-pub one_trace : (v w : Version) (a b : List Record) → IsTrace a → IsTrace b → text v a ≡ text w b → (v ≡ w) × (a ≡ b)
-one_trace v w a b first second e = one_text v w a b first.each second.each e
+each_is_record : (v : Version) (a : List Record) → AllByRecursion (IsRecordOf v) a → AllByRecursion IsRecord a
+each_is_record v [] each = tt
+each_is_record v (x ∷ a) each = (each.0.0, each_is_record v a each.1)
+
+pub one_trace : (v w : Version) (a b : List Record) → IsTrace v a → IsTrace w b → text v a ≡ text w b → (v ≡ w) × (a ≡ b)
+one_trace v w a b first second e = one_text v w a b (each_is_record v a first.each) (each_is_record w b second.each) e

@@ -7,18 +7,19 @@ use Rattle.er_text.specs.declared.causes.Cause.{Cause}
 use Rattle.er_text.specs.declared.causes.Cause.TheVariants.{AfterEnd}
 use Rattle.er_trace.specs.declared.record.Record.{Record}
 use Rattle.er_trace.specs.declared.version.Version.{Version}
-use Rattle.er_trace.specs.Spelling.{spelling, IsRecord}
+use Rattle.er_trace.specs.Spelling.{spelling}
+use Rattle.er_trace.specs.Versions.{IsRecordOf}
 use Rattle.er_trace.specs.Trace.{most_lines, header, end_word, line, lines, Start, After, Ended, text, IsPlace, IsTrace, LineCause, RecordCause, ReadsUntil}
 
 -- a whole trace was read, and its records came to the list
 abbrev pub ReadsWhole : List ℕ → List Record → List Record → Type 0
-ReadsWhole bytes old new = (v : Version) × (records : List Record) × IsTrace records × (bytes ≡ text v records) × (new ≡ old ++ records)
+ReadsWhole bytes old new = (v : Version) × (records : List Record) × IsTrace v records × (bytes ≡ text v records) × (new ≡ old ++ records)
 
 -- the line of that number is next, the records before it came to the list, and these bytes are left
 pub record IsAt (bytes : List ℕ) (old new : List Record) (number : ℕ) (rest : List ℕ) : Type 0 where
   pub version : Version
   pub records : List Record
-  pub each : AllByRecursion IsRecord records
+  pub each : AllByRecursion (IsRecordOf version) records
   pub numbered : number ≡ length records + 2
   pub few : number ≤ most_lines + 1
   pub begins : bytes ≡ line (header version) ++ lines records ++ rest
@@ -31,16 +32,16 @@ pub lines-append : (a b : List Record) → lines (a ++ b) ≡ lines a ++ lines b
 lines-append [] b = refl
 lines-append (x ∷ a) b = ap (λ l. line (spelling x) ++ l) (lines-append a b) ∙ sym (append_assoc (line (spelling x)) (lines a) (lines b))
 
-pub each-append : (a b : List Record) → AllByRecursion IsRecord a → AllByRecursion IsRecord b → AllByRecursion IsRecord (a ++ b)
-each-append [] b first second = second
-each-append (x ∷ a) b first second = (first.0, each-append a b first.1 second)
+pub each-append : (v : Version) (a b : List Record) → AllByRecursion (IsRecordOf v) a → AllByRecursion (IsRecordOf v) b → AllByRecursion (IsRecordOf v) (a ++ b)
+each-append v [] b first second = second
+each-append v (x ∷ a) b first second = (first.0, each-append v a b first.1 second)
 
 pub at_more : (bytes : List ℕ) (old new : List Record) (number : ℕ) (rest : List ℕ) (x : Record) (later : List ℕ)
-    → IsAt bytes old new number rest → number ≤ most_lines → IsRecord x → rest ≡ line (spelling x) ++ later → IsAt bytes old (new ++ x ∷ []) (number + 1) later
+    → (h : IsAt bytes old new number rest) → number ≤ most_lines → IsRecordOf h.version x → rest ≡ line (spelling x) ++ later → IsAt bytes old (new ++ x ∷ []) (number + 1) later
 at_more bytes old new number rest x later h few is e = record {
   version = h.version;
   records = h.records ++ x ∷ [];
-  each = each-append h.records (x ∷ []) h.each (is, tt);
+  each = each-append h.version h.records (x ∷ []) h.each (is, tt);
   numbered = omega (arith, length-append h.records (x ∷ []), h.numbered);
   few = omega arith;
   begins =
@@ -63,7 +64,7 @@ at_end bytes old new number rest later h few e none =
       h.listed,
     )
 
-pub at_refusal : (bytes : List ℕ) (old new : List Record) (number : ℕ) (rest : List ℕ) (c : Cause) → IsAt bytes old new number rest → RecordCause number rest c → ReadsUntil bytes number c old new
+pub at_refusal : (bytes : List ℕ) (old new : List Record) (number : ℕ) (rest : List ℕ) (c : Cause) → (h : IsAt bytes old new number rest) → RecordCause h.version number rest c → ReadsUntil bytes number c old new
 at_refusal bytes old new number rest c h cause = (
   After h.version h.records,
   record { is_place = is_place bytes old new number rest h; rest = rest; begins = h.begins; cause = rw h.numbered at cause },

@@ -39,7 +39,7 @@ IsBeforeEnd (marks.Ended v n) = ⊥
 -- what bytes come to for which no cause but `no-end` applies: a line is not at its end yet, or the trace is whole
 pub data Unfinished (mark : Mark) (line bytes : List ℕ) (records : List Record) : Type 0 where
   Waits : (place : Place) → Refuses bytes place NoEnd → bytes ≡ bytes_before place ++ line → mark ≡ mark_of place → records ≡ records_before place → IsBeforeEnd mark → Unfinished mark line bytes records
-  Whole : (v : Version) → IsTrace records → bytes ≡ text v records → mark ≡ marks.Ended v (length records) → line ≡ [] → Unfinished mark line bytes records
+  Whole : (v : Version) → IsTrace v records → bytes ≡ text v records → mark ≡ marks.Ended v (length records) → line ≡ [] → Unfinished mark line bytes records
 
 refusal_at : (place : Place) (rest bytes : List ℕ) (c : Cause) → IsPlace place → bytes ≡ bytes_before place ++ rest → LineCause place rest c → Refuses bytes place c
 refusal_at place rest bytes c is begins cause = record { is_place = is; rest = rest; begins = begins; cause = cause }
@@ -50,7 +50,7 @@ unfinished_by Start mark line rest bytes records is begins marked before h same 
 unfinished_by (After v list) mark line rest bytes records is begins marked before h same =
     Waits (After v list) (refusal_at (After v list) rest bytes NoEnd is begins h) (begins ∙ ap (λ r. bytes_before (After v list) ++ r) (sym same)) marked before (subst IsBeforeEnd (sym marked) tt)
 unfinished_by (Ended v list) mark line rest bytes records is begins marked before h same =
-    Whole v (subst IsTrace (sym before) record { each = is.each; few = omega (arith, is.few) })
+    Whole v (subst (IsTrace v) (sym before) record { each = is.each; few = omega (arith, is.few) })
     (((begins ∙ ap (λ r. text v list ++ r) h) ∙ append-nil (text v list)) ∙ ap (text v) (sym before))
     (marked ∙ ap (λ (l : List Record). marks.Ended v (length l)) (sym before))
     (same ∙ h)
@@ -126,16 +126,16 @@ refuses_by (Err NoMemory) mark next line later piece bytes old new earlier place
 
 -- at the end of the input
 
-no_fault : (mark : Mark) (line bytes : List ℕ) (v : Version) (records : List Record) (fault : FeedFault) → IsTrace records → bytes ≡ text v records → Stands mark line (Some fault) bytes records → ⊥
+no_fault : (mark : Mark) (line bytes : List ℕ) (v : Version) (records : List Record) (fault : FeedFault) → IsTrace v records → bytes ≡ text v records → Stands mark line (Some fault) bytes records → ⊥
 no_fault mark line bytes v records (Refused n c) is e h = trace_not_refused bytes v records h.place c is e (refusal_of mark line bytes records n c h)
 no_fault mark line bytes v records NoMemory is e h = h.kept
 
-no_wait : (mark : Mark) (line bytes : List ℕ) (v : Version) (records : List Record) → IsTrace records → bytes ≡ text v records → Unfinished mark line bytes records → mark ≡ marks.Ended v (length records)
+no_wait : (mark : Mark) (line bytes : List ℕ) (v : Version) (records : List Record) → IsTrace v records → bytes ≡ text v records → Unfinished mark line bytes records → mark ≡ marks.Ended v (length records)
 no_wait mark line bytes v records is e (Waits at refused begins marked before early) = absurd (trace_not_refused bytes v records at NoEnd is e refused)
 no_wait mark line bytes v records is e (Whole w trace same marked none) = marked ∙ ap (λ u. marks.Ended u (length records)) (one_trace w v records records trace is (sym same ∙ e)).0
 
 -- a whole trace was fed
-pub accepted : (mark : Mark) (line bytes : List ℕ) (v : Version) (records : List Record) (fault : Option FeedFault) → IsTrace records → bytes ≡ text v records → Stands mark line fault bytes records → (fault ≡ None) × (mark ≡ marks.Ended v (length records))
+pub accepted : (mark : Mark) (line bytes : List ℕ) (v : Version) (records : List Record) (fault : Option FeedFault) → IsTrace v records → bytes ≡ text v records → Stands mark line fault bytes records → (fault ≡ None) × (mark ≡ marks.Ended v (length records))
 accepted mark line bytes v records None is e h = (refl, no_wait mark line bytes v records is e (unfinished mark line bytes records h))
 accepted mark line bytes v records (Some fault) is e h = absurd (no_fault mark line bytes v records fault is e h)
 

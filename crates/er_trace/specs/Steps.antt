@@ -9,7 +9,8 @@ use Rattle.er_trace.specs.declared.mark.Mark.TheVariants as marks
 use Rattle.er_trace.specs.declared.lines.Next.{Next}
 use Rattle.er_trace.specs.declared.lines.Next.TheVariants as nexts
 use Rattle.er_trace.specs.declared.fault.FeedFault.{FeedFault}
-use Rattle.er_trace.specs.Spelling.{spelling, IsRecord}
+use Rattle.er_trace.specs.Spelling.{spelling}
+use Rattle.er_trace.specs.Versions.{IsRecordOf}
 use Rattle.er_trace.specs.Trace.{most_line_bytes, header, end_word, IsNoHeader, SpellsNone, ReadsPart}
 use Rattle.er_trace.specs.Marks.{IsOpen}
 use Rattle.er_trace.specs.Feed.{Stands}
@@ -23,7 +24,7 @@ GoesOnAs kept piece nexts.TooLong = (has_no_lf (take (most_line_bytes + 1 - kept
 -- the whole line at the mark leads to the next mark, and these are its records
 abbrev pub IsLine : Mark → List ℕ → Mark → List Record → Type 0
 IsLine marks.Start bytes (marks.After w m) came = (bytes ≡ header w) × (m ≡ 0) × (came ≡ [])
-IsLine (marks.After v n) bytes (marks.After w m) came = (x : Record) × IsRecord x × (bytes ≡ spelling x) × (marks.After w m ≡ marks.After v (n + 1)) × (came ≡ x ∷ [])
+IsLine (marks.After v n) bytes (marks.After w m) came = (x : Record) × IsRecordOf v x × (bytes ≡ spelling x) × (marks.After w m ≡ marks.After v (n + 1)) × (came ≡ x ∷ [])
 IsLine (marks.After v n) bytes (marks.Ended w m) came = (bytes ≡ end_word) × (marks.Ended w m ≡ marks.Ended v n) × (came ≡ [])
 IsLine _ bytes _ came = ⊥
 
@@ -37,7 +38,7 @@ pub record IsPlainFront (mark : Mark) (kept piece : List ℕ) (next : Mark) (x :
 -- the whole line at the mark has that cause
 abbrev pub IsBadLine : Mark → List ℕ → Cause → Type 0
 IsBadLine marks.Start bytes c = IsNoHeader bytes × (c ≡ BadHeader)
-IsBadLine (marks.After v n) bytes c = (bytes ≢ end_word) × SpellsNone bytes × (c ≡ BadRecord)
+IsBadLine (marks.After v n) bytes c = (bytes ≢ end_word) × SpellsNone v bytes × (c ≡ BadRecord)
 IsBadLine (marks.Ended v n) bytes c = ⊥
 
 -- What is kept leads, with more bytes, to what is kept then, and more records came to the list.

@@ -8,8 +8,9 @@ use Rattle.er_text.specs.declared.causes.Cause.{Cause}
 use Rattle.er_text.specs.declared.causes.Cause.TheVariants.{BadHeader, LongLine, BadRecord, NoEnd, AfterEnd, TooManyLines}
 use Rattle.er_trace.specs.declared.record.Record.{Record}
 use Rattle.er_trace.specs.declared.version.Version.{Version}
-use Rattle.er_trace.specs.declared.version.Version.TheVariants.{One, Two}
-use Rattle.er_trace.specs.Spelling.{spelling, IsRecord}
+use Rattle.er_trace.specs.declared.version.Version.TheVariants.{One, Two, Three}
+use Rattle.er_trace.specs.Spelling.{spelling}
+use Rattle.er_trace.specs.Versions.{IsRecordOf}
 
 -- the most lines of a trace, and the most bytes of a line without its LF
 abbrev pub most_lines : ℕ
@@ -22,6 +23,7 @@ most_line_bytes = 1024
 abbrev pub header : Version → List ℕ
 header One = codes "webtrace 1"
 header Two = codes "webtrace 2"
+header Three = codes "webtrace 3"
 
 abbrev pub end_word : List ℕ
 end_word = codes "end"
@@ -36,10 +38,6 @@ lines records = flat_map (λ x. line (spelling x)) records
 -- the trace of these records in that version
 abbrev pub text : Version → List Record → List ℕ
 text v records = line (header v) ++ lines records ++ line end_word
-
--- it is their trace in some version
-abbrev pub IsTextOf : List ℕ → List Record → Type 0
-IsTextOf bytes records = (v : Version) × (bytes ≡ text v records)
 
 -- the first line is the header of the version
 abbrev pub BeginsWith : Version → List ℕ → Type 0
@@ -87,17 +85,17 @@ whole_line bytes = if is_long bytes then Err LongLine else ok_or (first_line byt
 abbrev pub IsNoHeader : List ℕ → Type 0
 IsNoHeader bytes = (v : Version) → bytes ≢ header v
 
--- no record is spelled so
-abbrev pub SpellsNone : List ℕ → Type 0
-SpellsNone bytes = (x : Record) → IsRecord x → bytes ≡ spelling x → ⊥
+-- no record of the version is spelled so
+abbrev pub SpellsNone : Version → List ℕ → Type 0
+SpellsNone v bytes = (x : Record) → IsRecordOf v x → bytes ≡ spelling x → ⊥
 
--- Why the line of that number, with these bytes from it on, is neither a record nor the end: the first cause that applies.
-abbrev pub RecordCause : ℕ → List ℕ → Cause → Type 0
-RecordCause number rest c =
+-- Why the line of that number, with these bytes from it on, is neither a record of the version nor the end: the first cause that applies.
+abbrev pub RecordCause : Version → ℕ → List ℕ → Cause → Type 0
+RecordCause v number rest c =
     MatchBool (nat_lt most_lines number && nat_lt 0 (length rest))
     (c ≡ TooManyLines)
     (MatchResult (whole_line rest)
-    (λ l. (l.0 ≢ end_word) × SpellsNone l.0 × (c ≡ BadRecord))
+    (λ l. (l.0 ≢ end_word) × SpellsNone v l.0 × (c ≡ BadRecord))
     (λ why. c ≡ why))
 
 -- Why the line that begins there, with these bytes from it on, is no line of a trace: the first of these that applies.
@@ -106,24 +104,34 @@ RecordCause number rest c =
 -- long-line: more bytes than a line may have come without an LF
 -- no-end: no LF comes, also where there are no bytes
 -- bad-header: the first line is the header of no version
--- bad-record: a later line is neither the `end` line nor how a record is spelled
+-- bad-record: a later line is neither the `end` line nor how a record of the version is spelled
 abbrev pub LineCause : Place → List ℕ → Cause → Type 0
 LineCause Start rest c =
     MatchResult (whole_line rest)
     (λ l. IsNoHeader l.0 × (c ≡ BadHeader))
     (λ why. c ≡ why)
-LineCause (After v records) rest c = RecordCause (length records + 2) rest c
+LineCause (After v records) rest c = RecordCause v (length records + 2) rest c
 LineCause (Ended v records) rest c = (rest ≢ []) × (c ≡ AfterEnd)
+
+-- the records before it are records of the version
+abbrev pub AreRecords : Place → Type 0
+AreRecords Start = Unit {0}
+AreRecords (After v records) = AllByRecursion (IsRecordOf v) records
+AreRecords (Ended v records) = AllByRecursion (IsRecordOf v) records
 
 -- the lines before it are lines of a trace
 pub record IsPlace (place : Place) : Type 0 where
-  pub each : AllByRecursion IsRecord (records_before place)
+  pub each : AreRecords place
   pub few : line_number place ≤ most_lines + 1
 
--- the records of a whole trace
-pub record IsTrace (records : List Record) : Type 0 where
-  pub each : AllByRecursion IsRecord records
+-- the records of a whole trace in that version
+pub record IsTrace (v : Version) (records : List Record) : Type 0 where
+  pub each : AllByRecursion (IsRecordOf v) records
   pub few : length records + 2 ≤ most_lines
+
+-- the bytes are the whole trace of these records in some version
+abbrev pub IsTextOf : List ℕ → List Record → Type 0
+IsTextOf bytes records = (v : Version) × IsTrace v records × (bytes ≡ text v records)
 
 -- The bytes begin with the lines before that place, and the line there has the cause.
 pub record Refuses (bytes : List ℕ) (place : Place) (c : Cause) : Type 0 where

@@ -226,11 +226,11 @@ impl Feed {
     /// The answer for an input that ends here: `no-end`, unless the `end` line was read.
     pub fn finish(&self) -> Result<(), FeedFault>
         ensures whole { OnOk result ((bytes : List ℕ) (records : List Record)
-            → StandsFor self.now bytes records → IsTrace records × IsTextOf bytes records) }
+            → StandsFor self.now bytes records → IsTextOf bytes records) }
         ensures refused { (n : ℕ) (c : Cause) → result ≡ Err (FeedFault.Refused n c)
             → (bytes : List ℕ) (records : List Record) → StandsFor self.now bytes records
             → ReadsUntil bytes n c [] records }
-        ensures accepts { (version : Version) (records : List Record) → IsTrace records
+        ensures accepts { (version : Version) (records : List Record) → IsTrace version records
             → StandsFor self.now (text version records) records → result ≡ Ok tt }
         ensures refuses { (bytes : List ℕ) (records : List Record) (place : Place) (c : Cause)
             → StandsFor self.now bytes records → Refuses bytes place c
@@ -250,7 +250,7 @@ impl Feed {
     /// Whether the `end` line was read, where no call has answered a fault.
     pub fn ended(&self) -> bool
         ensures { (bytes : List ℕ) (records : List Record) → StandsFor self.now bytes records
-            → IsGoing self.now → IsTrue result ↔ (IsTrace records × IsTextOf bytes records) }
+            → IsGoing self.now → IsTrue result ↔ IsTextOf bytes records }
     {
         match self.mark {
             Mark::Ended(_, _) => true,

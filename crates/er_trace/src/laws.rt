@@ -30,7 +30,7 @@ pub fn one_cause()
     ensures version { (bytes : List ℕ) (p q : Place) (c d : Cause) → Refuses bytes p c → Refuses bytes q d → version_before p ≡ version_before q }
     ensures before { (bytes : List ℕ) (p q : Place) (c d : Cause) → Refuses bytes p c → Refuses bytes q d → records_before p ≡ records_before q }
     ensures cause { (bytes : List ℕ) (p q : Place) (c d : Cause) → Refuses bytes p c → Refuses bytes q d → c ≡ d }
-    ensures never { (v : Version) (records : List Record) (p : Place) (c : Cause) → IsTrace records → ¬ Refuses (text v records) p c }
+    ensures never { (v : Version) (records : List Record) (p : Place) (c : Cause) → IsTrace v records → ¬ Refuses (text v records) p c }
 {}
 
 /// The number of a line is one more than that of the LFs before it.

@@ -76,7 +76,7 @@ pub fn read_line(
     if is_word(line, END) {
         return Ok(Mark::Ended(version, records));
     }
-    match parse_record(alloc, line) {
+    match parse_record(alloc, version, line) {
         Ok(found) => {
             let Ok(()) = out.push(found) else {
                 return Err(FeedFault::NoMemory);
