@@ -43,6 +43,7 @@ fn goes_before(clocks: &Clocks, version: Version, earlier: SetTimeout, next: Set
     match version {
         Version::One => true,
         Version::Two => clocks.joined(earlier.piece, next.piece),
+        Version::Three => clocks.joined(earlier.piece, next.piece),
     }
 }
 
