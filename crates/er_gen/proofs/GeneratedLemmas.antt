@@ -5,7 +5,8 @@ use Rattle.std.specs.List.{AllByRecursion, flat_map, range_with_len}
 use Rattle.std.proofs.lemmas.Grind.{common_steps}
 use Rattle.std.proofs.lemmas.Option.{none-some, slice_get_within}
 use Rattle.er_trace.specs.declared.record.Record.{Record}
-use Rattle.er_trace.specs.Spelling.{IsRecord}
+use Rattle.er_trace.specs.declared.version.Version.TheVariants.{One}
+use Rattle.er_trace.specs.Versions.{IsRecordOf}
 use Rattle.er_trace.specs.Trace.{IsTrace}
 use Rattle.er_gen.specs.Generated.{generated, most_rounds, opening, round, closing}
 
@@ -82,21 +83,21 @@ all_append : (P : Record → Type 0) (xs ys : List Record) → AllByRecursion P 
 all_append P [] ys a b = b
 all_append P (x ∷ xs) ys a b = (a.0, all_append P xs ys a.1 b)
 
-round_fits : (k : ℕ) → k ≤ most_rounds → AllByRecursion IsRecord (round k)
+round_fits : (k : ℕ) → k ≤ most_rounds → AllByRecursion (IsRecordOf One) (round k)
 round_fits k few = search rules
 
-rounds_fit : (a n : ℕ) → a + n ≤ most_rounds + 1 → AllByRecursion IsRecord (flat_map round (range_with_len a n))
+rounds_fit : (a n : ℕ) → a + n ≤ most_rounds + 1 → AllByRecursion (IsRecordOf One) (flat_map round (range_with_len a n))
 rounds_fit a zero few = tt
-rounds_fit a (suc n) few = all_append IsRecord (round a) (flat_map round (range_with_len (a + 1) n)) (round_fits a (omega arith)) (rounds_fit (a + 1) n (omega arith))
+rounds_fit a (suc n) few = all_append (IsRecordOf One) (round a) (flat_map round (range_with_len (a + 1) n)) (round_fits a (omega arith)) (rounds_fit (a + 1) n (omega arith))
 
-opening_fits : AllByRecursion IsRecord opening
+opening_fits : AllByRecursion (IsRecordOf One) opening
 opening_fits = search rules
 
-closing_fits : AllByRecursion IsRecord closing
+closing_fits : AllByRecursion (IsRecordOf One) closing
 closing_fits = search rules
 
-pub generated_fits : (n : ℕ) → n ≤ most_rounds → IsTrace (generated n)
+pub generated_fits : (n : ℕ) → n ≤ most_rounds → IsTrace One (generated n)
 generated_fits n few = record {
-  each = all_append IsRecord opening (flat_map round (range_with_len 1 n) ++ closing) opening_fits (all_append IsRecord (flat_map round (range_with_len 1 n)) closing (rounds_fit 1 n (omega arith)) closing_fits);
+  each = all_append (IsRecordOf One) opening (flat_map round (range_with_len 1 n) ++ closing) opening_fits (all_append (IsRecordOf One) (flat_map round (range_with_len 1 n)) closing (rounds_fit 1 n (omega arith)) closing_fits);
   few = let e : length (generated n) ≡ 12 * n + 10 = generated_length n in omega (arith, e);
 }

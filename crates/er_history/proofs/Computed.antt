@@ -1,21 +1,30 @@
 -- Rows, by computing.
 use Rattle.std.proofs.Common.{refl}
-use Rattle.er_history.specs.Rows.{RulesAreNumbered, EachRule, NestedDispatches, TimersOnTimers, TimersOfPieces, LateRecords}
+use Rattle.er_history.specs.Rows.{RulesAreNumbered, EachRule, NestedDispatches, TimersOnTimers, TimersOfPieces, JobsAndCallbacks, JobsInDispatches, MisplacedJobs, LateRecords}
 
 pub rules_are_numbered : RulesAreNumbered
 rules_are_numbered v = refl
 
 pub each_rule : EachRule
-each_rule = record { one = record { edges = refl; legal = refl }; two = record { edges = refl; legal = refl } }
+each_rule = record { one = record { edges = refl; legal = refl }; two = record { edges = refl; legal = refl }; three = record { edges = refl; legal = refl } }
 
 pub nested_dispatches : NestedDispatches
-nested_dispatches = record { one = record { edges = refl; legal = refl }; two = record { edges = refl; legal = refl } }
+nested_dispatches = record { one = record { edges = refl; legal = refl }; two = record { edges = refl; legal = refl }; three = record { edges = refl; legal = refl } }
 
 pub timers_on_timers : TimersOnTimers
 timers_on_timers = record { edges = refl; legal = refl }
 
 pub timers_of_pieces : TimersOfPieces
 timers_of_pieces = record { edges = refl; legal = refl }
+
+pub jobs_and_callbacks : JobsAndCallbacks
+jobs_and_callbacks = record { edges = refl; legal = refl }
+
+pub jobs_in_dispatches : JobsInDispatches
+jobs_in_dispatches = record { edges = refl; legal = refl }
+
+pub misplaced_jobs : MisplacedJobs
+misplaced_jobs = refl
 
 pub late_records : LateRecords
 late_records = refl

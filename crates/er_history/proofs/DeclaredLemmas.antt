@@ -6,7 +6,7 @@ use Rattle.std.proofs.lemmas.Bool.{eqb-true}
 use Rattle.er_trace.specs.declared.record.Record.{Record}
 use Rattle.er_trace.specs.declared.record.Record.TheVariants.{Parse, ParseFrame, New, NewFrame, Set}
 use Rattle.er_paths.proofs.Paths.{or_cases}
-use Rattle.er_history.specs.History.{Element, Timeout, Action, Entry, told, or_else, first_to, makes_element, makes_timeout, maker_by, element_maker, declares_document, declares_handler, declares_interval, declares_request, actions_after, running}
+use Rattle.er_history.specs.History.{Element, Timeout, Task, Action, Entry, told, or_else, first_to, makes_element, makes_timeout, makes_task, maker_by, element_maker, declares_document, declares_handler, declares_interval, declares_request, actions_after, running}
 use Rattle.er_history.specs.Naming.{IsNamed, again, declares_element, sets_timeout, knows_document}
 use Rattle.er_history.proofs.NamedLemmas.{none_holds, runs_after}
 
@@ -84,6 +84,17 @@ declared_timeout h number is declared = declared_is_found (makes_timeout number)
     gives : (x : Record) (place : ℕ) (a : Action) → sets_timeout number x ≡ true → Found (makes_timeout number (record { read = x; place = place; action = Some a }))
     gives (Set t n) place a is = if_is (t == number) _ is
     gives _ place a is = absurd (cc)
+
+-- a message, an animation callback or a job
+pub declared_task : (h : List Record) (test : Record → Bool) → IsNamed h → list_any test h ≡ true → Found (first_to (makes_task test) (told h).entries)
+declared_task h test is declared = declared_is_found (makes_task test) test gives h is declared
+  where
+    task_in : ℕ → Option Action → Bool → Option Task
+    task_in place (Some a) true = Some (record { place = place; maker = a.event.number; piece = a.number })
+    task_in place _ _ = None
+
+    gives : (x : Record) (place : ℕ) (a : Action) → test x ≡ true → Found (task_in place (Some a) (test x))
+    gives x place a is = (record { place = place; maker = a.event.number; piece = a.number }, ap (task_in place (Some a)) is)
 
 -- what a test tells
 pub declared_maker : (h : List Record) (test : Record → Bool) → IsNamed h → list_any test h ≡ true → Found (maker_by test (told h).entries)

@@ -3,7 +3,7 @@ use Rattle.std.proofs.Common.{◌≡◌, ℕ, ◌<◌, Bool, true, false, List, 
 use Rattle.std.specs.Prelude.{◌-◌, if◌then◌else◌}
 use Rattle.std.proofs.lemmas.Bool.Decides.{eqb_tells}
 use Rattle.er_trace.specs.declared.record.Record.{Record}
-use Rattle.er_trace.specs.declared.record.Record.TheVariants.{Parse, ParseFrame, Exec, Timer, Tick, Run, Close, Back}
+use Rattle.er_trace.specs.declared.record.Record.TheVariants.{Parse, ParseFrame, Exec, Timer, Tick, Run, Close, Back, Message, Anim, Job}
 use Rattle.er_history.specs.History.{Element, Dispatch, What, ParseStep, ScriptRun, BeginOf, HandlerOf, CloseOf, Unnamed, Event, Action, Entry, History, told, begins, first_to, makes_element, maker_by, declares_document, declares_handler, find_open, action_at, dispatch_begun, what_begun, event_resumed, event_begun, action_begun}
 use Rattle.er_history.specs.Laws.{Among, IsNumbered}
 use Rattle.er_history.specs.Facts.{WhatIs}
@@ -42,6 +42,9 @@ form_begun t (ParseFrame d e f) = (maker_by (declares_document d) t.entries, ref
 form_begun t (Exec e) = (first_to (makes_element e) t.entries, refl)
 form_begun t (Timer i) = tt
 form_begun t (Tick i) = tt
+form_begun t (Message m) = tt
+form_begun t (Anim a) = tt
+form_begun t (Job j) = tt
 form_begun t (Run p g x) = of_run (find_open p t.stack)
   where
     handler : ℕ → ℕ → Option Dispatch → Option ℕ → What

@@ -3,15 +3,15 @@ use Rattle.std.proofs.Common.{◌≡◌, ℕ, ◌-◌, ◌<◌, ◌≤◌, Bool,
 use Rattle.std.specs.Prelude.{◌==◌, ◌&&◌, not, if◌then◌else◌}
 use Rattle.std.proofs.lemmas.Bool.{eqb-false}
 use Rattle.er_trace.specs.declared.record.Record.{Record}
-use Rattle.er_trace.specs.declared.record.Record.TheVariants.{Parse, ParseFrame, Exec, Timer, Tick, Dcl, Load, Eload, Fire, Wfire, Reply, Inline, Run, Close, Back}
-use Rattle.er_history.specs.History.{Delivery, DclOf, LoadOf, EloadOf, FireAt, InlineAt, WindowFire, ReplyOf, Dispatch, is_inline, What, ParseStep, ScriptRun, TimeoutRun, TickRun, BeginOf, HandlerOf, CloseOf, Unnamed, Action, Open, told, begins, maker_by, declares_document, find_open, action_at, dispatch_begun, event_begun, action_begun, stack_after, running}
+use Rattle.er_trace.specs.declared.record.Record.TheVariants.{Parse, ParseFrame, Exec, Timer, Tick, Dcl, Load, Eload, Fire, Wfire, Reply, Inline, Run, Close, Back, Message, Anim, Job}
+use Rattle.er_history.specs.History.{Delivery, DclOf, LoadOf, EloadOf, FireAt, InlineAt, WindowFire, ReplyOf, Dispatch, is_inline, What, ParseStep, ScriptRun, TimeoutRun, TickRun, BeginOf, HandlerOf, CloseOf, MessageRun, AnimRun, JobRun, posts_message, asks_for_anim, queues_job, Unnamed, Action, Open, told, begins, maker_by, declares_document, find_open, action_at, dispatch_begun, event_begun, action_begun, stack_after, running}
 use Rattle.er_history.specs.Laws.{Among, IsNumbered}
 use Rattle.er_history.specs.Naming.{IsNamed, is_top, may_call}
 use Rattle.er_history.specs.Facts.{Stays, DeliveryStays, WhatStays, DeliveryIs, WhatIs, FactsAreExact}
 use Rattle.er_history.proofs.HistoryLemmas.{actions_are_numbered}
 use Rattle.er_history.proofs.FactsLemmas.{facts_stay}
 use Rattle.er_history.proofs.NamedLemmas.{NoneHolds, none_holds, top_found}
-use Rattle.er_history.proofs.DeclaredLemmas.{Found, declared_element, declared_element_maker, declared_timeout, declared_handler, declared_interval, declared_request, known_document, first_document, is_known, or_none}
+use Rattle.er_history.proofs.DeclaredLemmas.{Found, declared_element, declared_element_maker, declared_timeout, declared_task, declared_handler, declared_interval, declared_request, known_document, first_document, is_known, or_none}
 
 -- What an event kept was there to be found; no record declares document 0.
 
@@ -35,6 +35,9 @@ WhatKnown (TickRun i m) = Found m
 WhatKnown (BeginOf d) = DeliveryKnown d.delivers
 WhatKnown (HandlerOf d g x m) = DeliveryKnown d.delivers × Found m
 WhatKnown (CloseOf d) = DeliveryKnown d.delivers
+WhatKnown (MessageRun m made) = Found made
+WhatKnown (AnimRun a made) = Found made
+WhatKnown (JobRun j made within) = Found made
 WhatKnown Unnamed = ⊥
 
 -- the same of all actions
@@ -118,6 +121,9 @@ event_known h (Parse d y k) is none actions stack b = known_document h d is (is_
 event_known h (ParseFrame d y f) is none actions stack b = known_document h d is (is_known _ none.known)
 event_known h (Exec y) is none actions stack b = declared_element h y is (is_known _ none.known)
 event_known h (Timer t) is none actions stack b = declared_timeout h t is (is_known _ none.known)
+event_known h (Message m) is none actions stack b = declared_task h (posts_message m) is (is_known _ none.known)
+event_known h (Anim a) is none actions stack b = declared_task h (asks_for_anim a) is (is_known _ none.known)
+event_known h (Job j) is none actions stack b = declared_task h (queues_job j) is (is_known _ none.known)
 event_known h (Tick i) is none actions stack b = declared_interval h i is (is_known _ none.known)
 event_known h (Run p g x) is none actions stack b =
     let found = top_found p (told h).stack none.placed in
@@ -216,6 +222,9 @@ pub what_is : (h : List Record) (w : What) → IsNamed h → WhatStays (told h).
 what_is h (ParseStep d m) is stays known = document_is h d m is stays known
 what_is h (ScriptRun y made) is stays known = (found_is made _ stays known, known.0, known.1)
 what_is h (TimeoutRun t made) is stays known = (found_is made _ stays known, known.0, known.1)
+what_is h (MessageRun m made) is stays known = (found_is made _ stays known, known.0, known.1)
+what_is h (AnimRun a made) is stays known = (found_is made _ stays known, known.0, known.1)
+what_is h (JobRun j made within) is stays known = (found_is made _ stays known, known.0, known.1)
 what_is h (TickRun i m) is stays known = found_is m _ stays known
 what_is h (BeginOf d) is stays known = delivery_is h d.delivers is stays known
 what_is h (HandlerOf d g x m) is stays known = (delivery_is h d.delivers is stays.0 known.0, found_is m _ stays.1 known.1)

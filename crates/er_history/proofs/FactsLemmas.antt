@@ -2,8 +2,8 @@
 use Rattle.std.proofs.Common.{◌≡◌, ℕ, Bool, true, false, List, [], ◌∷◌, length, sym, ap, subst, inl, inr, Option, Some, None}
 use Rattle.std.specs.Prelude.{◌-◌, ◌==◌, if◌then◌else◌}
 use Rattle.er_trace.specs.declared.record.Record.{Record}
-use Rattle.er_trace.specs.declared.record.Record.TheVariants.{Parse, ParseFrame, Exec, Timer, Tick, Dcl, Load, Eload, Fire, Wfire, Reply, Inline, Run, Close, Back}
-use Rattle.er_history.specs.History.{Element, Delivery, DclOf, LoadOf, EloadOf, FireAt, InlineAt, WindowFire, ReplyOf, Dispatch, is_inline, What, ParseStep, ScriptRun, TimeoutRun, TickRun, BeginOf, HandlerOf, CloseOf, Unnamed, Event, Action, Entry, Open, History, told, begins, or_else, first_to, makes_element, maker_by, element_maker, declares_handler, find_open, action_at, dispatch_begun, what_begun, event_resumed, event_begun, action_begun, stack_after, running}
+use Rattle.er_trace.specs.declared.record.Record.TheVariants.{Parse, ParseFrame, Exec, Timer, Tick, Dcl, Load, Eload, Fire, Wfire, Reply, Inline, Run, Close, Back, Message, Anim, Job}
+use Rattle.er_history.specs.History.{Element, Delivery, DclOf, LoadOf, EloadOf, FireAt, InlineAt, WindowFire, ReplyOf, Dispatch, is_inline, What, ParseStep, ScriptRun, TimeoutRun, TickRun, BeginOf, HandlerOf, CloseOf, MessageRun, AnimRun, JobRun, Unnamed, Event, Action, Entry, Open, History, told, begins, or_else, first_to, makes_element, maker_by, element_maker, declares_handler, find_open, action_at, dispatch_begun, what_begun, event_resumed, event_begun, action_begun, stack_after, running}
 use Rattle.er_history.specs.Laws.{Among}
 use Rattle.er_history.specs.Facts.{Stays, DeliveryStays, WhatStays, FactsStay}
 
@@ -40,6 +40,9 @@ what_more entry es (TickRun i m) stays = first_more _ m entry es stays
 what_more entry es (BeginOf d) stays = delivery_more entry es d.delivers stays
 what_more entry es (HandlerOf d g x m) stays = (delivery_more entry es d.delivers stays.0, first_more _ m entry es stays.1)
 what_more entry es (CloseOf d) stays = delivery_more entry es d.delivers stays
+what_more entry es (MessageRun m made) stays = first_more _ made entry es stays
+what_more entry es (AnimRun a made) stays = first_more _ made entry es stays
+what_more entry es (JobRun j made within) stays = first_more _ made entry es stays
 what_more entry es Unnamed stays = tt
 
 -- the same of all actions, and of all dispatches that are not finished
@@ -102,6 +105,9 @@ begun_keeps t (ParseFrame d e f) keep = λ m g. g
 begun_keeps t (Exec e) keep = λ made f. f
 begun_keeps t (Timer i) keep = λ made f. f
 begun_keeps t (Tick i) keep = λ m f. f
+begun_keeps t (Message m) keep = λ made f. f
+begun_keeps t (Anim a) keep = λ made f. f
+begun_keeps t (Job j) keep = λ made f. f
 begun_keeps t (Run p g x) keep = of_run (find_open p t.stack) (find_keeps t.entries p t.stack keep)
   where
     handler : ℕ → ℕ → Option Dispatch → Option ℕ → What

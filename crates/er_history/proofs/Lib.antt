@@ -10,3 +10,4 @@ pub mod UnfinishedLemmas
 pub mod EventLemmas
 pub mod HandedLemmas
 pub mod VersionLemmas
+pub mod TaskLemmas

@@ -3,7 +3,7 @@ use Rattle.std.proofs.Common.{◌≡◌, ℕ, ◌<◌, ◌≤◌, Bool, true, fa
 use Rattle.std.specs.Prelude.{◌==◌, if◌then◌else◌}
 use Rattle.er_trace.specs.declared.record.Record.{Record}
 use Rattle.er_trace.specs.declared.record.Record.TheVariants.{Parse, ParseFrame, New, NewFrame, Set}
-use Rattle.er_history.specs.History.{Element, Kinded, Framing, Timeout, Action, Entry, told, or_else, first_to, makes_element, makes_timeout, maker_by, element_maker, kind_of, running}
+use Rattle.er_history.specs.History.{Element, Kinded, Framing, Timeout, Task, Action, Entry, told, or_else, first_to, makes_element, makes_timeout, makes_task, maker_by, element_maker, kind_of, running}
 use Rattle.er_history.proofs.HistoryLemmas.{BeginsBefore, told_before, actions_grow}
 
 -- the action of an entry, and its event, began before the n-th action
@@ -96,6 +96,26 @@ pub timeout_below : (h : List Record) (number : ℕ) (y : Timeout) → first_to 
 timeout_below h number y e =
     first_gives (length (told h).actions) (makes_timeout number) (TimeoutBelow (length (told h).actions)) (told h).entries
     (λ entry b below is. timeout_of (length (told h).actions) number entry.place entry.action entry.read b below is) (entries_below h) y e
+
+-- a message, an animation callback or a job
+
+abbrev pub TaskBelow : ℕ → Task → Type 0
+TaskBelow n x = (x.maker < n) × (x.piece < n)
+
+pub task_below : (h : List Record) (test : Record → Bool) (y : Task) → first_to (makes_task test) (told h).entries ≡ Some y → TaskBelow (length (told h).actions) y
+task_below h test y e =
+    first_gives (length (told h).actions) (makes_task test) (TaskBelow (length (told h).actions)) (told h).entries
+    (λ entry b below is. of entry.place entry.action (test entry.read) b below is) (entries_below h) y e
+  where
+    task_in : ℕ → Option Action → Bool → Option Task
+    task_in place (Some a) true = Some (record { place = place; maker = a.event.number; piece = a.number })
+    task_in place _ _ = None
+
+    of : (place : ℕ) (o : Option Action) (b : Bool) (z : Task) → RunsBelow (length (told h).actions) o → task_in place o b ≡ Some z → TaskBelow (length (told h).actions) z
+    of place (Some a) true z below is =
+        let same : record { place = place; maker = a.event.number; piece = a.number } ≡ z = cc in subst (TaskBelow (length (told h).actions)) same (below.1, below.0)
+    of place (Some a) false z below is = absurd (cc)
+    of place None b z below is = absurd (cc)
 
 -- a document, a handler, an interval or a request
 

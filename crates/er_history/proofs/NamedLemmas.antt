@@ -5,7 +5,7 @@ use Rattle.std.proofs.lemmas.Bool.Decides.{nat_tests}
 use Rattle.er_text.specs.declared.causes.Cause.{Cause}
 use Rattle.er_text.specs.declared.causes.Cause.TheVariants.{Unknown, Again, NotScript, Misplaced, OutOfOrder, TooManyActions, TooDeep}
 use Rattle.er_trace.specs.declared.record.Record.{Record}
-use Rattle.er_trace.specs.declared.record.Record.TheVariants.{New, NewFrame, On, Set, Every, Send, Access}
+use Rattle.er_trace.specs.declared.record.Record.TheVariants.{New, NewFrame, On, Set, Every, Send, Access, Post, Ask, Queue}
 use Rattle.er_history.specs.History.{told, begins, running, action_begun, actions_after, find_open, or_else, Action, Open, Dispatch}
 use Rattle.er_history.specs.Rules.{Rule}
 use Rattle.er_history.specs.Naming.{naming, unknown, again, not_script, misplaced, first_cause, is_top, one_runs, room, too_deep}
@@ -71,6 +71,9 @@ note_runs h (On z) placed b = placed
 note_runs h (Set t m) placed b = placed
 note_runs h (Every i m) placed b = placed
 note_runs h (Send r) placed b = placed
+note_runs h (Post m) placed b = placed
+note_runs h (Ask a) placed b = placed
+note_runs h (Queue j) placed b = placed
 note_runs h (Access m l) placed b = placed
 note_runs h _ placed b = cc
 

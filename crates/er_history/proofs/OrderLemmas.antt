@@ -7,9 +7,9 @@ use Rattle.std.proofs.lemmas.Bool.Decides.{nat_tests}
 use Rattle.er_trace.specs.declared.record.Record.{Record}
 use Rattle.er_trace.specs.declared.record.Record.TheVariants.{Back}
 use Rattle.er_trace.specs.declared.version.Version.{Version}
-use Rattle.er_trace.specs.declared.version.Version.TheVariants.{One, Two}
-use Rattle.er_history.specs.History.{Element, Timeout, Delivery, DclOf, LoadOf, EloadOf, FireAt, InlineAt, WindowFire, ReplyOf, What, ParseStep, ScriptRun, TimeoutRun, TickRun, BeginOf, HandlerOf, CloseOf, Unnamed, Event, Action, History, told, begins, event_begun}
-use Rattle.er_history.specs.Rules.{Rule, any_holds, recorded, made_by, of_made, parse_rules, timer_rules, request_rules, parse_steps_in_order, document_before_its_steps, script_made_before_run, static_loads_before_load, inner_load_before_frame_load, target_before_dispatch, registered_before_run, dispatches_of_one_type_in_order, set_before_timer, timers_in_order, ticks_in_order, replies_in_order}
+use Rattle.er_trace.specs.declared.version.Version.TheVariants.{One, Two, Three}
+use Rattle.er_history.specs.History.{Element, Timeout, Task, Delivery, DclOf, LoadOf, EloadOf, FireAt, InlineAt, WindowFire, ReplyOf, What, ParseStep, ScriptRun, TimeoutRun, TickRun, BeginOf, HandlerOf, CloseOf, MessageRun, AnimRun, JobRun, Unnamed, Event, Action, History, told, begins, event_begun}
+use Rattle.er_history.specs.Rules.{Rule, any_holds, recorded, made_by, of_made, parse_rules, timer_rules, request_rules, parse_steps_in_order, document_before_its_steps, script_made_before_run, static_loads_before_load, inner_load_before_frame_load, target_before_dispatch, registered_before_run, dispatches_of_one_type_in_order, set_before_timer, timers_in_order, ticks_in_order, replies_in_order, task_rules, post_before_message, messages_in_order, ask_before_anim, anims_in_order, queue_before_job, jobs_in_order, jobs_before_callbacks, jobs_before_close}
 use Rattle.er_history.specs.Laws.{Among}
 use Rattle.er_history.specs.Facts.{DeliveryStays, WhatStays}
 use Rattle.er_history.specs.Edges.{path}
@@ -18,7 +18,7 @@ use Rattle.er_history.specs.Sound.{leads_back, out_of_order, NeverLeadBack}
 use Rattle.er_history.proofs.HistoryLemmas.{event_below, told_before, goes_on}
 use Rattle.er_history.proofs.DeclaredLemmas.{or_none}
 use Rattle.er_history.proofs.FactsLemmas.{facts_stay}
-use Rattle.er_history.proofs.MakersLemmas.{ElementBelow, TimeoutBelow, maker_below, element_below, element_maker_below, timeout_below}
+use Rattle.er_history.proofs.MakersLemmas.{ElementBelow, TimeoutBelow, TaskBelow, task_below, maker_below, element_below, element_maker_below, timeout_below}
 
 -- the makers that an event kept are numbers below n
 
@@ -30,6 +30,9 @@ ElementBefore n made = (x : Element) → made ≡ Some x → ElementBelow n x
 
 abbrev pub TimeoutBefore : ℕ → Option Timeout → Type 0
 TimeoutBefore n made = (x : Timeout) → made ≡ Some x → TimeoutBelow n x
+
+abbrev pub TaskBefore : ℕ → Option Task → Type 0
+TaskBefore n made = (x : Task) → made ≡ Some x → TaskBelow n x
 
 abbrev pub DeliveryBefore : ℕ → Delivery → Type 0
 DeliveryBefore n (DclOf d m) = MadeBefore n m
@@ -48,6 +51,9 @@ WhatBefore n (TickRun i m) = MadeBefore n m
 WhatBefore n (BeginOf d) = DeliveryBefore n d.delivers
 WhatBefore n (HandlerOf d g x m) = DeliveryBefore n d.delivers × MadeBefore n m
 WhatBefore n (CloseOf d) = DeliveryBefore n d.delivers
+WhatBefore n (MessageRun m made) = TaskBefore n made
+WhatBefore n (AnimRun a made) = TaskBefore n made
+WhatBefore n (JobRun j made within) = TaskBefore n made
 WhatBefore n Unnamed = Unit {0}
 
 -- an event that began before the n-th action
@@ -71,6 +77,9 @@ what_before h (TickRun i m) stays = λ k e. maker_below h _ k (stays k e)
 what_before h (BeginOf d) stays = delivery_before h d.delivers stays
 what_before h (HandlerOf d g x m) stays = (delivery_before h d.delivers stays.0, λ k e. maker_below h _ k (stays.1 k e))
 what_before h (CloseOf d) stays = delivery_before h d.delivers stays
+what_before h (MessageRun m made) stays = λ x e. task_below h _ x (stays x e)
+what_before h (AnimRun a made) stays = λ x e. task_below h _ x (stays x e)
+what_before h (JobRun j made within) stays = λ x e. task_below h _ x (stays x e)
 what_before h Unnamed stays = tt
 
 -- each action is a piece of such an event
@@ -115,6 +124,7 @@ dispatches_never_back joined u v before = rw (not_recorded u v before.0)
 pub timers_never_back : (v : Version) → NeverBack (timers_in_order v)
 timers_never_back One joined u v before = rw (not_recorded u v before.0)
 timers_never_back Two joined u v before = rw (not_recorded u v before.0)
+timers_never_back Three joined u v before = rw (not_recorded u v before.0)
 
 pub document_never_back : NeverBack document_before_its_steps
 document_never_back joined u v before = by v.what before.1
@@ -179,6 +189,46 @@ replies_never_back joined u v before = by v.what before.1
     by (BeginOf d) kept = of v.number d.number d.begin d.delivers (not_recorded u v before.0) kept
     by _ kept = refl
 
+pub not_task_maker : (made : Option Task) (n : ℕ) → TaskBefore n made → of_made (λ (x : Task). x.maker == n) made ≡ false
+not_task_maker None n before = refl
+not_task_maker (Some x) n before = let below = (before x refl).0 in ne_eqb x.maker n (λ e. omega arith)
+
+pub post_never_back : NeverBack post_before_message
+post_never_back joined u v before = by v.what before.1
+  where
+    by : (w : What) → WhatBefore u.number w → post_before_message joined u (record { number = v.number; what = w }) ≡ false
+    by (MessageRun m made) before = not_task_maker made u.number before
+    by _ before = refl
+
+pub ask_never_back : NeverBack ask_before_anim
+ask_never_back joined u v before = by v.what before.1
+  where
+    by : (w : What) → WhatBefore u.number w → ask_before_anim joined u (record { number = v.number; what = w }) ≡ false
+    by (AnimRun a made) before = not_task_maker made u.number before
+    by _ before = refl
+
+pub queue_never_back : NeverBack queue_before_job
+queue_never_back joined u v before = by v.what before.1
+  where
+    by : (w : What) → WhatBefore u.number w → queue_before_job joined u (record { number = v.number; what = w }) ≡ false
+    by (JobRun j made within) before = not_task_maker made u.number before
+    by _ before = refl
+
+pub messages_never_back : NeverBack messages_in_order
+messages_never_back joined u v before = rw (not_recorded u v before.0)
+
+pub anims_never_back : NeverBack anims_in_order
+anims_never_back joined u v before = rw (not_recorded u v before.0)
+
+pub jobs_never_back : NeverBack jobs_in_order
+jobs_never_back joined u v before = rw (not_recorded u v before.0)
+
+pub callbacks_never_back : NeverBack jobs_before_callbacks
+callbacks_never_back joined u v before = rw (not_recorded u v before.0)
+
+pub close_never_back : NeverBack jobs_before_close
+close_never_back joined u v before = rw (not_recorded u v before.0)
+
 -- tables of rules
 
 abbrev pub NoneBack : List (ℕ × Rule) → Type 0
@@ -231,6 +281,9 @@ timer_rules_never_lead_back v = none_lead_back (timer_rules v) (set_never_back, 
 
 pub request_rules_never_lead_back : NeverLeadBack request_rules
 request_rules_never_lead_back = none_lead_back request_rules (replies_never_back, tt)
+
+pub task_rules_never_lead_back : NeverLeadBack task_rules
+task_rules_never_lead_back = none_lead_back task_rules (post_never_back, (messages_never_back, (ask_never_back, (anims_never_back, (queue_never_back, (jobs_never_back, (callbacks_never_back, (close_never_back, tt))))))))
 
 -- where the table does not hold, no rule of the group does
 pub group_fails : (table group : List (ℕ × Rule)) (joined : ℕ → ℕ → Bool) (u v : Event) → HasGroup table group → any_holds table joined u v ≡ false → any_holds group joined u v ≡ false

@@ -1,7 +1,7 @@
 -- What events keep, against what the whole list says. Lists stand newest first.
 use Rattle.std.specs.Prelude.{◌≡◌, List, Option, Some}
 use Rattle.er_trace.specs.declared.record.Record.{Record}
-use Rattle.er_history.specs.History.{Action, Entry, Delivery, DclOf, LoadOf, EloadOf, FireAt, InlineAt, WindowFire, ReplyOf, What, ParseStep, ScriptRun, TimeoutRun, TickRun, BeginOf, HandlerOf, CloseOf, Unnamed, Element, Timeout, told, first_to, makes_element, makes_timeout, maker_by, element_maker, declares_document, declares_handler, declares_interval, declares_request}
+use Rattle.er_history.specs.History.{Action, Entry, Delivery, DclOf, LoadOf, EloadOf, FireAt, InlineAt, WindowFire, ReplyOf, What, ParseStep, ScriptRun, TimeoutRun, TickRun, BeginOf, HandlerOf, CloseOf, MessageRun, AnimRun, JobRun, Unnamed, Element, Timeout, Task, told, first_to, makes_task, posts_message, asks_for_anim, queues_job, makes_element, makes_timeout, maker_by, element_maker, declares_document, declares_handler, declares_interval, declares_request}
 use Rattle.er_history.specs.Laws.{Among}
 use Rattle.er_history.specs.Naming.{IsNamed}
 
@@ -26,6 +26,9 @@ WhatStays entries (TickRun i m) = Stays m (maker_by (declares_interval i) entrie
 WhatStays entries (BeginOf d) = DeliveryStays entries d.delivers
 WhatStays entries (HandlerOf d g x m) = DeliveryStays entries d.delivers × Stays m (maker_by (declares_handler x) entries)
 WhatStays entries (CloseOf d) = DeliveryStays entries d.delivers
+WhatStays entries (MessageRun m made) = Stays made (first_to (makes_task (posts_message m)) entries)
+WhatStays entries (AnimRun a made) = Stays made (first_to (makes_task (asks_for_anim a)) entries)
+WhatStays entries (JobRun j made within) = Stays made (first_to (makes_task (queues_job j)) entries)
 WhatStays entries Unnamed = Unit {0}
 
 -- What a look-up found when an event began, it finds in the whole list too.
@@ -50,6 +53,9 @@ WhatIs entries (TickRun i m) = m ≡ maker_by (declares_interval i) entries
 WhatIs entries (BeginOf d) = DeliveryIs entries d.delivers
 WhatIs entries (HandlerOf d g x m) = DeliveryIs entries d.delivers × (m ≡ maker_by (declares_handler x) entries)
 WhatIs entries (CloseOf d) = DeliveryIs entries d.delivers
+WhatIs entries (MessageRun m made) = (made ≡ first_to (makes_task (posts_message m)) entries) × (x : Task) × (made ≡ Some x)
+WhatIs entries (AnimRun a made) = (made ≡ first_to (makes_task (asks_for_anim a)) entries) × (x : Task) × (made ≡ Some x)
+WhatIs entries (JobRun j made within) = (made ≡ first_to (makes_task (queues_job j)) entries) × (x : Task) × (made ≡ Some x)
 WhatIs entries Unnamed = ⊥
 
 -- Where naming refuses no record, each maker, element and timeout that an event kept is what a look-up in the whole list gives.

@@ -1,7 +1,7 @@
 -- What a list of records says: which actions have begun, of which events they are pieces, and which dispatches are not finished. Lists stand newest first.
-use Rattle.std.specs.Prelude.{ℕ, ◌-◌, Bool, true, false, ◌==◌, if◌then◌else◌, List, [], ◌∷◌, length, Option, Some, None}
+use Rattle.std.specs.Prelude.{ℕ, ◌-◌, Bool, true, false, ◌==◌, if◌then◌else◌, List, [], ◌∷◌, length, map, Option, Some, None}
 use Rattle.er_trace.specs.declared.record.Record.{Record}
-use Rattle.er_trace.specs.declared.record.Record.TheVariants.{Parse, ParseFrame, Exec, Timer, Tick, Dcl, Load, Eload, Fire, Wfire, Reply, Inline, Run, Close, Back, New, NewFrame, On, Set, Every, Send, Access}
+use Rattle.er_trace.specs.declared.record.Record.TheVariants.{Parse, ParseFrame, Exec, Timer, Tick, Dcl, Load, Eload, Fire, Wfire, Reply, Inline, Run, Close, Back, New, NewFrame, On, Set, Every, Send, Access, Post, Ask, Queue, Message, Anim, Job}
 use Rattle.er_trace.specs.declared.record.Kind.{Kind}
 use Rattle.er_trace.specs.declared.record.Kind.TheVariants as kinds
 use Rattle.er_trace.specs.declared.record.NewKind.{NewKind}
@@ -22,6 +22,12 @@ pub record Element : Type 0 where
 -- A timeout: its delay, the place of its record in the list, and the event and the piece that set it.
 pub record Timeout : Type 0 where
   pub delay : ℕ
+  pub place : ℕ
+  pub maker : ℕ
+  pub piece : ℕ
+
+-- A message, an animation callback or a job: the place of the record that declares it in the list, and the event and the piece that hold that.
+pub record Task : Type 0 where
   pub place : ℕ
   pub maker : ℕ
   pub piece : ℕ
@@ -49,7 +55,7 @@ is_inline d = by d.delivers
     by (InlineAt e n m) = true
     by _ = false
 
--- What an event is, with all that a rule asks of it: the number in its record, and what was declared under it. This is fixed when it begins. `Unnamed` stands only in a list that naming refuses.
+-- What an event is, with all that a rule asks of it: the number in its record, and what was declared under it; of a job besides the dispatches on the stack. This is fixed when it begins. `Unnamed` stands only in a list that naming refuses.
 pub data What : Type 0 where
   ParseStep : (doc : ℕ) → (maker : Option ℕ) → What
   ScriptRun : (element : ℕ) → (made : Option Element) → What
@@ -58,6 +64,9 @@ pub data What : Type 0 where
   BeginOf : (dispatch : Dispatch) → What
   HandlerOf : (dispatch : Dispatch) → (group : ℕ) → (handler : ℕ) → (maker : Option ℕ) → What
   CloseOf : (dispatch : Dispatch) → What
+  MessageRun : (message : ℕ) → (made : Option Task) → What
+  AnimRun : (anim : ℕ) → (made : Option Task) → What
+  JobRun : (job : ℕ) → (made : Option Task) → (within : List ℕ) → What
   Unnamed : What
 
 -- An event has the number of its first piece.
@@ -95,6 +104,9 @@ begins (On h) = false
 begins (Set t n) = false
 begins (Every i n) = false
 begins (Send r) = false
+begins (Post m) = false
+begins (Ask a) = false
+begins (Queue j) = false
 begins (Access m l) = false
 begins (Parse d e k) = true
 begins (ParseFrame d e f) = true
@@ -111,6 +123,9 @@ begins (Inline p e n) = true
 begins (Run p g h) = true
 begins (Close p) = true
 begins (Back p) = true
+begins (Message m) = true
+begins (Anim a) = true
+begins (Job j) = true
 
 abbrev pub or_else : {B : Type 0} → Option B → Option B → Option B
 or_else None o = o
@@ -167,6 +182,26 @@ declares_interval number _ = false
 abbrev pub declares_request : ℕ → Record → Bool
 declares_request number (Send r) = r == number
 declares_request number _ = false
+
+abbrev pub posts_message : ℕ → Record → Bool
+posts_message number (Post m) = m == number
+posts_message number _ = false
+
+abbrev pub asks_for_anim : ℕ → Record → Bool
+asks_for_anim number (Ask a) = a == number
+asks_for_anim number _ = false
+
+abbrev pub queues_job : ℕ → Record → Bool
+queues_job number (Queue j) = j == number
+queues_job number _ = false
+
+-- the task that an entry declares whose record passes the test
+abbrev pub makes_task : (Record → Bool) → Entry → Option Task
+makes_task test entry = task_in entry.place entry.action (test entry.read)
+  where
+    task_in : ℕ → Option Action → Bool → Option Task
+    task_in place (Some a) true = Some (record { place = place; maker = a.event.number; piece = a.number })
+    task_in place _ _ = None
 
 -- the event whose piece holds the first record that passes the test while an action runs
 abbrev pub maker_by : (Record → Bool) → List Entry → Option ℕ
@@ -233,6 +268,9 @@ what_begun h x = by x
     by (Tick i) = TickRun i (maker_by (declares_interval i) h.entries)
     by (Run p g x) = handler g x (find_open p h.stack) (maker_by (declares_handler x) h.entries)
     by (Close p) = close (find_open p h.stack)
+    by (Message m) = MessageRun m (first_to (makes_task (posts_message m)) h.entries)
+    by (Anim a) = AnimRun a (first_to (makes_task (asks_for_anim a)) h.entries)
+    by (Job j) = JobRun j (first_to (makes_task (queues_job j)) h.entries) (map (λ (o : Open). o.dispatch.number) h.stack)
     by x = begin (dispatch_begun h.entries (length h.actions) x)
 
 -- the event that goes on where inline dispatch p is finished: that of the piece just before its begin

@@ -1,8 +1,9 @@
 -- Tests of events: what the handed pieces are pieces of.
 use Rattle.std.specs.Prelude.{ℕ, Bool, true, false, not, ◌==◌, ◌&&◌}
+use Rattle.std.specs.List.{list_any}
 use Rattle.er_trace.specs.declared.record.Kind.{Kind}
 use Rattle.er_trace.specs.declared.record.Kind.TheVariants as kinds
-use Rattle.er_history.specs.History.{Element, Delivery, LoadOf, EloadOf, ReplyOf, What, ParseStep, ScriptRun, TickRun, BeginOf, HandlerOf, CloseOf, Event}
+use Rattle.er_history.specs.History.{Element, Delivery, LoadOf, EloadOf, ReplyOf, What, ParseStep, ScriptRun, TickRun, BeginOf, HandlerOf, CloseOf, JobRun, Event}
 use Rattle.er_history.specs.Rules.{of_made, has_kind, is_plain}
 
 -- a parse step of the document
@@ -80,4 +81,12 @@ is_handler_of p test e = by e.what
   where
     by : What → Bool
     by (HandlerOf q g x m) = (q.number == p) && test g
+    by _ = false
+
+-- a job that began while this dispatch was on the stack
+abbrev pub is_job_within : ℕ → Event → Bool
+is_job_within p e = by e.what
+  where
+    by : What → Bool
+    by (JobRun j made within) = list_any (λ q. q == p) within
     by _ = false

@@ -5,8 +5,10 @@ pub mod History
 pub mod Kinds
 pub mod Latest
 pub mod Laws
+pub mod Tasks
 pub mod LookUps
 pub mod Naming
+pub mod Records
 pub mod Rows
 pub mod Rules
 pub mod Sound

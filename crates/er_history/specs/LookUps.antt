@@ -1,14 +1,15 @@
 -- What the look-ups of a page answer, each by the list of records alone. Lists of records stand newest first; a list of events that a look-up answers stands oldest first.
-use Rattle.std.specs.Prelude.{ℕ, ◌-◌, Bool, true, false, ◌==◌, nat_lt, if◌then◌else◌, List, [], ◌∷◌, ◌++◌, length, filter, reverse, option_map, Option, Some, None}
+use Rattle.std.specs.Prelude.{ℕ, ◌-◌, Bool, true, false, ◌==◌, nat_lt, if◌then◌else◌, List, [], ◌∷◌, ◌++◌, length, filter, map, reverse, option_map, Option, Some, None}
 use Rattle.er_trace.specs.declared.record.Record.{Record}
-use Rattle.er_trace.specs.declared.record.Record.TheVariants.{ParseFrame, NewFrame, Dcl, Load, Eload, Inline, Close, Timer}
+use Rattle.er_trace.specs.declared.record.Record.TheVariants.{ParseFrame, NewFrame, Dcl, Load, Eload, Inline, Close, Timer, Post, Ask, Queue}
 use Rattle.er_trace.specs.declared.record.Kind.{Kind}
 use Rattle.er_trace.specs.declared.record.Kind.TheVariants as kinds
 use Rattle.er_history.specs.History.{told, first_to, maker_by, element_maker, makes_element, makes_timeout, declares_document, declares_handler, declares_interval, declares_request, action_at, is_inline, running, Action, Element, Timeout, Entry, Open, Form, Kinded, Framing, FireAt, WindowFire, What, ScriptRun}
 use Rattle.er_history.specs.Rules.{is_blocking, is_deferred, same_target}
 use Rattle.er_history.specs.Naming.{runs_script, fires_timeout, begins_dispatch}
 use Rattle.er_history.specs.Latest.{newest_by, is_event, events_of_each, greatest_group}
-use Rattle.er_history.specs.Kinds.{is_step_of, is_run_of, is_static_async, is_tick_of, closes, is_reply_of, is_static_load_of, is_handler_of}
+use Rattle.er_history.specs.Kinds.{is_step_of, is_run_of, is_static_async, is_tick_of, closes, is_reply_of, is_static_load_of, is_handler_of, is_job_within}
+use Rattle.er_history.specs.Tasks.{OfMessage, OfAnim, OfJob, task_piece, task_event, task_place, tasks_begun, queued_by}
 
 -- the close of a dispatch
 abbrev pub closes_dispatch : ℕ → Record → Bool
@@ -288,3 +289,51 @@ before (Some a) (Some b) = nat_lt a b
 -- both timeouts are set, the first in an earlier record
 abbrev pub set_before : List Record → ℕ → ℕ → Bool
 set_before h t u = before (place_of h t) (place_of h u)
+
+-- Messages, animation callbacks and jobs. Each of these is a word of Tasks, of one kind.
+
+-- the pieces that declared them
+abbrev pub message_piece : List Record → ℕ → Option ℕ
+message_piece h m = task_piece OfMessage h m
+
+abbrev pub anim_piece : List Record → ℕ → Option ℕ
+anim_piece h a = task_piece OfAnim h a
+
+abbrev pub job_piece : List Record → ℕ → Option ℕ
+job_piece h j = task_piece OfJob h j
+
+-- the events that they are
+abbrev pub message_event : List Record → ℕ → Option ℕ
+message_event h m = task_event OfMessage h m
+
+abbrev pub anim_event : List Record → ℕ → Option ℕ
+anim_event h a = task_event OfAnim h a
+
+abbrev pub job_event : List Record → ℕ → Option ℕ
+job_event h j = task_event OfJob h j
+
+-- the numbers whose events have begun, in order
+abbrev pub messages : List Record → List ℕ
+messages h = tasks_begun OfMessage h
+
+abbrev pub anims : List Record → List ℕ
+anims h = tasks_begun OfAnim h
+
+abbrev pub jobs : List Record → List ℕ
+jobs h = tasks_begun OfJob h
+
+-- two notes of one kind declare numbers that are declared, the first in an earlier record
+abbrev pub declared_before : List Record → Record → Record → Bool
+declared_before h (Post m) (Post n) = before (task_place OfMessage h m) (task_place OfMessage h n)
+declared_before h (Ask a) (Ask b) = before (task_place OfAnim h a) (task_place OfAnim h b)
+declared_before h (Queue j) (Queue k) = before (task_place OfJob h j) (task_place OfJob h k)
+declared_before h _ _ = false
+
+-- the events of the jobs queued in the event that have begun, in order
+abbrev pub jobs_queued : List Record → ℕ → List ℕ
+jobs_queued [] u = []
+jobs_queued (x ∷ h) u = jobs_queued h u ++ map (λ j. length (told h).actions) (queued_by h u x)
+
+-- the events of the jobs begun while the dispatch was on the stack, in order
+abbrev pub jobs_in : List Record → ℕ → List ℕ
+jobs_in h p = reverse (events_of_each (is_job_within p) (told h).actions)

@@ -4,11 +4,11 @@ use Rattle.std.specs.List.{list_any}
 use Rattle.er_text.specs.declared.causes.Cause.{Cause}
 use Rattle.er_text.specs.declared.causes.Cause.TheVariants.{Unknown, Again, NotScript, Misplaced, TooManyActions, TooDeep}
 use Rattle.er_trace.specs.declared.record.Record.{Record}
-use Rattle.er_trace.specs.declared.record.Record.TheVariants.{Parse, ParseFrame, Exec, Timer, Tick, Dcl, Load, Eload, Fire, Wfire, Reply, Inline, Run, Close, Back, New, NewFrame, On, Set, Every, Send}
+use Rattle.er_trace.specs.declared.record.Record.TheVariants.{Parse, ParseFrame, Exec, Timer, Tick, Dcl, Load, Eload, Fire, Wfire, Reply, Inline, Run, Close, Back, New, NewFrame, On, Set, Every, Send, Access, Post, Ask, Queue, Message, Anim, Job}
 use Rattle.er_trace.specs.declared.record.Kind.{Kind}
 use Rattle.er_trace.specs.declared.record.Kind.TheVariants as kinds
 use Rattle.er_paths.specs.Limits.{most_actions}
-use Rattle.er_history.specs.History.{begins, declares_document, declares_handler, declares_interval, declares_request, makes_element, first_to, Form, Kinded, Framing, Element, History, told, Open, is_inline, running, What, ScriptRun, TimeoutRun, TickRun, HandlerOf, CloseOf, Action}
+use Rattle.er_history.specs.History.{begins, declares_document, declares_handler, declares_interval, declares_request, makes_element, first_to, Form, Kinded, Framing, Element, History, told, Open, is_inline, running, What, ParseStep, ScriptRun, TimeoutRun, TickRun, BeginOf, HandlerOf, CloseOf, Unnamed, MessageRun, AnimRun, JobRun, posts_message, asks_for_anim, queues_job, Action}
 
 abbrev pub declares_element : ℕ → Record → Bool
 declares_element number (Parse d e k) = e == number
@@ -38,6 +38,18 @@ runs_script number _ = false
 abbrev pub fires_timeout : ℕ → Record → Bool
 fires_timeout number (Timer t) = t == number
 fires_timeout number _ = false
+
+abbrev pub begins_message : ℕ → Record → Bool
+begins_message number (Message m) = m == number
+begins_message number _ = false
+
+abbrev pub begins_anim : ℕ → Record → Bool
+begins_anim number (Anim a) = a == number
+begins_anim number _ = false
+
+abbrev pub begins_job : ℕ → Record → Bool
+begins_job number (Job j) = j == number
+begins_job number _ = false
 
 abbrev pub is_dcl : ℕ → Record → Bool
 is_dcl number (Dcl p d) = d == number
@@ -70,11 +82,21 @@ unknown h (Fire p e n) = not (list_any (declares_element e) h)
 unknown h (Inline p e n) = not (list_any (declares_element e) h)
 unknown h (Timer t) = not (list_any (sets_timeout t) h)
 unknown h (Tick i) = not (list_any (declares_interval i) h)
+unknown h (Message m) = not (list_any (posts_message m) h)
+unknown h (Anim a) = not (list_any (asks_for_anim a) h)
+unknown h (Job j) = not (list_any (queues_job j) h)
 unknown h (Reply p r) = not (list_any (declares_request r) h)
 unknown h (Run p g x) = not (list_any (begins_dispatch p) h) || not (list_any (declares_handler x) h)
 unknown h (Close p) = not (list_any (begins_dispatch p) h)
 unknown h (Back p) = not (list_any (begins_dispatch p) h)
-unknown h _ = false
+unknown h (On x) = false
+unknown h (Set t n) = false
+unknown h (Every i n) = false
+unknown h (Send r) = false
+unknown h (Post m) = false
+unknown h (Ask a) = false
+unknown h (Queue j) = false
+unknown h (Access m l) = false
 
 -- it declares or starts what was declared or started before
 abbrev pub again : List Record → Record → Bool
@@ -95,7 +117,17 @@ again h (On x) = list_any (declares_handler x) h
 again h (Set t n) = list_any (sets_timeout t) h
 again h (Every i n) = list_any (declares_interval i) h
 again h (Send r) = list_any (declares_request r) h
-again h _ = false
+again h (Post m) = list_any (posts_message m) h
+again h (Ask a) = list_any (asks_for_anim a) h
+again h (Queue j) = list_any (queues_job j) h
+again h (Message m) = list_any (begins_message m) h
+again h (Anim a) = list_any (begins_anim a) h
+again h (Job j) = list_any (begins_job j) h
+again h (Tick i) = false
+again h (Run p g x) = false
+again h (Close p) = false
+again h (Back p) = false
+again h (Access m l) = false
 
 abbrev pub is_script : Option Element → Bool
 is_script None = false
@@ -125,7 +157,7 @@ is_top closing p [] = false
 is_top true p (o ∷ below) = (o.dispatch.number == p) && o.closing
 is_top false p (o ∷ below) = (o.dispatch.number == p) && not o.closing
 
--- the running action can call an inline dispatch: it is of a script run, a timeout, a tick, a handler or a close
+-- the running action can call an inline dispatch: it is of a script run, a timeout, a tick, a handler, a close, a message, an animation callback or a job
 abbrev pub may_call : Option Action → Bool
 may_call None = false
 may_call (Some a) = by a.event.what
@@ -136,7 +168,12 @@ may_call (Some a) = by a.event.what
     by (TickRun i m) = true
     by (HandlerOf p g x m) = true
     by (CloseOf p) = true
-    by _ = false
+    by (MessageRun m made) = true
+    by (AnimRun a made) = true
+    by (JobRun j made within) = true
+    by (ParseStep d m) = false
+    by (BeginOf p) = false
+    by Unnamed = false
 
 -- some action runs
 abbrev pub one_runs : Option Action → Bool
@@ -149,6 +186,7 @@ misplaced h (Inline p e n) = not (may_call (running h.actions))
 misplaced h (Run p g x) = not (is_top false p h.stack)
 misplaced h (Close p) = not (is_top false p h.stack)
 misplaced h (Back p) = not (is_top true p h.stack)
+misplaced h (Job j) = list_any (λ (o : Open). is_inline o.dispatch) h.stack
 misplaced h x = if begins x then has_open h.stack else not (one_runs (running h.actions))
 
 abbrev pub first_cause : List (Bool × Cause) → Option Cause

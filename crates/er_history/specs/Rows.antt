@@ -1,21 +1,21 @@
 -- What the definitions say of small lists of records, and the numbers of the rules. Each rule and each kind of piece is reached.
 use Rattle.std.specs.Prelude.{◌≡◌, ℕ, List, [], ◌∷◌, map, filter, reverse, codes, Option, Some, None}
 use Rattle.er_text.specs.declared.causes.Cause.{Cause}
-use Rattle.er_text.specs.declared.causes.Cause.TheVariants.{Unknown, OutOfOrder}
+use Rattle.er_text.specs.declared.causes.Cause.TheVariants.{Unknown, Again, Misplaced, OutOfOrder}
 use Rattle.er_trace.specs.declared.record.Record.{Record}
-use Rattle.er_trace.specs.declared.record.Record.TheVariants.{Parse, ParseFrame, Exec, Timer, Tick, Dcl, Load, Eload, Fire, Wfire, Reply, Inline, Run, Close, Back, New, On, Set, Every, Send}
+use Rattle.er_trace.specs.declared.record.Record.TheVariants.{Parse, ParseFrame, Exec, Timer, Tick, Dcl, Load, Eload, Fire, Wfire, Reply, Inline, Run, Close, Back, New, On, Set, Every, Send, Post, Ask, Queue, Message, Anim, Job}
 use Rattle.er_trace.specs.declared.record.Kind.TheVariants as kinds
 use Rattle.er_trace.specs.declared.record.NewKind.TheVariants as new_kinds
 use Rattle.er_trace.specs.declared.version.Version.{Version}
-use Rattle.er_trace.specs.declared.version.Version.TheVariants.{One, Two}
+use Rattle.er_trace.specs.declared.version.Version.TheVariants.{One, Two, Three}
 use Rattle.er_history.specs.History.{told, begins}
 use Rattle.er_history.specs.Rules as tables
 use Rattle.er_history.specs.Edges as between
 use Rattle.er_history.specs.Sound as sound
 
--- The rules between events have the numbers 1 to 21, in this order, in each version.
+-- The rules between events have the numbers 1 to 21 and 24 to 31, in this order, in each version.
 abbrev pub RulesAreNumbered : Type 0
-RulesAreNumbered = (v : Version) → map (λ r. r.0) (tables.rules v) ≡ 1 ∷ 2 ∷ 3 ∷ 4 ∷ 5 ∷ 6 ∷ 7 ∷ 8 ∷ 9 ∷ 10 ∷ 11 ∷ 12 ∷ 13 ∷ 14 ∷ 15 ∷ 16 ∷ 17 ∷ 18 ∷ 19 ∷ 20 ∷ 21 ∷ []
+RulesAreNumbered = (v : Version) → map (λ r. r.0) (tables.rules v) ≡ 1 ∷ 2 ∷ 3 ∷ 4 ∷ 5 ∷ 6 ∷ 7 ∷ 8 ∷ 9 ∷ 10 ∷ 11 ∷ 12 ∷ 13 ∷ 14 ∷ 15 ∷ 16 ∷ 17 ∷ 18 ∷ 19 ∷ 20 ∷ 21 ∷ 24 ∷ 25 ∷ 26 ∷ 27 ∷ 28 ∷ 29 ∷ 30 ∷ 31 ∷ []
 
 -- A record, and the actions with an edge to the action that it begins, newest first; none where it begins none. A row has its lines oldest first.
 abbrev pub Line : Type 0
@@ -47,6 +47,7 @@ IsRow lines = IsRowOf One lines
 pub record IsSharedRow (lines : List Line) : Type 0 where
   pub one : IsRowOf One lines
   pub two : IsRowOf Two lines
+  pub three : IsRowOf Three lines
 
 -- Each of the rules 1 to 21. Behind each line stands the action that it begins.
 abbrev pub EachRule : Type 0
@@ -166,6 +167,80 @@ TimersOfPieces = IsRowOf Two (
     (Timer 9, 9 ∷ []) ∷  -- 15
     (Timer 8, 7 ∷ []) ∷  -- 16
     [])
+
+-- Rules 24 to 30: tasks of one event and of joined pieces, and of events that no path joins.
+abbrev pub JobsAndCallbacks : Type 0
+JobsAndCallbacks = IsRowOf Three (
+    (Parse 0 1 kinds.Inline, []) ∷  -- 0
+    (Post 1, []) ∷
+    (Exec 1, 0 ∷ []) ∷  -- 1
+    (Post 2, []) ∷
+    (Ask 1, []) ∷
+    (Set 1 0, []) ∷
+    (Every 1 5, []) ∷
+    (Queue 1, []) ∷
+    (Queue 2, []) ∷
+    (Parse 0 2 kinds.Async, 1 ∷ 0 ∷ []) ∷  -- 2
+    (Exec 2, 2 ∷ []) ∷  -- 3
+    (Post 3, []) ∷
+    (Ask 2, []) ∷
+    (Queue 3, []) ∷
+    (Message 2, 1 ∷ []) ∷  -- 4
+    (Queue 4, []) ∷
+    (Message 1, 0 ∷ []) ∷  -- 5
+    (Job 2, 1 ∷ []) ∷  -- 6
+    (Post 4, []) ∷
+    (Job 1, 1 ∷ []) ∷  -- 7
+    (Anim 1, 7 ∷ 6 ∷ 1 ∷ []) ∷  -- 8
+    (Ask 3, []) ∷
+    (Job 3, 7 ∷ 6 ∷ 3 ∷ []) ∷  -- 9
+    (Message 3, 9 ∷ 5 ∷ 4 ∷ 3 ∷ []) ∷  -- 10
+    (Anim 2, 9 ∷ 8 ∷ 3 ∷ []) ∷  -- 11
+    (Timer 1, 7 ∷ 6 ∷ 1 ∷ []) ∷  -- 12
+    (Tick 1, 7 ∷ 6 ∷ 1 ∷ []) ∷  -- 13
+    (Tick 1, 13 ∷ 7 ∷ 6 ∷ 1 ∷ []) ∷  -- 14
+    (Job 4, 7 ∷ 6 ∷ 4 ∷ []) ∷  -- 15
+    (Message 4, 6 ∷ 5 ∷ 4 ∷ []) ∷  -- 16
+    (Anim 3, 8 ∷ []) ∷  -- 17
+    [])
+
+-- Rule 31: jobs between the handlers of a dispatch, an inline dispatch of the same type at the same target within one, and closes in recorded order.
+abbrev pub JobsInDispatches : Type 0
+JobsInDispatches = IsRowOf Three (
+    (Parse 0 1 kinds.Plain, []) ∷  -- 0
+    (On 1, []) ∷
+    (On 2, []) ∷
+    (Queue 1, []) ∷
+    (Fire 1 1 (codes "click"), 0 ∷ []) ∷  -- 1
+    (Job 1, 0 ∷ []) ∷  -- 2
+    (Queue 2, []) ∷
+    (Inline 2 1 (codes "click"), 2 ∷ 0 ∷ []) ∷  -- 3
+    (Run 2 0 1, 3 ∷ 0 ∷ []) ∷  -- 4
+    (Close 2, 4 ∷ 3 ∷ []) ∷  -- 5
+    (Back 2, 5 ∷ 2 ∷ 0 ∷ []) ∷  -- 6
+    (Run 1 0 1, 1 ∷ 0 ∷ []) ∷  -- 7
+    (Queue 3, []) ∷
+    (Job 2, 6 ∷ 2 ∷ []) ∷  -- 8
+    (Inline 3 1 (codes "click"), 8 ∷ 5 ∷ 0 ∷ []) ∷  -- 9
+    (Close 3, 9 ∷ []) ∷  -- 10
+    (Inline 4 1 (codes "click"), 10 ∷ 5 ∷ 0 ∷ []) ∷  -- 11
+    (Close 4, 11 ∷ []) ∷  -- 12
+    (Back 4, 12 ∷ 10 ∷ 9 ∷ []) ∷  -- 13
+    (Back 3, 13 ∷ 10 ∷ 8 ∷ 6 ∷ 2 ∷ []) ∷  -- 14
+    (Job 3, 7 ∷ 6 ∷ 2 ∷ []) ∷  -- 15
+    (Run 1 0 2, 1 ∷ 0 ∷ []) ∷  -- 16
+    (Close 1, 16 ∷ 15 ∷ 14 ∷ 8 ∷ 7 ∷ 6 ∷ 2 ∷ 1 ∷ []) ∷  -- 17
+    (Inline 5 1 (codes "click"), 17 ∷ 13 ∷ 12 ∷ 10 ∷ 5 ∷ 0 ∷ []) ∷  -- 18
+    (Close 5, 18 ∷ []) ∷  -- 19
+    (Back 5, 19 ∷ 17 ∷ 16 ∷ 15 ∷ 14 ∷ 8 ∷ 7 ∷ 6 ∷ 2 ∷ 1 ∷ []) ∷  -- 20
+    (Fire 6 1 (codes "click"), 20 ∷ 19 ∷ 17 ∷ 13 ∷ 12 ∷ 10 ∷ 5 ∷ 0 ∷ []) ∷  -- 21
+    (Close 6, 21 ∷ []) ∷  -- 22
+    [])
+
+-- A job is misplaced while an inline dispatch is on the stack; a close may follow.
+abbrev pub MisplacedJobs : Type 0
+MisplacedJobs = map (sound.cause (tables.rules Three) (Inline 1 1 (codes "a") ∷ Queue 1 ∷ Exec 1 ∷ Parse 0 1 kinds.Inline ∷ [])) (Job 1 ∷ Job 2 ∷ Queue 1 ∷ Message 1 ∷ Close 1 ∷ [])
+    ≡ Some Misplaced ∷ Some Unknown ∷ Some Again ∷ Some Unknown ∷ None ∷ []
 
 -- After the second of three deferred scripts has run, the first is late, and so is a parse step.
 abbrev pub LateRecords : Type 0

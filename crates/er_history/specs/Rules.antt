@@ -4,8 +4,8 @@ use Rattle.std.specs.List.{list_any}
 use Rattle.er_trace.specs.declared.record.Kind.{Kind}
 use Rattle.er_trace.specs.declared.record.Kind.TheVariants as kinds
 use Rattle.er_trace.specs.declared.version.Version.{Version}
-use Rattle.er_trace.specs.declared.version.Version.TheVariants.{One, Two}
-use Rattle.er_history.specs.History.{Form, Kinded, Framing, Element, Delivery, DclOf, LoadOf, EloadOf, FireAt, InlineAt, WindowFire, ReplyOf, What, ParseStep, ScriptRun, TimeoutRun, TickRun, BeginOf, HandlerOf, CloseOf, Event}
+use Rattle.er_trace.specs.declared.version.Version.TheVariants.{One, Two, Three}
+use Rattle.er_history.specs.History.{Form, Kinded, Framing, Element, Task, Delivery, DclOf, LoadOf, EloadOf, FireAt, InlineAt, WindowFire, ReplyOf, What, ParseStep, ScriptRun, TimeoutRun, TickRun, BeginOf, HandlerOf, CloseOf, MessageRun, AnimRun, JobRun, Event}
 
 -- A rule between two events. It is told which earlier actions a path joins. It says nothing of lists in which naming refuses a record.
 abbrev pub Rule : Type 0
@@ -91,7 +91,7 @@ step_or_script test d (ParseStep c m) = c == d
 step_or_script test d (ScriptRun e made) = of_made (λ x. test x && (x.doc == d)) made
 step_or_script test d _ = false
 
--- The rules, in the order of their numbers. Each says: u before v. One alone asks which paths there are: rule 19 of version 2.
+-- The rules, in the order of their numbers. Each says: u before v. Those alone ask which paths there are that go by the pieces in which two numbers were declared: rule 19 of versions 2 and 3, and rules 25, 27 and 29.
 
 -- 1. A parse step of a document before a later parse step of it (recorded). HTML Standard, "Parsing HTML documents".
 abbrev pub parse_steps_in_order : Rule
@@ -290,7 +290,7 @@ timers_of_one_event_in_order joined u v = recorded u v && go u.what v.what
     go (TimeoutRun s made) (TimeoutRun t made2) = both_made (λ x y. (x.maker == y.maker) && (nat_lt x.place y.place && nat_le x.delay y.delay)) made made2
     go _ _ = false
 
--- 19, in version 2. The callback of a timeout before that of another that was set later with no lesser delay, in a piece to which a path leads from the piece that set the first (recorded). HTML Standard, "Timers"; that delays alone are compared is this project's own.
+-- 19, in versions 2 and 3. The callback of a timeout before that of another that was set later with no lesser delay, in a piece to which a path leads from the piece that set the first (recorded). HTML Standard, "Timers"; that delays alone are compared is this project's own.
 abbrev pub timers_of_joined_pieces_in_order : Rule
 timers_of_joined_pieces_in_order joined u v = recorded u v && go u.what v.what
   where
@@ -302,6 +302,7 @@ timers_of_joined_pieces_in_order joined u v = recorded u v && go u.what v.what
 abbrev pub timers_in_order : Version → Rule
 timers_in_order One = timers_of_one_event_in_order
 timers_in_order Two = timers_of_joined_pieces_in_order
+timers_in_order Three = timers_of_joined_pieces_in_order
 
 -- 20. The event that set an interval before each callback of it; a callback before a later one of the same interval (recorded). HTML Standard, "Timers".
 abbrev pub ticks_in_order : Rule
@@ -335,6 +336,81 @@ replies_in_order joined u v = go v.what
     go (BeginOf q) = of q.delivers
     go _ = false
 
+-- two tasks of one kind, the first declared in an earlier record, and in a piece from which a path leads to the other's
+abbrev pub declared_in_order : (ℕ → ℕ → Bool) → Option Task → Option Task → Bool
+declared_in_order joined made made2 = both_made (λ (x : Task) (y : Task). nat_lt x.place y.place && joined x.piece y.piece) made made2
+
+-- 24. The event that posted a message before the event of the message. This project's own.
+abbrev pub post_before_message : Rule
+post_before_message joined u v = go v.what
+  where
+    go : What → Bool
+    go (MessageRun m made) = of_made (λ (x : Task). x.maker == u.number) made
+    go _ = false
+
+-- 25. The event of a message before that of another that was posted later, in a piece to which a path leads from the piece that posted the first (recorded). This project's own.
+abbrev pub messages_in_order : Rule
+messages_in_order joined u v = recorded u v && go u.what v.what
+  where
+    go : What → What → Bool
+    go (MessageRun m made) (MessageRun n made2) = declared_in_order joined made made2
+    go _ _ = false
+
+-- 26. The event that asked for an animation callback before the callback. This project's own.
+abbrev pub ask_before_anim : Rule
+ask_before_anim joined u v = go v.what
+  where
+    go : What → Bool
+    go (AnimRun a made) = of_made (λ (x : Task). x.maker == u.number) made
+    go _ = false
+
+-- 27. An animation callback before another that was asked for later, in a piece to which a path leads from the piece that asked for the first (recorded). This project's own.
+abbrev pub anims_in_order : Rule
+anims_in_order joined u v = recorded u v && go u.what v.what
+  where
+    go : What → What → Bool
+    go (AnimRun a made) (AnimRun b made2) = declared_in_order joined made made2
+    go _ _ = false
+
+-- 28. The event that queued a job before the job. This project's own.
+abbrev pub queue_before_job : Rule
+queue_before_job joined u v = go v.what
+  where
+    go : What → Bool
+    go (JobRun j made within) = of_made (λ (x : Task). x.maker == u.number) made
+    go _ = false
+
+-- 29. A job before another that was queued later, in a piece to which a path leads from the piece that queued the first (recorded). This project's own.
+abbrev pub jobs_in_order : Rule
+jobs_in_order joined u v = recorded u v && go u.what v.what
+  where
+    go : What → What → Bool
+    go (JobRun j made within) (JobRun k made2 around) = declared_in_order joined made made2
+    go _ _ = false
+
+-- 30. A job before the callbacks and messages that were declared by the event that queued it: of timeouts and intervals that it set, of messages that it posted and of animation callbacks that it asked for (recorded). This project's own.
+abbrev pub jobs_before_callbacks : Rule
+jobs_before_callbacks joined u v = recorded u v && go u.what v.what
+  where
+    to : ℕ → What → Bool
+    to maker (TimeoutRun t made) = of_made (λ x. x.maker == maker) made
+    to maker (TickRun i m) = of_made (λ (k : ℕ). k == maker) m
+    to maker (MessageRun m made) = of_made (λ (x : Task). x.maker == maker) made
+    to maker (AnimRun a made) = of_made (λ (x : Task). x.maker == maker) made
+    to maker _ = false
+
+    go : What → What → Bool
+    go (JobRun j made within) w = of_made (λ (x : Task). to x.maker w) made
+    go _ _ = false
+
+-- 31. A job that began while a dispatch was on the stack before the close of the dispatch (recorded). This project's own.
+abbrev pub jobs_before_close : Rule
+jobs_before_close joined u v = recorded u v && go u.what v.what
+  where
+    go : What → What → Bool
+    go (JobRun j made within) (CloseOf p) = list_any (λ q. q == p.number) within
+    go _ _ = false
+
 -- Each rule between events with its number, in the groups of the crates that ask it. Rule 19 alone differs by version. Rules 22 and 23 speak of pieces (Edges).
 abbrev pub parse_rules : List (ℕ × Rule)
 parse_rules = (1, parse_steps_in_order) ∷ (2, document_before_its_steps) ∷ []
@@ -354,9 +430,13 @@ timer_rules v = (18, set_before_timer) ∷ (19, timers_in_order v) ∷ (20, tick
 abbrev pub request_rules : List (ℕ × Rule)
 request_rules = (21, replies_in_order) ∷ []
 
+-- These are in the table of each version: they lead from events or to events that records of version 3 alone begin.
+abbrev pub task_rules : List (ℕ × Rule)
+task_rules = (24, post_before_message) ∷ (25, messages_in_order) ∷ (26, ask_before_anim) ∷ (27, anims_in_order) ∷ (28, queue_before_job) ∷ (29, jobs_in_order) ∷ (30, jobs_before_callbacks) ∷ (31, jobs_before_close) ∷ []
+
 -- All rules between events of a version, in the order of their numbers.
 abbrev pub rules : Version → List (ℕ × Rule)
-rules v = parse_rules ++ script_rules ++ load_rules ++ dispatch_rules ++ timer_rules v ++ request_rules
+rules v = parse_rules ++ script_rules ++ load_rules ++ dispatch_rules ++ timer_rules v ++ request_rules ++ task_rules
 
 -- one of the rules of a table holds between two events
 abbrev pub any_holds : List (ℕ × Rule) → (ℕ → ℕ → Bool) → Event → Event → Bool

@@ -4,8 +4,9 @@
 
 ghost use Rattle.er_history.specs.Laws.{ActionsAreKept, ActionsAreNumbered, EdgesAreEdges, EdgesGoForward, EdgesJoinActions, EdgesStay, EntriesAreCounted, EventsBeginBefore, EventsHaveFirstPieces, PathsLeadOverEdges, PathsLeadOverActions, PathsStay};
 ghost use Rattle.er_history.specs.Facts.{FactsAreExact, FactsStay};
-ghost use Rattle.er_history.specs.Rules.{parse_rules, timer_rules, request_rules};
-ghost use Rattle.er_history.specs.Rows.{EachRule, LateRecords, NestedDispatches, RulesAreNumbered, TimersOfPieces, TimersOnTimers};
+ghost use Rattle.er_history.specs.Rules.{parse_rules, timer_rules, request_rules, task_rules};
+ghost use Rattle.er_history.specs.Records.{TasksAreOfVersionThree};
+ghost use Rattle.er_history.specs.Rows.{EachRule, JobsAndCallbacks, JobsInDispatches, LateRecords, MisplacedJobs, NestedDispatches, RulesAreNumbered, TimersOfPieces, TimersOnTimers};
 ghost use Rattle.er_history.specs.Sound.{NeverLeadBack, SoundListsAreNamed};
 ghost use Rattle.er_history.specs.Unfinished.{StackIsUnfinished};
 ghost use Rattle.er_history.specs.Versions.{CausesAreShared, PathsBeforeSuffice, SetBeforeCallback, SoundListsAreShared};
@@ -102,11 +103,12 @@ pub fn sound_lists_are_named()
 {}
 
 /// The rules of parsing, timers and requests put no record out of order, in each version.
-#[tactic(auto, using(crate::proofs::OrderLemmas::parse_rules_never_lead_back, crate::proofs::OrderLemmas::timer_rules_never_lead_back, crate::proofs::OrderLemmas::request_rules_never_lead_back))]
+#[tactic(auto, using(crate::proofs::OrderLemmas::parse_rules_never_lead_back, crate::proofs::OrderLemmas::timer_rules_never_lead_back, crate::proofs::OrderLemmas::request_rules_never_lead_back, crate::proofs::OrderLemmas::task_rules_never_lead_back))]
 pub fn later_events_never_lead_back()
     ensures parsing { NeverLeadBack parse_rules }
     ensures timers { (v : Version) → NeverLeadBack (timer_rules v) }
     ensures requests { NeverLeadBack request_rules }
+    ensures tasks { NeverLeadBack task_rules }
 {}
 
 /// Whether a record has a cause, and a list is sound, does not depend on the version.
@@ -131,18 +133,26 @@ pub fn stack_is_unfinished()
     ensures { StackIsUnfinished }
 {}
 
-/// The rules between events have the numbers 1 to 21, in each version.
+/// The rules of tasks hold in version 3 alone.
+pub fn tasks_are_of_version_three()
+    ensures { TasksAreOfVersionThree }
+{}
+
+/// The rules between events have the numbers 1 to 21 and 24 to 31, in each version.
 #[tactic(auto, using(crate::proofs::Computed::rules_are_numbered))]
 pub fn rules_are_numbered()
     ensures { RulesAreNumbered }
 {}
 
 /// The edges of small lists that reach each rule and each kind of piece, and the causes of records after another.
-#[tactic(auto, using(crate::proofs::Computed::each_rule, crate::proofs::Computed::nested_dispatches, crate::proofs::Computed::timers_on_timers, crate::proofs::Computed::timers_of_pieces, crate::proofs::Computed::late_records))]
+#[tactic(auto, using(crate::proofs::Computed::each_rule, crate::proofs::Computed::nested_dispatches, crate::proofs::Computed::timers_on_timers, crate::proofs::Computed::timers_of_pieces, crate::proofs::Computed::jobs_and_callbacks, crate::proofs::Computed::jobs_in_dispatches, crate::proofs::Computed::misplaced_jobs, crate::proofs::Computed::late_records))]
 pub fn worked_edges()
     ensures rules { EachRule }
     ensures pieces { NestedDispatches }
     ensures later_rule { TimersOnTimers }
     ensures joined { TimersOfPieces }
+    ensures tasks { JobsAndCallbacks }
+    ensures jobs { JobsInDispatches }
+    ensures misplaced { MisplacedJobs }
     ensures late { LateRecords }
 {}

@@ -13,12 +13,18 @@ use std::alloc::{AllocError, Global};
 type TextFeed = LineFeed<TextLines>;
 
 /// Texts, the lines of the records that come of each, and the line that is refused.
-static ROWS: [(&str, &str, Option<(u32, Cause)>); 15] = [
+static ROWS: [(&str, &str, Option<(u32, Cause)>); 17] = [
     ("", "", Some((1, Cause::NoEnd))),
     ("webtrace 1", "", Some((1, Cause::NoEnd))),
     ("webtrace 1\n", "", Some((2, Cause::NoEnd))),
     ("webtrace 2\nexec 1\nend\n", "exec 1\n", None),
-    ("webtrace 3\nend\n", "", Some((1, Cause::BadHeader))),
+    ("webtrace 3\njob 1\nend\n", "job 1\n", None),
+    (
+        "webtrace 2\nexec 1\njob 1\nend\n",
+        "exec 1\n",
+        Some((3, Cause::BadRecord)),
+    ),
+    ("webtrace 4\nend\n", "", Some((1, Cause::BadHeader))),
     ("webtrace 1\r\nend\n", "", Some((1, Cause::BadHeader))),
     ("webtrace 1\nend\n", "", None),
     ("webtrace 1\nend", "", Some((2, Cause::NoEnd))),
@@ -277,14 +283,15 @@ fn version_of(alloc: Global, bytes: &str) -> Option<Version> {
 }
 
 /// What comes, and the version that is told.
-static VERSIONS: [(&str, Option<Version>); 7] = [
+static VERSIONS: [(&str, Option<Version>); 8] = [
     ("", None),
     ("webtrace 1", None),
     ("webtrace 1\n", Some(Version::One)),
     ("webtrace 2\nexec 1\n", Some(Version::Two)),
     ("webtrace 2\nexec\n", Some(Version::Two)),
     ("webtrace 2\nend\n", Some(Version::Two)),
-    ("webtrace 3\n", None),
+    ("webtrace 3\n", Some(Version::Three)),
+    ("webtrace 4\n", None),
 ];
 
 #[test]

@@ -12,7 +12,7 @@ use Rattle.er_names.specs.Noted.{noted_in}
 use Rattle.er_names.specs.Fired.{AreFound, IsFound, KeepsEach, numbered, timer_found, timeouts_at}
 
 -- a note keeps what stands there
-pub note_keeps : (old new : ℕ → Option Timeout) (pair : Option (ℕ × Timeout)) → ((k : ℕ) → new k ≡ or_else (old k) (noted_in k pair)) → KeepsEach old new
+pub note_keeps : {X : Type 0} (old new : ℕ → Option X) (pair : Option (ℕ × X)) → ((k : ℕ) → new k ≡ or_else (old k) (noted_in k pair)) → KeepsEach old new
 note_keeps old new pair more k x is = more k ∙ ap (λ o. or_else o (noted_in k pair)) is
 
 is_still_found : (old new : ℕ → Option Timeout) (x : SetTimeout) → KeepsEach old new → IsFound old x → IsFound new x

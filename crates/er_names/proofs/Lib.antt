@@ -2,3 +2,4 @@ pub mod AccessLemmas
 pub mod FoundLemmas
 pub mod NamesLemmas
 pub mod RankLemmas
+pub mod TaskLemmas

@@ -1,14 +1,18 @@
--- How the ranks of timeouts keep the order of their places.
+-- How the ranks of numbers keep the order of the places of their records.
 use Rattle.std.proofs.Common.{◌≡◌, ℕ, ◌+◌, ◌<◌, ◌≤◌, Bool, true, false, List, [], ◌∷◌, length, Option, Some, None, option_map, refl, sym, ap, subst, ◌∙◌, arith}
 use Rattle.std.specs.Prelude.{nat_lt, ◌==◌, if◌then◌else◌, IfSome}
 use Rattle.std.proofs.lemmas.Bool.{eqb-true}
 use Rattle.std.proofs.lemmas.Bool.Decides.{nat_tests}
 use Rattle.er_trace.specs.declared.record.Record.{Record}
 use Rattle.er_history.specs.History as history
-use Rattle.er_history.specs.History.{told, or_else, first_to, makes_timeout, running, actions_after, Action, Entry}
+use Rattle.er_history.specs.History.{told, or_else, first_to, makes_timeout, makes_task, running, actions_after, Action, Entry}
+use Rattle.er_history.specs.Tasks.{TaskKind, declares_task, task_place}
+use Rattle.er_names.specs.declared.names.Task.{Task}
 use Rattle.er_names.specs.declared.names.Timeout.{Timeout}
 use Rattle.er_names.specs.Noted.{noted_in}
-use Rattle.er_names.specs.Names.{SettingGiven, HasRank, IsRankedByPlace, IsUnder, rank_of}
+use Rattle.er_names.specs.Found.{IsRanked, IsUnder}
+use Rattle.er_names.specs.Names.{SettingGiven, HasRank, IsRankedByPlace, rank_of}
+use Rattle.er_names.specs.Tasks.{TaskGiven, TasksAreRanked, task_rank}
 use Rattle.er_history.specs.LookUps.{place_of, before}
 use Rattle.er_names.proofs.NamesLemmas.{map_or_else, entry_more}
 
@@ -41,82 +45,115 @@ order_more None (Some b) (Some x) dn m n e u v p q = neither x.0 b.0 x.1 b.1 (om
 order_more None None (Some x) None m n e u v p q = refl
 order_more None None (Some x) (Some y) m n e u v p q = neither x.0 y.0 x.1 y.1 (omega (arith, q.0, p.0)) (omega (arith, q.1, p.1))
 
--- the pair of a timeout that is noted
-abbrev pub pair_of : ℕ → ℕ → Option Timeout → Option (ℕ × ℕ)
-pair_of m n o = option_map (λ (t : Timeout). (m, n)) o
+-- the pair of a number, where it is noted
+abbrev pub pair_if : ℕ → ℕ → Bool → Option (ℕ × ℕ)
+pair_if m n b = if b then Some (m, n) else None
 
-at_pair : (m n : ℕ) (o : Option Timeout) → IsAt m n (pair_of m n o)
-at_pair m n None = tt
-at_pair m n (Some t) = (refl, refl)
+at_pair : (m n : ℕ) (b : Bool) → IsAt m n (pair_if m n b)
+at_pair m n true = (refl, refl)
+at_pair m n false = tt
 
-place_pair : (m n : ℕ) (o : Option Timeout) → option_map (λ (t : Timeout). n) o ≡ option_map place (pair_of m n o)
-place_pair m n None = refl
-place_pair m n (Some t) = refl
+abbrev pub is_noted : {X : Type 0} → ℕ → Option (ℕ × X) → Bool
+is_noted k None = false
+is_noted k (Some p) = p.0 == k
 
-rank_pair : (k m n : ℕ) (pair : Option (ℕ × Timeout)) → HasRank pair m → option_map rank_of (noted_in k pair) ≡ option_map rank (pair_of m n (noted_in k pair))
-rank_pair k m n None is = refl
-rank_pair k m n (Some p) is = step (p.0 == k)
+under_more : (m n more : ℕ) (c : Option (ℕ × ℕ)) (r : Option ℕ) (b : Bool) → m ≤ more → IsUnder m n c → r ≡ option_map rank c
+    → (b ≡ true → r ≡ None → m < more) → IsUnder more (n + 1) (or_else c (pair_if m n b))
+under_more m n more (Some p) r b le u e counted = (omega (arith, u.0), omega (arith, u.1))
+under_more m n more None r true le u e counted = (counted refl e, omega arith)
+under_more m n more None r false le u e counted = tt
+
+none_before : {X : Type 0} (f : X → ℕ) (o : Option X) → option_map f o ≡ None → o ≡ None
+none_before f None e = refl
+none_before f (Some x) e = absurd (cc)
+
+-- a number is noted, or none: those that were ranked stay so, and the new one has the greatest rank and the last place
+pub more_ranked : {X : Type 0} (rank_in : X → ℕ) (old new : ℕ → Option X) (pair : Option (ℕ × X)) (place_at places : ℕ → Option ℕ) (count entries more : ℕ)
+    → ((k : ℕ) → new k ≡ or_else (old k) (noted_in k pair))
+    → ((k : ℕ) → places k ≡ or_else (place_at k) (option_map (λ (t : X). entries) (noted_in k pair)))
+    → count ≤ more → IfSome pair (λ p. old p.0 ≡ None → count < more) → IfSome pair (λ p. rank_in p.1 ≡ count)
+    → IsRanked (λ k. option_map rank_in (old k)) place_at count entries → IsRanked (λ k. option_map rank_in (new k)) places more (entries + 1)
+more_ranked {X} rank_in old new pair place_at places count entries more found placed longer counted ranked stands = record {
+  pairs = λ k. or_else (stands.pairs k) (noted k);
+  ranks = λ k. ap (option_map rank_in) (found k) ∙ (map_or_else rank_in (old k) (noted_in k pair)
+      ∙ (ap (λ o. or_else o (option_map rank_in (noted_in k pair))) (stands.ranks k) ∙ (ap (or_else (option_map rank (stands.pairs k))) (rank_noted k pair ranked)
+      ∙ sym (map_or_else rank (stands.pairs k) (noted k)))));
+  places = λ k. placed k ∙ (ap (λ o. or_else o (option_map (λ (t : X). entries) (noted_in k pair))) (stands.places k)
+      ∙ (ap (or_else (option_map place (stands.pairs k))) (place_noted k pair) ∙ sym (map_or_else place (stands.pairs k) (noted k))));
+  order = λ k m. order_more (stands.pairs k) (stands.pairs m) (noted k) (noted m) count entries (stands.order k m) (stands.under k) (stands.under m) (at_pair count entries (is_noted k pair)) (at_pair count entries (is_noted m pair));
+  under = λ k. under_more count entries more (stands.pairs k) (option_map rank_in (old k)) (is_noted k pair) longer (stands.under k) (stands.ranks k) (counted_at k pair counted);
+}
   where
-    step : (b : Bool) → option_map rank_of (if b then Some p.1 else None) ≡ option_map rank (pair_of m n (if b then Some p.1 else None))
-    step true = ap Some is
-    step false = refl
+    noted : ℕ → Option (ℕ × ℕ)
+    noted k = pair_if count entries (is_noted k pair)
 
-under_more : (k m n more : ℕ) (c : Option (ℕ × ℕ)) (old : Option Timeout) (pair : Option (ℕ × Timeout)) → m ≤ more → IsUnder m n c → option_map rank_of old ≡ option_map rank c
-    → (old ≡ None → (t : Timeout) → noted_in k pair ≡ Some t → m < more) → IsUnder more (n + 1) (or_else c (pair_of m n (noted_in k pair)))
-under_more k m n more (Some p) old pair le u e counted = (omega (arith, u.0), omega (arith, u.1))
-under_more k m n more None (Some t) pair le u e counted = cc
-under_more k m n more None None pair le u e counted = by (noted_in k pair) (λ t is. counted refl t is)
-  where
-    by : (o : Option Timeout) → ((t : Timeout) → o ≡ Some t → m < more) → IsUnder more (n + 1) (pair_of m n o)
-    by None f = tt
-    by (Some t) f = (f t refl, omega arith)
+    rank_noted : (k : ℕ) (q : Option (ℕ × X)) → IfSome q (λ p. rank_in p.1 ≡ count) → option_map rank_in (noted_in k q) ≡ option_map rank (pair_if count entries (is_noted k q))
+    rank_noted k None is = refl
+    rank_noted k (Some p) is = step (p.0 == k)
+      where
+        step : (b : Bool) → option_map rank_in (if b then Some p.1 else None) ≡ option_map rank (pair_if count entries b)
+        step true = ap Some is
+        step false = refl
 
-counted_at : (k m more : ℕ) (old : ℕ → Option Timeout) (pair : Option (ℕ × Timeout)) → IfSome pair (λ p. old p.0 ≡ None → m < more) → old k ≡ None → (t : Timeout) → noted_in k pair ≡ Some t → m < more
-counted_at k m more old None counted none t is = cc
-counted_at k m more old (Some p) counted none t is = step (p.0 == k) refl is
-  where
-    step : (b : Bool) → (p.0 == k) ≡ b → (if b then Some p.1 else None) ≡ Some t → m < more
-    step true e f = counted (ap old (eqb-true p.0 k e) ∙ none)
-    step false e f = cc
+    place_noted : (k : ℕ) (q : Option (ℕ × X)) → option_map (λ (t : X). entries) (noted_in k q) ≡ option_map place (pair_if count entries (is_noted k q))
+    place_noted k None = refl
+    place_noted k (Some p) = step (p.0 == k)
+      where
+        step : (b : Bool) → option_map (λ (t : X). entries) (if b then Some p.1 else None) ≡ option_map place (pair_if count entries b)
+        step true = refl
+        step false = refl
+
+    counted_at : (k : ℕ) (q : Option (ℕ × X)) → IfSome q (λ p. old p.0 ≡ None → count < more) → is_noted k q ≡ true → option_map rank_in (old k) ≡ None → count < more
+    counted_at k None c e none = absurd (cc)
+    counted_at k (Some p) c e none = c (ap old (eqb-true p.0 k e) ∙ none_before rank_in (old k) none)
+
+-- where the place of a record is that of what it makes
+place_more : {M X : Type 0} (place_in : M → ℕ) (makes : Entry → Option M) (h : List Record) (x : Record) (a : Action) (given : Option X)
+    → running (actions_after (told h) x) ≡ Some a
+    → option_map place_in (makes (record { read = x; place = length (told h).entries; action = Some a })) ≡ option_map (λ (t : X). length (told h).entries) given
+    → option_map place_in (first_to makes (told (x ∷ h)).entries) ≡ or_else (option_map place_in (first_to makes (told h).entries)) (option_map (λ (t : X). length (told h).entries) given)
+place_more place_in makes h x a given runs is =
+    let made = makes (record { read = x; place = length (told h).entries; action = Some a }) in
+    let due : or_else (first_to makes (told h).entries) made ≡ first_to makes (told (x ∷ h)).entries = entry_more makes h x a (first_to makes (told h).entries) made runs refl refl in
+    ap (option_map place_in) (sym due) ∙ (map_or_else place_in (first_to makes (told h).entries) made ∙ ap (or_else (option_map place_in (first_to makes (told h).entries))) is)
+
+longer_list : (h : List Record) (x : Record) → length (told h).entries + 1 ≡ length (told (x ∷ h)).entries
+longer_list h x = omega arith
+
+has_rank : (pair : Option (ℕ × Timeout)) (count : ℕ) → HasRank pair count → IfSome pair (λ p. p.1.rank ≡ count)
+has_rank None count is = tt
+has_rank (Some p) count is = is
 
 pub ranked_more : (old new : ℕ → Option Timeout) (pair : Option (ℕ × Timeout)) (h : List Record) (x : Record) (a : Action) (count more : ℕ)
     → ((k : ℕ) → new k ≡ or_else (old k) (noted_in k pair)) → count ≤ more → IfSome pair (λ p. old p.0 ≡ None → count < more)
     → IsRankedByPlace old count h → SettingGiven pair x a → HasRank pair count → running (actions_after (told h) x) ≡ Some a → IsRankedByPlace new more (x ∷ h)
 ranked_more old new pair h x a count more found longer counted stands given is runs =
-    let n = length (told h).entries in
-    record {
-      pairs = λ k. or_else (stands.pairs k) (pair_of count n (noted_in k pair));
-      ranks = λ k. ap (option_map rank_of) (found k) ∙ (map_or_else rank_of (old k) (noted_in k pair)
-          ∙ (ap (λ o. or_else o (option_map rank_of (noted_in k pair))) (stands.ranks k) ∙ (ap (or_else (option_map rank (stands.pairs k))) (rank_pair k count n pair is)
-          ∙ sym (map_or_else rank (stands.pairs k) (pair_of count n (noted_in k pair))))));
-      places = λ k. placed k;
-      order = λ k m. order_more (stands.pairs k) (stands.pairs m) (pair_of count n (noted_in k pair)) (pair_of count n (noted_in m pair)) count n (stands.order k m) (stands.under k) (stands.under m) (at_pair count n (noted_in k pair)) (at_pair count n (noted_in m pair));
-      under = λ k. subst (λ m. IsUnder more m (or_else (stands.pairs k) (pair_of count n (noted_in k pair)))) longer_list (under_more k count n more (stands.pairs k) (old k) pair longer (stands.under k) (stands.ranks k) (counted_at k count more old pair counted));
-    }
-  where
-    longer_list : length (told h).entries + 1 ≡ length (told (x ∷ h)).entries
-    longer_list = omega arith
+    subst (IsRanked (λ k. option_map rank_of (new k)) (place_of (x ∷ h)) more) (longer_list h x)
+    (more_ranked rank_of old new pair (place_of h) (place_of (x ∷ h)) count (length (told h).entries) more found
+    (λ k. place_more (λ (t : history.Timeout). t.place) (makes_timeout k) h x a (noted_in k pair) runs (given.placed k (length (told h).entries)))
+    longer counted (has_rank pair count is) stands)
 
-    placed : (k : ℕ) → place_of (x ∷ h) k ≡ option_map place (or_else (stands.pairs k) (pair_of count (length (told h).entries) (noted_in k pair)))
-    placed k =
-        let n = length (told h).entries in
-        let entry : Entry = record { read = x; place = n; action = Some a } in
-        let o : Option Timeout = noted_in k pair in
-        let due : or_else (first_to (makes_timeout k) (told h).entries) (makes_timeout k entry) ≡ first_to (makes_timeout k) (told (x ∷ h)).entries = entry_more (makes_timeout k) h x a (first_to (makes_timeout k) (told h).entries) (makes_timeout k entry) runs refl refl in
-        ap (option_map (λ (t : history.Timeout). t.place)) (sym due) ∙ (map_or_else (λ (t : history.Timeout). t.place) (first_to (makes_timeout k) (told h).entries) (makes_timeout k entry)
-        ∙ (ap (λ q. or_else q (option_map (λ (t : history.Timeout). t.place) (makes_timeout k entry))) (stands.places k)
-        ∙ (ap (or_else (option_map place (stands.pairs k))) (given.placed k n ∙ place_pair count n o) ∙ sym (map_or_else place (stands.pairs k) (pair_of count n o)))))
+pub tasks_ranked_more : (kind : TaskKind) (old new : ℕ → Option Task) (pair : Option (ℕ × Task)) (h : List Record) (x : Record) (a : Action) (count more : ℕ)
+    → ((k : ℕ) → new k ≡ or_else (old k) (noted_in k pair)) → count ≤ more → IfSome pair (λ p. old p.0 ≡ None → count < more)
+    → TasksAreRanked kind old count h → TaskGiven kind pair x a → IfSome pair (λ p. p.1.rank ≡ count) → running (actions_after (told h) x) ≡ Some a → TasksAreRanked kind new more (x ∷ h)
+tasks_ranked_more kind old new pair h x a count more found longer counted stands given is runs =
+    subst (IsRanked (λ k. option_map task_rank (new k)) (task_place kind (x ∷ h)) more) (longer_list h x)
+    (more_ranked task_rank old new pair (task_place kind h) (task_place kind (x ∷ h)) count (length (told h).entries) more found
+    (λ k. place_more (λ (t : history.Task). t.place) (makes_task (declares_task kind k)) h x a (noted_in k pair) runs (given.placed k (length (told h).entries)))
+    longer counted is stands)
 
--- no timeout is set
-pub none_ranked : (found : ℕ → Option Timeout) (count : ℕ) → ((k : ℕ) → found k ≡ None) → IsRankedByPlace found count []
-none_ranked found count none = record { pairs = λ k. None; ranks = λ k. ap (option_map rank_of) (none k); places = λ k. refl; order = λ k n. refl; under = λ k. tt }
+-- nothing is declared
+pub none_ranked : {X : Type 0} (rank_in : X → ℕ) (found : ℕ → Option X) (place_at : ℕ → Option ℕ) (count entries : ℕ) → ((k : ℕ) → found k ≡ None) → ((k : ℕ) → place_at k ≡ None)
+    → IsRanked (λ k. option_map rank_in (found k)) place_at count entries
+none_ranked rank_in found place_at count entries none nowhere = record { pairs = λ k. None; ranks = λ k. ap (option_map rank_in) (none k); places = nowhere; order = λ k n. refl; under = λ k. tt }
 
 -- with as many entries under the same numbers
-pub ranked_same : (old new : ℕ → Option Timeout) (count more : ℕ) (h : List Record) → ((k : ℕ) → new k ≡ old k) → more ≡ count → IsRankedByPlace old count h → IsRankedByPlace new more h
-ranked_same old new count more h same e stands = record {
+pub ranked_same : {X : Type 0} (rank_in : X → ℕ) (old new : ℕ → Option X) (place_at : ℕ → Option ℕ) (count more entries : ℕ) → ((k : ℕ) → new k ≡ old k) → more ≡ count
+    → IsRanked (λ k. option_map rank_in (old k)) place_at count entries → IsRanked (λ k. option_map rank_in (new k)) place_at more entries
+ranked_same rank_in old new place_at count more entries same e stands = record {
   pairs = stands.pairs;
-  ranks = λ k. ap (option_map rank_of) (same k) ∙ stands.ranks k;
+  ranks = λ k. ap (option_map rank_in) (same k) ∙ stands.ranks k;
   places = stands.places;
   order = stands.order;
-  under = λ k. subst (λ m. IsUnder m (length (told h).entries) (stands.pairs k)) (sym e) (stands.under k);
+  under = λ k. subst (λ m. IsUnder m entries (stands.pairs k)) (sym e) (stands.under k);
 }

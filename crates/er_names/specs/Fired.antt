@@ -28,8 +28,8 @@ abbrev pub IsFound : (ℕ → Option Timeout) → SetTimeout → Type 0
 IsFound found x = option_map (numbered x.timeout) (found x.timeout) ≡ Some x
 
 -- what was found under a number is found there still
-abbrev pub KeepsEach : (ℕ → Option Timeout) → (ℕ → Option Timeout) → Type 0
-KeepsEach old new = (k : ℕ) (x : Timeout) → old k ≡ Some x → new k ≡ Some x
+abbrev pub KeepsEach : {X : Type 0} → (ℕ → Option X) → (ℕ → Option X) → Type 0
+KeepsEach {X} old new = (k : ℕ) (x : X) → old k ≡ Some x → new k ≡ Some x
 
 -- no list is as an empty one
 

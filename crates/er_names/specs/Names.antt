@@ -5,22 +5,25 @@ use Rattle.indexmap.specs.IndexMap.{get, spare, index_map_len}
 use Rattle.er_trace.specs.declared.record.Record.{Record}
 use Rattle.er_history.specs.History as history
 use Rattle.er_history.specs.History.{told, first_to, maker_by, makes_element, makes_timeout, declares_document, declares_handler, declares_interval, declares_request, running, actions_after, Action, Entry}
+use Rattle.er_history.specs.Tasks.{TaskKind, OfMessage, OfAnim, OfJob}
 use Rattle.er_history.specs.Naming.{knows_document, declares_element, sets_timeout, runs_script, fires_timeout, begins_dispatch, is_dcl, is_load, is_eload}
 use Rattle.er_names.specs.declared.names.Form.{Form}
 use Rattle.er_names.specs.declared.names.Form.TheVariants.{Kinded, Framing}
 use Rattle.er_names.specs.declared.names.Element.{Element}
 use Rattle.er_names.specs.declared.names.SetTimeout.{SetTimeout}
+use Rattle.er_names.specs.declared.names.BegunTask.{BegunTask}
+use Rattle.er_names.specs.declared.names.Task.{Task}
 use Rattle.er_names.specs.declared.names.Timeout.{Timeout}
+use Rattle.er_names.specs.declared.task_table.TaskTable.{TaskTable}
 use Rattle.er_names.specs.declared.names.Names.{Names}
 use Rattle.er_names.specs.declared.names.Now.{Now}
 use Rattle.er_names.specs.declared.tables.Tables.{Tables}
+pub use Rattle.er_names.specs.Found.{entry_of, MakersAre, FirstsAre, IsUnder, IsRanked}
+use Rattle.er_names.specs.Begun.{AreBegun}
+use Rattle.er_names.specs.Tasks.{TasksAre, HaveRoomFor}
 use Rattle.er_names.specs.Fired.{FiredAre, AreFound, HasPlaceFor, numbered, timer_found}
 use Rattle.er_names.specs.Noted.{noted_in}
-use Rattle.er_history.specs.LookUps.{place_of, before, closes_dispatch, makes_frame, begins_dcl, begins_load, begins_eload}
-
--- one record more, where this action runs
-abbrev pub entry_of : Record → ℕ → Action → Entry
-entry_of x place a = record { read = x; place = place; action = Some a }
+use Rattle.er_history.specs.LookUps.{place_of, closes_dispatch, makes_frame, begins_dcl, begins_load, begins_eload}
 
 abbrev pub form_of : Form → history.Form
 form_of (Kinded k) = history.Kinded k
@@ -46,19 +49,6 @@ setting_of x = record { delay = x.delay; maker = x.maker; piece = x.piece }
 
 abbrev pub setting : history.Timeout → Setting
 setting x = record { delay = x.delay; maker = x.maker; piece = x.piece }
-
--- Under each number stands the event whose piece holds the first record that passes the test,
--- and something stands exactly where a record does.
-pub record MakersAre (test : ℕ → Record → Bool)
-    (found : ℕ → Option ℕ) (h : List Record) : Type 0 where
-  pub made : (k : ℕ) → found k ≡ maker_by (test k) (told h).entries
-  pub known : (k : ℕ) → is_some (found k) ≡ list_any (test k) h
-
--- under each number what the first record that gives something gives
-pub record FirstsAre (test : ℕ → Record → Bool) (gives : ℕ → Record → Option ℕ)
-    (found : ℕ → Option ℕ) (h : List Record) : Type 0 where
-  pub first : (k : ℕ) → found k ≡ first_to (gives k) h
-  pub known : (k : ℕ) → is_some (found k) ≡ list_any (test k) h
 
 pub record ElementsAre (found : ℕ → Option Element) (h : List Record) : Type 0 where
   pub made : (k : ℕ) → option_map element_of (found k) ≡ first_to (makes_element k) (told h).entries
@@ -94,21 +84,9 @@ HasRank (Some p) rank = p.1.rank ≡ rank
 abbrev pub rank_of : Timeout → ℕ
 rank_of t = t.rank
 
--- a rank and a place, if there are some, are below these
-abbrev pub IsUnder : ℕ → ℕ → Option (ℕ × ℕ) → Type 0
-IsUnder rank place None = Unit {0}
-IsUnder rank place (Some p) = (p.0 < rank) × (p.1 < place)
-
--- Timeouts are ranked in the order of the places of their records.
--- Each has a rank below the count of them, and a place in the list.
-pub record IsRankedByPlace (found : ℕ → Option Timeout) (count : ℕ) (h : List Record) : Type 0 where
-  pub pairs : ℕ → Option (ℕ × ℕ)
-  pub ranks : (k : ℕ) → option_map rank_of (found k) ≡ option_map (λ p. p.0) (pairs k)
-  pub places : (k : ℕ) → place_of h k ≡ option_map (λ p. p.1) (pairs k)
-  pub order : (k n : ℕ)
-      → before (option_map (λ p. p.0) (pairs k)) (option_map (λ p. p.0) (pairs n))
-      ≡ before (option_map (λ p. p.1) (pairs k)) (option_map (λ p. p.1) (pairs n))
-  pub under : (k : ℕ) → IsUnder count (length (told h).entries) (pairs k)
+-- timeouts are ranked in the order of the places of their records
+abbrev pub IsRankedByPlace : (ℕ → Option Timeout) → ℕ → List Record → Type 0
+IsRankedByPlace found count h = IsRanked (λ k. option_map rank_of (found k)) (place_of h) count (length (told h).entries)
 
 -- each table answers what the list says
 pub record TablesAre (tables : Tables) (h : List Record) : Type 0 where
@@ -128,11 +106,12 @@ pub record TablesAre (tables : Tables) (h : List Record) : Type 0 where
   pub loads : FirstsAre is_load begins_load (get nat_eq tables.loads) h
   pub eloads : FirstsAre is_eload begins_eload (get nat_eq tables.eloads) h
 
--- each table answers what the list says, and so does the table of what has fired
+-- each table answers what the list says, and so do those of what has fired and of tasks
 pub record NamesAre (names : Names) (h : List Record) : Type 0 where
   pub tables : TablesAre names.tables h
   pub fired : FiredAre names.fired h
   pub found : AreFound (get nat_eq names.tables.timeouts) names.fired
+  pub tasks : TasksAre names.tasks h
 
 -- the timeout of this number
 abbrev pub timeout_at : Names → ℕ → Option SetTimeout
@@ -141,6 +120,20 @@ timeout_at names t = option_map (numbered t) (get nat_eq names.tables.timeouts t
 -- it is the timeout of its number
 abbrev pub IsSet : Names → SetTimeout → Type 0
 IsSet names x = timeout_at names x.timeout ≡ Some x
+
+-- the table of a kind of tasks
+abbrev pub table_of : TaskKind → Names → TaskTable
+table_of OfMessage names = names.tasks.messages
+table_of OfAnim names = names.tasks.anims
+table_of OfJob names = names.tasks.jobs
+
+-- what declared the task of this number
+abbrev pub task_at : TaskKind → Names → ℕ → Option Task
+task_at kind names number = get nat_eq (table_of kind names).declared number
+
+-- these tasks have begun, each as the names have it, and they stand in runs
+abbrev pub HaveBegun : TaskKind → Names → List BegunTask → Type 0
+HaveBegun kind names tasks = AreBegun (get nat_eq (table_of kind names).declared) (get nat_eq (table_of kind names).started) tasks
 
 -- each table has room for one number more
 pub record HaveSpare (tables : Tables) : Type 0 where
@@ -159,10 +152,11 @@ pub record HaveSpare (tables : Tables) : Type 0 where
   pub loads : 0 < spare tables.loads
   pub eloads : 0 < spare tables.eloads
 
--- and so has the list of a timeout whose callback the record begins
+-- and so have the list of a timeout whose callback the record begins, and that of the event that queued a job
 pub record HasRoomFor (names : Names) (x : Record) : Type 0 where
   pub tables : HaveSpare names.tables
   pub fired : HasPlaceFor names.fired (timer_found (get nat_eq names.tables.timeouts) x)
+  pub tasks : HaveRoomFor names.tasks x
 
 -- the action that runs when the record has been read, and its event
 pub record IsNow (h : List Record) (x : Record) (now : Now) : Type 0 where

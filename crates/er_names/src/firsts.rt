@@ -1,6 +1,6 @@
 //! Tables from numbers to what was noted first under them: one way to note for all of them.
 
-ghost use Rattle.std.specs.Prelude.{◌≡◌, ℕ, ◌<◌, ◌≤◌, Bool, List, ◌∷◌, Option, Some, None, nat_eq, is_some, OnOk, IfSome};
+ghost use Rattle.std.specs.Prelude.{◌≡◌, ℕ, ◌<◌, ◌≤◌, Bool, List, ◌∷◌, Option, Some, None, if◌then◌else◌, nat_eq, is_some, OnOk, IfSome};
 ghost use Rattle.indexmap.specs.IndexMap.{get, spare, index_map_len};
 ghost use Rattle.er_trace.specs.declared.record.Record.{Record};
 ghost use Rattle.er_history.specs.History.{told, or_else, running, actions_after, Action};
@@ -54,12 +54,14 @@ pub(crate) fn note_pair<V: Copy + Drop>(table: &mut IndexMap<u32, V>, pair: Opti
 /// Notes the event that is the maker of a number, if a record has one.
 pub(crate) fn note_maker(table: &mut IndexMap<u32, u32>, number: Option<u32>, event: u32)
     requires room { 0 < spare table.old }
-    ensures { (test : ℕ → Record → Bool) (h : List Record) (x : Record) (a : Action)
+    ensures made { (test : ℕ → Record → Bool) (h : List Record) (x : Record) (a : Action)
         → MakersAre test (get nat_eq table.old) h
         → ((k : ℕ) → is_number k number ≡ test k x)
         → running (actions_after (told h) x) ≡ Some a
         → event ≡ a.event.number
         → MakersAre test (get nat_eq table.new) (x ∷ h) }
+    ensures found { (k : ℕ) → get nat_eq table.new k
+        ≡ or_else (get nat_eq table.old k) (if is_number k number then Some event else None) }
 {
     if let Some(number) = number {
         note(table, number, event);

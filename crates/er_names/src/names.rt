@@ -5,6 +5,7 @@ ghost use Rattle.er_names.specs.Names.{NamesAre, HasRoomFor, Keeps, Takes};
 
 use crate::fired::Fired;
 use crate::tables::Tables;
+use crate::tasks::Tasks;
 use er_outside::NoMemory;
 use er_trace::record::{Kind, Record};
 use std::alloc::Global;
@@ -46,6 +47,23 @@ pub struct SetTimeout {
     pub rank: usize,
 }
 
+/// What declared a message, an animation callback or a job: the event and the piece, and how many of its kind were declared before.
+#[derive(Clone, Copy)]
+pub struct Task {
+    pub maker: u32,
+    pub piece: u32,
+    pub rank: usize,
+}
+
+/// A task whose event has begun: its number, the event, and what declared it. From the place `run` of its list on, each task before it was declared before it in the same piece.
+#[derive(Clone, Copy)]
+pub struct BegunTask {
+    pub number: u32,
+    pub event: u32,
+    pub task: Task,
+    pub run: usize,
+}
+
 /// The running action, and its event.
 #[derive(Clone, Copy)]
 pub struct Now {
@@ -57,6 +75,7 @@ pub struct Now {
 pub struct Names {
     pub(crate) tables: Tables,
     pub(crate) fired: Fired,
+    pub(crate) tasks: Tasks,
 }
 
 impl Drop for Names {
@@ -64,6 +83,7 @@ impl Drop for Names {
         let Names {
             tables: _,
             fired: _,
+            tasks: _,
         } = self;
     }
 }
@@ -76,6 +96,7 @@ impl Names {
         Names {
             tables: Tables::new(alloc),
             fired: Fired::new(alloc),
+            tasks: Tasks::new(alloc),
         }
     }
 
@@ -86,7 +107,8 @@ impl Names {
     {
         self.tables.make_room()?;
         let timer = self.tables.timer_in(rec);
-        self.fired.make_room(timer)
+        self.fired.make_room(timer)?;
+        self.tasks.make_room(rec)
     }
 
     /// Takes the record, after which this action runs.
@@ -97,5 +119,6 @@ impl Names {
         let timer = self.tables.timer_in(rec);
         self.tables.take(rec, now);
         self.fired.take(timer);
+        self.tasks.take(rec, now);
     }
 }

@@ -30,6 +30,9 @@ impl Names {
             Record::Inline { element, .. } => !self.has_element(*element),
             Record::Timer { timeout } => !self.tables.timeouts.contains_key(timeout),
             Record::Tick { interval } => !self.tables.intervals.contains_key(interval),
+            Record::Message { message } => !self.tasks.messages.has(*message),
+            Record::Anim { anim } => !self.tasks.anims.has(*anim),
+            Record::Job { job } => !self.tasks.jobs.has(*job),
             Record::Reply { request, .. } => !self.tables.requests.contains_key(request),
             Record::Run {
                 dispatch,
@@ -42,6 +45,9 @@ impl Names {
             Record::Set { .. } => false,
             Record::Every { .. } => false,
             Record::Send { .. } => false,
+            Record::Post { .. } => false,
+            Record::Ask { .. } => false,
+            Record::Queue { .. } => false,
             Record::Access { .. } => false,
         }
     }
@@ -74,6 +80,12 @@ impl Names {
             Record::Set { timeout, .. } => self.tables.timeouts.contains_key(timeout),
             Record::Every { interval, .. } => self.tables.intervals.contains_key(interval),
             Record::Send { request } => self.tables.requests.contains_key(request),
+            Record::Post { message } => self.tasks.messages.has(*message),
+            Record::Ask { anim } => self.tasks.anims.has(*anim),
+            Record::Queue { job } => self.tasks.jobs.has(*job),
+            Record::Message { message } => self.tasks.messages.has_begun(*message),
+            Record::Anim { anim } => self.tasks.anims.has_begun(*anim),
+            Record::Job { job } => self.tasks.jobs.has_begun(*job),
             Record::Tick { .. } => false,
             Record::Run { .. } => false,
             Record::Close { .. } => false,

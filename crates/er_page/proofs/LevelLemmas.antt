@@ -1,6 +1,7 @@
 -- How the levels of a stack follow the stack that a list of records says.
 use Rattle.std.proofs.Common.{◌≡◌, ℕ, ◌+◌, ◌<◌, ◌^◌, Bool, true, false, List, [], ◌∷◌, drop, length, filter, reverse, Option, Some, None, refl, sym, ap, ◌∙◌, arith}
-use Rattle.std.specs.Prelude.{not, nat_lt, if◌then◌else◌}
+use Rattle.std.specs.Prelude.{not, ◌||◌, nat_lt, if◌then◌else◌}
+use Rattle.std.specs.List.{list_any}
 use Rattle.std.proofs.lemmas.Bool.Decides.{nat_tests}
 use Rattle.er_text.specs.declared.causes.Cause.TheVariants.{TooManyActions, TooDeep}
 use Rattle.er_trace.specs.declared.record.Record.{Record}
@@ -35,6 +36,18 @@ depth_of_none stack h o e f is = by (reverse stack.levels.items) (sym e ∙ f) (
     by : (ls : List Level) → top_of ls ≡ None → depth_on ls ≡ inline_depth h → 0 ≡ inline_depth h
     by [] e f = f
     by (k ∷ ls) e f = absurd (cc)
+
+-- where some are counted, there is one
+pub any_inline : (s : List Open) (n : ℕ) → n ≡ inlines s → nat_lt 0 n ≡ list_any (λ (o : Open). is_inline o.dispatch) s
+any_inline s n e = ap (nat_lt 0) e ∙ by s
+  where
+    by : (s : List Open) → nat_lt 0 (inlines s) ≡ list_any (λ (o : Open). is_inline o.dispatch) s
+    by [] = refl
+    by (o ∷ below) = step (is_inline o.dispatch)
+      where
+        step : (b : Bool) → nat_lt 0 (length (if b then o ∷ filter (λ (q : Open). is_inline q.dispatch) below else filter (λ (q : Open). is_inline q.dispatch) below)) ≡ (b || list_any (λ (q : Open). is_inline q.dispatch) below)
+        step true = grind (arith, nat_tests)
+        step false = by below
 
 -- one record more
 

@@ -7,3 +7,4 @@ pub mod SeenLemmas
 pub mod StartLemmas
 pub mod SuspendedLemmas
 pub mod TakenLemmas
+pub mod WithinLemmas

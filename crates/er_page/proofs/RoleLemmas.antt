@@ -3,8 +3,8 @@ use Rattle.std.proofs.Common.{◌≡◌, ℕ, true, false, List, [], ◌∷◌, 
 use Rattle.std.specs.Prelude.{slice_get}
 use Rattle.std.proofs.lemmas.Option.{slice_get_past}
 use Rattle.er_trace.specs.declared.record.Record.{Record}
-use Rattle.er_trace.specs.declared.record.Record.TheVariants.{Parse, ParseFrame, Exec, Timer, Tick, Dcl, Load, Eload, Fire, Wfire, Reply, Inline, Run, Close, Back}
-use Rattle.er_history.specs.History.{told, begins, maker_by, declares_handler, event_begun, what_begun, Dispatch, Delivery, DclOf, LoadOf, EloadOf, FireAt, InlineAt, WindowFire, ReplyOf, What, ParseStep, ScriptRun, TimeoutRun, TickRun, BeginOf, HandlerOf, CloseOf, Element, Event, Action}
+use Rattle.er_trace.specs.declared.record.Record.TheVariants.{Parse, ParseFrame, Exec, Timer, Tick, Dcl, Load, Eload, Fire, Wfire, Reply, Inline, Run, Close, Back, Message, Anim, Job}
+use Rattle.er_history.specs.History.{told, begins, maker_by, declares_handler, event_begun, what_begun, Dispatch, Delivery, DclOf, LoadOf, EloadOf, FireAt, InlineAt, WindowFire, ReplyOf, What, ParseStep, ScriptRun, TimeoutRun, TickRun, BeginOf, HandlerOf, CloseOf, MessageRun, AnimRun, JobRun, Element, Task, Event, Action}
 use Rattle.er_history.specs.Facts.{DeliveryIs, WhatIs}
 use Rattle.er_history.specs.Laws.{Among}
 use Rattle.er_history.specs.LookUps.{element_made}
@@ -34,6 +34,9 @@ Form (ParseFrame d e f) w = (m : Option ℕ) × (w ≡ ParseStep d m)
 Form (Exec e) w = (made : Option Element) × (w ≡ ScriptRun e made)
 Form (Timer t) w = (made : Option _) × (w ≡ TimeoutRun t made)
 Form (Tick i) w = (m : Option ℕ) × (w ≡ TickRun i m)
+Form (Message n) w = (made : Option Task) × (w ≡ MessageRun n made)
+Form (Anim a) w = (made : Option Task) × (w ≡ AnimRun a made)
+Form (Job j) w = (made : Option Task) × (within : List ℕ) × (w ≡ JobRun j made within)
 Form (Dcl p c) w = (m : Option ℕ) × Begins (DclOf c m) w
 Form (Load p c) w = (m : Option ℕ) × Begins (LoadOf c m) w
 Form (Eload p e) w = (made : Option Element) × Begins (EloadOf e made) w
@@ -45,12 +48,15 @@ Form (Run p g y) w = (d : Dispatch) × (m : Option ℕ) × (w ≡ HandlerOf d g 
 Form (Close p) w = (d : Dispatch) × (w ≡ CloseOf d)
 Form _ w = ⊥
 
-form_now : (h : List Record) (x : Record) → begins x ≡ true → goes_on x ≡ false → misplaced (told h) x ≡ false → Form x (what_begun (told h) x)
+pub form_now : (h : List Record) (x : Record) → begins x ≡ true → goes_on x ≡ false → misplaced (told h) x ≡ false → Form x (what_begun (told h) x)
 form_now h (Parse d e k) b g placed = (_, refl)
 form_now h (ParseFrame d e f) b g placed = (_, refl)
 form_now h (Exec e) b g placed = (_, refl)
 form_now h (Timer t) b g placed = (_, refl)
 form_now h (Tick i) b g placed = (_, refl)
+form_now h (Message m) b g placed = (_, refl)
+form_now h (Anim a) b g placed = (_, refl)
+form_now h (Job j) b g placed = (_, _, refl)
 form_now h (Dcl p c) b g placed = (_, (_, refl, refl))
 form_now h (Load p c) b g placed = (_, (_, refl, refl))
 form_now h (Eload p e) b g placed = (_, (_, refl, refl))
@@ -121,6 +127,9 @@ close_told h (ParseFrame c e k) d form is = let f = form.1 in absurd (cc)
 close_told h (Exec e) d form is = let f = form.1 in absurd (cc)
 close_told h (Timer t) d form is = let f = form.1 in absurd (cc)
 close_told h (Tick i) d form is = let f = form.1 in absurd (cc)
+close_told h (Message m) d form is = let f = form.1 in absurd (cc)
+close_told h (Anim a) d form is = let f = form.1 in absurd (cc)
+close_told h (Job j) d form is = let f = form.2 in absurd (cc)
 close_told h (Run p g y) d form is = let f = form.2 in absurd (cc)
 close_told h (Close p) d form is = let f = form.1 in absurd (cc)
 close_told h _ d form is = absurd form
@@ -143,6 +152,9 @@ role_told h (ParseFrame d e f) w served form exact closes = ap role_of (sym form
 role_told h (Exec e) w served form exact closes = let made = subst (Exact h) form.1 exact in ap (script_role e) (sym made) ∙ ap role_of (sym form.1)
 role_told h (Timer t) w served form exact closes = ap role_of (sym form.1)
 role_told h (Tick i) w served form exact closes = ap role_of (sym form.1)
+role_told h (Message m) w served form exact closes = ap role_of (sym form.1)
+role_told h (Anim a) w served form exact closes = ap role_of (sym form.1)
+role_told h (Job j) w served form exact closes = ap role_of (sym form.2)
 role_told h (Run p g y) w served form exact closes = ap (λ n. HandlerIn n g) (sym form.3) ∙ ap role_of (sym form.2)
 role_told h (Close p) w served form exact closes = closes form.0 form.1 ∙ ap role_of (sym form.1)
 role_told h (Dcl p c) w served form exact closes = ap role_of (sym form.1.1)

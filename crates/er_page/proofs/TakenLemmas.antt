@@ -1,12 +1,12 @@
 -- How a page comes to stand for one record more.
-use Rattle.std.proofs.Common.{◌≡◌, ℕ, ◌≤◌, Bool, true, false, List, [], ◌∷◌, ◌++◌, length, map, reverse, Some, None, refl, sym, ap, ◌∙◌, arith}
+use Rattle.std.proofs.Common.{◌≡◌, ℕ, ◌≤◌, Bool, true, false, List, [], ◌∷◌, ◌++◌, length, map, reverse, Option, Some, None, refl, sym, ap, ◌∙◌, arith}
 use Rattle.std.proofs.Math.Logic.{∥∥₁_elim, ∥∥₁_map}
 use Rattle.std.proofs.Props.{props}
 use Rattle.std.specs.Prelude.{◌==◌, if◌then◌else◌, nat_eq}
 use Rattle.std.proofs.lemmas.List.{length-map}
 use Rattle.indexmap.specs.IndexMap.{get}
 use Rattle.er_trace.specs.declared.record.Record.{Record}
-use Rattle.er_trace.specs.declared.record.Record.TheVariants.{Inline, New, NewFrame, On, Set, Every, Send, Access}
+use Rattle.er_trace.specs.declared.record.Record.TheVariants.{Inline, New, NewFrame, On, Set, Every, Send, Access, Post, Ask, Queue}
 use Rattle.er_trace.specs.declared.record.Loc.{Loc}
 use Rattle.er_trace.specs.declared.record.Mode.{Mode}
 use Rattle.er_history.specs.History.{told, begins, running, action_begun, actions_after, event_begun, Action}
@@ -27,15 +27,18 @@ use Rattle.er_page.specs.declared.piece.Piece.{Piece}
 use Rattle.er_page.specs.declared.piece.Pieces.{Pieces}
 use Rattle.er_page.specs.declared.piece.Start.{Start}
 use Rattle.er_page.specs.declared.stack.Stack.{Stack}
+use Rattle.er_page.specs.declared.within.Within.{Within}
 use Rattle.er_page.specs.Accepted.{IsAccepted}
 use Rattle.er_page.specs.Page.{IsPage, IsNext, IsNextOf}
 use Rattle.er_page.specs.Pieces.{PiecesAre, About, Seen, about, about_start, about_begun, kept, seen, now_of}
 use Rattle.er_page.specs.Roles.{role_by, first_in, begin_in}
 use Rattle.er_page.specs.Stack.{StackIs, HasDepth, levels_after, levels_of}
+use Rattle.er_page.specs.Within.{WithinIs, job_dispatch, job_under, jobs_at}
 use Rattle.er_page.proofs.AcceptedLemmas.{accepted_named, some_runs, actions_few}
 use Rattle.er_page.proofs.LevelLemmas.{has_depth, stack_taken}
 use Rattle.er_page.proofs.PiecesLemmas.{pieces_long, piece_taken, pieces_kept}
 use Rattle.er_page.proofs.RoleLemmas.{role_is}
+use Rattle.er_page.proofs.WithinLemmas.{within_taken, within_noted}
 
 -- what a record begins
 
@@ -59,16 +62,17 @@ note_is h x is = by (begins x) is
     by false same = refl
 
 -- a page takes a record that begins a piece
-pub page_begun : (new : Page) (stack : Stack) (pieces : Pieces) (latest : Latest) (h : List Record) (x : Record) (start : Start) (action : ℕ) (role : Role)
-    → StackIs stack h → PiecesAre pieces h → LatestAre latest (told h).actions → IsAccepted h → IsNextOf h x → Some (about_start start) ≡ about_begun h x → action ≡ length pieces.list.items
+pub page_begun : (new : Page) (stack : Stack) (pieces : Pieces) (latest : Latest) (within : Within) (dispatch : Option ℕ) (h : List Record) (x : Record) (start : Start) (action : ℕ) (role : Role)
+    → StackIs stack h → PiecesAre pieces h → LatestAre latest (told h).actions → WithinIs within h → dispatch ≡ job_dispatch h x → IsAccepted h → IsNextOf h x → Some (about_start start) ≡ about_begun h x → action ≡ length pieces.list.items
     → (IsNow h x (record { action = action; event = start.event }) → NamesAre new.names (x ∷ h))
     → reverse new.stack.levels.items ≡ levels_after (reverse stack.levels.items) action x
     → new.pieces.list.items ≡ pieces.list.items ++ record { begin = x; start = start } ∷ []
     → ((u : ℕ) → get nat_eq new.pieces.latest u ≡ (if start.event == u then Some (length pieces.list.items) else get nat_eq pieces.latest u))
     → said_by role ≡ role_by h (first_in pieces.list.items x start) (begin_in pieces.list.items start.serves)
     → ((actions : List Action) (a : Action) → LatestAre latest actions → IsTold role (record { action = action; event = start.event }) a → LatestAre new.latest (a ∷ actions))
+    → ((p : ℕ) → jobs_at new.within p ≡ jobs_at within p ++ job_under p dispatch action)
     → IsPage new (x ∷ h)
-page_begun new stack pieces latest h x start action role is are came accepted next starts count names levels items each plays more =
+page_begun new stack pieces latest within dispatch h x start action role is are came jobs under accepted next starts count names levels items each plays more put =
     let begun = begun_is h x start starts in
     let long : action ≡ length (told h).actions = count ∙ pieces_long pieces.list.items (told h).actions are.all in
     let event : start.event ≡ (event_begun (told h) x).number = ap (λ (m : About). m.event) begun.same in
@@ -80,6 +84,7 @@ page_begun new stack pieces latest h x start action role is are came accepted ne
       stack = stack_taken stack new.stack h x action is long levels;
       pieces = piece_taken pieces new.pieces h x start are starts items each;
       latest = rw begun.begin one;
+      within = within_taken within new.within h x dispatch action jobs (accepted_named (x ∷ h) all) under long put;
       accepted = all;
     }
 
@@ -112,26 +117,30 @@ note_stack (On y) h b = refl
 note_stack (Set t n) h b = refl
 note_stack (Every i n) h b = refl
 note_stack (Send r) h b = refl
+note_stack (Post m) h b = refl
+note_stack (Ask a) h b = refl
+note_stack (Queue j) h b = refl
 note_stack (Access m l) h b = refl
 note_stack _ h b = absurd (cc)
 
-page_noted_with : (old new : Page) (h : List Record) (x : Record) → IsPage old h → IsNextOf h x → begins x ≡ false → NamesAre new.names (x ∷ h) → new.stack ≡ old.stack → new.pieces ≡ old.pieces → new.latest ≡ old.latest → IsPage new (x ∷ h)
-page_noted_with old new h x is next note names stack pieces latest = record {
+page_noted_with : (old new : Page) (h : List Record) (x : Record) → IsPage old h → IsNextOf h x → begins x ≡ false → NamesAre new.names (x ∷ h) → new.stack ≡ old.stack → new.pieces ≡ old.pieces → new.latest ≡ old.latest → new.within ≡ old.within → IsPage new (x ∷ h)
+page_noted_with old new h x is next note names stack pieces latest within = record {
   names = names;
   stack = record { levels = ap (λ (s : Stack). reverse s.levels.items) stack ∙ (is.stack.levels ∙ ap levels_of (sym (note_stack x h note))) };
   pieces = pieces_kept old.pieces new.pieces h x is.pieces (rw note refl) (ap (λ (p : Pieces). p.list.items) pieces) (λ u. ap (λ (p : Pieces). get nat_eq p.latest u) pieces);
   latest = rw (note, latest) is.latest;
+  within = within_noted old.within new.within h x note within is.within;
   accepted = (next.0, next.1, is.accepted);
 }
 
 pub page_noted : (old new : Page) (h : List Record) (x : Record) (now : Now) → IsPage old h → IsNextOf h x → None ≡ about_begun h x → now_of (reverse old.pieces.list.items) ≡ Some now
-    → (IsNow h x now → NamesAre new.names (x ∷ h)) → new.stack ≡ old.stack → new.pieces ≡ old.pieces → new.latest ≡ old.latest → IsPage new (x ∷ h)
-page_noted old new h x now is next starts newest names stack pieces latest =
+    → (IsNow h x now → NamesAre new.names (x ∷ h)) → new.stack ≡ old.stack → new.pieces ≡ old.pieces → new.latest ≡ old.latest → new.within ≡ old.within → IsPage new (x ∷ h)
+page_noted old new h x now is next starts newest names stack pieces latest within =
     let note = note_is h x starts in
     let runs = note_runs old.pieces h x is.pieces next.0 note in
     let same : now ≡ record { action = runs.0.number; event = runs.0.event.number } = cc in
     let is_now : IsNow h x now = record { running_action = runs.0; runs = runs.1; action = ap (λ (n : Now). n.action) same; event = ap (λ (n : Now). n.event) same } in
-    page_noted_with old new h x is next note (names is_now) stack pieces latest
+    page_noted_with old new h x is next note (names is_now) stack pieces latest within
 
 -- some action runs
 pub note_somewhere : (page : Page) (h : List Record) (x : Record) → IsPage page h → IsNextOf h x → None ≡ about_begun h x → now_of (reverse page.pieces.list.items) ≡ None → ⊥
@@ -143,7 +152,7 @@ pub accessed : (page : Page) (h : List Record) (x : Record) (m : Mode) (l : Loc)
 accessed page h x m l e is named fits =
     let runs = some_runs h x named in
     let names : NamesAre page.names (x ∷ h) = rw e (names_same page.names h m l runs.0 (ap (λ y. running (actions_after (told h) y)) (sym e) ∙ runs.1) is.names) in
-    page_noted_with page page h x is (named, fits) (ap begins e) names refl refl refl
+    page_noted_with page page h x is (named, fits) (ap begins e) names refl refl refl refl
 
 -- what a page keeps, where a record is next
 
@@ -166,9 +175,9 @@ depth_next page _ some = tt
 -- where its names have room, the page stands for what it did
 
 pub with_room : (page : Page) (names : Names) (h : List Record) → ((h : List Record) → NamesAre page.names h → NamesAre names h) → IsPage page h
-    → IsPage (record { names = names; stack = page.stack; pieces = page.pieces; latest = page.latest }) h
-with_room page names h kept is = record { names = kept h is.names; stack = is.stack; pieces = is.pieces; latest = is.latest; accepted = is.accepted }
+    → IsPage (record { names = names; stack = page.stack; pieces = page.pieces; latest = page.latest; within = page.within }) h
+with_room page names h kept is = record { names = kept h is.names; stack = is.stack; pieces = is.pieces; latest = is.latest; within = is.within; accepted = is.accepted }
 
 pub next_with_room : (page : Page) (names : Names) (x : Record) → ((h : List Record) → NamesAre page.names h → NamesAre names h) → ∥ IsNext page x ∥₁
-    → ∥ IsNext (record { names = names; stack = page.stack; pieces = page.pieces; latest = page.latest }) x ∥₁
+    → ∥ IsNext (record { names = names; stack = page.stack; pieces = page.pieces; latest = page.latest; within = page.within }) x ∥₁
 next_with_room page names x kept some = ∥∥₁_map some (λ next. record { list = next.list; stands = with_room page names next.list kept next.stands; named = next.named; fits = next.fits })

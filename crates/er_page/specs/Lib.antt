@@ -4,3 +4,4 @@ pub mod Page
 pub mod Pieces
 pub mod Roles
 pub mod Stack
+pub mod Within

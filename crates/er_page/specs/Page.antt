@@ -10,6 +10,7 @@ use Rattle.er_page.specs.declared.page.Page.{Page}
 use Rattle.er_page.specs.Accepted.{IsAccepted}
 use Rattle.er_page.specs.Pieces.{PiecesAre}
 use Rattle.er_page.specs.Stack.{StackIs}
+use Rattle.er_page.specs.Within.{WithinIs}
 
 -- the list is accepted, and all that the page keeps answers what the list says
 pub record IsPage (page : Page) (h : List Record) : Type 0 where
@@ -17,6 +18,7 @@ pub record IsPage (page : Page) (h : List Record) : Type 0 where
   pub stack : StackIs page.stack h
   pub pieces : PiecesAre page.pieces h
   pub latest : LatestAre page.latest (told h).actions
+  pub within : WithinIs page.within h
   pub accepted : IsAccepted h
 
 -- for every list that the page stands for, the answer is what is said of the list

@@ -2,8 +2,8 @@
 use Rattle.std.specs.Prelude.{◌≡◌, ℕ, Bool, true, false, if◌then◌else◌, List, [], ◌∷◌, map, length, reverse, Option, Some, None, nat_eq}
 use Rattle.indexmap.specs.IndexMap.{get}
 use Rattle.er_trace.specs.declared.record.Record.{Record}
-use Rattle.er_trace.specs.declared.record.Record.TheVariants.{Parse, ParseFrame, Exec, Timer, Tick, Dcl, Load, Eload, Fire, Wfire, Reply, Inline, Run, Close}
-use Rattle.er_history.specs.History.{told, begins, event_begun, Action, Event, What, ParseStep, ScriptRun, TimeoutRun, TickRun, BeginOf, HandlerOf, CloseOf, Unnamed}
+use Rattle.er_trace.specs.declared.record.Record.TheVariants.{Parse, ParseFrame, Exec, Timer, Tick, Dcl, Load, Eload, Fire, Wfire, Reply, Inline, Run, Close, Back, New, NewFrame, On, Set, Every, Send, Access, Post, Ask, Queue, Message, Anim, Job}
+use Rattle.er_history.specs.History.{told, begins, event_begun, Action, Event, What, ParseStep, ScriptRun, TimeoutRun, TickRun, BeginOf, HandlerOf, CloseOf, MessageRun, AnimRun, JobRun, Unnamed}
 use Rattle.er_history.specs.LookUps.{latest_piece}
 use Rattle.er_names.specs.declared.names.Now.{Now}
 use Rattle.er_page.specs.declared.piece.Begun.{Begun}
@@ -22,6 +22,9 @@ begun_as (TickRun i m) = Some begun.Tick
 begun_as (BeginOf d) = Some begun.Begin
 begun_as (HandlerOf d g x m) = Some begun.Handler
 begun_as (CloseOf d) = Some begun.Close
+begun_as (MessageRun m made) = Some begun.Message
+begun_as (AnimRun a made) = Some begun.Anim
+begun_as (JobRun j made within) = Some begun.Job
 begun_as Unnamed = None
 
 -- the begin of the dispatch of a handler or a close
@@ -46,13 +49,33 @@ begun_by (Reply p r) = Some begun.Begin
 begun_by (Inline p e n) = Some begun.Begin
 begun_by (Run p g x) = Some begun.Handler
 begun_by (Close p) = Some begun.Close
-begun_by _ = None
+begun_by (Message m) = Some begun.Message
+begun_by (Anim a) = Some begun.Anim
+begun_by (Job j) = Some begun.Job
+begun_by (Back p) = None
+begun_by (New d e k) = None
+begun_by (NewFrame d e f) = None
+begun_by (On h) = None
+begun_by (Set t n) = None
+begun_by (Every i n) = None
+begun_by (Send r) = None
+begun_by (Post m) = None
+begun_by (Ask a) = None
+begun_by (Queue j) = None
+begun_by (Access m l) = None
 
 -- an event of these can call an inline dispatch
 abbrev pub calls : Begun → Bool
 calls begun.Parse = false
 calls begun.Begin = false
-calls _ = true
+calls begun.Exec = true
+calls begun.Timer = true
+calls begun.Tick = true
+calls begun.Handler = true
+calls begun.Close = true
+calls begun.Message = true
+calls begun.Anim = true
+calls begun.Job = true
 
 -- what is kept of an event
 pub record About : Type 0 where

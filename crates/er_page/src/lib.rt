@@ -1,4 +1,4 @@
-//! The page that a list of accepted records stands for: names, the stack, the pieces of events, and what came last.
+//! The page that a list of accepted records stands for: names, the stack, the pieces of events, what came last, and the jobs of dispatches.
 #![tactic(auto)]
 
 pub mod laws;
@@ -9,3 +9,5 @@ mod pieces;
 mod roles;
 mod stack;
 mod starts;
+pub mod task_look_ups;
+mod within;

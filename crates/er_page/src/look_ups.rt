@@ -6,13 +6,17 @@
 //! |---|---|
 //! | the list | `actions`, `running`, `open_dispatch`, `inline_depth` |
 //! | an action | `begin_of`, `event_of` |
-//! | an event | `latest_piece`, `begun_as`; the timeouts set in it: `fired_with`, `fired_timeouts_with` |
+//! | an event | `latest_piece`, `begun_as`; the timeouts set in it: `fired_with`, `fired_timeouts_with`; the jobs queued in it: `jobs_queued`, `begun_jobs_of` |
 //! | a number that was declared, its maker | `maker_of_element`, `maker_of_document`, `maker_of_handler`, `maker_of_timeout`, `maker_of_interval`, `maker_of_request` |
 //! | an element | `element`, `document_of`, `is_static`, `parse_action`; a script: `script_kind`, `run_of`; a frame: `inner_of`; its load: `eload_of` |
 //! | a document | `frame_of`, `dcl_of`, `load_of`; what came last in it: `last_parse`, `last_blocking_run`, `last_deferred_run`, `last_deferred_element`; all of a kind: `async_runs`, `static_closes` |
 //! | a timeout | `timeout`, `delay_of`, `setting_piece`, `timer_event`; two of them: `set_before`; all that have fired: `fired`, `fired_timeouts` |
+//! | a message | `message`, `message_piece`, `message_event`; all that have begun: `messages`, `begun_messages` |
+//! | an animation callback | `anim`, `anim_piece`, `anim_event`; all that have begun: `anims`, `begun_anims` |
+//! | a job | `job`, `job_piece`, `job_event`; all that have begun: `jobs`, `begun_jobs` |
+//! | two notes of tasks | `declared_before` |
 //! | an interval, a request | `last_tick`, `last_reply_close` |
-//! | a dispatch | `begin_event`, `close_event`, `suspended_by`; its handlers: `last_group`, `runs_in`, `group_below` |
+//! | a dispatch | `begin_event`, `close_event`, `suspended_by`; its handlers: `last_group`, `runs_in`, `group_below`; the jobs begun in it: `jobs_in` |
 //! | a target and a type | `last_element_close`, `last_window_close` |
 
 ghost use Rattle.std.specs.Prelude.{◌≡◌, ℕ, List, length, option_map, map, Some, None};

@@ -15,6 +15,7 @@ use crate::piece::{Pieces, Start, begins};
 use crate::roles::{first_of, role_by, served_of};
 use crate::stack::Stack;
 use crate::starts::start_of;
+use crate::within::{Within, job_dispatch};
 use er_latest::latest::Latest;
 use er_latest::role::Now as Told;
 use er_names::names::{Names, Now};
@@ -35,6 +36,7 @@ pub struct Page {
     pub(crate) stack: Stack,
     pub(crate) pieces: Pieces,
     pub(crate) latest: Latest,
+    pub(crate) within: Within,
 }
 
 impl Drop for Page {
@@ -44,6 +46,7 @@ impl Drop for Page {
             stack: _,
             pieces: _,
             latest: _,
+            within: _,
         } = self;
     }
 }
@@ -58,6 +61,7 @@ impl Page {
             stack: Stack::new(alloc),
             pieces: Pieces::new(alloc),
             latest: Latest::new(alloc),
+            within: Within::new(alloc),
         })
     }
 
@@ -128,10 +132,13 @@ impl Page {
         let first = first_of(&self.pieces, rec, start);
         let role = role_by(&self.names, first, served_of(&self.pieces, start));
         self.latest.make_room(&role)?;
+        let dispatch = job_dispatch(&self.stack, rec);
+        self.within.make_room(dispatch)?;
         self.latest.take(&role, Told { action, event });
         self.names.take(rec, Now { action, event });
         self.stack.take(rec, action);
         self.pieces.take(begin, start);
+        self.within.take(dispatch, action);
         Ok(())
     }
 
@@ -168,6 +175,7 @@ impl Page {
     {
         match rec {
             Record::Inline { .. } => !self.pieces.may_call(),
+            Record::Job { .. } => self.stack.has_inline(),
             Record::Run { dispatch, .. } => !self.stack.is_top(false, *dispatch),
             Record::Close { dispatch } => !self.stack.is_top(false, *dispatch),
             Record::Back { dispatch } => !self.stack.is_top(true, *dispatch),

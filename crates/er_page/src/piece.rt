@@ -23,6 +23,12 @@ pub enum Begun {
     Handler,
     /// The close of a dispatch.
     Close,
+    /// The event of a message.
+    Message,
+    /// An animation callback.
+    Anim,
+    /// A job.
+    Job,
 }
 
 /// The event that a piece is of, what that is, and the begin of the dispatch that it is a handler or the close of.
@@ -64,12 +70,18 @@ pub fn begins(rec: &Record) -> bool
         Record::Set { .. } => false,
         Record::Every { .. } => false,
         Record::Send { .. } => false,
+        Record::Post { .. } => false,
+        Record::Ask { .. } => false,
+        Record::Queue { .. } => false,
         Record::Access { .. } => false,
         Record::Parse { .. } => true,
         Record::ParseFrame { .. } => true,
         Record::Exec { .. } => true,
         Record::Timer { .. } => true,
         Record::Tick { .. } => true,
+        Record::Message { .. } => true,
+        Record::Anim { .. } => true,
+        Record::Job { .. } => true,
         Record::Dcl { .. } => true,
         Record::Load { .. } => true,
         Record::Eload { .. } => true,

@@ -108,7 +108,7 @@ impl Pieces {
         })
     }
 
-    /// Whether the running action can call an inline dispatch: its event is a script run, a timeout, a tick, a handler or a close.
+    /// Whether the running action can call an inline dispatch: its event is a script run, a timeout, a tick, a handler, a close, a message, an animation callback or a job.
     pub(crate) fn may_call(&self) -> bool
         ensures { (h : List Record) → PiecesAre self.now h → result ≡ may_call (running (told h).actions) }
     {
@@ -126,7 +126,14 @@ fn calls(begun: Begun) -> bool
     match begun {
         Begun::Parse => false,
         Begun::Begin => false,
-        _ => true,
+        Begun::Exec => true,
+        Begun::Timer => true,
+        Begun::Tick => true,
+        Begun::Handler => true,
+        Begun::Close => true,
+        Begun::Message => true,
+        Begun::Anim => true,
+        Begun::Job => true,
     }
 }
 
@@ -149,6 +156,19 @@ pub(crate) fn begun_by(rec: &Record) -> Option<Begun>
         Record::Inline { .. } => Some(Begun::Begin),
         Record::Run { .. } => Some(Begun::Handler),
         Record::Close { .. } => Some(Begun::Close),
-        _ => None,
+        Record::Message { .. } => Some(Begun::Message),
+        Record::Anim { .. } => Some(Begun::Anim),
+        Record::Job { .. } => Some(Begun::Job),
+        Record::Back { .. } => None,
+        Record::New { .. } => None,
+        Record::NewFrame { .. } => None,
+        Record::On { .. } => None,
+        Record::Set { .. } => None,
+        Record::Every { .. } => None,
+        Record::Send { .. } => None,
+        Record::Post { .. } => None,
+        Record::Ask { .. } => None,
+        Record::Queue { .. } => None,
+        Record::Access { .. } => None,
     }
 }

@@ -2,7 +2,8 @@
 
 ghost use Rattle.std.specs.Prelude.{◌≡◌, ℕ, ◌+◌, ◌<◌, ◌^◌, Bool, true, false, not, List, [], ◌∷◌, drop, reverse, OnOk, option_copied, vec_len, vec_capacity};
 ghost use Rattle.er_trace.specs.declared.record.Record.{Record};
-ghost use Rattle.er_history.specs.History.{told};
+ghost use Rattle.std.specs.List.{list_any};
+ghost use Rattle.er_history.specs.History.{told, is_inline, Open};
 ghost use Rattle.er_history.specs.Naming as naming;
 ghost use Rattle.er_history.specs.LookUps as says;
 ghost use Rattle.er_page.specs.Stack.{StackIs, HasDepth, put, closed, levels_after, top_of, depth_on};
@@ -66,6 +67,14 @@ impl Stack {
             Some(level) => level.depth,
             None => 0,
         }
+    }
+
+    /// Whether one of them is inline.
+    pub(crate) fn has_inline(&self) -> bool
+        ensures { (h : List Record) → StackIs self.now h
+            → result ≡ list_any (λ (o : Open). is_inline o.dispatch) (told h).stack }
+    {
+        self.depth() > 0
     }
 
     /// Whether this dispatch is on top, and its close has or has not begun.

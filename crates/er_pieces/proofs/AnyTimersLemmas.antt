@@ -6,7 +6,7 @@ use Rattle.er_trace.specs.declared.record.Record.{Record}
 use Rattle.er_trace.specs.declared.record.Record.TheVariants.{Timer, Tick, Run, Close, Back}
 use Rattle.er_paths.proofs.Paths.{or_cases, or_left, or_right}
 use Rattle.er_trace.specs.declared.version.Version.{Version}
-use Rattle.er_trace.specs.declared.version.Version.TheVariants.{One, Two}
+use Rattle.er_trace.specs.declared.version.Version.TheVariants.{One, Two, Three}
 use Rattle.er_history.specs.History.{Timeout, Event, What, TimeoutRun, TickRun, Action, told, begins, what_begun, action_begun, maker_by, declares_interval, first_to, makes_timeout}
 use Rattle.er_history.specs.Rules.{Rule, any_holds, made_by, set_before_timer, timers_of_one_event_in_order, timers_of_joined_pieces_in_order, timers_in_order, ticks_in_order}
 use Rattle.er_history.specs.Edges.{path, up_to, is_ruled}
@@ -219,6 +219,7 @@ joined_pieces_only joined u v e = by u.what v.what refl e
 pub only_to_timeouts : (v : Version) → OnlyToTimeouts (timers_in_order v)
 only_to_timeouts One = one_event_only
 only_to_timeouts Two = joined_pieces_only
+only_to_timeouts Three = joined_pieces_only
 
 pub enough_timer : EnoughTimer
 enough_timer v table has facts h x steady named ordered = enough_by (timers_in_order v) (only_to_timeouts v) table has facts h x steady named

@@ -1,17 +1,20 @@
 -- From its event on, for a close from the begin of its dispatch on, every action joins a piece. Lists of records stand newest first.
-use Rattle.std.proofs.Common.{◌≡◌, ℕ, ◌+◌, ◌<◌, ◌≤◌, true, false, List, [], ◌∷◌, length, refl, sym, ap, subst, ◌∙◌, arith, inl, inr, ◌⊎◌}
+use Rattle.std.proofs.Common.{◌≡◌, ℕ, ◌+◌, ◌<◌, ◌≤◌, Bool, true, false, List, [], ◌∷◌, length, Option, refl, sym, ap, subst, ◌∙◌, arith, inl, inr, ◌⊎◌}
 use Rattle.er_trace.specs.declared.record.Record.{Record}
-use Rattle.er_paths.proofs.Paths.{place_cases}
-use Rattle.er_history.specs.History.{Dispatch, What, BeginOf, HandlerOf, CloseOf, Event, Action, Open, told}
-use Rattle.er_history.specs.Rules.{Rule}
+use Rattle.er_paths.proofs.Paths.{or_left, or_right, place_cases}
+use Rattle.std.specs.Prelude.{◌==◌}
+use Rattle.std.specs.List.{list_any}
+use Rattle.er_history.specs.History.{Task, Dispatch, What, BeginOf, HandlerOf, CloseOf, JobRun, Event, Action, Open, told}
+use Rattle.er_history.specs.Rules.{Rule, any_holds, recorded, task_rules, post_before_message, messages_in_order, ask_before_anim, anims_in_order, queue_before_job, jobs_in_order, jobs_before_callbacks, jobs_before_close}
 use Rattle.er_history.specs.Edges.{path}
 use Rattle.er_history.specs.Laws.{Among}
 use Rattle.er_pieces.specs.Enough.{IsSteady}
-use Rattle.er_history.proofs.HistoryLemmas.{actions_are_numbered, among_below, same_action, paths_stay}
+use Rattle.er_history.proofs.HistoryLemmas.{actions_are_numbered, among_below, same_action, paths_stay, told_before, event_before}
 use Rattle.er_history.proofs.HandedLemmas.{action_stands}
 use Rattle.er_pieces.proofs.StackLemmas.{On}
 use Rattle.er_pieces.proofs.CallerLemmas.{among_more, among_cases}
-use Rattle.er_pieces.proofs.PathLemmas.{path_on, piece_path}
+use Rattle.er_pieces.proofs.PathLemmas.{both, less_is, path_on, piece_path, ruled_path}
+use Rattle.er_pieces.proofs.ChainLemmas.{event_with, one_holds}
 use Rattle.er_pieces.proofs.ServeLemmas.{begin_path, serves_close, handler_to_close}
 
 abbrev pub since_of : ℕ → What → ℕ
@@ -25,17 +28,18 @@ since e = since_of e.number e.what
 abbrev pub Gathers : List (ℕ × Rule) → List Record → Action → Type 0
 Gathers table h a = (i : ℕ) → since a.event ≤ i → i ≤ a.number → path table h i a.number ≡ true
 
--- the begin or a handler of the dispatch
+-- the begin or a handler of the dispatch, or a job that began while it was on the stack
 abbrev pub IsWithin : What → Dispatch → Type 0
 IsWithin (BeginOf q) d = q ≡ d
 IsWithin (HandlerOf q g x m) d = q ≡ d
+IsWithin (JobRun j made within) d = list_any (λ q. q == d.number) within ≡ true
 IsWithin _ d = ⊥
 
 -- i joins one
 abbrev pub Served : List (ℕ × Rule) → List Record → Dispatch → ℕ → Type 0
 Served table h d i = (c : Action) × Among c (told h).actions × IsWithin c.event.what d × (path table h i c.number ≡ true)
 
--- level by level: before the close of a dispatch each action since its begin joins its begin or a handler
+-- level by level: before the close of a dispatch each action since its begin joins its begin, a handler or a job within
 abbrev pub Held : List (ℕ × Rule) → List Record → Action → List Open → Type 0
 Held table h a [] = Unit {0}
 Held table h a (o ∷ rest) = (o.closing ≡ false → IsWithin a.event.what o.dispatch × ((i : ℕ) → o.dispatch.begin ≤ i → i ≤ a.number → Served table h o.dispatch i))
@@ -101,9 +105,36 @@ held_begun table h b o rest among within at under = (
 
 -- the close
 
-pub close_gathers : (table : List (ℕ × Rule)) (h : List Record) → IsSteady table h → (b : Action) (d : Dispatch) → Among b (told h).actions → b.event.what ≡ CloseOf d
+-- rule 31 is one of the group
+job_leads : (joined : ℕ → ℕ → Bool) (u v : Event) (j : ℕ) (made : Option Task) (within : List ℕ) (d : Dispatch) → u.number < v.number → u.what ≡ JobRun j made within → v.what ≡ CloseOf d
+    → list_any (λ q. q == d.number) within ≡ true → any_holds task_rules joined u v ≡ true
+job_leads joined u v j made within d before is also on =
+    one_holds task_rules joined u v (λ same. absurd (omega (arith, same, before)))
+    (or_right (post_before_message joined u v) _ (or_right (messages_in_order joined u v) _ (or_right (ask_before_anim joined u v) _ (or_right (anims_in_order joined u v) _
+    (or_right (queue_before_job joined u v) _ (or_right (jobs_in_order joined u v) _ (or_right (jobs_before_callbacks joined u v) _ (or_left (jobs_before_close joined u v) false
+    (ap (λ w. jobs_before_close joined (event_with u.number w) v) is
+    ∙ (ap (λ w. jobs_before_close joined (event_with u.number (JobRun j made within)) (event_with v.number w)) also
+    ∙ both (recorded u v) _ (less_is u.number v.number before) on))))))))))
+
+-- a job within a dispatch leads to the close, which begins now
+job_to_close : (table : List (ℕ × Rule)) (h : List Record) → IsSteady table h → (c b : Action) (d : Dispatch) (j : ℕ) (made : Option Task) (within : List ℕ) → Among c (told h).actions → Among b (told h).actions
+    → c.event.what ≡ JobRun j made within → b.event.what ≡ CloseOf d → list_any (λ q. q == d.number) within ≡ true → b.event.number ≡ b.number → b.number + 1 ≡ length (told h).actions → path table h c.number b.number ≡ true
+job_to_close table h steady c b d j made within first last is also on own newest =
+    elim (number_cases c.number b.number (let below = among_below (told h).actions c (actions_are_numbered h) first in omega (arith, below, newest))) [
+      | inl less ↦
+          let up = event_before (told h).actions c (told_before h) first in
+          ruled_path table task_rules h c b steady.has.tasks first last less (λ joined. job_leads joined c.event b.event j made within d (omega (arith, less, up.1, own)) is also on)
+      | inr same ↦
+          let one = just_one h c b first last same in
+          absurd (two (sym is ∙ (ap (λ (e : Action). e.event.what) one ∙ also)))
+    ]
+  where
+    two : JobRun j made within ≡ CloseOf d → ⊥
+    two f = cc
+
+pub close_gathers : (table : List (ℕ × Rule)) (h : List Record) → IsSteady table h → (b : Action) (d : Dispatch) → Among b (told h).actions → b.event.what ≡ CloseOf d → b.event.number ≡ b.number → b.number + 1 ≡ length (told h).actions
     → ((i : ℕ) → d.begin ≤ i → i < b.number → Served table h d i) → Gathers table h b
-close_gathers table h steady b d among is served i from to =
+close_gathers table h steady b d among is own newest served i from to =
     elim (number_cases i b.number to) [
       | inl less ↦
           let one = served i (subst (λ w. since_of b.event.number w ≤ i) is from) less in
@@ -117,6 +148,7 @@ close_gathers table h steady b d among is served i from to =
         of : (z : What) → c.event.what ≡ z → IsWithin z d → path table h c.number b.number ≡ true
         of (BeginOf q) what same = begin_path table h steady c b q d other among what (serves_close _ d is) (ap (λ (p : Dispatch). p.number) same)
         of (HandlerOf q g x m) what same = handler_to_close table h steady c b q d g x m other among what is (ap (λ (p : Dispatch). p.number) same)
+        of (JobRun j made within) what on = job_to_close table h steady c b d j made within other among what is on own newest
         of _ what same = absurd same
 
 -- a piece that goes on, behind the close of the dispatch that it called

@@ -1,13 +1,16 @@
 -- What runs where the close of an inline dispatch has begun, and what is suspended under one. Lists of records stand newest first.
-use Rattle.std.proofs.Common.{◌≡◌, ℕ, ◌+◌, ◌≤◌, Bool, true, false, List, [], ◌∷◌, length, Option, Some, None, refl, sym, ap, subst, arith, inl, inr}
+use Rattle.std.proofs.Common.{◌≡◌, ℕ, ◌+◌, ◌≤◌, Bool, true, false, List, [], ◌∷◌, length, Option, Some, None, refl, sym, ap, subst, ◌∙◌, arith, inl, inr}
 use Rattle.std.specs.Prelude.{if◌then◌else◌}
+use Rattle.std.specs.List.{list_any}
 use Rattle.er_trace.specs.declared.record.Record.{Record}
-use Rattle.er_trace.specs.declared.record.Record.TheVariants.{Parse, ParseFrame, Exec, Timer, Tick, Dcl, Load, Eload, Fire, Wfire, Reply, Inline, Run, Close, Back}
+use Rattle.er_trace.specs.declared.record.Record.TheVariants.{Parse, ParseFrame, Exec, Timer, Tick, Dcl, Load, Eload, Fire, Wfire, Reply, Inline, Run, Close, Back, Message, Anim, Job}
 use Rattle.er_history.specs.History.{Dispatch, is_inline, What, CloseOf, Unnamed, Event, Action, Open, told, dispatch_begun, event_begun, action_begun, stack_after, running}
 use Rattle.er_history.specs.Laws.{Among, IsNumbered}
 use Rattle.er_history.specs.Naming.{IsNamed, misplaced, has_open}
 use Rattle.er_history.proofs.HistoryLemmas.{actions_are_numbered, among_below, same_action}
 use Rattle.er_history.proofs.NamedLemmas.{none_holds}
+use Rattle.er_history.proofs.DeclaredLemmas.{or_none}
+use Rattle.er_history.proofs.UnfinishedLemmas.{StackBegun, stack_begun}
 use Rattle.er_pieces.proofs.StackLemmas.{On, Top, top_is, stack_from, dispatch_at}
 use Rattle.er_pieces.proofs.CallerLemmas.{among_cases, resumed}
 use Rattle.er_pieces.proofs.ClearLemmas.{IsSorted, sorted, opens_below}
@@ -102,6 +105,24 @@ level_next h (ParseFrame d y f) placed named level = level_emptied h (ParseFrame
 level_next h (Exec y) placed named level = level_emptied h (Exec y) placed
 level_next h (Timer t) placed named level = level_emptied h (Timer t) placed
 level_next h (Tick i) placed named level = level_emptied h (Tick i) placed
+level_next h (Message m) placed named level = level_emptied h (Message m) placed
+level_next h (Anim a) placed named level = level_emptied h (Anim a) placed
+level_next h (Job j) placed named level =
+    on_stack (told h).stack refl (level_more b (told h).actions (what_of (running (told h).actions)) (told h).stack refl (λ o on. let lt = opens_below h o on in omega arith) level)
+  where
+    b : Action
+    b = action_begun (told h) (Job j)
+
+    -- the close of no dispatch on the stack has begun: none is inline
+    on_stack : (s : List Open) → (told h).stack ≡ s → Level (b ∷ (told h).actions) (what_of (running (told h).actions)) s → Level (b ∷ (told h).actions) b.event.what s
+    on_stack [] same level = tt
+    on_stack (o ∷ rest) same level = ((λ closing. absurd (closed closing)), level.1, level.2)
+      where
+        closed : o.closing ≡ true → ⊥
+        closed closing =
+            let inline : is_inline o.dispatch ≡ true = (subst (StackBegun h) same (stack_begun h named)).0.closes closing in
+            let none = (or_none (is_inline o.dispatch) _ (sym (ap (list_any (λ (q : Open). is_inline q.dispatch)) same) ∙ placed)).0 in
+            cc
 level_next h (Dcl p c) placed named level = level_alone (action_begun (told h) (Dcl p c) ∷ (told h).actions) (event_begun (told h) (Dcl p c)).what _ (told h).stack (no_open (told h).stack placed)
 level_next h (Load p c) placed named level = level_alone (action_begun (told h) (Load p c) ∷ (told h).actions) (event_begun (told h) (Load p c)).what _ (told h).stack (no_open (told h).stack placed)
 level_next h (Eload p y) placed named level = level_alone (action_begun (told h) (Eload p y) ∷ (told h).actions) (event_begun (told h) (Eload p y)).what _ (told h).stack (no_open (told h).stack placed)

@@ -38,6 +38,7 @@ pub mod GatherLemmas
 pub mod NestedLemmas
 pub mod NestedLaws
 pub mod AnyTimersLemmas
+pub mod TaskLemmas
 pub mod NewestLemmas
 pub mod ContractLemmas
 pub mod LookUpLemmas

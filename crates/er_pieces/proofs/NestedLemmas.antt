@@ -1,11 +1,12 @@
 -- Proof of the two laws of nested pieces, from what each piece gathers. Lists of records stand newest first.
-use Rattle.std.proofs.Common.{◌≡◌, ℕ, ◌+◌, Bool, true, false, List, [], ◌∷◌, length, None, refl, sym, ap, subst, ◌∙◌, arith, inl, inr}
-use Rattle.std.specs.Prelude.{if◌then◌else◌, nat_lt}
+use Rattle.std.proofs.Common.{◌≡◌, ℕ, ◌+◌, Bool, true, false, List, [], ◌∷◌, length, map, None, refl, sym, ap, subst, ◌∙◌, arith, inl, inr}
+use Rattle.std.specs.Prelude.{◌==◌, if◌then◌else◌, nat_lt}
+use Rattle.std.specs.List.{list_any}
 use Rattle.std.proofs.lemmas.Bool.{eq-eqb}
 use Rattle.er_trace.specs.declared.record.Record.{Record}
-use Rattle.er_trace.specs.declared.record.Record.TheVariants.{Parse, ParseFrame, Exec, Timer, Tick, Dcl, Load, Eload, Fire, Wfire, Reply, Inline, Run, Close, Back}
+use Rattle.er_trace.specs.declared.record.Record.TheVariants.{Parse, ParseFrame, Exec, Timer, Tick, Dcl, Load, Eload, Fire, Wfire, Reply, Inline, Run, Close, Back, Message, Anim, Job}
 use Rattle.er_paths.proofs.Paths.{or_left, or_right}
-use Rattle.er_history.specs.History.{Dispatch, is_inline, What, BeginOf, HandlerOf, CloseOf, Event, Action, Open, told, begins, event_begun, action_begun, stack_after, running, maker_by, declares_handler}
+use Rattle.er_history.specs.History.{Dispatch, is_inline, What, BeginOf, HandlerOf, CloseOf, JobRun, Event, Action, Open, told, begins, event_begun, action_begun, stack_after, running, maker_by, declares_handler}
 use Rattle.er_history.specs.Rules.{Rule}
 use Rattle.er_history.specs.Edges.{path, around_inline, of_one_event, is_ruled}
 use Rattle.er_history.specs.Laws.{Among}
@@ -117,10 +118,39 @@ good_run table h p g y placed good =
       held.1,
     )
 
+-- a job runs, on whatever stack
+good_job : (table : List (ℕ × Rule)) (h : List Record) (j : ℕ) → Good table h → Good table (Job j ∷ h)
+good_job table h j good = next_good table h (Job j) refl good (gathers_alone table (Job j ∷ h) b (inl refl) refl) (held (told h).stack refl)
+  where
+    b : Action
+    b = action_begun (told h) (Job j)
+
+    held : (s : List Open) → (told h).stack ≡ s → Held table (Job j ∷ h) b s
+    held [] same = tt
+    held (o ∷ rest) same = (
+      λ still_open. (
+        within,
+        λ i from to. elim (number_cases i b.number to) [
+          | inl less ↦ (level.0 still_open).1 i from (let last = runs.last in omega (arith, less, last))
+          | inr at ↦ (b, inl refl, within, subst (λ k. path table (Job j ∷ h) k b.number ≡ true) (sym at) (action_stands table (Job j ∷ h) b (inl refl)))
+        ],
+      ),
+      level.1,
+    )
+      where
+        runs : Runs (told h).actions
+        runs = runs_now h o (subst (On o) (sym same) (inl refl))
+
+        level : Held table (Job j ∷ h) runs.piece (o ∷ rest)
+        level = subst (Held table (Job j ∷ h) runs.piece) same (held_more table h (Job j) runs.piece (told h).stack (opens_below h) (good.held runs.piece runs.among runs.last))
+
+        within : list_any (λ q. q == o.dispatch.number) (map (λ (p : Open). p.dispatch.number) (told h).stack) ≡ true
+        within = ap (λ s. list_any (λ q. q == o.dispatch.number) (map (λ (p : Open). p.dispatch.number) s)) same ∙ or_left (o.dispatch.number == o.dispatch.number) _ (eq-eqb o.dispatch.number o.dispatch.number refl)
+
 -- a close begins
 good_close : (table : List (ℕ × Rule)) (h : List Record) (p : ℕ) → IsSteady table (Close p ∷ h) → misplaced (told h) (Close p) ≡ false → Good table h → Good table (Close p ∷ h)
 good_close table h p steady placed good =
-    next_good table h (Close p) refl good (close_gathers table (Close p ∷ h) steady b top.top.dispatch (inl refl) what (λ i from less. (held.0 top.closes).1 i from (let last = runs.last in omega (arith, less, last))))
+    next_good table h (Close p) refl good (close_gathers table (Close p ∷ h) steady b top.top.dispatch (inl refl) what refl (sym (longer h (Close p) refl)) (λ i from less. (held.0 top.closes).1 i from (let last = runs.last in omega (arith, less, last))))
     (subst (λ s. Held table (Close p ∷ h) b (stack_after s None (Close p))) (sym top.is) (step (is_inline top.top.dispatch) refl))
   where
     b : Action
@@ -188,6 +218,7 @@ good_back table h p steady placed good =
     own : (w : What) (e : Dispatch) (n : ℕ) → IsWithin w e → since_of n w ≡ n
     own (BeginOf q) e n within = refl
     own (HandlerOf q g x m) e n within = refl
+    own (JobRun j made around) e n within = refl
     own _ e n within = absurd within
 
     moved : (rest : List Open) → Held table (Back p ∷ h) s rest → Held table (Back p ∷ h) b rest
@@ -218,6 +249,9 @@ good table (x ∷ h) steady = by x steady (none_holds h x steady.named.0).placed
     by (ParseFrame d y f) steady placed before = good_top table h (ParseFrame d y f) refl placed refl (inl refl) refl before
     by (Exec y) steady placed before = good_top table h (Exec y) refl placed refl (inl refl) refl before
     by (Timer t) steady placed before = good_top table h (Timer t) refl placed refl (inl refl) refl before
+    by (Message m) steady placed before = good_top table h (Message m) refl placed refl (inl refl) refl before
+    by (Anim a) steady placed before = good_top table h (Anim a) refl placed refl (inl refl) refl before
+    by (Job j) steady placed before = good_job table h j before
     by (Tick i) steady placed before = good_top table h (Tick i) refl placed refl (inl refl) refl before
     by (Dcl p c) steady placed before = good_begin table h (Dcl p c) _ refl placed refl (inl refl) refl refl refl before
     by (Load p c) steady placed before = good_begin table h (Load p c) _ refl placed refl (inl refl) refl refl refl before

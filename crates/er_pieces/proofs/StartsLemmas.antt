@@ -3,9 +3,9 @@ use Rattle.std.proofs.Common.{◌≡◌, ℕ, ◌+◌, ◌<◌, ◌≤◌, true,
 use Rattle.std.specs.Prelude.{if◌then◌else◌}
 use Rattle.std.proofs.lemmas.Bool.{eq-eqb}
 use Rattle.er_trace.specs.declared.record.Record.{Record}
-use Rattle.er_trace.specs.declared.record.Record.TheVariants.{Parse, ParseFrame, Exec, Timer, Tick, Dcl, Load, Eload, Fire, Wfire, Reply, Inline, Run, Close, Back}
+use Rattle.er_trace.specs.declared.record.Record.TheVariants.{Parse, ParseFrame, Exec, Timer, Tick, Dcl, Load, Eload, Fire, Wfire, Reply, Inline, Run, Close, Back, Message, Anim, Job}
 use Rattle.er_paths.proofs.Paths.{place_cases}
-use Rattle.er_history.specs.History.{Dispatch, is_inline, What, BeginOf, HandlerOf, CloseOf, Unnamed, Event, Action, Open, told, begins, dispatch_begun, what_begun, event_begun}
+use Rattle.er_history.specs.History.{Dispatch, is_inline, What, BeginOf, HandlerOf, CloseOf, JobRun, Unnamed, Event, Action, Open, told, begins, dispatch_begun, what_begun, event_begun}
 use Rattle.er_history.specs.Laws.{Among}
 use Rattle.er_history.specs.Naming.{IsNamed, misplaced, has_open}
 use Rattle.er_history.specs.Unfinished.{begins_inline}
@@ -20,6 +20,7 @@ abbrev pub bound_of : ℕ → What → ℕ
 bound_of n (HandlerOf d g x m) = d.begin + 1
 bound_of n (CloseOf d) = d.begin + 1
 bound_of n (BeginOf d) = if is_inline d then n + 1 else 0
+bound_of n (JobRun j made within) = n + 1
 bound_of n Unnamed = n + 1
 bound_of n _ = 0
 
@@ -135,6 +136,9 @@ clear_now h (ParseFrame d y f) placed begin new = starts_top h (ParseFrame d y f
 clear_now h (Exec y) placed begin new = starts_top h (Exec y) refl refl placed (λ d is. is) (λ q. refl)
 clear_now h (Timer t) placed begin new = starts_top h (Timer t) refl refl placed (λ d is. is) (λ q. refl)
 clear_now h (Tick i) placed begin new = starts_top h (Tick i) refl refl placed (λ d is. is) (λ q. refl)
+clear_now h (Message m) placed begin new = starts_top h (Message m) refl refl placed (λ d is. is) (λ q. refl)
+clear_now h (Anim a) placed begin new = starts_top h (Anim a) refl refl placed (λ d is. is) (λ q. refl)
+clear_now h (Job j) placed begin new = clear_trivially (length (told h).actions) _ _
 clear_now h (Dcl p c) placed begin new = starts_top h (Dcl p c) refl refl placed (λ d is. is) (λ q. refl)
 clear_now h (Load p c) placed begin new = starts_top h (Load p c) refl refl placed (λ d is. is) (λ q. refl)
 clear_now h (Eload p y) placed begin new = starts_top h (Eload p y) refl refl placed (λ d is. is) (λ q. refl)

@@ -2,7 +2,7 @@
 use Rattle.std.proofs.Common.{ℕ, List, [], ◌∷◌, ◌++◌, ◌∙◌}
 use Rattle.er_paths.proofs.Paths.{or_left, or_right}
 use Rattle.er_trace.specs.declared.version.Version.{Version}
-use Rattle.er_history.specs.Rules.{Rule, any_holds, rules, parse_rules, script_rules, load_rules, dispatch_rules, timer_rules, request_rules, set_before_timer, timers_in_order, ticks_in_order}
+use Rattle.er_history.specs.Rules.{Rule, any_holds, rules, parse_rules, script_rules, load_rules, dispatch_rules, timer_rules, request_rules, task_rules, set_before_timer, timers_in_order, ticks_in_order}
 use Rattle.er_history.specs.Handed.{HasGroup}
 use Rattle.er_pieces.specs.Enough.{HasSteady}
 use Rattle.er_history.proofs.OrderLemmas.{holds_append}
@@ -24,14 +24,16 @@ all_rules_are_steady v =
     let three : List (ℕ × Rule) = two ++ load_rules in
     let four : List (ℕ × Rule) = three ++ dispatch_rules in
     let five : List (ℕ × Rule) = four ++ timer_rules v in
+    let six : List (ℕ × Rule) = five ++ request_rules in
     record {
-      parse = has_first five request_rules parse_rules (has_first four (timer_rules v) parse_rules (has_first three dispatch_rules parse_rules (has_first two load_rules parse_rules (has_first parse_rules script_rules parse_rules (has_itself parse_rules)))));
-      script = has_first five request_rules script_rules (has_first four (timer_rules v) script_rules (has_first three dispatch_rules script_rules (has_first two load_rules script_rules (has_second parse_rules script_rules script_rules (has_itself script_rules)))));
-      load = has_first five request_rules load_rules (has_first four (timer_rules v) load_rules (has_first three dispatch_rules load_rules (has_second two load_rules load_rules (has_itself load_rules))));
-      dispatch = has_first five request_rules dispatch_rules (has_first four (timer_rules v) dispatch_rules (has_second three dispatch_rules dispatch_rules (has_itself dispatch_rules)));
-      timeouts = has_first five request_rules timeouts (has_second four (timer_rules v) timeouts (has_first timeouts rest timeouts (has_itself timeouts)));
-      ticks = has_first five request_rules ticks (has_second four (timer_rules v) ticks (has_second ((18, set_before_timer) ∷ (19, timers_in_order v) ∷ []) ticks ticks (has_itself ticks)));
-      requests = has_second five request_rules request_rules (has_itself request_rules);
+      parse = has_first six task_rules parse_rules (has_first five request_rules parse_rules (has_first four (timer_rules v) parse_rules (has_first three dispatch_rules parse_rules (has_first two load_rules parse_rules (has_first parse_rules script_rules parse_rules (has_itself parse_rules))))));
+      script = has_first six task_rules script_rules (has_first five request_rules script_rules (has_first four (timer_rules v) script_rules (has_first three dispatch_rules script_rules (has_first two load_rules script_rules (has_second parse_rules script_rules script_rules (has_itself script_rules))))));
+      load = has_first six task_rules load_rules (has_first five request_rules load_rules (has_first four (timer_rules v) load_rules (has_first three dispatch_rules load_rules (has_second two load_rules load_rules (has_itself load_rules)))));
+      dispatch = has_first six task_rules dispatch_rules (has_first five request_rules dispatch_rules (has_first four (timer_rules v) dispatch_rules (has_second three dispatch_rules dispatch_rules (has_itself dispatch_rules))));
+      timeouts = has_first six task_rules timeouts (has_first five request_rules timeouts (has_second four (timer_rules v) timeouts (has_first timeouts rest timeouts (has_itself timeouts))));
+      ticks = has_first six task_rules ticks (has_first five request_rules ticks (has_second four (timer_rules v) ticks (has_second ((18, set_before_timer) ∷ (19, timers_in_order v) ∷ []) ticks ticks (has_itself ticks))));
+      requests = has_first six task_rules request_rules (has_second five request_rules request_rules (has_itself request_rules));
+      tasks = has_second six task_rules task_rules (has_itself task_rules);
     }
   where
     timeouts : List (ℕ × Rule)

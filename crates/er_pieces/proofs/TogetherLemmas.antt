@@ -11,7 +11,7 @@ use Rattle.er_paths.specs.Laws.{IsEnough}
 use Rattle.er_paths.proofs.Paths.{or_cases, or_left, or_right, any_from, any_some}
 use Rattle.er_trace.specs.declared.version.Version.{Version}
 use Rattle.er_history.specs.History.{Action, told, begins, action_begun, running}
-use Rattle.er_history.specs.Rules.{Rule, rules, parse_rules, script_rules, load_rules, dispatch_rules, timer_rules, request_rules}
+use Rattle.er_history.specs.Rules.{Rule, rules, parse_rules, script_rules, load_rules, dispatch_rules, timer_rules, request_rules, task_rules}
 use Rattle.er_history.specs.Edges.{is_ruled, around_inline, of_one_event, up_to, edge, edges, sources, path}
 use Rattle.er_history.specs.Laws.{Among}
 use Rattle.er_history.specs.Latest.{number_of}
@@ -121,30 +121,32 @@ no_numbers : (xs ys : List ℕ) → xs ≡ [] → ys ≡ [] → xs ++ ys ≡ []
 no_numbers xs ys e f = rw (e, f) refl
 
 pub has_timers : (v : Version) → HasGroup (rules v) (timer_rules v)
-has_timers v = has_first (parse_rules ++ script_rules ++ load_rules ++ dispatch_rules ++ timer_rules v) request_rules (timer_rules v) (has_second (parse_rules ++ script_rules ++ load_rules ++ dispatch_rules) (timer_rules v) (timer_rules v) (has_itself (timer_rules v)))
+has_timers v = has_first (parse_rules ++ script_rules ++ load_rules ++ dispatch_rules ++ timer_rules v ++ request_rules) task_rules (timer_rules v) (has_first (parse_rules ++ script_rules ++ load_rules ++ dispatch_rules ++ timer_rules v) request_rules (timer_rules v) (has_second (parse_rules ++ script_rules ++ load_rules ++ dispatch_rules) (timer_rules v) (timer_rules v) (has_itself (timer_rules v))))
 
 pub all_hand : AllHand
 all_hand v h x old new steady named turns = record {
   handed = all;
-  grown = turns.request.grown ∙ put_behind turns.timers old (a ++ b ++ c ++ d ++ e) f
+  grown = turns.task.grown ∙ put_behind turns.requests old (a ++ b ++ c ++ d ++ e ++ f) g
+      (turns.request.grown ∙ put_behind turns.timers old (a ++ b ++ c ++ d ++ e) f
       (turns.timer.grown ∙ put_behind turns.dispatches old (a ++ b ++ c ++ d) e
       (turns.dispatch.grown ∙ put_behind turns.loads old (a ++ b ++ c) d
       (turns.load.grown ∙ put_behind turns.runs old (a ++ b) c
-      (turns.script.grown ∙ put_behind turns.steps old a b turns.parse.grown))));
+      (turns.script.grown ∙ put_behind turns.steps old a b turns.parse.grown)))));
   are_handed = record {
-    sources = each_both S acts (a ++ b ++ c ++ d ++ e) f (each_both S acts (a ++ b ++ c ++ d) e (each_both S acts (a ++ b ++ c) d (each_both S acts (a ++ b) c (each_both S acts a b
+    sources = each_both S acts (a ++ b ++ c ++ d ++ e ++ f) g (each_both S acts (a ++ b ++ c ++ d ++ e) f (each_both S acts (a ++ b ++ c ++ d) e (each_both S acts (a ++ b ++ c) d (each_both S acts (a ++ b) c (each_both S acts a b
         (group_sources v (rules v) parse_rules h x a steady.has.parse turns.parse.are_handed.sources)
         (group_sources v (rules v) script_rules h x b steady.has.script turns.script.are_handed.sources))
         (group_sources v (rules v) load_rules h x c steady.has.load turns.load.are_handed.sources))
         (piece_sources v (rules v) dispatch_rules h x d steady.has.dispatch turns.dispatch.are_handed.sources))
         (group_sources v (rules v) (timer_rules v) h x e (has_timers v) turns.timer.are_handed.sources))
-        (group_sources v (rules v) request_rules h x f steady.has.requests turns.request.are_handed.sources);
+        (group_sources v (rules v) request_rules h x f steady.has.requests turns.request.are_handed.sources))
+        (group_sources v (rules v) task_rules h x g steady.has.tasks turns.task.are_handed.sources);
     enough = λ begin i among led. elim (or_cases (is_ruled (rules v) joined i n) (around_inline i n || of_one_event i n) led) [
       | inl ruled ↦ by_rules begin i among ruled
       | inr piece ↦ at_d i (turns.dispatch.are_handed.enough begin i among (or_right (is_ruled dispatch_rules joined i n) _ piece))
     ];
-    none = λ note. no_numbers (a ++ b ++ c ++ d ++ e) f (no_numbers (a ++ b ++ c ++ d) e (no_numbers (a ++ b ++ c) d (no_numbers (a ++ b) c (no_numbers a b
-        (turns.parse.are_handed.none note) (turns.script.are_handed.none note)) (turns.load.are_handed.none note)) (turns.dispatch.are_handed.none note)) (turns.timer.are_handed.none note)) (turns.request.are_handed.none note);
+    none = λ note. no_numbers (a ++ b ++ c ++ d ++ e ++ f) g (no_numbers (a ++ b ++ c ++ d ++ e) f (no_numbers (a ++ b ++ c ++ d) e (no_numbers (a ++ b ++ c) d (no_numbers (a ++ b) c (no_numbers a b
+        (turns.parse.are_handed.none note) (turns.script.are_handed.none note)) (turns.load.are_handed.none note)) (turns.dispatch.are_handed.none note)) (turns.timer.are_handed.none note)) (turns.request.are_handed.none note)) (turns.task.are_handed.none note);
   };
 }
   where
@@ -178,36 +180,47 @@ all_hand v h x old new steady named turns = record {
     f : List ℕ
     f = turns.request.handed
 
+    g : List ℕ
+    g = turns.task.handed
+
     all : List ℕ
-    all = a ++ b ++ c ++ d ++ e ++ f
+    all = a ++ b ++ c ++ d ++ e ++ f ++ g
+
+    -- what reaches one of the first six
+    past : (i : Action) → Reaches joined i.number (a ++ b ++ c ++ d ++ e ++ f) → Reaches joined i.number all
+    past i to = reach_left joined i.number (a ++ b ++ c ++ d ++ e ++ f) g to
 
     at_d : (i : Action) → Reaches joined i.number d → Reaches joined i.number all
-    at_d i to = reach_left joined i.number (a ++ b ++ c ++ d ++ e) f (reach_left joined i.number (a ++ b ++ c ++ d) e (reach_right joined i.number (a ++ b ++ c) d to))
+    at_d i to = past i (reach_left joined i.number (a ++ b ++ c ++ d ++ e) f (reach_left joined i.number (a ++ b ++ c ++ d) e (reach_right joined i.number (a ++ b ++ c) d to)))
 
     or_at_d : (i : Action) (own : List ℕ) → (Reaches joined i.number own → Reaches joined i.number all) → Reaches joined i.number own ⊎ Reaches joined i.number d → Reaches joined i.number all
     or_at_d i own here (inl to) = here to
     or_at_d i own here (inr to) = at_d i to
 
     at_a : (i : Action) → Reaches joined i.number a → Reaches joined i.number all
-    at_a i to = reach_left joined i.number (a ++ b ++ c ++ d ++ e) f (reach_left joined i.number (a ++ b ++ c ++ d) e (reach_left joined i.number (a ++ b ++ c) d (reach_left joined i.number (a ++ b) c (reach_left joined i.number a b to))))
+    at_a i to = past i (reach_left joined i.number (a ++ b ++ c ++ d ++ e) f (reach_left joined i.number (a ++ b ++ c ++ d) e (reach_left joined i.number (a ++ b ++ c) d (reach_left joined i.number (a ++ b) c (reach_left joined i.number a b to)))))
 
     at_b : (i : Action) → Reaches joined i.number b → Reaches joined i.number all
-    at_b i to = reach_left joined i.number (a ++ b ++ c ++ d ++ e) f (reach_left joined i.number (a ++ b ++ c ++ d) e (reach_left joined i.number (a ++ b ++ c) d (reach_left joined i.number (a ++ b) c (reach_right joined i.number a b to))))
+    at_b i to = past i (reach_left joined i.number (a ++ b ++ c ++ d ++ e) f (reach_left joined i.number (a ++ b ++ c ++ d) e (reach_left joined i.number (a ++ b ++ c) d (reach_left joined i.number (a ++ b) c (reach_right joined i.number a b to)))))
 
     at_c : (i : Action) → Reaches joined i.number c → Reaches joined i.number all
-    at_c i to = reach_left joined i.number (a ++ b ++ c ++ d ++ e) f (reach_left joined i.number (a ++ b ++ c ++ d) e (reach_left joined i.number (a ++ b ++ c) d (reach_right joined i.number (a ++ b) c to)))
+    at_c i to = past i (reach_left joined i.number (a ++ b ++ c ++ d ++ e) f (reach_left joined i.number (a ++ b ++ c ++ d) e (reach_left joined i.number (a ++ b ++ c) d (reach_right joined i.number (a ++ b) c to))))
 
     at_e : (i : Action) → Reaches joined i.number e → Reaches joined i.number all
-    at_e i to = reach_left joined i.number (a ++ b ++ c ++ d ++ e) f (reach_right joined i.number (a ++ b ++ c ++ d) e to)
+    at_e i to = past i (reach_left joined i.number (a ++ b ++ c ++ d ++ e) f (reach_right joined i.number (a ++ b ++ c ++ d) e to))
 
     at_f : (i : Action) → Reaches joined i.number f → Reaches joined i.number all
-    at_f i to = reach_right joined i.number (a ++ b ++ c ++ d ++ e) f to
+    at_f i to = past i (reach_right joined i.number (a ++ b ++ c ++ d ++ e) f to)
+
+    at_g : (i : Action) → Reaches joined i.number g → Reaches joined i.number all
+    at_g i to = reach_right joined i.number (a ++ b ++ c ++ d ++ e ++ f) g to
 
     by_rules : begins x ≡ true → (i : Action) → Among i acts → is_ruled (rules v) joined i n ≡ true → Reaches joined i.number all
     by_rules begin i among ruled =
         let G : Type 0 = Reaches joined i.number all in
         let are = turns.dispatch.are_handed in
-        either (parse_rules ++ script_rules ++ load_rules ++ dispatch_rules ++ timer_rules v) request_rules joined i n G
+        either (parse_rules ++ script_rules ++ load_rules ++ dispatch_rules ++ timer_rules v ++ request_rules) task_rules joined i n G
+        (either (parse_rules ++ script_rules ++ load_rules ++ dispatch_rules ++ timer_rules v) request_rules joined i n G
         (either (parse_rules ++ script_rules ++ load_rules ++ dispatch_rules) (timer_rules v) joined i n G
         (either (parse_rules ++ script_rules ++ load_rules) dispatch_rules joined i n G
         (either (parse_rules ++ script_rules) load_rules joined i n G
@@ -217,7 +230,8 @@ all_hand v h x old new steady named turns = record {
         (λ r. or_at_d i c (at_c i) (group_reaches v load_rules h x c d steady named begin turns.load.are_handed.enough are i among r)))
         (λ r. at_d i (are.enough begin i among (or_left (is_ruled dispatch_rules joined i n) _ r))))
         (λ r. or_at_d i e (at_e i) (group_reaches v (timer_rules v) h x e d steady named begin turns.timer.are_handed.enough are i among r)))
-        (λ r. or_at_d i f (at_f i) (group_reaches v request_rules h x f d steady named begin turns.request.are_handed.enough are i among r)) ruled
+        (λ r. or_at_d i f (at_f i) (group_reaches v request_rules h x f d steady named begin turns.request.are_handed.enough are i among r)))
+        (λ r. or_at_d i g (at_g i) (group_reaches v task_rules h x g d steady named begin turns.task.are_handed.enough are i among r)) ruled
 
 -- beside the lists of the earlier actions
 

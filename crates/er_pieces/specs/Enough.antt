@@ -5,15 +5,15 @@ use Rattle.er_trace.specs.declared.record.Record.{Record}
 use Rattle.er_trace.specs.declared.record.Record.TheVariants.{Back}
 use Rattle.er_trace.specs.declared.version.Version.{Version}
 use Rattle.er_history.specs.History.{History, Action, Dispatch, CloseOf, told, begins, running, action_begun}
-use Rattle.er_history.specs.Rules.{Rule, same_target, parse_rules, script_rules, load_rules, dispatch_rules, timer_rules, request_rules, set_before_timer, ticks_in_order}
+use Rattle.er_history.specs.Rules.{Rule, same_target, parse_rules, script_rules, load_rules, dispatch_rules, timer_rules, request_rules, task_rules, set_before_timer, ticks_in_order}
 use Rattle.er_history.specs.Edges.{around_inline, of_one_event, is_ruled, path}
 use Rattle.er_history.specs.Laws.{Among}
 use Rattle.er_history.specs.Handed.{HasGroup, AreEnough}
-use Rattle.er_pieces.specs.HandedPieces.{parse_handed, script_handed, load_handed, timer_handed, request_handed, dispatch_handed}
+use Rattle.er_pieces.specs.HandedPieces.{parse_handed, script_handed, load_handed, timer_handed, request_handed, task_handed, dispatch_handed}
 use Rattle.er_history.specs.Naming.{naming, IsNamed}
 use Rattle.er_history.specs.Sound.{out_of_order}
 
--- the table has rules 1 to 18, 20 and 21
+-- the table has rules 1 to 18, 20, 21 and 24 to 31
 pub record HasSteady (table : List (ℕ × Rule)) : Type 0 where
   pub parse : HasGroup table parse_rules
   pub script : HasGroup table script_rules
@@ -22,6 +22,7 @@ pub record HasSteady (table : List (ℕ × Rule)) : Type 0 where
   pub timeouts : HasGroup table ((18, set_before_timer) ∷ [])
   pub ticks : HasGroup table ((20, ticks_in_order) ∷ [])
   pub requests : HasGroup table request_rules
+  pub tasks : HasGroup table task_rules
 
 -- no record is out of order after those before it
 abbrev pub AreInOrder : List (ℕ × Rule) → List Record → Type 0
@@ -89,6 +90,13 @@ EnoughTimer = (v : Version) (table : List (ℕ × Rule)) → HasGroup table (tim
 abbrev pub EnoughRequest : Type 0
 EnoughRequest = (table : List (ℕ × Rule)) → NestedFacts table
     → Suffices table request_rules request_handed
+
+-- And for those of tasks. What is handed by them may rest on the paths.
+abbrev pub EnoughTask : Type 0
+EnoughTask = (table : List (ℕ × Rule)) → NestedFacts table
+    → (h : List Record) (x : Record)
+    → IsSteady table h → naming h x ≡ None → out_of_order table h x ≡ false
+    → AreEnough task_rules (path table h) (told h) x (task_handed (path table h) (told h) x)
 
 -- And for those of dispatches between events.
 abbrev pub EnoughDispatch : Type 0

@@ -1,10 +1,10 @@
 -- The pieces that each group of rules hands for a record: latest pieces alone. Lists of records stand newest first.
 use Rattle.std.specs.Prelude.{ℕ, Bool, true, false, ◌==◌, nat_lt, if◌then◌else◌, List, [], ◌++◌, Option, Some, None}
 use Rattle.er_trace.specs.declared.record.Record.{Record}
-use Rattle.er_trace.specs.declared.record.Record.TheVariants.{Parse, ParseFrame, Exec, Timer, Tick, Dcl, Load, Eload, Fire, Wfire, Reply, Inline, Run, Close, Back}
+use Rattle.er_trace.specs.declared.record.Record.TheVariants.{Parse, ParseFrame, Exec, Timer, Tick, Dcl, Load, Eload, Fire, Wfire, Reply, Inline, Run, Close, Back, Message, Anim, Job}
 use Rattle.er_trace.specs.declared.version.Version.{Version}
 use Rattle.er_history.specs.History.{Form, Kinded, Framing, Element, Timeout, FireAt, WindowFire, Event, Action, History, first_to, makes_element, makes_timeout, maker_by, element_maker, declares_document, declares_handler, declares_interval, declares_request, event_begun, running}
-use Rattle.er_history.specs.Rules.{is_blocking, is_deferred, is_dcl_of, same_target, Rule, timers_in_order}
+use Rattle.er_history.specs.Rules.{is_blocking, is_deferred, is_dcl_of, same_target, Rule, any_holds, task_rules, timers_in_order}
 use Rattle.er_history.specs.Edges.{up_to}
 use Rattle.er_history.specs.Latest.{newest, number_of, latest_piece, latest_of, latest_of_each, greatest_group}
 use Rattle.er_history.specs.Kinds.{is_step_of, is_run_of, is_static_async, runs_element, is_tick_of, closes, is_load_of, is_reply_of, is_static_load_of, is_begin_of, is_handler_of}
@@ -90,6 +90,19 @@ request_handed h (Reply p r) =
     latest_of (maker_by (declares_request r) h.entries) h.actions
     ++ newest (closes (is_reply_of r)) h.actions
 request_handed h _ = []
+
+-- the latest piece of each event from which a rule of tasks leads to the event that the record begins
+abbrev pub tasks_before : (ℕ → ℕ → Bool) → History → Event → List ℕ
+tasks_before joined h v = latest_of_each (λ (u : Event). any_holds task_rules (up_to v.number joined) u v) h.actions
+
+abbrev pub task_handed : (ℕ → ℕ → Bool) → History → Record → List ℕ
+task_handed joined h (Message m) = tasks_before joined h (event_begun h (Message m))
+task_handed joined h (Anim a) = tasks_before joined h (event_begun h (Anim a))
+task_handed joined h (Job j) = tasks_before joined h (event_begun h (Job j))
+task_handed joined h (Timer t) = tasks_before joined h (event_begun h (Timer t))
+task_handed joined h (Tick i) = tasks_before joined h (event_begun h (Tick i))
+task_handed joined h (Close p) = tasks_before joined h (event_begun h (Close p))
+task_handed joined h _ = []
 
 -- the runs of that group, or the begin where there is none
 abbrev pub runs_or_begin : ℕ → List Action → Option ℕ → List ℕ

@@ -4,13 +4,13 @@ use Rattle.er_trace.specs.declared.record.Record.{Record}
 use Rattle.er_paths.specs.Paths.{is_among}
 use Rattle.er_trace.specs.declared.version.Version.{Version}
 use Rattle.er_history.specs.History.{History, Action, told, begins, action_begun}
-use Rattle.er_history.specs.Rules.{Rule, parse_rules, script_rules, load_rules, dispatch_rules, timer_rules, request_rules}
+use Rattle.er_history.specs.Rules.{Rule, parse_rules, script_rules, load_rules, dispatch_rules, timer_rules, request_rules, task_rules}
 use Rattle.er_history.specs.Edges.{around_inline, of_one_event, is_ruled, path}
 use Rattle.er_history.specs.Laws.{Among}
 use Rattle.er_history.specs.Naming.{naming}
 use Rattle.er_history.specs.Sound.{out_of_order}
 use Rattle.er_history.specs.Handed.{HasGroup, AreHanded}
-use Rattle.er_pieces.specs.HandedPieces.{parse_handed, script_handed, load_handed, timer_handed, request_handed, dispatch_handed}
+use Rattle.er_pieces.specs.HandedPieces.{parse_handed, script_handed, load_handed, timer_handed, request_handed, task_handed, dispatch_handed}
 use Rattle.er_pieces.specs.Enough.{IsSteady, NestedFacts}
 
 -- the pieces of the group are sources and enough, after a list to which naming and order have nothing against
@@ -40,6 +40,12 @@ HandsTimer = (v : Version) (table : List (ℕ × Rule)) → HasGroup table (time
 abbrev pub HandsRequest : Type 0
 HandsRequest = (table : List (ℕ × Rule)) → NestedFacts table
     → Hands table request_rules request_handed
+
+abbrev pub HandsTask : Type 0
+HandsTask = (table : List (ℕ × Rule)) → NestedFacts table
+    → (h : List Record) (x : Record)
+    → IsSteady table h → naming h x ≡ None → out_of_order table h x ≡ false
+    → AreHanded task_rules (path table h) (told h) x (task_handed (path table h) (told h) x)
 
 -- For dispatches, each is the source of an edge by a rule of the group, or by one of the two on pieces.
 abbrev pub DispatchHandsSources : Type 0

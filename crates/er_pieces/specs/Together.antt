@@ -1,10 +1,10 @@
--- The six groups of rules together: what they hand one behind the other is enough for all edges. Lists of records stand newest first.
+-- The seven groups of rules together: what they hand one behind the other is enough for all edges. Lists of records stand newest first.
 use Rattle.std.specs.Prelude.{◌≡◌, ℕ, ◌<◌, Bool, true, false, List, ◌∷◌, length, None, All}
 use Rattle.er_trace.specs.declared.record.Record.{Record}
 use Rattle.er_paths.specs.Laws.{IsEnough}
 use Rattle.er_trace.specs.declared.version.Version.{Version}
 use Rattle.er_history.specs.History.{told, begins}
-use Rattle.er_history.specs.Rules.{Rule, rules, parse_rules, script_rules, load_rules, dispatch_rules, timer_rules, request_rules}
+use Rattle.er_history.specs.Rules.{Rule, rules, parse_rules, script_rules, load_rules, dispatch_rules, timer_rules, request_rules, task_rules}
 use Rattle.er_history.specs.Edges.{edges, path}
 use Rattle.er_history.specs.Naming.{naming}
 use Rattle.er_history.specs.Handed.{HasHanded}
@@ -24,12 +24,14 @@ pub record HandInTurn (v : Version) (joined : ℕ → ℕ → Bool) (h : List Re
   pub loads : List ℕ
   pub dispatches : List ℕ
   pub timers : List ℕ
+  pub requests : List ℕ
   pub parse : HasHanded parse_rules joined (told h) x old steps
   pub script : HasHanded script_rules joined (told h) x steps runs
   pub load : HasHanded load_rules joined (told h) x runs loads
   pub dispatch : HasHandedPieces dispatch_rules joined (told h) x loads dispatches
   pub timer : HasHanded (timer_rules v) joined (told h) x dispatches timers
-  pub request : HasHanded request_rules joined (told h) x timers new
+  pub request : HasHanded request_rules joined (told h) x timers requests
+  pub task : HasHanded task_rules joined (told h) x requests new
 
 -- Then all that is handed are sources of edges by all rules, and enough of them.
 abbrev pub AllHand : Type 0

@@ -7,8 +7,8 @@ ghost use Rattle.er_history.specs.Rules.{rules};
 ghost use Rattle.er_trace.specs.declared.version.Version.{Version};
 ghost use Rattle.er_pieces.specs.AnyTimers.{HandsTimersBy};
 ghost use Rattle.er_pieces.specs.Counts.{ParseHandsAtMost, ScriptHandsAtMost, LoadHandsAtMost, TimerHandsAtMost, RequestHandsAtMost, DispatchHandsAtMost};
-ghost use Rattle.er_pieces.specs.Enough.{EnoughParse, EnoughScript, EnoughLoad, EnoughDispatch, EnoughTimer, EnoughRequest, EnoughPieces, HasSteady, NestedFactsHold};
-ghost use Rattle.er_pieces.specs.Hands.{HandsParse, HandsScript, HandsLoad, HandsTimer, HandsRequest, DispatchHandsSources, DispatchHandsNothing};
+ghost use Rattle.er_pieces.specs.Enough.{EnoughParse, EnoughScript, EnoughLoad, EnoughDispatch, EnoughTimer, EnoughRequest, EnoughTask, EnoughPieces, HasSteady, NestedFactsHold};
+ghost use Rattle.er_pieces.specs.Hands.{HandsParse, HandsScript, HandsLoad, HandsTimer, HandsRequest, HandsTask, DispatchHandsSources, DispatchHandsNothing};
 ghost use Rattle.er_pieces.specs.Together.{SoundListsAreSteady, AllHand, HandedStayEnough, HandedAreBelow, HandsDispatches};
 
 /// Given the two laws of nested pieces, the latest pieces that each group of rules hands suffice.
@@ -20,11 +20,12 @@ pub fn latest_pieces_of_parsing_and_loading_suffice()
 {}
 
 /// The same for dispatches, timers and requests.
-#[tactic(auto, using(crate::proofs::EnoughDispatch::enough_dispatch, crate::proofs::AnyTimersLemmas::enough_timer, crate::proofs::EnoughRequest::enough_request))]
+#[tactic(auto, using(crate::proofs::EnoughDispatch::enough_dispatch, crate::proofs::AnyTimersLemmas::enough_timer, crate::proofs::EnoughRequest::enough_request, crate::proofs::TaskLemmas::enough_task))]
 pub fn latest_pieces_of_events_suffice()
     ensures dispatches { EnoughDispatch }
     ensures timers { EnoughTimer }
     ensures requests { EnoughRequest }
+    ensures tasks { EnoughTask }
 {}
 
 /// The pieces that the rules of dispatches hand suffice for the two rules on pieces.
@@ -52,6 +53,7 @@ pub fn latest_pieces_of_events_are_handed()
     ensures nothing { DispatchHandsNothing }
     ensures timers { HandsTimer }
     ensures requests { HandsRequest }
+    ensures tasks { HandsTask }
 {}
 
 /// The two laws of nested pieces: the source of an edge to the piece that `back` begins has a path to the running action, and close pieces of one target and type are joined in recorded order.

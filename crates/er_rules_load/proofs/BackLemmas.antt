@@ -4,7 +4,7 @@ use Rattle.std.specs.Prelude.{◌==◌, ◌&&◌, ◌||◌}
 use Rattle.std.specs.List.{list_any}
 use Rattle.std.proofs.lemmas.Bool.{ne_eqb}
 use Rattle.std.proofs.lemmas.Bool.Decides.{eqb_tells}
-use Rattle.er_history.specs.History.{Element, Delivery, DclOf, LoadOf, EloadOf, FireAt, InlineAt, WindowFire, ReplyOf, What, ParseStep, ScriptRun, TimeoutRun, TickRun, BeginOf, HandlerOf, CloseOf, Unnamed, Event}
+use Rattle.er_history.specs.History.{Element, Delivery, DclOf, LoadOf, EloadOf, FireAt, InlineAt, WindowFire, ReplyOf, What, ParseStep, ScriptRun, TimeoutRun, TickRun, BeginOf, HandlerOf, CloseOf, MessageRun, AnimRun, JobRun, Unnamed, Event}
 use Rattle.er_history.specs.Rules.{Rule, of_made, is_dcl_of, load_rules, parsed_before_dcl, dcl_before_load, parsed_before_load, static_loads_before_load, element_before_its_load, inner_load_before_frame_load}
 use Rattle.er_history.specs.Kinds.{is_load_of}
 use Rattle.er_history.proofs.OrderLemmas.{WhatBefore, DeliveryBefore, not_element_maker}
@@ -220,4 +220,7 @@ four_are joined n k w (TimeoutRun t m) before = to_nothing joined n k w (Timeout
 four_are joined n k w (TickRun t m) before = to_nothing joined n k w (TickRun t m) tt
 four_are joined n k w (HandlerOf q g x m) before = to_nothing joined n k w (HandlerOf q g x m) tt
 four_are joined n k w (CloseOf q) before = to_nothing joined n k w (CloseOf q) tt
+four_are joined n k w (MessageRun m made) before = to_nothing joined n k w (MessageRun m made) tt
+four_are joined n k w (AnimRun a made) before = to_nothing joined n k w (AnimRun a made) tt
+four_are joined n k w (JobRun j made within) before = to_nothing joined n k w (JobRun j made within) tt
 four_are joined n k w Unnamed before = to_nothing joined n k w Unnamed tt

@@ -7,9 +7,9 @@ use Rattle.std.proofs.lemmas.List.{reverse-append}
 use Rattle.er_trace.specs.declared.record.Record.{Record}
 use Rattle.er_trace.specs.declared.record.Record.TheVariants.{Timer, Run, Close, Back}
 use Rattle.er_trace.specs.declared.version.Version.{Version}
-use Rattle.er_trace.specs.declared.version.Version.TheVariants.{One, Two}
+use Rattle.er_trace.specs.declared.version.Version.TheVariants.{One, Two, Three}
 use Rattle.er_history.specs.History.{Timeout, Dispatch, What, TimeoutRun, HandlerOf, CloseOf, Unnamed, Event, Action, History, told, begins, maker_by, declares_handler, find_open, event_begun, action_begun, event_resumed}
-use Rattle.er_history.specs.Rules.{of_made, rules, timers_in_order}
+use Rattle.er_history.specs.Rules.{of_made, rules, timers_in_order, timers_of_joined_pieces_in_order}
 use Rattle.er_history.specs.Edges.{path, up_to}
 use Rattle.er_history.specs.Laws.{Among}
 use Rattle.er_history.specs.Latest.{latest_of, latest_of_each, events_of_each}
@@ -49,6 +49,15 @@ fired_by pick (x ∷ h) = fired_by pick h ++ fires_by pick h x
 abbrev pub picks : Version → ℕ → Timeout → Bool
 picks One u y = y.maker == u
 picks Two u y = true
+picks Three u y = true
+
+all_fire : (h : List Record) (x : Record) → fired h ++ fires h x ≡ fired h ++ fires_by (λ y. true) h x
+all_fire h (Timer t) = of (timeout_made h t) refl
+  where
+    of : (o : Option Timeout) → timeout_made h t ≡ o → fired h ++ fires h (Timer t) ≡ fired h ++ listed_if (λ y. true) t (timeout_made h t)
+    of None e = rw e refl
+    of (Some y) e = rw e refl
+all_fire h _ = refl
 
 fires_are : (v : Version) (u : ℕ) (h : List Record) (x : Record) → (fired_before v (x ∷ h) u ≡ fired_before v h u ++ fires_by (picks v u) h x)
 fires_are One u h (Timer t) = of (timeout_made h t) refl
@@ -56,17 +65,14 @@ fires_are One u h (Timer t) = of (timeout_made h t) refl
     of : (o : Option Timeout) → timeout_made h t ≡ o → fired_with h u ++ fires_of h u (Timer t) ≡ fired_with h u ++ listed_if (picks One u) t (timeout_made h t)
     of None e = rw e refl
     of (Some y) e = rw e refl
-fires_are Two u h (Timer t) = of (timeout_made h t) refl
-  where
-    of : (o : Option Timeout) → timeout_made h t ≡ o → fired h ++ fires h (Timer t) ≡ fired h ++ listed_if (picks Two u) t (timeout_made h t)
-    of None e = rw e refl
-    of (Some y) e = rw e refl
+fires_are Two u h x = all_fire h x
+fires_are Three u h x = all_fire h x
 fires_are One u h _ = refl
-fires_are Two u h _ = refl
 
 fired_are : (v : Version) (u : ℕ) (h : List Record) → fired_before v h u ≡ fired_by (picks v u) h
 fired_are One u [] = refl
 fired_are Two u [] = refl
+fired_are Three u [] = refl
 fired_are v u (x ∷ h) = fires_are v u h x ∙ ap (λ l. l ++ fires_by (picks v u) h x) (fired_are v u h)
 
 -- the callbacks of timeouts that were set so
@@ -202,11 +208,23 @@ set_first x y = nat_lt y.place x.place && nat_le y.delay x.delay
 abbrev pub set_so : Version → (ℕ → ℕ → Bool) → Timeout → Timeout → Bool
 set_so One joined x y = set_first x y
 set_so Two joined x y = set_first x y && joined y.piece x.piece
+set_so Three joined x y = set_first x y && joined y.piece x.piece
 
 and_again : (a b c d : Bool) → c ≡ true → (a && (b && (c && d))) ≡ ((a && b) && d)
 and_again true true c d e = ap (λ f. f && d) e
 and_again true false c d e = refl
 and_again false b c d e = refl
+
+joined_rule : (joined : ℕ → ℕ → Bool) (u : Event) (n t : ℕ) (x : Timeout) → nat_lt u.number n ≡ true → x.piece < n
+    → timers_of_joined_pieces_in_order (up_to n joined) u (event_with n (TimeoutRun t (Some x))) ≡ callback_of (λ y. true) (λ y. set_first x y && joined y.piece x.piece) u
+joined_rule joined u n t x earlier set = by u.what
+  where
+    by : (w : What) → timers_of_joined_pieces_in_order (up_to n joined) (event_with u.number w) (event_with n (TimeoutRun t (Some x))) ≡ is_callback (λ y. true) (λ y. set_first x y && joined y.piece x.piece) w
+    by (TimeoutRun s (Some y)) =
+        ap (λ b. b && (nat_lt y.place x.place && (nat_le y.delay x.delay && (nat_lt x.piece n && joined y.piece x.piece)))) earlier
+        ∙ and_again (nat_lt y.place x.place) (nat_le y.delay x.delay) (nat_lt x.piece n) (joined y.piece x.piece) (less_is x.piece n set)
+    by (TimeoutRun s None) = not_both (nat_lt u.number n) false refl
+    by _ = not_both (nat_lt u.number n) false refl
 
 rule_is : (v : Version) (joined : ℕ → ℕ → Bool) (u : Event) (n t : ℕ) (x : Timeout) → nat_lt u.number n ≡ true → x.piece < n
     → timers_in_order v (up_to n joined) u (event_with n (TimeoutRun t (Some x))) ≡ callback_of (picks v x.maker) (set_so v joined x) u
@@ -216,14 +234,8 @@ rule_is One joined u n t x earlier set = by u.what
     by (TimeoutRun s (Some y)) = ap (λ b. b && ((y.maker == x.maker) && set_first x y)) earlier
     by (TimeoutRun s None) = not_both (nat_lt u.number n) false refl
     by _ = not_both (nat_lt u.number n) false refl
-rule_is Two joined u n t x earlier set = by u.what
-  where
-    by : (w : What) → timers_in_order Two (up_to n joined) (event_with u.number w) (event_with n (TimeoutRun t (Some x))) ≡ is_callback (picks Two x.maker) (set_so Two joined x) w
-    by (TimeoutRun s (Some y)) =
-        ap (λ b. b && (nat_lt y.place x.place && (nat_le y.delay x.delay && (nat_lt x.piece n && joined y.piece x.piece)))) earlier
-        ∙ and_again (nat_lt y.place x.place) (nat_le y.delay x.delay) (nat_lt x.piece n) (joined y.piece x.piece) (less_is x.piece n set)
-    by (TimeoutRun s None) = not_both (nat_lt u.number n) false refl
-    by _ = not_both (nat_lt u.number n) false refl
+rule_is Two joined u n t x earlier set = joined_rule joined u n t x earlier set
+rule_is Three joined u n t x earlier set = joined_rule joined u n t x earlier set
 
 events_same : (f g : Event → Bool) (actions : List Action) → ((a : Action) → Among a actions → f a.event ≡ g a.event) → events_of_each f actions ≡ events_of_each g actions
 events_same f g [] same = refl
@@ -245,16 +257,21 @@ listed_first : (o : Option ℕ) (us : List ℕ) (actions : List Action) → late
 listed_first None us actions = refl
 listed_first (Some u) us actions = refl
 
-before_is : (v : Version) (h : List Record) (s t : ℕ) (x : Timeout) → timeout_made h t ≡ Some x → goes_before v h s t ≡ of_made (set_so v (path (rules v) h) x) (timeout_made h s)
-before_is One h s t x is = first_is h s t x is
-before_is Two h s t x is =
-    ap (λ b. b && is_joined (path (rules Two) h) (setting_piece h s) (setting_piece h t)) (first_is h s t x is)
-    ∙ (ap (λ o. of_made (set_first x) (timeout_made h s) && is_joined (path (rules Two) h) (setting_piece h s) (option_map (λ (z : Timeout). z.piece) o)) is
+joined_is : (joined : ℕ → ℕ → Bool) (h : List Record) (s t : ℕ) (x : Timeout) → timeout_made h t ≡ Some x
+    → (goes_off_first h s t && is_joined joined (setting_piece h s) (setting_piece h t)) ≡ of_made (λ y. set_first x y && joined y.piece x.piece) (timeout_made h s)
+joined_is joined h s t x is =
+    ap (λ b. b && is_joined joined (setting_piece h s) (setting_piece h t)) (first_is h s t x is)
+    ∙ (ap (λ o. of_made (set_first x) (timeout_made h s) && is_joined joined (setting_piece h s) (option_map (λ (z : Timeout). z.piece) o)) is
     ∙ by (timeout_made h s))
   where
-    by : (o : Option Timeout) → (of_made (set_first x) o && is_joined (path (rules Two) h) (option_map (λ (z : Timeout). z.piece) o) (Some x.piece)) ≡ of_made (set_so Two (path (rules Two) h) x) o
+    by : (o : Option Timeout) → (of_made (set_first x) o && is_joined joined (option_map (λ (z : Timeout). z.piece) o) (Some x.piece)) ≡ of_made (λ y. set_first x y && joined y.piece x.piece) o
     by None = refl
     by (Some y) = refl
+
+before_is : (v : Version) (h : List Record) (s t : ℕ) (x : Timeout) → timeout_made h t ≡ Some x → goes_before v h s t ≡ of_made (set_so v (path (rules v) h) x) (timeout_made h s)
+before_is One h s t x is = first_is h s t x is
+before_is Two h s t x is = joined_is (path (rules Two) h) h s t x is
+before_is Three h s t x is = joined_is (path (rules Three) h) h s t x is
 
 handed_is : (v : Version) (h : List Record) (t : ℕ) (x : Timeout) (ss : List ℕ) → timeout_made h t ≡ Some x
     → latest_of_all (events_of (timeout_made h) (timer_event h) (set_so v (path (rules v) h) x) ss) (told h).actions ≡ handed_for_each v h t ss

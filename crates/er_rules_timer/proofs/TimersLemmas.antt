@@ -8,7 +8,7 @@ use Rattle.std.proofs.lemmas.List.{take_more, drop_more, length-map, length-reve
 use Rattle.er_trace.specs.declared.record.Record.{Record}
 use Rattle.er_trace.specs.declared.record.Record.TheVariants.{Timer}
 use Rattle.er_trace.specs.declared.version.Version.{Version}
-use Rattle.er_trace.specs.declared.version.Version.TheVariants.{One, Two}
+use Rattle.er_trace.specs.declared.version.Version.TheVariants.{One, Two, Three}
 use Rattle.er_history.specs.History.{Timeout, TimeoutRun, told}
 use Rattle.er_history.specs.Rules.{rules, timer_rules, timers_in_order}
 use Rattle.er_history.specs.Edges.{edges, path}
@@ -34,7 +34,7 @@ use Rattle.er_pieces.proofs.TogetherLemmas.{has_timers}
 use Rattle.er_pieces.proofs.LookUpLemmas.{newest_found, listed_is}
 use Rattle.er_pieces.proofs.NestedLaws.{nested_facts}
 use Rattle.er_rules_timer.specs.Enough.{HandsEnoughTimers, HandsSourceTimers, timer_due}
-use Rattle.er_rules_timer.specs.Fired.{goes_off_first, is_joined, goes_before, handed_for, handed_for_each, set_by, due_for, tick_handed}
+use Rattle.er_rules_timer.specs.Fired.{goes_off_first, is_joined, goes_before, handed_for, handed_for_each, set_by, due_for, tick_handed, asks_for_path}
 use Rattle.er_rules_timer.specs.Timed.{IsTimed}
 use Rattle.er_rules_timer.proofs.FiredLemmas.{fired_are_handed}
 use Rattle.er_rules_timer.proofs.SetLemmas.{last_number}
@@ -68,22 +68,35 @@ pub tick_is_due : (h : List Record) (i : ℕ) (maker tick : Option ℕ) → make
     → latest_of maker (told h).actions ++ latest_of tick (told h).actions ≡ tick_handed h i
 tick_is_due h i maker tick is also = λ at. latest_of (is at) (told h).actions ++ newest_found h (is_tick_of i) tick also at
 
--- the test of a pair, by version: in version 2 a path is asked for besides
+-- the test of a pair, by version: in versions 2 and 3 a path is asked for besides
 
 pub before_not : (v : Version) (h : List Record) (s t : ℕ) (off : Bool) → off ≡ goes_off_first h s t → off ≡ false → false ≡ goes_before v h s t
 before_not One h s t off is no_ = sym no_ ∙ is
 before_not Two h s t off is no_ = ap (λ c. c && is_joined (path (rules Two) h) (setting_piece h s) (setting_piece h t)) (sym no_ ∙ is)
+before_not Three h s t off is no_ = ap (λ c. c && is_joined (path (rules Three) h) (setting_piece h s) (setting_piece h t)) (sym no_ ∙ is)
 
 pub before_one : (v : Version) (h : List Record) (s t : ℕ) (off : Bool) → v ≡ One → off ≡ goes_off_first h s t → off ≡ true → true ≡ goes_before v h s t
 before_one v h s t off one is yes_ = subst (λ w. true ≡ goes_before w h s t) (sym one) (sym yes_ ∙ is)
 
-pub before_two : (v : Version) (h : List Record) (s t : ℕ) (off joined : Bool) (first second : ℕ) → v ≡ Two → off ≡ goes_off_first h s t → off ≡ true → setting_piece h s ≡ Some first → setting_piece h t ≡ Some second
+abbrev pub AsksForPath : Version → List Record → ℕ → ℕ → Type 0
+AsksForPath v h s t = goes_before v h s t ≡ (goes_off_first h s t && is_joined (path (rules v) h) (setting_piece h s) (setting_piece h t))
+
+pub asked : (v : Version) (h : List Record) (s t : ℕ) → asks_for_path v ≡ true → AsksForPath v h s t
+asked One h s t e = absurd (cc)
+asked Two h s t e = refl
+asked Three h s t e = refl
+
+pub not_asked : (v : Version) → asks_for_path v ≡ false → v ≡ One
+not_asked One e = refl
+not_asked Two e = absurd (cc)
+not_asked Three e = absurd (cc)
+
+pub before_joined : (v : Version) (h : List Record) (s t : ℕ) (off joined : Bool) (first second : ℕ) → AsksForPath v h s t → off ≡ goes_off_first h s t → off ≡ true → setting_piece h s ≡ Some first → setting_piece h t ≡ Some second
     → joined ≡ joins (edges (rules v) (told h).actions) first second → joined ≡ goes_before v h s t
-before_two v h s t off joined first second two is yes_ is_first is_second is_path =
-    subst (λ w. joined ≡ goes_before w h s t) (sym two)
-    (subst (λ w. joined ≡ path (rules w) h first second) two is_path
-    ∙ ((λ k. is_joined (path (rules Two) h) (sym is_first k) (sym is_second k))
-    ∙ ap (λ c. c && is_joined (path (rules Two) h) (setting_piece h s) (setting_piece h t)) (sym yes_ ∙ is)))
+before_joined v h s t off joined first second asks is yes_ is_first is_second is_path =
+    is_path
+    ∙ ((λ k. is_joined (path (rules v) h) (sym is_first k) (sym is_second k))
+    ∙ (ap (λ c. c && is_joined (path (rules v) h) (setting_piece h s) (setting_piece h t)) (sym yes_ ∙ is) ∙ sym asks))
 
 -- one timeout of those that have fired
 

@@ -1,8 +1,8 @@
 -- The timeouts whose callbacks have begun and come before another, by the look-ups. Lists of records stand newest first.
-use Rattle.std.specs.Prelude.{ℕ, Bool, ◌&&◌, nat_le, if◌then◌else◌, List, [], ◌∷◌, ◌++◌, reverse, Option, Some, None}
+use Rattle.std.specs.Prelude.{ℕ, Bool, true, false, ◌&&◌, nat_le, if◌then◌else◌, List, [], ◌∷◌, ◌++◌, reverse, Option, Some, None}
 use Rattle.er_trace.specs.declared.record.Record.{Record}
 use Rattle.er_trace.specs.declared.version.Version.{Version}
-use Rattle.er_trace.specs.declared.version.Version.TheVariants.{One, Two}
+use Rattle.er_trace.specs.declared.version.Version.TheVariants.{One, Two, Three}
 use Rattle.er_history.specs.History.{told}
 use Rattle.er_history.specs.Rules.{rules, both_made}
 use Rattle.er_history.specs.Edges.{path}
@@ -21,15 +21,23 @@ goes_off_first h s t = set_before h s t && is_no_longer (delay_of h s) (delay_of
 abbrev pub is_joined : (ℕ → ℕ → Bool) → Option ℕ → Option ℕ → Bool
 is_joined joined first second = both_made joined first second
 
--- in version 2 a path must lead to it besides; in version 1 one event set both
+-- rule 19 of the version asks for a path
+abbrev pub asks_for_path : Version → Bool
+asks_for_path One = false
+asks_for_path Two = true
+asks_for_path Three = true
+
+-- in versions 2 and 3 a path must lead to it besides; in version 1 one event set both
 abbrev pub goes_before : Version → List Record → ℕ → ℕ → Bool
 goes_before One h s t = goes_off_first h s t
 goes_before Two h s t = goes_off_first h s t && is_joined (path (rules Two) h) (setting_piece h s) (setting_piece h t)
+goes_before Three h s t = goes_off_first h s t && is_joined (path (rules Three) h) (setting_piece h s) (setting_piece h t)
 
 -- the timeouts that have fired and that may come before one that this event set
 abbrev pub fired_before : Version → List Record → ℕ → List ℕ
 fired_before One h u = fired_with h u
 fired_before Two h u = fired h
+fired_before Three h u = fired h
 
 -- the latest piece of the callback of s, if it is to come before that of t
 abbrev pub handed_for : Version → List Record → ℕ → ℕ → List ℕ

@@ -108,6 +108,7 @@ fn fired_before(page: &Page, version: Version, setter: u32) -> &[SetTimeout]
     match version {
         Version::One => page.fired_timeouts_with(setter),
         Version::Two => page.fired_timeouts(),
+        Version::Three => page.fired_timeouts(),
     }
 }
 

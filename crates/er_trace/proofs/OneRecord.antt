@@ -11,7 +11,7 @@ use Rattle.er_text.proofs.NameLaws.{spelled-spelling}
 use Rattle.er_trace.specs.declared.head.Head.{Head}
 use Rattle.er_trace.specs.declared.head.Head.TheVariants as heads
 use Rattle.er_trace.specs.declared.record.Record.{Record}
-use Rattle.er_trace.specs.declared.record.Record.TheVariants.{Parse, ParseFrame, Exec, Timer, Tick, Dcl, Load, Eload, Fire, Wfire, Reply, Inline, Run, Close, Back, New, NewFrame, On, Set, Every, Send, Access}
+use Rattle.er_trace.specs.declared.record.Record.TheVariants.{Parse, ParseFrame, Exec, Timer, Tick, Dcl, Load, Eload, Fire, Wfire, Reply, Inline, Run, Close, Back, New, NewFrame, On, Set, Every, Send, Post, Ask, Queue, Message, Anim, Job, Access}
 use Rattle.er_trace.specs.declared.record.Kind.{Kind}
 use Rattle.er_trace.specs.declared.record.Kind.TheVariants as kinds
 use Rattle.er_trace.specs.declared.record.NewKind.{NewKind}
@@ -59,6 +59,12 @@ head_of word =
     if bytes_eq word (codes "set") then heads.Set else
     if bytes_eq word (codes "every") then heads.Every else
     if bytes_eq word (codes "send") then heads.Send else
+    if bytes_eq word (codes "post") then heads.Post else
+    if bytes_eq word (codes "ask") then heads.Ask else
+    if bytes_eq word (codes "queue") then heads.Queue else
+    if bytes_eq word (codes "message") then heads.Message else
+    if bytes_eq word (codes "anim") then heads.Anim else
+    if bytes_eq word (codes "job") then heads.Job else
     if bytes_eq word (codes "r") then heads.R else
     if bytes_eq word (codes "w") then heads.W else
     heads.Parse
@@ -84,6 +90,12 @@ head_back heads.On = refl
 head_back heads.Set = refl
 head_back heads.Every = refl
 head_back heads.Send = refl
+head_back heads.Post = refl
+head_back heads.Ask = refl
+head_back heads.Queue = refl
+head_back heads.Message = refl
+head_back heads.Anim = refl
+head_back heads.Job = refl
 head_back heads.R = refl
 head_back heads.W = refl
 
@@ -143,6 +155,12 @@ record_of heads.On (a ∷ []) = On (number_of a)
 record_of heads.Set (a ∷ b ∷ []) = Set (number_of a) (number_of b)
 record_of heads.Every (a ∷ b ∷ []) = Every (number_of a) (number_of b)
 record_of heads.Send (a ∷ []) = Send (number_of a)
+record_of heads.Post (a ∷ []) = Post (number_of a)
+record_of heads.Ask (a ∷ []) = Ask (number_of a)
+record_of heads.Queue (a ∷ []) = Queue (number_of a)
+record_of heads.Message (a ∷ []) = Message (number_of a)
+record_of heads.Anim (a ∷ []) = Anim (number_of a)
+record_of heads.Job (a ∷ []) = Job (number_of a)
 record_of heads.R (w ∷ a ∷ n ∷ []) = Access modes.R (located w (number_of a) (name_of n))
 record_of heads.W (w ∷ a ∷ n ∷ []) = Access modes.W (located w (number_of a) (name_of n))
 record_of _ later = Exec 0
@@ -190,6 +208,18 @@ record_back (Set a b) is =
 record_back (Every a b) is =
     let ea : number_of (decimal a) ≡ a = number_back a is.1.0 in let eb : number_of (decimal b) ≡ b = number_back b is.1.1.0 in cc
 record_back (Send a) is =
+    let ea : number_of (decimal a) ≡ a = number_back a is.1.0 in cc
+record_back (Post a) is =
+    let ea : number_of (decimal a) ≡ a = number_back a is.1.0 in cc
+record_back (Ask a) is =
+    let ea : number_of (decimal a) ≡ a = number_back a is.1.0 in cc
+record_back (Queue a) is =
+    let ea : number_of (decimal a) ≡ a = number_back a is.1.0 in cc
+record_back (Message a) is =
+    let ea : number_of (decimal a) ≡ a = number_back a is.1.0 in cc
+record_back (Anim a) is =
+    let ea : number_of (decimal a) ≡ a = number_back a is.1.0 in cc
+record_back (Job a) is =
     let ea : number_of (decimal a) ≡ a = number_back a is.1.0 in cc
 record_back (Access modes.R (Var a n)) is =
     let ea : number_of (decimal a) ≡ a = number_back a is.1.1.0 in let en : name_of (name_spelling n) ≡ n = name_back n is.1.1.1.0 in cc

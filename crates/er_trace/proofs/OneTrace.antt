@@ -1,12 +1,13 @@
 -- A text has one version and one list of records.
-use Rattle.std.proofs.Common.{◌≡◌, ℕ, List, [], ◌∷◌, ◌++◌, true, Option, Some, None, get_or, refl, ap, sym, ◌∙◌, arith, append_assoc, append-nil}
+use Rattle.std.proofs.Common.{◌≡◌, ℕ, List, [], ◌∷◌, ◌++◌, true, Option, Some, None, get_or, refl, ap, sym, ◌∙◌, append_assoc, append-nil}
+use Rattle.std.specs.Prelude.{◌==◌, if◌then◌else◌}
 use Rattle.std.specs.List.{AllByRecursion}
 use Rattle.er_text.specs.Bytes.{has_no_lf}
 use Rattle.er_text.specs.Lines.{first_line}
 use Rattle.er_text.proofs.LineLaws.{first_line-at}
 use Rattle.er_trace.specs.declared.record.Record.{Record}
 use Rattle.er_trace.specs.declared.version.Version.{Version}
-use Rattle.er_trace.specs.declared.version.Version.TheVariants.{One, Two}
+use Rattle.er_trace.specs.declared.version.Version.TheVariants.{One, Two, Three}
 use Rattle.er_trace.specs.Spelling.{spelling, IsRecord}
 use Rattle.er_trace.specs.Trace.{header, end_word, line, lines, text}
 use Rattle.er_trace.proofs.RecordLaws.{spelling_has_no_lf, spelling_is_no_end}
@@ -40,13 +41,20 @@ one_front l m a b first second e =
 header_is_clear : (v : Version) → has_no_lf (header v) ≡ true
 header_is_clear One = refl
 header_is_clear Two = refl
+header_is_clear Three = refl
+
+-- the version, by the number in the header
+abbrev version_in : List ℕ → Version
+version_in bytes = if get_or bytes 9 0 == 49 then One else if get_or bytes 9 0 == 50 then Two else Three
+
+version_back : (v : Version) → version_in (header v) ≡ v
+version_back One = refl
+version_back Two = refl
+version_back Three = refl
 
 -- one header has one version
 pub same_header : (v w : Version) → header v ≡ header w → v ≡ w
-same_header One One e = refl
-same_header Two Two e = refl
-same_header One Two e = let no : 49 ≡ 50 = ap (λ (l : List ℕ). get_or l 9 0) e in absurd (omega (arith, no))
-same_header Two One e = let no : 50 ≡ 49 = ap (λ (l : List ℕ). get_or l 9 0) e in absurd (omega (arith, no))
+same_header v w e = sym (version_back v) ∙ (ap version_in e ∙ version_back w)
 
 -- no record is spelled as the last line
 no_record_is_end : (x : Record) (later : List ℕ) → IsRecord x → line end_word ≡ line (spelling x) ++ later → ⊥

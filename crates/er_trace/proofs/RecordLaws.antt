@@ -15,7 +15,7 @@ use Rattle.er_text.specs.Name.{most_name}
 use Rattle.er_trace.specs.Trace.{most_line_bytes, end_word}
 use Rattle.er_trace.specs.declared.head.Head.{Head}
 use Rattle.er_trace.specs.declared.record.Record.{Record}
-use Rattle.er_trace.specs.declared.record.Record.TheVariants.{Parse, ParseFrame, Exec, Timer, Tick, Dcl, Load, Eload, Fire, Wfire, Reply, Inline, Run, Close, Back, New, NewFrame, On, Set, Every, Send, Access}
+use Rattle.er_trace.specs.declared.record.Record.TheVariants.{Parse, ParseFrame, Exec, Timer, Tick, Dcl, Load, Eload, Fire, Wfire, Reply, Inline, Run, Close, Back, New, NewFrame, On, Set, Every, Send, Post, Ask, Queue, Message, Anim, Job, Access}
 use Rattle.er_trace.specs.declared.record.Kind.TheVariants as kinds
 use Rattle.er_trace.specs.declared.record.NewKind.TheVariants as new_kinds
 use Rattle.er_trace.specs.declared.record.Mode.TheVariants as modes
@@ -23,6 +23,7 @@ use Rattle.er_trace.specs.declared.record.Loc.TheVariants.{Var, Elem, Slot}
 use Rattle.er_trace.specs.Items.{Item, Word, Number, Named, IsItem, item_spelling}
 use Rattle.er_trace.specs.Spelling.{record_items, spelling, IsRecord}
 use Rattle.er_trace.specs.Heads.{head_word, record_head, later_words, GoesOn}
+use Rattle.er_trace.specs.Versions.{is_of_task, begins_task}
 
 -- a fixed word has no space and no LF
 abbrev pub is_clear : Item → Bool
@@ -92,6 +93,12 @@ record_fits (On h) = refl
 record_fits (Set t n) = refl
 record_fits (Every i n) = refl
 record_fits (Send r) = refl
+record_fits (Post n) = refl
+record_fits (Ask n) = refl
+record_fits (Queue n) = refl
+record_fits (Message n) = refl
+record_fits (Anim n) = refl
+record_fits (Job n) = refl
 record_fits (Access modes.R (Var o n)) = refl
 record_fits (Access modes.R (Elem o n)) = refl
 record_fits (Access modes.R (Slot o n)) = refl
@@ -131,8 +138,20 @@ record_begins (On h) = refl
 record_begins (Set t n) = refl
 record_begins (Every i n) = refl
 record_begins (Send r) = refl
+record_begins (Post n) = refl
+record_begins (Ask n) = refl
+record_begins (Queue n) = refl
+record_begins (Message n) = refl
+record_begins (Anim n) = refl
+record_begins (Job n) = refl
 record_begins (Access modes.R l) = refl
 record_begins (Access modes.W l) = refl
+
+-- the first word tells whether it is of a task
+pub task_begins : (x : Record) → is_of_task x ≡ begins_task (record_head x)
+task_begins (Access modes.R l) = refl
+task_begins (Access modes.W l) = refl
+task_begins _ = refl
 
 pub words_of_spelling : (x : Record) → IsRecord x → words (spelling x) ≡ head_word (record_head x) ∷ later_words x
 words_of_spelling x is =

@@ -1,9 +1,9 @@
 -- The first word of a record, and how it goes on.
-use Rattle.std.specs.Prelude.{◌≡◌, ℕ, List, map, drop, codes}
+use Rattle.std.specs.Prelude.{◌≡◌, ℕ, List, [], ◌∷◌, map, drop, codes}
 use Rattle.er_trace.specs.declared.head.Head.{Head}
 use Rattle.er_trace.specs.declared.head.Head.TheVariants as heads
 use Rattle.er_trace.specs.declared.record.Record.{Record}
-use Rattle.er_trace.specs.declared.record.Record.TheVariants.{Parse, ParseFrame, Exec, Timer, Tick, Dcl, Load, Eload, Fire, Wfire, Reply, Inline, Run, Close, Back, New, NewFrame, On, Set, Every, Send, Access}
+use Rattle.er_trace.specs.declared.record.Record.TheVariants.{Parse, ParseFrame, Exec, Timer, Tick, Dcl, Load, Eload, Fire, Wfire, Reply, Inline, Run, Close, Back, New, NewFrame, On, Set, Every, Send, Post, Ask, Queue, Message, Anim, Job, Access}
 use Rattle.er_trace.specs.declared.record.Mode.{Mode}
 use Rattle.er_trace.specs.declared.record.Mode.TheVariants as modes
 use Rattle.er_trace.specs.Items.{item_spelling}
@@ -29,8 +29,18 @@ head_word heads.On = codes "on"
 head_word heads.Set = codes "set"
 head_word heads.Every = codes "every"
 head_word heads.Send = codes "send"
+head_word heads.Post = codes "post"
+head_word heads.Ask = codes "ask"
+head_word heads.Queue = codes "queue"
+head_word heads.Message = codes "message"
+head_word heads.Anim = codes "anim"
+head_word heads.Job = codes "job"
 head_word heads.R = codes "r"
 head_word heads.W = codes "w"
+
+-- every first word, in the order of the table
+abbrev pub head_list : List Head
+head_list = heads.R ∷ heads.W ∷ heads.Run ∷ heads.Close ∷ heads.Parse ∷ heads.Exec ∷ heads.Timer ∷ heads.Tick ∷ heads.Dcl ∷ heads.Load ∷ heads.Eload ∷ heads.Fire ∷ heads.Wfire ∷ heads.Reply ∷ heads.Inline ∷ heads.Back ∷ heads.New ∷ heads.On ∷ heads.Set ∷ heads.Every ∷ heads.Send ∷ heads.Post ∷ heads.Ask ∷ heads.Queue ∷ heads.Message ∷ heads.Anim ∷ heads.Job ∷ []
 
 abbrev pub mode_head : Mode → Head
 mode_head modes.R = heads.R
@@ -58,6 +68,12 @@ record_head (On h) = heads.On
 record_head (Set t n) = heads.Set
 record_head (Every i n) = heads.Every
 record_head (Send r) = heads.Send
+record_head (Post n) = heads.Post
+record_head (Ask n) = heads.Ask
+record_head (Queue n) = heads.Queue
+record_head (Message n) = heads.Message
+record_head (Anim n) = heads.Anim
+record_head (Job n) = heads.Job
 record_head (Access m l) = mode_head m
 
 -- the words of a record after its first

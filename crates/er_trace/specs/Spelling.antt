@@ -3,7 +3,7 @@ use Rattle.std.specs.Prelude.{ℕ, List, [], ◌∷◌, codes}
 use Rattle.std.specs.List.{AllByRecursion}
 use Rattle.er_trace.specs.Items.{Item, Word, Number, Named, IsItem, items_spelling}
 use Rattle.er_trace.specs.declared.record.Record.{Record}
-use Rattle.er_trace.specs.declared.record.Record.TheVariants.{Parse, ParseFrame, Exec, Timer, Tick, Dcl, Load, Eload, Fire, Wfire, Reply, Inline, Run, Close, Back, New, NewFrame, On, Set, Every, Send, Access}
+use Rattle.er_trace.specs.declared.record.Record.TheVariants.{Parse, ParseFrame, Exec, Timer, Tick, Dcl, Load, Eload, Fire, Wfire, Reply, Inline, Run, Close, Back, New, NewFrame, On, Set, Every, Send, Post, Ask, Queue, Message, Anim, Job, Access}
 use Rattle.er_trace.specs.declared.record.Kind.{Kind}
 use Rattle.er_trace.specs.declared.record.Kind.TheVariants as kinds
 use Rattle.er_trace.specs.declared.record.NewKind.{NewKind}
@@ -57,6 +57,12 @@ record_items (On h) = Word (codes "on") ∷ Number h ∷ []
 record_items (Set t n) = Word (codes "set") ∷ Number t ∷ Number n ∷ []
 record_items (Every i n) = Word (codes "every") ∷ Number i ∷ Number n ∷ []
 record_items (Send r) = Word (codes "send") ∷ Number r ∷ []
+record_items (Post n) = Word (codes "post") ∷ Number n ∷ []
+record_items (Ask n) = Word (codes "ask") ∷ Number n ∷ []
+record_items (Queue n) = Word (codes "queue") ∷ Number n ∷ []
+record_items (Message n) = Word (codes "message") ∷ Number n ∷ []
+record_items (Anim n) = Word (codes "anim") ∷ Number n ∷ []
+record_items (Job n) = Word (codes "job") ∷ Number n ∷ []
 record_items (Access m l) = Word (mode_word m) ∷ loc_items l
 
 abbrev pub loc_spelling : Loc → List ℕ

@@ -4,8 +4,9 @@ use Rattle.std.specs.List.{AllByRecursion, flat_map}
 use Rattle.er_text.specs.Bytes.{line_end}
 use Rattle.er_trace.specs.declared.record.Record.{Record}
 use Rattle.er_trace.specs.declared.version.Version.{Version}
-use Rattle.er_trace.specs.declared.version.Version.TheVariants.{One, Two}
-use Rattle.er_trace.specs.Spelling.{spelling, IsRecord}
+use Rattle.er_trace.specs.declared.version.Version.TheVariants.{One, Two, Three}
+use Rattle.er_trace.specs.Spelling.{spelling}
+use Rattle.er_trace.specs.Versions.{IsRecordOf}
 
 -- the most lines of a trace, and the most bytes of a line without its LF
 abbrev pub most_lines : ℕ
@@ -18,6 +19,7 @@ most_line_bytes = 1024
 abbrev pub header : Version → List ℕ
 header One = codes "webtrace 1"
 header Two = codes "webtrace 2"
+header Three = codes "webtrace 3"
 
 abbrev pub end_word : List ℕ
 end_word = codes "end"
@@ -37,7 +39,7 @@ text v records = line (header v) ++ lines records ++ line end_word
 abbrev pub IsNoHeader : List ℕ → Type 0
 IsNoHeader bytes = (v : Version) → bytes ≢ header v
 
--- the records of a whole trace
-pub record IsTrace (records : List Record) : Type 0 where
-  pub each : AllByRecursion IsRecord records
+-- the records of a whole trace in that version
+pub record IsTrace (v : Version) (records : List Record) : Type 0 where
+  pub each : AllByRecursion (IsRecordOf v) records
   pub few : length records + 2 ≤ most_lines

@@ -65,6 +65,54 @@ pub fn send_form(words: &mut Words) -> Option<Record>
     Some(Record::Send { request })
 }
 
+pub fn post_form(words: &mut Words) -> Option<Record>
+    ensures read { IfSome result (λ x. GoesOn Head.Post x words.old) }
+    ensures exact { (x : Record) → GoesOn Head.Post x words.old → result ≡ Some x }
+{
+    let message = one_number(words)?;
+    Some(Record::Post { message })
+}
+
+pub fn ask_form(words: &mut Words) -> Option<Record>
+    ensures read { IfSome result (λ x. GoesOn Head.Ask x words.old) }
+    ensures exact { (x : Record) → GoesOn Head.Ask x words.old → result ≡ Some x }
+{
+    let anim = one_number(words)?;
+    Some(Record::Ask { anim })
+}
+
+pub fn queue_form(words: &mut Words) -> Option<Record>
+    ensures read { IfSome result (λ x. GoesOn Head.Queue x words.old) }
+    ensures exact { (x : Record) → GoesOn Head.Queue x words.old → result ≡ Some x }
+{
+    let job = one_number(words)?;
+    Some(Record::Queue { job })
+}
+
+pub fn message_form(words: &mut Words) -> Option<Record>
+    ensures read { IfSome result (λ x. GoesOn Head.Message x words.old) }
+    ensures exact { (x : Record) → GoesOn Head.Message x words.old → result ≡ Some x }
+{
+    let message = one_number(words)?;
+    Some(Record::Message { message })
+}
+
+pub fn anim_form(words: &mut Words) -> Option<Record>
+    ensures read { IfSome result (λ x. GoesOn Head.Anim x words.old) }
+    ensures exact { (x : Record) → GoesOn Head.Anim x words.old → result ≡ Some x }
+{
+    let anim = one_number(words)?;
+    Some(Record::Anim { anim })
+}
+
+pub fn job_form(words: &mut Words) -> Option<Record>
+    ensures read { IfSome result (λ x. GoesOn Head.Job x words.old) }
+    ensures exact { (x : Record) → GoesOn Head.Job x words.old → result ≡ Some x }
+{
+    let job = one_number(words)?;
+    Some(Record::Job { job })
+}
+
 pub fn dcl_form(words: &mut Words) -> Option<Record>
     ensures read { IfSome result (λ x. GoesOn Head.Dcl x words.old) }
     ensures exact { (x : Record) → GoesOn Head.Dcl x words.old → result ≡ Some x }

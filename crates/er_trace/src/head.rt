@@ -1,11 +1,13 @@
 //! The first words of records, and the words of kinds.
 
-ghost use Rattle.std.specs.Prelude.{◌≡◌, ◌↔◌, IsTrue, Some, IfSome};
+ghost use Rattle.std.specs.Prelude.{◌≡◌, ◌<◌, ◌↔◌, IsTrue, Some, IfSome};
 ghost use Rattle.er_trace.specs.declared.head.Head.{Head};
 ghost use Rattle.er_trace.specs.declared.record.Kind.{Kind};
 ghost use Rattle.er_trace.specs.declared.record.NewKind.{NewKind};
-ghost use Rattle.er_trace.specs.Heads.{head_word};
+ghost use Rattle.std.proofs.Math.ListN.{get_or};
+ghost use Rattle.er_trace.specs.Heads.{head_list, head_word};
 ghost use Rattle.er_trace.specs.Spelling.{kind_word, new_kind_word};
+ghost use Rattle.er_trace.specs.Versions.{begins_task};
 
 use crate::record::{Kind, NewKind};
 
@@ -31,12 +33,18 @@ pub enum Head {
     Set,
     Every,
     Send,
+    Post,
+    Ask,
+    Queue,
+    Message,
+    Anim,
+    Job,
     R,
     W,
 }
 
 /// Every first word, the commonest in front.
-const HEADS: [Head; 21] = [
+const HEADS: [Head; 27] = [
     Head::R,
     Head::W,
     Head::Run,
@@ -58,6 +66,12 @@ const HEADS: [Head; 21] = [
     Head::Set,
     Head::Every,
     Head::Send,
+    Head::Post,
+    Head::Ask,
+    Head::Queue,
+    Head::Message,
+    Head::Anim,
+    Head::Job,
 ];
 
 impl Head {
@@ -84,8 +98,30 @@ impl Head {
             Head::Set => "set",
             Head::Every => "every",
             Head::Send => "send",
+            Head::Post => "post",
+            Head::Ask => "ask",
+            Head::Queue => "queue",
+            Head::Message => "message",
+            Head::Anim => "anim",
+            Head::Job => "job",
             Head::R => "r",
             Head::W => "w",
+        }
+    }
+
+    /// Whether a message, an animation callback or a job is declared or begun by a record with
+    /// that first word.
+    pub fn begins_task(self) -> bool
+        ensures { result ≡ begins_task self }
+    {
+        match self {
+            Head::Post
+            | Head::Ask
+            | Head::Queue
+            | Head::Message
+            | Head::Anim
+            | Head::Job => true,
+            _ => false,
         }
     }
 }
@@ -102,12 +138,21 @@ pub fn head_of(bytes: &[u8]) -> Option<Head>
     ensures read { IfSome result (λ head. bytes.now ≡ head_word head) }
     ensures exact { (head : Head) → bytes.now ≡ head_word head → result ≡ Some head }
 {
-    for head in HEADS {
+    for place in 0..HEADS.len() {
+        let head = head_at(place);
         if is_word(bytes, head.word()) {
             return Some(head);
         }
     }
     None
+}
+
+/// The first word at that place of the table.
+fn head_at(place: usize) -> Head
+    requires { place < 27 }
+    ensures { result ≡ get_or head_list place Head.R }
+{
+    HEADS[place]
 }
 
 /// The kind that is spelled so.

@@ -1,19 +1,22 @@
 //! Reading one record.
 
-ghost use Rattle.std.specs.Prelude.{◌≡◌, ◌⊎◌, Ok, Err, IfOk};
+ghost use Rattle.std.specs.Prelude.{◌≡◌, ◌⊎◌, ◌||◌, not, Ok, Err, IfOk};
 ghost use Rattle.std.specs.Option.{ok_or};
 ghost use Rattle.er_trace.specs.declared.record.Record.{Record};
 ghost use Rattle.er_trace.specs.Heads.{GoesOn};
-ghost use Rattle.er_trace.specs.Spelling.{spelling, IsRecord};
+ghost use Rattle.er_trace.specs.Spelling.{spelling};
+ghost use Rattle.er_trace.specs.Versions.{begins_task, has_tasks, IsRecordOf};
 
 use crate::fault::LineFault;
 use crate::forms::{
-    back_form, close_form, dcl_form, eload_form, every_form, exec_form, load_form, new_form,
-    on_form, parse_form, reply_form, run_form, send_form, set_form, tick_form, timer_form,
+    anim_form, ask_form, back_form, close_form, dcl_form, eload_form, every_form, exec_form,
+    job_form, load_form, message_form, new_form, on_form, parse_form, post_form, queue_form,
+    reply_form, run_form, send_form, set_form, tick_form, timer_form,
 };
 use crate::head::{Head, head_of};
 use crate::named_forms::{access_form, fire_form, inline_form, wfire_form};
 use crate::record::{Mode, Record};
+use crate::version::Version;
 use er_text::Words;
 use std::alloc::Global;
 
@@ -49,17 +52,31 @@ fn read_form(alloc: Global, head: Head, words: &mut Words) -> Result<Record, Lin
         Head::Set => without_names(set_form(words)),
         Head::Every => without_names(every_form(words)),
         Head::Send => without_names(send_form(words)),
+        Head::Post => without_names(post_form(words)),
+        Head::Ask => without_names(ask_form(words)),
+        Head::Queue => without_names(queue_form(words)),
+        Head::Message => without_names(message_form(words)),
+        Head::Anim => without_names(anim_form(words)),
+        Head::Job => without_names(job_form(words)),
         Head::R => access_form(alloc, Mode::R, words),
         Head::W => access_form(alloc, Mode::W, words),
     }
 }
 
-/// The record that is spelled so. `BadRecord` comes where none is. Each printed record parses
-/// back: it has a spelling (`fits` of [`crate::print::print_record`]), and its spelling gives it
-/// again (`exact`), memory allowing.
-pub fn parse_record(alloc: Global, line: &[u8]) -> Result<Record, LineFault>
-    ensures read { IfOk result (λ x. IsRecord x × (line.now ≡ spelling x)) }
-    ensures exact { (x : Record) → IsRecord x → line.now ≡ spelling x → (result ≡ Ok x) ⊎ (result ≡ Err LineFault.NoMemory) }
+/// Whether the version has the records that begin with that word.
+fn has_head(version: Version, head: Head) -> bool
+    ensures { result ≡ (not (begins_task head) || has_tasks version) }
+{
+    !head.begins_task() | version.has_tasks()
+}
+
+/// The record of that version that is spelled so. `BadRecord` comes where none is. Each printed
+/// record parses back in the versions that have it: it has a spelling (`fits` of
+/// [`crate::print::print_record`]), and its spelling gives it again (`exact`), memory allowing.
+pub fn parse_record(alloc: Global, version: Version, line: &[u8]) -> Result<Record, LineFault>
+    ensures read { IfOk result (λ x. IsRecordOf version x × (line.now ≡ spelling x)) }
+    ensures exact { (x : Record) → IsRecordOf version x → line.now ≡ spelling x
+        → (result ≡ Ok x) ⊎ (result ≡ Err LineFault.NoMemory) }
 {
     let mut words = Words::new(line);
     let Some(first) = words.next() else {
@@ -68,5 +85,8 @@ pub fn parse_record(alloc: Global, line: &[u8]) -> Result<Record, LineFault>
     let Some(head) = head_of(first) else {
         return Err(LineFault::BadRecord);
     };
+    if !has_head(version, head) {
+        return Err(LineFault::BadRecord);
+    }
     read_form(alloc, head, &mut words)
 }

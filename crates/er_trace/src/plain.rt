@@ -3,7 +3,9 @@
 ghost use Rattle.std.specs.Prelude.{◌≡◌, ◌<◌, ◌≤◌, ◌+◌, ◌^◌, ◌∷◌, ◌++◌, ◌==◌, not, length, take, drop, position, IfSome, decimal};
 ghost use Rattle.er_text.specs.Bytes.{space, line_end};
 ghost use Rattle.er_text.specs.Name.{IsName, name_spelling, stands_for_itself};
-ghost use Rattle.er_trace.specs.Spelling.{spelling, IsRecord, mode_word};
+ghost use Rattle.er_trace.specs.declared.version.Version.{Version};
+ghost use Rattle.er_trace.specs.Spelling.{spelling, mode_word};
+ghost use Rattle.er_trace.specs.Versions.{IsRecordOf};
 ghost use Rattle.er_trace.specs.Forms.{form_word, loc_of};
 
 use crate::head::is_word;
@@ -138,7 +140,8 @@ fn front_mode(line: &[u8]) -> Option<(Mode, &[u8])>
 /// spelled as itself. `None` says nothing.
 #[tactic(auto, using(crate::proofs::PlainLaws::spelling_of_access))]
 pub fn plain_line(alloc: Global, bytes: &[u8]) -> Option<(Record, &[u8])>
-    ensures { IfSome result (λ pair. IsRecord pair.0 × (bytes.now ≡ spelling pair.0 ++ line_end ∷ pair.1.now)) }
+    ensures { IfSome result (λ pair. ((v : Version) → IsRecordOf v pair.0)
+        × (bytes.now ≡ spelling pair.0 ++ line_end ∷ pair.1.now)) }
 {
     let (mode, later) = front_mode(bytes)?;
     let (form, later) = front_form(later)?;

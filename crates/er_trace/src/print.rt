@@ -254,6 +254,12 @@ pub fn print_record<K: Sink>(rec: &Record, sink: &mut K) -> Result<(), Failed>
         Record::Set { timeout, delay } => put_two(sink, "set", *timeout, *delay),
         Record::Every { interval, delay } => put_two(sink, "every", *interval, *delay),
         Record::Send { request } => put_one(sink, "send", *request),
+        Record::Post { message } => put_one(sink, "post", *message),
+        Record::Ask { anim } => put_one(sink, "ask", *anim),
+        Record::Queue { job } => put_one(sink, "queue", *job),
+        Record::Message { message } => put_one(sink, "message", *message),
+        Record::Anim { anim } => put_one(sink, "anim", *anim),
+        Record::Job { job } => put_one(sink, "job", *job),
         Record::Access { mode, loc } => print_access(*mode, loc, sink),
     }
 }

@@ -213,6 +213,30 @@ pub enum Record {
     Send {
         request: u32,
     },
+    /// Posts a message.
+    Post {
+        message: u32,
+    },
+    /// Asks for an animation callback.
+    Ask {
+        anim: u32,
+    },
+    /// Queues a job.
+    Queue {
+        job: u32,
+    },
+    /// Begins the event of a message.
+    Message {
+        message: u32,
+    },
+    /// Begins an animation callback.
+    Anim {
+        anim: u32,
+    },
+    /// Begins a job.
+    Job {
+        job: u32,
+    },
     /// Reads or writes a location.
     Access {
         mode: Mode,
@@ -340,6 +364,12 @@ impl Record {
                 delay: *delay,
             },
             Record::Send { request } => Record::Send { request: *request },
+            Record::Post { message } => Record::Post { message: *message },
+            Record::Ask { anim } => Record::Ask { anim: *anim },
+            Record::Queue { job } => Record::Queue { job: *job },
+            Record::Message { message } => Record::Message { message: *message },
+            Record::Anim { anim } => Record::Anim { anim: *anim },
+            Record::Job { job } => Record::Job { job: *job },
             Record::Access { mode, loc } => Record::Access {
                 mode: *mode,
                 loc: loc.copy()?,

@@ -5,10 +5,11 @@ use crate::name::Name;
 use crate::parse::parse_record;
 use crate::print::{print_loc, print_record};
 use crate::record::{Kind, Loc, Mode, Record};
+use crate::version::Version;
 use er_outside::{Failed, MemorySink};
 use std::alloc::Global;
 
-/// Each form, and each kind of element and location.
+/// Each form that is of each version, and each kind of element and location.
 static RECORDS: [&str; 32] = [
     "parse 0 1 plain",
     "parse 0 1 inline",
@@ -44,8 +45,11 @@ static RECORDS: [&str; 32] = [
     "w slot 1 onclick",
 ];
 
+/// The forms of version 3 alone.
+static TASKS: [&str; 6] = ["post 1", "ask 2", "queue 3", "message 4", "anim 5", "job 4294967295"];
+
 /// Lines that are no record.
-static OTHERS: [&str; 28] = [
+static OTHERS: [&str; 32] = [
     "",
     " ",
     "end",
@@ -74,6 +78,10 @@ static OTHERS: [&str; 28] = [
     "w elem 0 a%2f",
     "w elem 0 %",
     "w elem 0",
+    "post",
+    "job 1 2",
+    "anims 1",
+    "message x",
 ];
 
 /// Lets the record go. The proof of that is long, and a caller that goes through this needs none of its own.
@@ -106,11 +114,16 @@ fn is_copied(alloc: Global, rec: &Record, line: &str) -> bool {
     }
 }
 
-/// Whether the line is a record, for which the test holds.
-fn is_record<Test: Fn(&Record) -> bool>(alloc: Global, line: &str, test: Test) -> bool
+/// Whether the line is a record of that version, for which the test holds.
+fn is_record<Test: Fn(&Record) -> bool>(
+    alloc: Global,
+    version: Version,
+    line: &str,
+    test: Test,
+) -> bool
     requires { Test.IsAlwaysCallable test }
 {
-    match parse_record(alloc, line.as_bytes()) {
+    match parse_record(alloc, version, line.as_bytes()) {
         Ok(rec) => {
             let holds = test(&rec);
             let_go(rec);
@@ -120,8 +133,8 @@ fn is_record<Test: Fn(&Record) -> bool>(alloc: Global, line: &str, test: Test) -
     }
 }
 
-fn is_refused(alloc: Global, line: &str) -> bool {
-    match parse_record(alloc, line.as_bytes()) {
+fn is_refused(alloc: Global, version: Version, line: &str) -> bool {
+    match parse_record(alloc, version, line.as_bytes()) {
         Ok(rec) => {
             let_go(rec);
             false
@@ -134,15 +147,26 @@ fn is_refused(alloc: Global, line: &str) -> bool {
 fn records(rt: HostRuntime) {
     for line in &RECORDS {
         let alloc = rt.alloc();
-        let same = is_record(alloc, line, |rec| is_copied(alloc, rec, line));
+        let same = is_record(alloc, Version::One, line, |rec| is_copied(alloc, rec, line));
         assert!(rt; same, "{line}");
+    }
+}
+
+#[test]
+fn tasks(rt: HostRuntime) {
+    for line in &TASKS {
+        let alloc = rt.alloc();
+        let same = is_record(alloc, Version::Three, line, |rec| is_copied(alloc, rec, line));
+        assert!(rt; same, "{line}");
+        assert!(rt; is_refused(alloc, Version::One, line), "{line}");
+        assert!(rt; is_refused(alloc, Version::Two, line), "{line}");
     }
 }
 
 #[test]
 fn other_lines(rt: HostRuntime) {
     for line in &OTHERS {
-        assert!(rt; is_refused(rt.alloc(), line), "{line}");
+        assert!(rt; is_refused(rt.alloc(), Version::Three, line), "{line}");
     }
 }
 
@@ -170,8 +194,10 @@ fn is_made(rec: &Record) -> bool {
 
 #[test]
 fn fields(rt: HostRuntime) {
-    assert!(rt; is_record(rt.alloc(), "parse 3 4 defer", is_made));
-    assert!(rt; is_record(rt.alloc(), "w var 5 a%0A", |rec| writes(rec, 5, b"a\n")));
+    assert!(rt; is_record(rt.alloc(), Version::Two, "parse 3 4 defer", is_made));
+    let written =
+        is_record(rt.alloc(), Version::Three, "w var 5 a%0A", |rec| writes(rec, 5, b"a\n"));
+    assert!(rt; written);
 }
 
 /// Whether the name and a copy have these bytes.
@@ -217,7 +243,7 @@ fn locations(rt: HostRuntime) {
         ("r slot 7 onclick", "slot 7 onclick"),
     ] {
         let alloc = rt.alloc();
-        let same = is_record(alloc, line, |rec| is_at(alloc, rec, wanted));
+        let same = is_record(alloc, Version::One, line, |rec| is_at(alloc, rec, wanted));
         assert!(rt; same, "{line}");
     }
 }

@@ -2,6 +2,7 @@
 
 ghost use Rattle.std.specs.Prelude.{◌≡◌, IfSome, IfNone};
 ghost use Rattle.er_trace.specs.Trace.{header, IsNoHeader};
+ghost use Rattle.er_trace.specs.Versions.{has_tasks};
 
 use crate::head::is_word;
 
@@ -10,6 +11,20 @@ use crate::head::is_word;
 pub enum Version {
     One,
     Two,
+    Three,
+}
+
+impl Version {
+    /// Whether it has the records of messages, animation callbacks and jobs.
+    pub fn has_tasks(self) -> bool
+        ensures { result ≡ has_tasks self }
+    {
+        match self {
+            Version::One => false,
+            Version::Two => false,
+            Version::Three => true,
+        }
+    }
 }
 
 /// The version that this first line gives.
@@ -22,6 +37,9 @@ pub fn version_of(line: &[u8]) -> Option<Version>
     }
     if is_word(line, "webtrace 2") {
         return Some(Version::Two);
+    }
+    if is_word(line, "webtrace 3") {
+        return Some(Version::Three);
     }
     None
 }

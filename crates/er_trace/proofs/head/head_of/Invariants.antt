@@ -5,5 +5,5 @@ use Rattle.er_trace.proofs.HeadLaws.{head_place}
 use Rattle.er_trace.proofs.head.head_of.Given as goal
 
 -- no earlier head is spelled so
-abbrev pub invariant-loop-head : goal.invariant-loop-head
-invariant-loop-head l = (head : Head) → l.bytes ≡ head_word head → l.head-index ≤ head_place head
+abbrev pub invariant-loop-place : goal.invariant-loop-place
+invariant-loop-place l = (head : Head) → l.bytes ≡ head_word head → l.place ≤ head_place head

@@ -1,4 +1,6 @@
-use Rattle.std.proofs.Common.{rules}
+use Rattle.std.proofs.Common.{[], refl, rules}
+use Rattle.er_history.specs.LookUps.{place_of}
+use Rattle.er_names.specs.Names.{rank_of}
 use Rattle.er_names.proofs.RankLemmas.{none_ranked}
 use Rattle.er_names.proofs.tables.Tables.new.Goals as goal
 
@@ -6,7 +8,7 @@ pub returns : goal.returns
 returns c = record {
   elements = search rules;
   timeouts = search rules;
-  ranked = none_ranked _ _ (λ k. search rules);
+  ranked = none_ranked rank_of _ (place_of []) _ _ (λ k. search rules) (λ k. refl);
   documents = search rules;
   handlers = search rules;
   intervals = search rules;
