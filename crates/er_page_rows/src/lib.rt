@@ -14,3 +14,5 @@ mod nested;
 pub mod reading;
 #[cfg(test)]
 mod rows;
+#[cfg(test)]
+mod tasks;

@@ -2,7 +2,9 @@
 
 ghost use Rattle.std.specs.Prelude.{◌≡◌, List, [], Ok, Err, IfOk, OnErr};
 ghost use Rattle.er_trace.specs.declared.record.Record.{Record};
-ghost use Rattle.er_trace.specs.Spelling.{spelling, IsRecord};
+ghost use Rattle.er_trace.specs.declared.version.Version.TheVariants.{Three};
+ghost use Rattle.er_trace.specs.Spelling.{spelling};
+ghost use Rattle.er_trace.specs.Versions.{IsRecordOf};
 ghost use Rattle.er_page.specs.Page.{IsPage, IsSomePage};
 ghost use Rattle.er_page_rows.specs.Lines.{HasTaken};
 
@@ -12,6 +14,7 @@ use er_text::Cause;
 use er_trace::fault::LineFault;
 use er_trace::parse::parse_record;
 use er_trace::record::Record;
+use er_trace::version::Version;
 use std::alloc::Global;
 
 /// A page that stands for some list of records.
@@ -36,13 +39,13 @@ impl Reading {
         Ok(Reading { page })
     }
 
-    /// Takes the record that the line spells, or answers the first cause against it.
+    /// Takes the record of version 3 that the line spells, or answers the first cause against it.
     pub fn read(&mut self, alloc: Global, line: &str) -> Result<Option<Cause>, LineFault>
-        ensures taken { IfOk result (λ cause. (x : Record) → IsRecord x → line.now ≡ spelling x → (h : List Record) → IsPage self.old.page h → HasTaken self.new.page x cause h) }
-        ensures bad { result ≡ Err LineFault.BadRecord → (x : Record) → IsRecord x → line.now ≡ spelling x → ⊥ }
+        ensures taken { IfOk result (λ cause. (x : Record) → IsRecordOf Three x → line.now ≡ spelling x → (h : List Record) → IsPage self.old.page h → HasTaken self.new.page x cause h) }
+        ensures bad { result ≡ Err LineFault.BadRecord → (x : Record) → IsRecordOf Three x → line.now ≡ spelling x → ⊥ }
         ensures kept { OnErr result ((h : List Record) → IsPage self.old.page h → IsPage self.new.page h) }
     {
-        let rec = parse_record(alloc, line.as_bytes())?;
+        let rec = parse_record(alloc, Version::Three, line.as_bytes())?;
         match self.take(&rec) {
             Ok(cause) => Ok(cause),
             Err(NoMemory) => Err(LineFault::NoMemory),

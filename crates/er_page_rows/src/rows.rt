@@ -1,7 +1,7 @@
 //! Rows of lines by the cause against the last line of each; the lines before it are accepted.
 
 /// The number is not declared.
-pub(crate) static UNKNOWN: [&[&str]; 23] = [
+pub(crate) static UNKNOWN: [&[&str]; 29] = [
     // a document
     &["parse 5 1 plain"],
     &["parse 5 1 frame 6"],
@@ -31,10 +31,17 @@ pub(crate) static UNKNOWN: [&[&str]; 23] = [
     &["parse 0 9 plain", "on 1", "reply 1 1"],
     // it comes before the other causes
     &["parse 0 1 plain", "new 5 1 plain"],
+    // messages, animation callbacks and jobs
+    &["parse 0 1 plain", "message 1"],
+    &["parse 0 1 plain", "anim 1"],
+    &["parse 0 1 plain", "job 1"],
+    &["parse 0 1 plain", "queue 1", "message 1"],
+    &["parse 0 1 plain", "post 1", "job 1"],
+    &["parse 0 1 plain", "set 1 0", "anim 1"],
 ];
 
 /// The record declares or starts what was declared or started before.
-pub(crate) static AGAIN: [&[&str]; 37] = [
+pub(crate) static AGAIN: [&[&str]; 43] = [
     // an element
     &["parse 0 1 plain", "parse 0 1 sync"],
     &["parse 0 1 plain", "parse 0 1 frame 5"],
@@ -101,6 +108,13 @@ pub(crate) static AGAIN: [&[&str]; 37] = [
     &["parse 0 1 plain", "fire 1 1 a", "parse 0 1 plain"],
     &["parse 0 1 plain", "dcl 1 0", "dcl 2 0"],
     &["parse 0 1 plain", "fire 1 1 a", "inline 1 1 a"],
+    // messages, animation callbacks and jobs
+    &["parse 0 1 plain", "post 1", "post 1"],
+    &["parse 0 1 plain", "ask 1", "ask 1"],
+    &["parse 0 1 plain", "queue 1", "queue 1"],
+    &["parse 0 1 plain", "post 1", "message 1", "message 1"],
+    &["parse 0 1 plain", "ask 1", "anim 1", "anim 1"],
+    &["parse 0 1 plain", "queue 1", "job 1", "job 1"],
 ];
 
 /// The element is of no script kind.
@@ -116,7 +130,7 @@ pub(crate) static NOT_SCRIPT: [&[&str]; 7] = [
 ];
 
 /// The record is not allowed at this point of the nesting.
-pub(crate) static MISPLACED: [&[&str]; 67] = [
+pub(crate) static MISPLACED: [&[&str]; 74] = [
     // a dispatch is open
     &["parse 0 1 plain", "fire 1 1 a", "parse 0 2 plain"],
     &["parse 0 1 plain", "fire 1 1 a", "parse 0 2 frame 5"],
@@ -408,10 +422,18 @@ pub(crate) static MISPLACED: [&[&str]; 67] = [
     &["r elem 0 x"],
     &["w elem 0 x"],
     &["w slot 1 x"],
+    // messages, animation callbacks and jobs
+    &["post 1"],
+    &["ask 1"],
+    &["queue 1"],
+    &["parse 0 1 plain", "post 1", "fire 1 1 a", "message 1"],
+    &["parse 0 1 plain", "ask 1", "fire 1 1 a", "anim 1"],
+    &["parse 0 1 inline", "exec 1", "queue 1", "inline 1 1 a", "job 1"],
+    &["parse 0 1 inline", "exec 1", "queue 1", "inline 1 1 a", "close 1", "job 1"],
 ];
 
 /// Nothing is against the last line either.
-pub(crate) static ACCEPTED: [&[&str]; 35] = [
+pub(crate) static ACCEPTED: [&[&str]; 40] = [
     // notes and accesses use no number that has to be known
     &["parse 0 1 plain", "on 9"],
     &["parse 0 1 plain", "set 9 0"],
@@ -543,5 +565,21 @@ pub(crate) static ACCEPTED: [&[&str]; 35] = [
         "close 1",
         "back 1",
         "parse 0 2 plain",
+    ],
+    // messages, animation callbacks and jobs
+    &["parse 0 1 plain", "queue 1", "fire 1 1 a", "job 1"],
+    &["parse 0 1 plain", "post 1", "message 1", "inline 1 1 a"],
+    &["parse 0 1 plain", "ask 1", "anim 1", "inline 1 1 a"],
+    &["parse 0 1 plain", "queue 1", "fire 1 1 a", "job 1", "inline 2 1 b", "close 2", "back 2"],
+    &[
+        "parse 0 1 plain",
+        "post 1",
+        "ask 1",
+        "queue 1",
+        "set 1 0",
+        "job 1",
+        "anim 1",
+        "message 1",
+        "timer 1",
     ],
 ];

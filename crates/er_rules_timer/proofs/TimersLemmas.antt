@@ -34,7 +34,7 @@ use Rattle.er_pieces.proofs.TogetherLemmas.{has_timers}
 use Rattle.er_pieces.proofs.LookUpLemmas.{newest_found, listed_is}
 use Rattle.er_pieces.proofs.NestedLaws.{nested_facts}
 use Rattle.er_rules_timer.specs.Enough.{HandsEnoughTimers, HandsSourceTimers, timer_due}
-use Rattle.er_rules_timer.specs.Fired.{goes_off_first, is_joined, goes_before, handed_for, handed_for_each, set_by, due_for, tick_handed}
+use Rattle.er_rules_timer.specs.Fired.{goes_off_first, is_joined, goes_before, handed_for, handed_for_each, set_by, due_for, tick_handed, asks_for_path}
 use Rattle.er_rules_timer.specs.Timed.{IsTimed}
 use Rattle.er_rules_timer.proofs.FiredLemmas.{fired_are_handed}
 use Rattle.er_rules_timer.proofs.SetLemmas.{last_number}
@@ -81,11 +81,15 @@ before_one v h s t off one is yes_ = subst (λ w. true ≡ goes_before w h s t) 
 abbrev pub AsksForPath : Version → List Record → ℕ → ℕ → Type 0
 AsksForPath v h s t = goes_before v h s t ≡ (goes_off_first h s t && is_joined (path (rules v) h) (setting_piece h s) (setting_piece h t))
 
-pub as_two : (v : Version) (h : List Record) (s t : ℕ) → v ≡ Two → AsksForPath v h s t
-as_two v h s t e = subst (λ w. AsksForPath w h s t) (sym e) refl
+pub asked : (v : Version) (h : List Record) (s t : ℕ) → asks_for_path v ≡ true → AsksForPath v h s t
+asked One h s t e = absurd (cc)
+asked Two h s t e = refl
+asked Three h s t e = refl
 
-pub as_three : (v : Version) (h : List Record) (s t : ℕ) → v ≡ Three → AsksForPath v h s t
-as_three v h s t e = subst (λ w. AsksForPath w h s t) (sym e) refl
+pub not_asked : (v : Version) → asks_for_path v ≡ false → v ≡ One
+not_asked One e = refl
+not_asked Two e = absurd (cc)
+not_asked Three e = absurd (cc)
 
 pub before_joined : (v : Version) (h : List Record) (s t : ℕ) (off joined : Bool) (first second : ℕ) → AsksForPath v h s t → off ≡ goes_off_first h s t → off ≡ true → setting_piece h s ≡ Some first → setting_piece h t ≡ Some second
     → joined ≡ joins (edges (rules v) (told h).actions) first second → joined ≡ goes_before v h s t

@@ -1,5 +1,5 @@
 -- The timeouts whose callbacks have begun and come before another, by the look-ups. Lists of records stand newest first.
-use Rattle.std.specs.Prelude.{ℕ, Bool, ◌&&◌, nat_le, if◌then◌else◌, List, [], ◌∷◌, ◌++◌, reverse, Option, Some, None}
+use Rattle.std.specs.Prelude.{ℕ, Bool, true, false, ◌&&◌, nat_le, if◌then◌else◌, List, [], ◌∷◌, ◌++◌, reverse, Option, Some, None}
 use Rattle.er_trace.specs.declared.record.Record.{Record}
 use Rattle.er_trace.specs.declared.version.Version.{Version}
 use Rattle.er_trace.specs.declared.version.Version.TheVariants.{One, Two, Three}
@@ -20,6 +20,12 @@ goes_off_first h s t = set_before h s t && is_no_longer (delay_of h s) (delay_of
 -- a path leads from the piece that set the first to the piece that set the second
 abbrev pub is_joined : (ℕ → ℕ → Bool) → Option ℕ → Option ℕ → Bool
 is_joined joined first second = both_made joined first second
+
+-- rule 19 of the version asks for a path
+abbrev pub asks_for_path : Version → Bool
+asks_for_path One = false
+asks_for_path Two = true
+asks_for_path Three = true
 
 -- in versions 2 and 3 a path must lead to it besides; in version 1 one event set both
 abbrev pub goes_before : Version → List Record → ℕ → ℕ → Bool

@@ -40,10 +40,20 @@ fn goes_before(clocks: &Clocks, version: Version, earlier: SetTimeout, next: Set
     if !goes_off_first(earlier, next) {
         return false;
     }
+    if !asks_for_path(version) {
+        return true;
+    }
+    clocks.joined(earlier.piece, next.piece)
+}
+
+/// Whether rule 19 of the version asks for a path, or for one event that set both.
+pub(crate) fn asks_for_path(version: Version) -> bool
+    ensures { result ≡ says.asks_for_path version }
+{
     match version {
-        Version::One => true,
-        Version::Two => clocks.joined(earlier.piece, next.piece),
-        Version::Three => clocks.joined(earlier.piece, next.piece),
+        Version::One => false,
+        Version::Two => true,
+        Version::Three => true,
     }
 }
 
