@@ -1,11 +1,12 @@
 -- What an event is, by the record that began it and what the whole list says. Lists of records stand newest first.
-use Rattle.std.specs.Prelude.{◌≡◌, ℕ, List, Option, Some, None}
+use Rattle.std.specs.Prelude.{◌≡◌, ℕ, List, [], Option, Some, None}
 use Rattle.er_trace.specs.declared.record.Record.{Record}
-use Rattle.er_trace.specs.declared.record.Record.TheVariants.{Parse, ParseFrame, Exec, Timer, Tick, Dcl, Load, Eload, Fire, Wfire, Reply, Inline, Run, Close}
-use Rattle.er_history.specs.History.{Delivery, DclOf, LoadOf, EloadOf, FireAt, InlineAt, WindowFire, ReplyOf, Dispatch, What, ParseStep, ScriptRun, TimeoutRun, TickRun, BeginOf, HandlerOf, CloseOf, Unnamed, Action, told}
+use Rattle.er_trace.specs.declared.record.Record.TheVariants.{Parse, ParseFrame, Exec, Timer, Tick, Dcl, Load, Eload, Fire, Wfire, Reply, Inline, Run, Close, Message, Anim, Job}
+use Rattle.er_history.specs.History.{Delivery, DclOf, LoadOf, EloadOf, FireAt, InlineAt, WindowFire, ReplyOf, Dispatch, What, ParseStep, ScriptRun, TimeoutRun, TickRun, BeginOf, HandlerOf, CloseOf, MessageRun, AnimRun, JobRun, Unnamed, Action, action_at, told}
 use Rattle.er_history.specs.Laws.{Among}
 use Rattle.er_history.specs.LookUps.{begin_of, begin_event, element_made, timeout_made, maker_of_element, maker_of_document, maker_of_handler, maker_of_interval, maker_of_request}
 use Rattle.er_history.specs.Naming.{IsNamed}
+use Rattle.er_history.specs.Tasks.{OfMessage, OfAnim, OfJob, task_made}
 
 -- what a record delivers that begins a dispatch
 abbrev pub delivery_read : List Record → Record → Option Delivery
@@ -50,6 +51,19 @@ abbrev pub close_what : Option Dispatch → What
 close_what None = Unnamed
 close_what (Some d) = CloseOf d
 
+-- the dispatches that were on the stack when a job began
+abbrev pub within_in : What → List ℕ
+within_in (JobRun j made within) = within
+within_in _ = []
+
+-- when the job began that is this action
+abbrev pub within_of : List Record → ℕ → List ℕ
+within_of h k = of (action_at k (told h).actions)
+  where
+    of : Option Action → List ℕ
+    of None = []
+    of (Some a) = within_in a.event.what
+
 -- what the event is that a record began as action k
 abbrev pub what_read : List Record → ℕ → Record → What
 what_read h k (Parse d e f) = ParseStep d (maker_of_document h d)
@@ -57,6 +71,9 @@ what_read h k (ParseFrame d e f) = ParseStep d (maker_of_document h d)
 what_read h k (Exec e) = ScriptRun e (element_made h e)
 what_read h k (Timer t) = TimeoutRun t (timeout_made h t)
 what_read h k (Tick i) = TickRun i (maker_of_interval h i)
+what_read h k (Message m) = MessageRun m (task_made OfMessage h m)
+what_read h k (Anim a) = AnimRun a (task_made OfAnim h a)
+what_read h k (Job j) = JobRun j (task_made OfJob h j) (within_of h k)
 what_read h k (Run p g y) = handler_what g y (maker_of_handler h y) (dispatch_read h p)
 what_read h k (Close p) = close_what (dispatch_read h p)
 what_read h k (Dcl p d) = begun_what (dispatch_by h p k (Dcl p d))

@@ -1,15 +1,17 @@
--- What an event that is read off a page stands for. A timeout is shown by its number: the list says what set it.
+-- What an event that is read off a page stands for. A timeout and a task are shown by their numbers: the list says what set or declared them, and under which dispatches a job began.
 use Rattle.std.specs.Prelude.{List, option_map}
 use Rattle.er_trace.specs.declared.record.Record.{Record}
 use Rattle.er_history.specs.History as history
 use Rattle.er_history.specs.LookUps.{timeout_made}
+use Rattle.er_history.specs.Tasks.{OfMessage, OfAnim, OfJob, task_made}
 use Rattle.er_names.specs.Names.{element_of}
+use Rattle.er_reasons.specs.Read.{within_of}
 use Rattle.er_reasons.specs.declared.event.Event.{Event}
 use Rattle.er_reasons.specs.declared.event.Dispatch.{Dispatch}
 use Rattle.er_reasons.specs.declared.event.Delivery.{Delivery}
 use Rattle.er_reasons.specs.declared.event.Delivery.TheVariants.{DclOf, LoadOf, EloadOf, FireAt, InlineAt, WindowFire, ReplyOf}
 use Rattle.er_reasons.specs.declared.event.What.{What}
-use Rattle.er_reasons.specs.declared.event.What.TheVariants.{ParseStep, ScriptRun, TimeoutRun, TickRun, BeginOf, HandlerOf, CloseOf, Unnamed}
+use Rattle.er_reasons.specs.declared.event.What.TheVariants.{ParseStep, ScriptRun, TimeoutRun, TickRun, BeginOf, HandlerOf, CloseOf, MessageRun, AnimRun, JobRun, Unnamed}
 
 abbrev pub delivered : Delivery → history.Delivery
 delivered (DclOf d m) = history.DclOf d m
@@ -31,6 +33,9 @@ what_shown h (TickRun i m) = history.TickRun i m
 what_shown h (BeginOf d) = history.BeginOf (dispatched d)
 what_shown h (HandlerOf d g x m) = history.HandlerOf (dispatched d) g x m
 what_shown h (CloseOf d) = history.CloseOf (dispatched d)
+what_shown h (MessageRun m) = history.MessageRun m (task_made OfMessage h m)
+what_shown h (AnimRun a) = history.AnimRun a (task_made OfAnim h a)
+what_shown h (JobRun j k) = history.JobRun j (task_made OfJob h j) (within_of h k)
 what_shown h Unnamed = history.Unnamed
 
 abbrev pub event_shown : List Record → Event → history.Event

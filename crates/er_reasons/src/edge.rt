@@ -20,6 +20,7 @@ use crate::pieces::piece_rule;
 use crate::read::event_at;
 use crate::request::request_rule;
 use crate::script::script_rule;
+use crate::task::task_rule;
 use crate::timer::timer_rule;
 use er_clocks::Clocks;
 use er_page::page::Page;
@@ -76,5 +77,6 @@ fn any_rule(
     let load = lesser(script, load_rule(u, v));
     let dispatch = lesser(load, dispatch_rule(u, v));
     let timer = lesser(dispatch, timer_rule(page, clocks, version, u, v));
-    lesser(timer, request_rule(u, v))
+    let request = lesser(timer, request_rule(u, v));
+    lesser(request, task_rule(page, clocks, u, v))
 }

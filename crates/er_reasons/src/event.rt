@@ -47,7 +47,7 @@ pub(crate) struct Dispatch<'a> {
     pub(crate) delivers: Delivery<'a>,
 }
 
-/// What an event is. What set a timeout is asked of the page.
+/// What an event is. What set a timeout or declared a task is asked of the page, and under which dispatch a job began.
 #[derive(Clone, Copy)]
 pub(crate) enum What<'a> {
     ParseStep {
@@ -76,6 +76,16 @@ pub(crate) enum What<'a> {
     },
     CloseOf {
         dispatch: Dispatch<'a>,
+    },
+    MessageRun {
+        message: u32,
+    },
+    AnimRun {
+        anim: u32,
+    },
+    JobRun {
+        job: u32,
+        event: u32,
     },
     Unnamed,
 }

@@ -14,6 +14,7 @@ mod pieces;
 mod read;
 mod request;
 mod script;
+mod task;
 mod timer;
 
 pub use edge::reason;

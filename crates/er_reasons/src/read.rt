@@ -48,6 +48,12 @@ fn what_of<'a>(page: &'a Page, action: u32, begin: &'a Record) -> What<'a>
             interval: *interval,
             maker: page.maker_of_interval(*interval),
         },
+        Record::Message { message } => What::MessageRun { message: *message },
+        Record::Anim { anim } => What::AnimRun { anim: *anim },
+        Record::Job { job } => What::JobRun {
+            job: *job,
+            event: action,
+        },
         Record::Run {
             dispatch,
             group,

@@ -64,6 +64,7 @@ fn timers_in_order(
     match version {
         Version::One => timers_of_one_event_in_order(page, u, v),
         Version::Two => timers_of_joined_pieces_in_order(page, clocks, u, v),
+        Version::Three => timers_of_joined_pieces_in_order(page, clocks, u, v),
     }
 }
 

@@ -1,0 +1,162 @@
+//! Rules 24 to 31.
+
+ghost use Rattle.std.specs.Prelude.{◌≡◌, ◌&&◌, ℕ, Bool, List, nat_lt};
+ghost use Rattle.er_trace.specs.declared.record.Record.{Record};
+ghost use Rattle.er_paths.specs.Paths.{joins};
+ghost use Rattle.er_history.specs.History.{Task as Made};
+ghost use Rattle.er_history.specs.Rules as rules;
+ghost use Rattle.er_history.specs.Rules.{of_made, both_made};
+ghost use Rattle.er_history.specs.Edges.{up_to};
+ghost use Rattle.er_history.specs.Tasks.{OfMessage, OfAnim, OfJob, task_made};
+ghost use Rattle.er_clocks.specs.Clock.{StandsFor};
+ghost use Rattle.er_page.specs.Page.{IsPage};
+ghost use Rattle.er_steps.specs.Steps.{least_rule};
+ghost use Rattle.er_reasons.specs.Shown.{event_shown};
+
+use crate::elements::recorded;
+use crate::event::{Event, What};
+use crate::numbers::least_from;
+use crate::paths::leads_before;
+use er_clocks::Clocks;
+use er_names::names::Task;
+use er_page::page::Page;
+
+/// The least number of a rule on tasks that holds from u to v.
+pub(crate) fn task_rule(
+    page: &Page,
+    clocks: &Clocks,
+    u: &Event<'_>,
+    v: &Event<'_>,
+) -> Option<u32>
+    ensures { (h : List Record) (lists : List (List ℕ)) → IsPage page.now h → StandsFor clocks.now lists
+        → result ≡ least_rule rules.task_rules (up_to v.now.number (joins lists)) (event_shown h u.now) (event_shown h v.now) }
+{
+    least_from(
+        24,
+        &[
+            post_before_message(page, u, v),
+            messages_in_order(page, clocks, u, v),
+            ask_before_anim(page, u, v),
+            anims_in_order(page, clocks, u, v),
+            queue_before_job(page, u, v),
+            jobs_in_order(page, clocks, u, v),
+            jobs_before_callbacks(page, u, v),
+            jobs_before_close(page, u, v),
+        ],
+    )
+}
+
+fn post_before_message(page: &Page, u: &Event<'_>, v: &Event<'_>) -> bool {
+    match v.what {
+        What::MessageRun { message } => is_maker(page.message(message), u.number),
+        _ => false,
+    }
+}
+
+fn messages_in_order(page: &Page, clocks: &Clocks, u: &Event<'_>, v: &Event<'_>) -> bool {
+    let first = recorded(u, v);
+    match u.what {
+        What::MessageRun { message } => match v.what {
+            What::MessageRun { message: later } => {
+                first & in_order(clocks, page.message(message), page.message(later), v.number)
+            }
+            _ => false,
+        },
+        _ => false,
+    }
+}
+
+fn ask_before_anim(page: &Page, u: &Event<'_>, v: &Event<'_>) -> bool {
+    match v.what {
+        What::AnimRun { anim } => is_maker(page.anim(anim), u.number),
+        _ => false,
+    }
+}
+
+fn anims_in_order(page: &Page, clocks: &Clocks, u: &Event<'_>, v: &Event<'_>) -> bool {
+    let first = recorded(u, v);
+    match u.what {
+        What::AnimRun { anim } => match v.what {
+            What::AnimRun { anim: later } => {
+                first & in_order(clocks, page.anim(anim), page.anim(later), v.number)
+            }
+            _ => false,
+        },
+        _ => false,
+    }
+}
+
+fn queue_before_job(page: &Page, u: &Event<'_>, v: &Event<'_>) -> bool {
+    match v.what {
+        What::JobRun { job, .. } => is_maker(page.job(job), u.number),
+        _ => false,
+    }
+}
+
+fn jobs_in_order(page: &Page, clocks: &Clocks, u: &Event<'_>, v: &Event<'_>) -> bool {
+    let first = recorded(u, v);
+    match u.what {
+        What::JobRun { job, .. } => match v.what {
+            What::JobRun { job: later, .. } => {
+                first & in_order(clocks, page.job(job), page.job(later), v.number)
+            }
+            _ => false,
+        },
+        _ => false,
+    }
+}
+
+/// Rule 30: what the event that queued the job has set, posted or asked for.
+fn jobs_before_callbacks(page: &Page, u: &Event<'_>, v: &Event<'_>) -> bool {
+    let first = recorded(u, v);
+    match u.what {
+        What::JobRun { job, .. } => match page.job(job) {
+            Some(queued) => first & declares(page, queued.maker, v.what),
+            None => false,
+        },
+        _ => false,
+    }
+}
+
+/// Whether this event declared what the event is a callback or a message of.
+fn declares(page: &Page, maker: u32, what: What<'_>) -> bool {
+    match what {
+        What::TimeoutRun { timeout } => page.maker_of_timeout(timeout) == Some(maker),
+        What::TickRun { maker: setter, .. } => setter == Some(maker),
+        What::MessageRun { message } => is_maker(page.message(message), maker),
+        What::AnimRun { anim } => is_maker(page.anim(anim), maker),
+        _ => false,
+    }
+}
+
+/// Rule 31: the job began while the dispatch was on the stack.
+fn jobs_before_close(page: &Page, u: &Event<'_>, v: &Event<'_>) -> bool {
+    let first = recorded(u, v);
+    match u.what {
+        What::JobRun { event, .. } => match v.what {
+            What::CloseOf { dispatch } => first & page.jobs_in(dispatch.number).contains(&event),
+            _ => false,
+        },
+        _ => false,
+    }
+}
+
+/// Whether this event declared the task.
+fn is_maker(task: Option<Task>, event: u32) -> bool {
+    match task {
+        Some(task) => task.maker == event,
+        None => false,
+    }
+}
+
+/// Whether both are declared, the first before the other, and a path among the actions before this one leads from its piece to that of the other.
+fn in_order(clocks: &Clocks, first: Option<Task>, second: Option<Task>, before: u32) -> bool {
+    let Some(earlier) = first else {
+        return false;
+    };
+    let Some(later) = second else {
+        return false;
+    };
+    let declared = earlier.rank < later.rank;
+    declared & leads_before(clocks, earlier.piece, later.piece, before)
+}
