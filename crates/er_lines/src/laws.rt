@@ -35,8 +35,8 @@ pub fn one_cause<L: Lines>()
 /// The whole traces of lines of text are the texts of er_trace.
 pub fn text_traces()
     ensures to { (v : Version) (bytes : List ℕ) (records : List Record) → IsTrace text v bytes records
-        → texts.IsTrace records × (bytes ≡ texts.text v records) }
-    ensures from { (v : Version) (records : List Record) → texts.IsTrace records
+        → texts.IsTrace v records × (bytes ≡ texts.text v records) }
+    ensures from { (v : Version) (records : List Record) → texts.IsTrace v records
         → IsTrace text v (texts.text v records) records }
 {}
 
