@@ -1,5 +1,5 @@
 -- The text of items whose strings need no escape is read as the items.
-use Rattle.std.proofs.Common.{◌≡◌, ℕ, ◌<◌, ◌≤◌, ◌^◌, List, [], ◌∷◌, ◌++◌, length, map, Bool, true, false, not, ◌&&◌, Option, Some, inl, refl, sym, ap, ap₂, ◌∙◌, subst, arith, lit<, append_assoc, append-nil, length-append}
+use Rattle.std.proofs.Common.{◌≡◌, ℕ, ◌+◌, ◌<◌, ◌≤◌, ◌^◌, List, [], ◌∷◌, ◌++◌, length, map, Bool, true, false, not, ◌&&◌, Option, Some, inl, refl, sym, ap, ap₂, ◌∙◌, subst, arith, lit<, append_assoc, append-nil, length-append}
 use Rattle.std.specs.Prelude.{decimal, codes, ◌==◌, IsAscii, option_map, option_and_then}
 use Rattle.std.specs.List.{AllByRecursion, list_all}
 use Rattle.std.proofs.lemmas.Bool.{and_parts, false≢true}
