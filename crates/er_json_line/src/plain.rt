@@ -162,6 +162,7 @@ fn front_loc(alloc: Global, bytes: &[u8], spaced: bool) -> Option<(Loc, &[u8])>
 
 /// The access whose line stands at the front, and what stands behind the LF, where its name is short and
 /// needs no escape, and each comma has the same gap behind it, nothing or one space. `None` says nothing.
+#[tactic(auto, using(crate::proofs::PlainLemmas::access_at))]
 pub fn plain_json_line(alloc: Global, bytes: &[u8]) -> Option<(Record, &[u8])>
     ensures { IfSome result (λ pair. IsFront most_plain_bytes Spells bytes.now pair.0 pair.1.now) }
 {
