@@ -5,3 +5,4 @@ pub mod Nested
 pub mod Random
 pub mod Realistic
 pub mod Timers
+pub mod Tasks

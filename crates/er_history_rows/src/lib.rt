@@ -10,6 +10,7 @@ ghost use Rattle.er_history_rows.specs.Nested.{SuspendedScript, CutShort, InAHan
 ghost use Rattle.er_history_rows.specs.Random.{FirstPage, SecondPage, ThirdPage, FourthPage, FifthPage, SixthPage, SeventhPage, EighthPage, NinthPage, TenthPage, EleventhPage, TwelfthPage};
 ghost use Rattle.er_history_rows.specs.Realistic.{RealisticPage};
 ghost use Rattle.er_history_rows.specs.Timers.{FirstTimers, SecondTimers, ThirdTimers, FourthTimers};
+ghost use Rattle.er_history_rows.specs.Tasks.{FirstTasks, SecondTasks, ThirdTasks};
 
 /// The edges of a page as it is met.
 #[tactic(auto, using(crate::proofs::Computed::realistic_page))]
@@ -127,4 +128,12 @@ pub fn random_timers()
     ensures second_timers { SecondTimers }
     ensures third_timers { ThirdTimers }
     ensures fourth_timers { FourthTimers }
+{}
+
+/// The edges of random pages with many messages, animation callbacks and jobs, in version 3.
+#[tactic(auto, using(crate::proofs::Computed::first_tasks, crate::proofs::Computed::second_tasks, crate::proofs::Computed::third_tasks))]
+pub fn random_tasks()
+    ensures first_tasks { FirstTasks }
+    ensures second_tasks { SecondTasks }
+    ensures third_tasks { ThirdTasks }
 {}
