@@ -1,1 +1,2 @@
 pub mod SinceLemmas
+pub mod TellLemmas
