@@ -25,10 +25,16 @@ abbrev pub is_covered : (ℕ → ℕ → Bool) → Task → Option Task → Bool
 is_covered joined x None = false
 is_covered joined x (Some y) = goes_before joined x y
 
--- of two of these tasks of which the first goes before the other, each piece of the first has a path to each piece of the other
-abbrev pub AreJoined : (ℕ → ℕ → Bool) → List Action → List BegunTask → Type 0
-AreJoined joined actions begun = (i j : ℕ) (d : BegunTask) → i < j → j < length begun → goes_before joined (get_or begun i d).task (get_or begun j d).task ≡ true
-    → (a b : Action) → Among a actions → Among b actions → a.event.number ≡ (get_or begun i d).event → b.event.number ≡ (get_or begun j d).event → joined a.number b.number ≡ true
+-- the task stands at this place
+abbrev pub StandsAt : List BegunTask → ℕ → BegunTask → Type 0
+StandsAt begun i x = (i < length begun) × (get_or begun i x ≡ x)
+
+-- Of two of these tasks of which the first goes before the other, each piece of the first has a path to each piece of the other; and each has a piece, and was declared in an action.
+pub record AreJoined (joined : ℕ → ℕ → Bool) (actions : List Action) (begun : List BegunTask) : Type 0 where
+  pub declared : (i : ℕ) (x : BegunTask) → StandsAt begun i x → joined x.task.piece x.task.piece ≡ true
+  pub piece : (i : ℕ) (x : BegunTask) → StandsAt begun i x → (a : Action) × Among a actions × (a.event.number ≡ x.event)
+  pub join : (i j : ℕ) (x y : BegunTask) → i < j → StandsAt begun i x → StandsAt begun j y → goes_before joined x.task y.task ≡ true
+      → (a b : Action) → Among a actions → Among b actions → a.event.number ≡ x.event → b.event.number ≡ y.event → joined a.number b.number ≡ true
 
 -- each piece of the event has a path to one of these
 abbrev pub IsReached : (ℕ → ℕ → Bool) → List Action → List ℕ → ℕ → Type 0
@@ -38,8 +44,7 @@ IsReached joined actions handed u = (a : Action) → Among a actions → a.event
 pub record IsPieceOf (joined : ℕ → ℕ → Bool) (actions : List Action) (asked : Asked) (begun : List BegunTask) (k : ℕ) : Type 0 where
   pub place : ℕ
   pub task : BegunTask
-  pub within : place < length begun
-  pub there : get_or begun place task ≡ task
+  pub there : StandsAt begun place task
   pub is_asked : passes joined asked task.task ≡ true
   pub action : Action
   pub among : Among action actions
@@ -60,15 +65,14 @@ pub record HandsSomeOf (joined : ℕ → ℕ → Bool) (actions : List Action) (
 -- and each piece of one of those has a path to one of the numbers
 pub record HandsOf (joined : ℕ → ℕ → Bool) (actions : List Action) (asked : Asked) (begun : List BegunTask) (left : ℕ) (old new : List ℕ) : Type 0 where
   pub some : HandsSomeOf joined actions asked begun left old new
-  pub enough : (j : ℕ) (d : BegunTask) → left ≤ j → j < length begun → passes joined asked (get_or begun j d).task ≡ true → IsReached joined actions some.handed (get_or begun j d).event
+  pub enough : (j : ℕ) (x : BegunTask) → left ≤ j → StandsAt begun j x → passes joined asked x.task ≡ true → IsReached joined actions some.handed x.event
 
 -- it is one of the tasks from this place on, and its pieces have such paths
 pub record IsHanded (joined : ℕ → ℕ → Bool) (actions : List Action) (begun : List BegunTask) (left : ℕ) (handed : List ℕ) (task : Task) : Type 0 where
   pub place : ℕ
   pub found : BegunTask
   pub behind : left ≤ place
-  pub within : place < length begun
-  pub there : get_or begun place found ≡ found
+  pub there : StandsAt begun place found
   pub is : found.task ≡ task
   pub reached : IsReached joined actions handed found.event
 

@@ -57,7 +57,7 @@ impl Begun {
         ensures room { OnOk result (HasPlace self.new) }
     {
         self.listed.reserve(1)?;
-        self.reserve(1)?;
+        self.tasks.reserve(1)?;
         Ok(())
     }
 
@@ -74,7 +74,7 @@ impl Begun {
         let Ok(()) = self.listed.push(listed) else {
             unreachable!()
         };
-        let Ok(()) = self.push(BegunTask {
+        let Ok(()) = self.tasks.push(BegunTask {
             number: started.number,
             event: started.event,
             task: started.task,
@@ -88,7 +88,7 @@ impl Begun {
     fn run_to(&self, task: Task) -> usize
         ensures { AreRuns self.now.tasks.items → IsRunTo self.now.tasks.items task result }
     {
-        let count = self.len();
+        let count = self.tasks.len();
         if count == 0 {
             return 0;
         }

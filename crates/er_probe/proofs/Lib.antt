@@ -1,0 +1,3 @@
+pub mod SinceLemmas
+pub mod TellLemmas
+pub mod RuleLemmas
