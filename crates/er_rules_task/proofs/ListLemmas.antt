@@ -72,7 +72,7 @@ none_made kind tasks h are number is = by (task_at kind tasks number) (task_made
     by (Some y) m e g = absurd (cc)
 
 -- ranks stand in the order of the places
-ranks_are : (kind : TaskKind) (tasks : Tasks) (h : List Record) → TasksAre tasks h → (k n : ℕ) (x y : Task) → (one : TaskSays kind h k x) → (two : TaskSays kind h n y) → task_at kind tasks k ≡ Some x → task_at kind tasks n ≡ Some y
+pub ranks_are : (kind : TaskKind) (tasks : Tasks) (h : List Record) → TasksAre tasks h → (k n : ℕ) (x y : Task) → (one : TaskSays kind h k x) → (two : TaskSays kind h n y) → task_at kind tasks k ≡ Some x → task_at kind tasks n ≡ Some y
     → nat_lt x.rank y.rank ≡ nat_lt one.made.place two.made.place
 ranks_are kind tasks h are k n x y one two is also =
     (λ i. before (option_map task_rank (sym is i)) (option_map task_rank (sym also i)))
