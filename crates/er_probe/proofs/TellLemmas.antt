@@ -1,5 +1,5 @@
 -- The events of the tasks of a kind are those of the numbers that have begun, as the look-ups tell. Lists of records stand newest first.
-use Rattle.std.proofs.Common.{◌≡◌, ℕ, ◌+◌, ◌<◌, Bool, true, false, List, [], ◌∷◌, ◌++◌, length, map, Option, Some, None, option_map, refl, sym, ap, subst, ◌∙◌, arith, inl, inr, append-nil}
+use Rattle.std.proofs.Common.{◌≡◌, ℕ, ◌+◌, ◌<◌, Bool, true, false, List, [], ◌∷◌, ◌++◌, length, map, Option, Some, None, option_map, refl, sym, ap, subst, ◌∙◌, arith, inl, inr, append_assoc, append-nil}
 use Rattle.std.specs.Prelude.{◌==◌, ◌&&◌, if◌then◌else◌, reverse}
 use Rattle.std.specs.List.{list_any}
 use Rattle.std.proofs.lemmas.Bool.{eqb-true, eq-eqb}
@@ -295,7 +295,7 @@ task_begun : (kind : TaskKind) (h : List Record) (x : Record) (n : ℕ) (o : Opt
 task_begun kind h x n o own what = by (task_started kind x) refl (sym (run_new kind h x own) ∙ what)
   where
     by : (m : Option ℕ) → task_started kind x ≡ m → with_made kind h (task_started kind x) ≡ Some (n, o) → starts_task kind n x ≡ true
-    by None e f = let none : None ≡ Some (n, o) = sym (ap (with_made kind h) e) ∙ f in absurd (cc)
+    by None e f = let none : with_made kind h None ≡ Some (n, o) = sym (ap (with_made kind h) e) ∙ f in absurd (cc)
     by (Some m) e f = let same : m ≡ n = ap number_in (sym (ap (with_made kind h) e) ∙ f) in started_is kind x n (e ∙ ap (λ k. Some k) same)
 
 first_task : (kind : TaskKind) (h : List Record) (a : Action) (n : ℕ) (o : Option Task) → Among a (told h).actions → a.number ≡ a.event.number → run_of kind a.event.what ≡ Some (n, o) → starts_task kind n a.begin ≡ true

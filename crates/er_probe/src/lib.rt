@@ -1,2 +1,8 @@
 //! A probe.
 #![tactic(auto)]
+
+ghost use Rattle.er_probe.specs.Probe.{Probed};
+
+pub fn probed()
+    ensures { Probed }
+{}

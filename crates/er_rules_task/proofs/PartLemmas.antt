@@ -44,6 +44,7 @@ some_as actions test same most more old new is le hands = record {
 
 pub hands_as : (joined : ℕ → ℕ → Bool) (actions : List Action) (test same : Event → Bool) (most more : ℕ) (old new : List ℕ) → ((i : Action) → Among i actions → test i.event ≡ same i.event) → most ≤ more → HandsEvents joined actions test most old new
     → HandsEvents joined actions same more old new
+unfolding some_as
 hands_as joined actions test same most more old new is le hands = record {
   some = some_as actions test same most more old new is le hands.some;
   enough = λ i among e. hands.enough i among (is i among ∙ e);
@@ -70,6 +71,7 @@ some_later actions one two m n old mid new first second = record {
 }
 
 pub hands_both : (joined : ℕ → ℕ → Bool) (actions : List Action) (one two : Event → Bool) (m n : ℕ) (old mid new : List ℕ) → HandsEvents joined actions one m old mid → HandsEvents joined actions two n mid new → HandsEvents joined actions (λ u. one u || two u) (m + n) old new
+unfolding some_later
 hands_both joined actions one two m n old mid new first second = record {
   some = some_later actions one two m n old mid new first.some second.some;
   enough = λ i among e. elim (or_cases (one i.event) (two i.event) e) [
@@ -232,6 +234,7 @@ some_of joined h test asked begun old new are hands = record {
 
 pub tasks_handed : (joined : ℕ → ℕ → Bool) (h : List Record) (test : Event → Bool) (asked : Asked) (begun : List BegunTask) (old new : List ℕ) → AreOf joined h test asked begun → HandsOf joined (told h).actions asked begun 0 old new
     → HandsEvents joined (told h).actions test (length (events_of_each test (told h).actions)) old new
+unfolding some_of
 tasks_handed joined h test asked begun old new are hands = record {
   some = some_of joined h test asked begun old new are hands.some;
   enough = λ i among e.

@@ -76,8 +76,10 @@ pub fewer_asked : (joined : ℕ → ℕ → Bool) (asked : Asked) (begun : List 
 fewer_asked joined asked begun m n le = fewer (λ (x : BegunTask). passes joined asked x.task) m n begun le
 
 one_more : {X : Type 0} (p : X → Bool) (xs : List X) (i : ℕ) (x : X) → i < length xs → get_or xs i x ≡ x → p x ≡ true → length (filter p (drop i xs)) ≡ 1 + length (filter p (drop (i + 1) xs))
-one_more p xs i x lt is passes =
-    ap (λ l. length (filter p l)) (drop_more xs i x lt ∙ ap (λ y. y ∷ drop (i + 1) xs) is) ∙ ap (λ b. length (cond b (x ∷ filter p (drop (i + 1) xs)) (filter p (drop (i + 1) xs)))) passes
+one_more p xs i x lt is passed =
+    let here = ap (λ l. length (filter p l)) (drop_more xs i x lt ∙ ap (λ y. y ∷ drop (i + 1) xs) is) in
+    let kept = ap (λ b. length (cond b (x ∷ filter p (drop (i + 1) xs)) (filter p (drop (i + 1) xs)))) passed in
+    omega (arith, here, kept)
 
 -- places behind
 
@@ -113,6 +115,7 @@ fewer_left joined actions asked begun m n old new le is = record { handed = is.h
 
 pub walk_covered : (joined : ℕ → ℕ → Bool) (actions : List Action) (asked : Asked) (begun : List BegunTask) (walk : Walk) (old new : List ℕ) (i : ℕ) (x : BegunTask) → Composes joined → AreRuns begun → AreJoined joined actions begun → StandsAt begun i x → i + 1 ≡ walk.left
     → is_covered joined x.task walk.handed ≡ true → IsWalk joined actions asked begun walk old new → IsWalk joined actions asked begun (record { left = x.run; handed = walk.handed }) old new
+unfolding fewer_left
 walk_covered joined actions asked begun walk old new i x on runs are here at covered is = by walk.handed is.last covered
   where
     le : x.run ≤ i
@@ -120,9 +123,9 @@ walk_covered joined actions asked begun walk old new i x on runs are here at cov
 
     reached : (last : Task) → IsHanded joined actions begun walk.left is.hands.some.handed last → goes_before joined x.task last ≡ true → (j : ℕ) (y : BegunTask) → x.run ≤ j → StandsAt begun j y → passes joined asked y.task ≡ true
         → IsReached joined actions is.hands.some.handed y.event
-    reached last handed goes j y from there passes =
+    reached last handed goes j y from there asks =
         elim (behind_or_here i j walk.left at) [
-          | inl behind ↦ is.hands.enough j y behind there passes
+          | inl behind ↦ is.hands.enough j y behind there asks
           | inr rest ↦ elim rest [
             | inl same ↦ covered_reached joined actions begun walk.left is.hands.some.handed last on are handed j y there (omega (arith, at, same)) (subst (λ (z : BegunTask). goes_before joined z.task last ≡ true) (sym (same_place begun i j x y here there same)) goes)
             | inr before ↦ covered_reached joined actions begun walk.left is.hands.some.handed last on are handed j y there (omega (arith, at, before))
@@ -140,15 +143,16 @@ walk_covered joined actions asked begun walk old new i x on runs are here at cov
 -- It is not as asked.
 pub walk_past : (joined : ℕ → ℕ → Bool) (actions : List Action) (asked : Asked) (begun : List BegunTask) (walk : Walk) (old new : List ℕ) (i : ℕ) (x : BegunTask) → StandsAt begun i x → i + 1 ≡ walk.left
     → passes joined asked x.task ≡ false → IsWalk joined actions asked begun walk old new → IsWalk joined actions asked begun (record { left = i; handed = walk.handed }) old new
+unfolding fewer_left
 walk_past joined actions asked begun walk old new i x here at fails is = record {
   hands = record { some = fewer_left joined actions asked begun i walk.left old new (omega (arith, at)) is.hands.some; enough = reached };
   last = handed_from joined actions begun i walk.left is.hands.some.handed walk.handed (omega (arith, at)) is.last;
 }
   where
     reached : (j : ℕ) (y : BegunTask) → i ≤ j → StandsAt begun j y → passes joined asked y.task ≡ true → IsReached joined actions is.hands.some.handed y.event
-    reached j y from there passes_ =
+    reached j y from there asks =
         elim (behind_or_here i j walk.left at) [
-          | inl behind ↦ is.hands.enough j y behind there passes_
+          | inl behind ↦ is.hands.enough j y behind there asks
           | inr rest ↦ elim rest [
             | inl same ↦ absurd (let other : passes joined asked y.task ≡ false = ap (λ (z : BegunTask). passes joined asked z.task) (same_place begun i j x y here there same) ∙ fails in cc)
             | inr before ↦ absurd (omega (arith, from, before))
@@ -224,9 +228,9 @@ walk_handed joined actions asked begun walk old new more i k x on runs are here 
     own a among event = to_it a (last.reached a among event)
 
     reached : (j : ℕ) (y : BegunTask) → x.run ≤ j → StandsAt begun j y → passes joined asked y.task ≡ true → IsReached joined actions (is.hands.some.handed ++ k ∷ []) y.event
-    reached j y from there passes_ a among event =
+    reached j y from there asks_ a among event =
         elim (behind_or_here i j walk.left at) [
-          | inl behind ↦ reach_left joined a.number is.hands.some.handed (k ∷ []) (is.hands.enough j y behind there passes_ a among event)
+          | inl behind ↦ reach_left joined a.number is.hands.some.handed (k ∷ []) (is.hands.enough j y behind there asks_ a among event)
           | inr rest ↦ elim rest [
             | inl same ↦ own a among (event ∙ ap (λ (z : BegunTask). z.event) (same_place begun i j x y here there same))
             | inr before ↦ to_it a (subst (λ m. joined a.number m ≡ true) last.number
@@ -240,7 +244,7 @@ pub walk_begun : (joined : ℕ → ℕ → Bool) (actions : List Action) (asked 
 walk_begun joined actions asked begun n old all = record {
   hands = record {
     some = record { handed = []; grown = sym (append-nil old); pieces = λ k among. absurd (cc); few = omega arith };
-    enough = λ j x from there passes. absurd (omega (arith, from, there.0, all));
+    enough = λ j x from there asks. absurd (omega (arith, from, there.0, all));
   };
   last = tt;
 }
