@@ -1,5 +1,5 @@
 -- What each call hands is what is due. Lists of records stand newest first.
-use Rattle.std.proofs.Common.{◌≡◌, ℕ, ◌+◌, ◌≤◌, Bool, true, false, List, [], ◌∷◌, ◌++◌, length, map, filter, reverse, take, Option, Some, None, option_map, Result, Ok, Err, OnOk, OnErr, refl, sym, ap, subst, ◌∙◌, arith, inl, inr, append-nil}
+use Rattle.std.proofs.Common.{◌≡◌, ℕ, ◌+◌, Bool, true, false, List, [], ◌∷◌, length, map, reverse, take, Option, Some, None, option_map, Result, Ok, Err, OnOk, OnErr, refl, sym, ap, subst, ◌∙◌, arith, inl, inr}
 use Rattle.std.specs.Prelude.{◌==◌, ◌&&◌, ◌||◌, if◌then◌else◌}
 use Rattle.std.specs.List.{list_any}
 use Rattle.std.proofs.Math.Logic.{∥∥₁_elim, ∥∥₁_map}
@@ -13,13 +13,13 @@ use Rattle.er_paths.proofs.Paths.{or_left}
 use Rattle.std.proofs.lemmas.Bool.{eq-eqb}
 use Rattle.er_history.specs.History as history
 use Rattle.er_history.specs.History.{Open, Event, Action, Entry, told, begins, first_to, makes_task, event_begun, action_begun}
-use Rattle.er_history.specs.Edges.{path, up_to, is_ruled}
-use Rattle.er_history.specs.Handed.{AreSources, AreEnough, AreHanded, HasHanded, HasHandedSome}
+use Rattle.er_history.specs.Edges.{path}
+use Rattle.er_history.specs.Handed.{AreSources, AreEnough}
 use Rattle.er_history.specs.Kinds.{is_job_within}
-use Rattle.er_history.specs.Latest.{latest_of, latest_piece, latest_of_each, events_of_each}
+use Rattle.er_history.specs.Latest.{latest_of, events_of_each}
 use Rattle.er_history.specs.Laws.{Among}
-use Rattle.er_history.specs.LookUps.{event_of, jobs_in, jobs_queued}
-use Rattle.er_history.specs.Rules.{Rule, rules, of_made, task_rules}
+use Rattle.er_history.specs.LookUps.{event_of, jobs_in}
+use Rattle.er_history.specs.Rules.{rules, of_made, task_rules}
 use Rattle.er_history.specs.Tasks.{TaskKind, OfMessage, OfAnim, OfJob, declares_task, task_made, tasks_begun, queued_jobs}
 use Rattle.er_hand.specs.Handing.{HasEvents, GrewFor, GrewInPartFor}
 use Rattle.er_hand.proofs.HandingLemmas.{named_list}
@@ -37,18 +37,17 @@ use Rattle.er_tasks.specs.declared.tasks.BegunTask.{BegunTask}
 use Rattle.er_tasks.specs.Begun.{AreRuns, task_number}
 use Rattle.er_tasks.specs.Tasks.{HaveBegun, task_at}
 use Rattle.er_rules_timer.specs.Timed.{IsTimed}
-use Rattle.er_rules_task.specs.declared.before.Asked.{Asked}
 use Rattle.er_rules_task.specs.declared.before.Asked.TheVariants.{Before, Nothing}
-use Rattle.er_rules_task.specs.Before.{event_in, goes_before, passes, StandsAt, AreJoined, HandsSomeOf, HandsOf}
-use Rattle.er_rules_task.specs.Counts.{in_order, earlier_count, queued_count, most_task}
-use Rattle.er_rules_task.specs.Due.{is_task, declared_first, is_earlier, is_maker, is_job_of, maker_of, comes_before, due}
+use Rattle.er_rules_task.specs.Before.{event_in, goes_before, AreJoined, HandsSomeOf, HandsOf}
+use Rattle.er_rules_task.specs.Counts.{queued_count, most_task}
+use Rattle.er_rules_task.specs.Due.{is_task, declared_first, is_earlier, is_job_of, maker_of, comes_before}
 use Rattle.er_rules_task.specs.Enough.{HandsEnoughTasks, HandsSourceTasks}
 use Rattle.er_rules_task.specs.Handed.{HandsSomeEvents, HandsEvents, Hands, HandsSome}
-use Rattle.er_rules_task.specs.Parts.{due_for, task_due, earlier_tasks, task_count, jobs_due, callback_due, callback_count}
+use Rattle.er_rules_task.specs.Parts.{due_for, task_due, task_count, jobs_due, callback_due, callback_count}
 use Rattle.er_rules_task.proofs.ListLemmas.{TaskSays, task_says, none_made, goes_is, IsListOf, found_at, tasks_are_events, task_events, all_events, all_kept, tasks_are_joined}
 use Rattle.er_rules_task.proofs.PartLemmas.{nothing_handed, some_as, hands_as, hands_both, some_first, some_later, is_event, event_handed, event_in_part, each_handed, each_in_part, AreOf, tasks_handed, tasks_in_part}
-use Rattle.er_rules_task.proofs.RuleLemmas.{IsDue, due_is, older, made_known, messages_counted, anims_counted, jobs_counted}
-use Rattle.er_rules_task.proofs.TellLemmas.{begun_by, both_of, any_task, of_queuer, all_begun, queued_begun, queued_counted}
+use Rattle.er_rules_task.proofs.RuleLemmas.{due_is, older, made_known, messages_counted, anims_counted, jobs_counted}
+use Rattle.er_rules_task.proofs.TellLemmas.{begun_by, any_task, of_queuer, all_begun, queued_begun, queued_counted}
 
 -- a list that the page has
 

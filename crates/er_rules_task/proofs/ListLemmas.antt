@@ -1,11 +1,9 @@
 -- What lists of tasks that have begun say of the list of records that the tables stand for. Lists of records stand newest first.
-use Rattle.std.proofs.Common.{◌≡◌, ℕ, suc, ◌+◌, ◌-◌, ◌<◌, ◌≤◌, Bool, true, false, cond, List, [], ◌∷◌, ◌++◌, length, map, filter, get_or, Option, Some, None, option_map, refl, sym, ap, subst, ◌∙◌, arith, inl, inr, append-nil}
+use Rattle.std.proofs.Common.{◌≡◌, ℕ, suc, ◌<◌, Bool, true, false, cond, List, [], ◌∷◌, ◌++◌, length, map, filter, get_or, Option, Some, None, option_map, refl, sym, ap, subst, ◌∙◌, arith, inl, inr}
 use Rattle.std.specs.Prelude.{◌==◌, ◌&&◌, ◌||◌, nat_lt, nat_eq, if◌then◌else◌, reverse, AllPairs}
-use Rattle.std.specs.List.{All, list_any}
-use Rattle.std.proofs.Math.Logic.{∥∥₁_elim, ∥∥₁_map}
-use Rattle.std.proofs.Props.{props}
-use Rattle.std.proofs.lemmas.Bool.{eqb-true, eq-eqb}
-use Rattle.std.proofs.lemmas.List.{reverse-append, length-map, length-reverse, get_or-map}
+use Rattle.std.specs.List.{All}
+use Rattle.std.proofs.lemmas.Bool.{eqb-true}
+use Rattle.std.proofs.lemmas.List.{reverse-append, length-map, get_or-map}
 use Rattle.std.proofs.lemmas.List.Elements.{All-push}
 use Rattle.std.proofs.lemmas.List.Quantifiers.{all_pairs_push}
 use Rattle.indexmap.specs.IndexMap.{get, index_map_len}
@@ -33,7 +31,7 @@ use Rattle.er_pieces.proofs.PathLemmas.{and_right, both, less_is, edge_path}
 use Rattle.er_tasks.specs.declared.tasks.Task.{Task}
 use Rattle.er_tasks.specs.declared.tasks.BegunTask.{BegunTask}
 use Rattle.er_tasks.specs.declared.tasks.Tasks.{Tasks}
-use Rattle.er_tasks.specs.Begun.{IsBegun, AreRuns, AreBegun, task_number}
+use Rattle.er_tasks.specs.Begun.{task_number}
 use Rattle.er_tasks.specs.Tasks.{declared_of, declared, task_rank, TaskTableIs, TasksAre, table_of, task_at, HaveBegun}
 use Rattle.er_rules_task.specs.Before.{event_in, goes_before, StandsAt, AreJoined}
 use Rattle.er_rules_task.specs.Due.{run_of, is_task, declared_first}
@@ -279,6 +277,6 @@ tasks_are_joined table has kind tasks h named are pick xs list = record { declar
         let below = of_b.piece two.made two.is in
         let known : up_to b.event.number (path table h) one.made.piece two.made.piece ≡ true = both (nat_lt two.made.piece b.event.number) (path table h one.made.piece two.made.piece) (less_is two.made.piece b.event.number (omega (arith, below, eb))) paths in
         let holds = order_holds kind (up_to b.event.number (path table h)) a.event b.event x.number y.number one.made two.made (less_is a.event.number b.event.number before) run_a run_b
-            (both (nat_lt one.made.place two.made.place) (up_to b.event.number (path table h) one.made.piece two.made.piece) places known) in
+        (both (nat_lt one.made.place two.made.place) (up_to b.event.number (path table h) one.made.piece two.made.piece) places known) in
         edge_path table h a b first last (both (nat_lt a.number b.number) (is_ruled table (path table h) a b || (around_inline a b || of_one_event a b)) (less_is a.number b.number (omega (arith, stands, up.1)))
         (or_left (is_ruled table (path table h) a b) (around_inline a b || of_one_event a b) (has (up_to b.event.number (path table h)) a.event b.event (of_group kind (up_to b.event.number (path table h)) a.event b.event (λ same. omega (arith, same, before)) holds))))

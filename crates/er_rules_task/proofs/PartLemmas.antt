@@ -1,7 +1,6 @@
 -- What is handed of events that pass a test, part by part. Lists of records stand newest first.
-use Rattle.std.proofs.Common.{◌≡◌, ℕ, zero, suc, ◌+◌, ◌≤◌, Bool, true, false, cond, List, [], ◌∷◌, ◌++◌, length, map, filter, reverse, take, Option, Some, None, refl, sym, ap, subst, ◌∙◌, arith, inl, inr, append_assoc, append-nil}
-use Rattle.std.specs.Prelude.{◌==◌, ◌&&◌, ◌||◌, if◌then◌else◌, Result, Ok, Err, OnOk, OnErr}
-use Rattle.std.specs.List.{list_any}
+use Rattle.std.proofs.Common.{◌≡◌, ℕ, zero, suc, ◌+◌, ◌≤◌, Bool, true, false, cond, List, [], ◌∷◌, ◌++◌, length, map, filter, reverse, take, refl, sym, ap, subst, ◌∙◌, arith, inl, inr, append_assoc, append-nil}
+use Rattle.std.specs.Prelude.{◌==◌, ◌&&◌, ◌||◌, if◌then◌else◌}
 use Rattle.std.proofs.lemmas.Bool.{eqb-true, eq-eqb}
 use Rattle.std.proofs.lemmas.List.{length-append, length-map, length-reverse, length-take-le, reverse-append}
 use Rattle.er_trace.specs.declared.record.Record.{Record}
@@ -22,7 +21,7 @@ use Rattle.er_pieces.proofs.RunLemmas.{same_event}
 use Rattle.er_pieces.proofs.SourceLemmas.{each_both, each_latest, each_event}
 use Rattle.er_tasks.specs.declared.tasks.BegunTask.{BegunTask}
 use Rattle.er_rules_task.specs.declared.before.Asked.{Asked}
-use Rattle.er_rules_task.specs.Before.{event_in, passes, StandsAt, IsPieceOf, HandsSomeOf, HandsOf}
+use Rattle.er_rules_task.specs.Before.{event_in, passes, StandsAt, HandsSomeOf, HandsOf}
 use Rattle.er_rules_task.specs.Handed.{HandsSomeEvents, HandsEvents}
 
 -- nothing passes
@@ -240,7 +239,7 @@ tasks_handed joined h test asked begun old new are hands = record {
   enough = λ i among e.
       let found = among_events h test i among e in
       let listed = listed_from (λ (x : BegunTask). passes joined asked x.task) begun i.event.number
-          (ap (is_among i.event.number) (sym are) ∙ (any_reverse i.event.number (events_of_each test (told h).actions) ∙ found)) in
+      (ap (is_among i.event.number) (sym are) ∙ (any_reverse i.event.number (events_of_each test (told h).actions) ∙ found)) in
       hands.enough listed.place listed.task (omega arith) listed.there listed.is i among (sym listed.event);
 }
 

@@ -1,5 +1,5 @@
 -- From which events the rules of tasks lead to the one that a record begins. Lists of records stand newest first.
-use Rattle.std.proofs.Common.{◌≡◌, ℕ, ◌<◌, Bool, true, false, List, length, map, Option, Some, None, option_map, refl, sym, ap, subst, ◌∙◌, arith}
+use Rattle.std.proofs.Common.{◌≡◌, ℕ, ◌<◌, Bool, true, false, List, length, map, Option, Some, None, option_map, refl, sym, ap, ◌∙◌, arith}
 use Rattle.std.specs.Prelude.{◌==◌, ◌&&◌, ◌||◌, not, nat_lt}
 use Rattle.std.specs.List.{list_any}
 use Rattle.std.proofs.lemmas.Bool.{eqb-true, eq-eqb, ne_eqb}
@@ -12,13 +12,12 @@ use Rattle.er_history.specs.Kinds.{is_job_within}
 use Rattle.er_history.specs.Laws.{Among}
 use Rattle.er_history.specs.LookUps.{timeout_made, maker_of_interval}
 use Rattle.er_history.specs.Naming.{naming}
-use Rattle.er_history.specs.Rules.{Rule, any_holds, task_rules, messages_in_order, anims_in_order, jobs_in_order}
+use Rattle.er_history.specs.Rules.{Rule, any_holds, task_rules}
 use Rattle.er_history.specs.Sound.{out_of_order}
 use Rattle.er_history.specs.Tasks.{OfMessage, OfAnim, OfJob, declares_task, task_made}
 use Rattle.er_history.proofs.HistoryLemmas.{told_before, event_below}
 use Rattle.er_history.proofs.MakersLemmas.{task_below}
 use Rattle.er_history.proofs.NamedLemmas.{none_holds}
-use Rattle.er_history.proofs.OrderLemmas.{not_both}
 use Rattle.er_pieces.specs.Enough.{IsSteady}
 use Rattle.er_pieces.proofs.ChainLemmas.{event_with}
 use Rattle.er_pieces.proofs.NestedLaws.{nested_facts}

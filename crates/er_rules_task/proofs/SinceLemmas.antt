@@ -1,5 +1,5 @@
 -- From the begin of a task on, each piece is of an event that has begun since. Lists of records stand newest first.
-use Rattle.std.proofs.Common.{◌≡◌, ℕ, ◌+◌, ◌<◌, ◌≤◌, Bool, true, false, List, [], ◌∷◌, length, Option, Some, None, refl, sym, ap, subst, ◌∙◌, arith, inl, inr}
+use Rattle.std.proofs.Common.{◌≡◌, ℕ, ◌<◌, ◌≤◌, Bool, true, false, List, [], ◌∷◌, length, Option, Some, None, refl, sym, ap, subst, ◌∙◌, arith, inl, inr}
 use Rattle.std.specs.Prelude.{◌||◌, if◌then◌else◌}
 use Rattle.std.specs.List.{list_any}
 use Rattle.er_trace.specs.declared.record.Record.{Record}
@@ -11,7 +11,7 @@ use Rattle.er_history.proofs.EventLemmas.{resumed_goes_on}
 use Rattle.er_history.proofs.HistoryLemmas.{told_before, event_below, actions_are_numbered, among_below, events_have_first_pieces}
 use Rattle.er_history.proofs.NamedLemmas.{none_holds}
 use Rattle.er_pieces.proofs.StackLemmas.{On, stack_from, dispatch_at, top_on}
-use Rattle.er_pieces.proofs.CallerLemmas.{Resumed, among_cases, event_is}
+use Rattle.er_pieces.proofs.CallerLemmas.{among_cases, event_is}
 use Rattle.er_pieces.proofs.StartsLemmas.{lt_or_le, none_open}
 
 -- no event that began before action n goes on from there on: no inline dispatch that is open began before

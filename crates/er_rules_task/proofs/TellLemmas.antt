@@ -1,5 +1,5 @@
 -- The events of the tasks of a kind are those of the numbers that have begun, as the look-ups tell. Lists of records stand newest first.
-use Rattle.std.proofs.Common.{◌≡◌, ℕ, ◌+◌, ◌<◌, Bool, true, false, List, [], ◌∷◌, ◌++◌, length, map, Option, Some, None, option_map, refl, sym, ap, subst, ◌∙◌, arith, inl, inr, append_assoc, append-nil}
+use Rattle.std.proofs.Common.{◌≡◌, ℕ, ◌<◌, Bool, true, false, List, [], ◌∷◌, ◌++◌, length, map, Option, Some, None, refl, sym, ap, subst, ◌∙◌, arith, inl, inr, append_assoc, append-nil}
 use Rattle.std.specs.Prelude.{◌==◌, ◌&&◌, if◌then◌else◌, reverse}
 use Rattle.std.specs.List.{list_any}
 use Rattle.std.proofs.lemmas.Bool.{eqb-true, eq-eqb}
@@ -19,7 +19,6 @@ use Rattle.er_history.proofs.EventLemmas.{resumed_goes_on}
 use Rattle.er_history.proofs.ExactLemmas.{facts_are_exact}
 use Rattle.er_history.proofs.HistoryLemmas.{told_before, event_below}
 use Rattle.er_history.proofs.MakersLemmas.{task_below}
-use Rattle.er_history.proofs.OrderLemmas.{not_both}
 use Rattle.er_pieces.specs.Contract.{listed}
 use Rattle.er_pieces.proofs.BegunLemmas.{MadeBy, made_by_action, BegunAt, begun_at}
 use Rattle.er_pieces.proofs.CallerLemmas.{among_cases, among_more}

@@ -1,5 +1,5 @@
 -- The steps of a walk over tasks that have begun.
-use Rattle.std.proofs.Common.{◌≡◌, ℕ, zero, suc, ◌+◌, ◌<◌, ◌≤◌, Bool, true, false, cond, List, [], ◌∷◌, ◌++◌, length, filter, drop, get_or, Option, Some, None, refl, sym, ap, subst, ◌∙◌, arith, inl, inr, append_assoc, append-nil}
+use Rattle.std.proofs.Common.{◌≡◌, ℕ, zero, suc, ◌+◌, ◌-◌, ◌<◌, ◌≤◌, Bool, true, false, cond, List, [], ◌∷◌, ◌++◌, length, map, filter, drop, get_or, Option, Some, None, Result, Ok, Err, OnErr, refl, sym, ap, subst, ◌∙◌, arith, inl, inr, append_assoc, append-nil}
 use Rattle.std.specs.Prelude.{◌⊎◌, ◌==◌, ◌&&◌, nat_lt, IfSome}
 use Rattle.std.specs.List.{list_any}
 use Rattle.std.proofs.lemmas.Bool.{eqb-true, eq-eqb, ltb-true}
@@ -14,6 +14,7 @@ use Rattle.er_history.specs.LookUps as look
 use Rattle.er_history.specs.Rules.{Rule}
 use Rattle.er_history.proofs.HistoryLemmas.{and_left}
 use Rattle.er_history.proofs.OrderLemmas.{any_append}
+use Rattle.er_pieces.specs.Contract.{GrewInPart}
 use Rattle.er_pieces.proofs.LookUpLemmas.{latest_is}
 use Rattle.er_pieces.proofs.PathLemmas.{and_right, both, less_is, path_on, reach_latest, reach_left, reach_right}
 use Rattle.er_pieces.proofs.SourceLemmas.{each_latest}
@@ -22,7 +23,7 @@ use Rattle.er_tasks.specs.declared.tasks.BegunTask.{BegunTask}
 use Rattle.er_tasks.specs.Begun.{AreRuns}
 use Rattle.er_rules_task.specs.declared.before.Asked.{Asked}
 use Rattle.er_rules_task.specs.declared.before.Walk.{Walk}
-use Rattle.er_rules_task.specs.Before.{goes_before, passes, is_covered, StandsAt, AreJoined, IsReached, IsPieceOf, asked_from, HandsSomeOf, HandsOf, IsHanded, IsWalk}
+use Rattle.er_rules_task.specs.Before.{event_in, goes_before, passes, is_covered, StandsAt, AreJoined, IsReached, IsPieceOf, asked_from, HandsSomeOf, HandsOf, IsHanded, IsWalk}
 
 -- paths go on
 
@@ -270,3 +271,27 @@ not_before joined x y le = step (nat_lt x.rank y.rank) refl
 
 pub before_by : (joined : ℕ → ℕ → Bool) (x y : Task) (b : Bool) → x.rank < y.rank → b ≡ joined x.piece y.piece → b ≡ goes_before joined x y
 before_by joined x y b lt e = e ∙ ap (λ c. c && joined x.piece y.piece) (sym (less_is x.rank y.rank lt))
+
+-- the last task that is left
+
+abbrev pub no_begun : BegunTask
+no_begun = record { number = 0; event = 0; task = record { maker = 0; piece = 0; rank = 0 }; run = 0 }
+
+pub last_left : (begun : List BegunTask) (left : ℕ) → 0 < left → left ≤ length begun → StandsAt begun (left - 1) (get_or begun (left - 1) no_begun)
+last_left begun left some within = let lt : left - 1 < length begun = omega (arith, some, within) in (lt, get_or_default begun (left - 1) (get_or begun (left - 1) no_begun) no_begun lt)
+
+pub event_among : (begun : List BegunTask) (i : ℕ) (x : BegunTask) → StandsAt begun i x → is_among x.event (map event_in begun) ≡ true
+event_among [] i x there = absurd (omega (arith, there.0))
+event_among (y ∷ begun) zero x there = or_left (y.event == x.event) (is_among x.event (map event_in begun)) (eq-eqb y.event x.event (ap event_in there.1))
+event_among (y ∷ begun) (suc i) x there = or_right (y.event == x.event) (is_among x.event (map event_in begun)) (event_among begun i x (omega (arith, there.0), there.1))
+
+-- where a number was not handed, nothing was
+pub nothing_grew : {A E : Type 0} → (r : Result A E) (k : ℕ) (old new : List ℕ) → GrewInPart old (k ∷ []) new → OnErr r (new ≡ old)
+unfolding GrewInPart
+nothing_grew (Ok a) k old new part = tt
+nothing_grew (Err e) k old new (zero, below, came) = came ∙ append-nil old
+nothing_grew (Err e) k old new (suc n, below, came) = absurd (omega (arith, below))
+
+pub on_err : {A E P : Type 0} → (r : Result A E) → P → OnErr r P
+on_err (Ok a) p = tt
+on_err (Err e) p = p

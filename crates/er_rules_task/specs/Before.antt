@@ -1,5 +1,5 @@
 -- Tasks that have begun, in the order in which they began, and what is handed of them.
-use Rattle.std.specs.Prelude.{◌≡◌, ℕ, ◌<◌, ◌≤◌, Bool, true, false, ◌&&◌, nat_lt, List, ◌∷◌, ◌++◌, length, filter, drop, get_or, Option, Some, None, IfSome}
+use Rattle.std.specs.Prelude.{◌≡◌, ℕ, ◌<◌, ◌≤◌, Bool, true, false, ◌&&◌, nat_lt, List, ◌++◌, length, filter, drop, get_or, Option, Some, None, IfSome}
 use Rattle.std.specs.List.{list_any}
 use Rattle.er_paths.specs.Paths.{is_among}
 use Rattle.er_history.specs.History.{Action}

@@ -133,7 +133,13 @@ fn hand_jobs_of(
     let Some(queuer) = queuer else {
         return Ok(());
     };
-    hand_before(page, clocks, Asked::Nothing, page.begun_jobs_of(queuer), out)
+    hand_before(
+        page,
+        clocks,
+        Asked::Nothing,
+        page.begun_jobs_of(queuer),
+        out,
+    )
 }
 
 /// Hands the jobs that began while the dispatch was on the stack.

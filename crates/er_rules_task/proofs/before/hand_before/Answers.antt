@@ -1,15 +1,15 @@
-use Rattle.std.proofs.Common.{arith}
+use Rattle.std.proofs.Common.{length, refl, arith}
 use Rattle.er_history.specs.History.{told}
 use Rattle.er_history.specs.Rules.{rules}
 use Rattle.er_history.specs.Edges.{path}
 use Rattle.er_trace.specs.declared.version.Version.TheVariants.{Three}
-use Rattle.er_rules_task.proofs.WalkLemmas.{walk_begun, walk_ended, walk_stopped}
+use Rattle.er_rules_task.proofs.WalkLemmas.{walk_begun, walk_ended, walk_stopped, on_err}
 use Rattle.er_rules_task.proofs.before.hand_before.Goals as goal
 
 pub loop-walk-init : goal.loop-walk-init
 loop-walk-init c = record {
   within = omega arith;
-  walks = λ h timed. walk_begun (path (rules Three) h) (told h).actions c.args.asked c.args.begun.now c.len.result c.args.out.now.items (omega arith);
+  walks = λ h timed. walk_begun (path (rules Three) h) (told h).actions c.args.asked c.args.begun.now (length c.args.begun.now) c.args.out.now.items refl;
 }
 
 pub walk_on-requires : goal.walk_on-requires
@@ -21,17 +21,17 @@ walk_on-requires c = record {
   joined = c.requires.joined;
 }
 
-pub returns-in_err-walk_on-clause-part : goal.returns-in_err-walk_on-clause-part
-returns-in_err-walk_on-clause-part c = λ h timed.
-    walk_stopped (path (rules Three) h) (told h).actions c.args.asked c.args.begun.now c.loop-walk.walk c.args.out.now.items c.loop-walk.out.items c.walk_on.new.out.items c.in_err-walk_on.ensures.same (c.loop-walk.invariant.walks h timed)
+pub returns-in_err-walk-clause-part : goal.returns-in_err-walk-clause-part
+returns-in_err-walk-clause-part c = on_err c.from_residual.result (λ h timed.
+    walk_stopped (path (rules Three) h) (told h).actions c.args.asked c.args.begun.now c.loop-walk.walk c.args.out.now.items c.loop-walk.out.items c.walk_on.new.out.items c.in_err-walk.ensures.same (c.loop-walk.invariant.walks h timed))
 
 pub loop-walk-smaller : goal.loop-walk-smaller
-loop-walk-smaller c = c.in_ok-walk_on.ensures.less
+loop-walk-smaller c = c.in_ok-walk.ensures.less
 
 pub loop-walk-preserved : goal.loop-walk-preserved
 loop-walk-preserved c = record {
-  within = omega (arith, c.loop-walk.invariant.within, c.in_ok-walk_on.ensures.less);
-  walks = λ h timed. c.in_ok-walk_on.ensures.walked h timed c.args.out.now.items (c.loop-walk.invariant.walks h timed);
+  within = omega (arith, c.loop-walk.invariant.within, c.in_ok-walk.ensures.less);
+  walks = λ h timed. c.in_ok-walk.ensures.walked h timed c.args.out.now.items (c.loop-walk.invariant.walks h timed);
 }
 
 pub returns-clause-whole : goal.returns-clause-whole

@@ -1,3 +1,0 @@
-pub mod SinceLemmas
-pub mod TellLemmas
-pub mod RuleLemmas

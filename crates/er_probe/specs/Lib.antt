@@ -1,3 +1,0 @@
-pub mod Due
-pub mod Counts
-pub mod Probe
