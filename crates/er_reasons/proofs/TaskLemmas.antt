@@ -7,13 +7,13 @@ use Rattle.std.proofs.lemmas.List.{reverse-append}
 use Rattle.er_trace.specs.declared.record.Record.{Record}
 use Rattle.er_paths.specs.Paths.{is_among, joins}
 use Rattle.er_history.specs.History as history
-use Rattle.er_history.specs.History.{told, action_at, What, JobRun, Event, Action}
+use Rattle.er_history.specs.History.{told, action_at, What, TimeoutRun, TickRun, MessageRun, AnimRun, JobRun, Event, Action}
 use Rattle.er_history.specs.Kinds.{is_job_within}
 use Rattle.er_history.specs.Latest.{events_of_each}
 use Rattle.er_history.specs.Laws.{IsNumbered}
 use Rattle.er_history.specs.LookUps.{jobs_in}
-use Rattle.er_history.specs.Rules.{declared_in_order}
-use Rattle.er_history.specs.Tasks.{TaskKind, task_made}
+use Rattle.er_history.specs.Rules.{recorded, of_made, declared_in_order, jobs_before_callbacks}
+use Rattle.er_history.specs.Tasks.{TaskKind, OfJob, task_made}
 use Rattle.er_history.proofs.HistoryLemmas.{and_left, action_at_among, actions_are_numbered, among_below}
 use Rattle.er_history.proofs.OrderLemmas.{any_append}
 use Rattle.er_page.specs.declared.page.Page.{Page}
@@ -22,7 +22,8 @@ use Rattle.er_tasks.specs.declared.tasks.Task.{Task}
 use Rattle.er_tasks.specs.Tasks.{task_at}
 use Rattle.er_rules_task.proofs.ListLemmas.{TaskSays, task_says, none_made, ranks_are}
 use Rattle.er_reasons.specs.Read.{within_in, within_at, within_of}
-use Rattle.er_reasons.specs.Words.{is_declarer}
+use Rattle.er_pieces.proofs.ChainLemmas.{event_with}
+use Rattle.er_reasons.specs.Words.{is_declarer, declares}
 
 pub declarer_some : (page : Page) (kind : TaskKind) (number : ℕ) (h : List Record) (task : Option Task) (x : Task) (event : ℕ) → IsPage page h → task ≡ Some x → task ≡ task_at kind page.tasks number → (x.maker == event) ≡ is_declarer (task_made kind h number) event
 declarer_some page kind number h task x event is some at =
@@ -59,6 +60,47 @@ order_both page kind m n h joined first second x y declared leads is some other 
     (λ i. by_rank i && by_path i)
     ∙ ((λ i. ranks i && joined (sym one.piece i) (sym two.piece i))
     ∙ (λ i. declared_in_order joined (sym one.is i) (sym two.is i)))
+
+-- what the event that queued a job declared
+
+callbacks_by : (joined : ℕ → ℕ → Bool) (u v : Event) (j : ℕ) (within : List ℕ) (made : Option history.Task) → u.what ≡ JobRun j made within → jobs_before_callbacks joined u v ≡ (recorded u v && of_made (λ (x : history.Task). declares x.maker v.what) made)
+callbacks_by joined u v j within made is = ap (λ w. jobs_before_callbacks joined (event_with u.number w) v) is ∙ ap (λ b. recorded u v && b) (of made)
+  where
+    to : ℕ → What → Bool
+    to maker (TimeoutRun t made) = of_made (λ (x : history.Timeout). x.maker == maker) made
+    to maker (TickRun i m) = of_made (λ (k : ℕ). k == maker) m
+    to maker (MessageRun m made) = of_made (λ (x : history.Task). x.maker == maker) made
+    to maker (AnimRun a made) = of_made (λ (x : history.Task). x.maker == maker) made
+    to maker _ = false
+
+    same : (maker : ℕ) (w : What) → to maker w ≡ declares maker w
+    same maker (TimeoutRun t made) = refl
+    same maker (TickRun i m) = refl
+    same maker (MessageRun m made) = refl
+    same maker (AnimRun a made) = refl
+    same maker _ = refl
+
+    of : (o : Option history.Task) → of_made (λ (x : history.Task). to x.maker v.what) o ≡ of_made (λ (x : history.Task). declares x.maker v.what) o
+    of None = refl
+    of (Some x) = same x.maker v.what
+
+pub callbacks_some : (page : Page) (h : List Record) (joined : ℕ → ℕ → Bool) (u v : Event) (j : ℕ) (within : List ℕ) (task : Option Task) (x : Task) (first declared : Bool) → IsPage page h → task ≡ Some x → task ≡ task_at OfJob page.tasks j
+    → u.what ≡ JobRun j (task_made OfJob h j) within → first ≡ recorded u v → declared ≡ declares x.maker v.what → (first && declared) ≡ jobs_before_callbacks joined u v
+callbacks_some page h joined u v j within task x first declared is some at what by_first by_declared =
+    let says = task_says OfJob page.tasks h is.tasks j x (sym at ∙ some) in
+    (λ i. by_first i && by_declared i)
+    ∙ (ap (λ m. recorded u v && declares m v.what) (sym says.maker)
+    ∙ (ap (λ o. recorded u v && of_made (λ (y : history.Task). declares y.maker v.what) o) (sym says.is) ∙ sym (callbacks_by joined u v j within (task_made OfJob h j) what)))
+
+pub callbacks_none : (page : Page) (h : List Record) (joined : ℕ → ℕ → Bool) (u v : Event) (j : ℕ) (within : List ℕ) (task : Option Task) → IsPage page h → task ≡ None → task ≡ task_at OfJob page.tasks j → u.what ≡ JobRun j (task_made OfJob h j) within
+    → false ≡ jobs_before_callbacks joined u v
+callbacks_none page h joined u v j within task is none at what =
+    sym (callbacks_by joined u v j within (task_made OfJob h j) what
+    ∙ (ap (λ o. recorded u v && of_made (λ (y : history.Task). declares y.maker v.what) o) (none_made OfJob page.tasks h is.tasks j (sym at ∙ none)) ∙ never (recorded u v)))
+  where
+    never : (b : Bool) → (b && false) ≡ false
+    never true = refl
+    never false = refl
 
 -- the jobs of a dispatch
 

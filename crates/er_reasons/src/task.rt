@@ -128,18 +128,18 @@ fn jobs_before_callbacks(page: &Page, u: &Event<'_>, v: &Event<'_>) -> bool
     let first = recorded(u, v);
     match u.what {
         What::JobRun { job, .. } => match page.job(job) {
-            Some(queued) => first & declares(page, queued.maker, v.what),
+            Some(queued) => first & declares(page, queued.maker, v),
             None => false,
         },
         _ => false,
     }
 }
 
-/// Whether this event declared what the event is a callback or a message of.
-fn declares(page: &Page, maker: u32, what: What<'_>) -> bool
-    ensures { (h : List Record) → IsPage page.now h → result ≡ declares maker (what_shown h what) }
+/// Whether this event declared what v is a callback or a message of.
+fn declares(page: &Page, maker: u32, v: &Event<'_>) -> bool
+    ensures { (h : List Record) → IsPage page.now h → result ≡ declares maker (what_shown h v.now.what) }
 {
-    match what {
+    match v.what {
         What::TimeoutRun { timeout } => is_it(page.maker_of_timeout(timeout), maker),
         What::TickRun { maker: setter, .. } => is_it(setter, maker),
         What::MessageRun { message } => is_declarer(page, page.message(message), maker),
