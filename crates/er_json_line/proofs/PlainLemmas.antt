@@ -305,7 +305,7 @@ access_at spaced m loc bytes later behind first last =
     record {
       l = plain_text spaced (record_items (Access m loc));
       short = record { clear = text_clear spaced (record_items (Access m loc)) plain.0 plain.1; few = access_few spaced m loc last.0 };
-      spells = (plain.0, plain_spells spaced (record_items (Access m loc)) plain);
+      spells = ((plain.0, refl), plain_spells spaced (record_items (Access m loc)) plain);
       cut = first
           ∙ (ap (λ (l : List ℕ). open_bracket ∷ (mode ++ l)) last.1
           ∙ ap (λ (l : List ℕ). open_bracket ∷ l) (sym (append_assoc mode (later_text spaced (loc_items loc)) (line_end ∷ behind))));

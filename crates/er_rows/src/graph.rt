@@ -121,7 +121,7 @@ pub(crate) fn hand(
     requires whole { graph.old.has_failed ≡ false }
     ensures { OnOk result (graph.new.has_failed ≡ false) }
 {
-    let rec = parse_record(alloc, text.as_bytes())?;
+    let rec = parse_record(alloc, graph.version(), text.as_bytes())?;
     let answer = hand_record(graph, line, &rec);
     forget(rec);
     answer
@@ -224,7 +224,7 @@ fn ask_graph(rt: &impl Abort, graph: &Graph, row: &Row) {
 
 /// Whether the crates of rules answer what is due for the record that the line spells.
 fn is_line_answered(graph: &Graph, alloc: Global, due: &Next) -> Result<bool, LineFault> {
-    let rec = parse_record(alloc, due.text.as_bytes())?;
+    let rec = parse_record(alloc, graph.version(), due.text.as_bytes())?;
     let answered = is_answered(graph, alloc, &rec, due);
     forget(rec);
     Ok(answered)

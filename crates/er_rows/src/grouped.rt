@@ -116,7 +116,7 @@ fn names_of(alloc: Global, groups: &Groups, races: u32) -> Result<Vec<u32>, Cove
 
 /// Takes the record of the next line.
 fn take(graph: &mut Graph, kept: &mut Kept, alloc: Global, text: &str) -> Result<(), LineFault> {
-    let rec = parse_record(alloc, text.as_bytes())?;
+    let rec = parse_record(alloc, graph.version(), text.as_bytes())?;
     let taken = take_record(graph, kept, &rec);
     forget(rec);
     taken
