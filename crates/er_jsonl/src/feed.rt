@@ -48,6 +48,7 @@ impl Lines for JsonLines {
         er_json_line::read_later(alloc, line)
     }
 
+    #[tactic(auto, using(crate::proofs::FrontLemmas::front_within))]
     fn front<'a>(
         alloc: Global,
         _version: Version,

@@ -3,7 +3,8 @@
 //! A record is forgotten where its end would come: its name lies in place, so that nothing is lost, and the proof of
 //! the end of a record takes as long as ten of these functions.
 
-ghost use Rattle.std.specs.Prelude.{◌≡◌, false, OnOk};
+ghost use Rattle.std.specs.Prelude.{◌≡◌, true, false, OnOk};
+ghost use Rattle.er_trace.specs.Versions.{has_record};
 
 use er_clocks::{Meter, Paths};
 use er_graph::{Graph, GraphFault};
@@ -102,6 +103,7 @@ fn hand_record(
     rec: &Record,
 ) -> Result<Option<(u32, Cause)>, LineFault>
     requires whole { graph.old.has_failed ≡ false }
+    requires of_version { has_record graph.old.version rec.now ≡ true }
     ensures { OnOk result (graph.new.has_failed ≡ false) }
 {
     match graph.accept(line, rec) {

@@ -1,6 +1,7 @@
 //! The races of the realistic load, grouped by two shards that are held at the gate.
 
-ghost use Rattle.std.specs.Prelude.{◌≤◌, length};
+ghost use Rattle.std.specs.Prelude.{◌≡◌, ◌≤◌, true, length};
+ghost use Rattle.er_trace.specs.Versions.{has_record};
 
 use crate::gates::Holding;
 use crate::graph::let_go;
@@ -122,7 +123,9 @@ fn take(graph: &mut Graph, kept: &mut Kept, alloc: Global, text: &str) -> Result
     taken
 }
 
-fn take_record(graph: &mut Graph, kept: &mut Kept, rec: &Record) -> Result<(), LineFault> {
+fn take_record(graph: &mut Graph, kept: &mut Kept, rec: &Record) -> Result<(), LineFault>
+    requires { has_record graph.old.version rec.now ≡ true }
+{
     if graph.accept(kept.line, rec).is_err() {
         return Err(LineFault::NoMemory);
     }

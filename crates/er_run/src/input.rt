@@ -210,7 +210,7 @@ fn judge_all(
 ) -> Result<(), FeedFault>
     requires some { IsReady session.old given }
     requires room { session.old.records + length records.now ≤ most_lines }
-    requires versions { list_all (has_record (begun session.old.graph.version given)) records.now ≡ true }
+    requires of_version { list_all (has_record (begun session.old.graph.version given)) records.now ≡ true }
     ensures taken { OnOk result ((earlier : List Record) → StandsFor session.old (reverse earlier)
         → IsBegun session.old.graph.version given (reverse earlier)
         → StandsFor session.new (reverse (earlier ++ records.now))) }

@@ -37,7 +37,7 @@ impl Drop for Session {
 /// What the records of a trace in version 1 come to, or the first that is refused.
 pub(crate) fn judge(alloc: Global, records: &[Record]) -> Result<Session, GraphFault>
     requires room { length records.now ≤ most_lines }
-    requires versions { list_all (has_record Version.One) records.now ≡ true }
+    requires of_version { list_all (has_record Version.One) records.now ≡ true }
     ensures stands { IfOk result (λ session. StandsFor session (reverse records.now)) }
     ensures version { IfOk result (λ session. session.graph.version ≡ Version.One) }
     ensures refused { IfErr result (λ fault. IsFaultOf Version.One records.now fault) }
@@ -85,7 +85,7 @@ impl Session {
     pub(crate) fn take_all(&mut self, records: &[Record]) -> Result<(), GraphFault>
         requires some { IsSession self.old }
         requires room { self.old.records + length records.now ≤ most_lines }
-        requires versions { list_all (has_record self.old.graph.version) records.now ≡ true }
+        requires of_version { list_all (has_record self.old.graph.version) records.now ≡ true }
         ensures taken { OnOk result ((earlier : List Record) → StandsFor self.old (reverse earlier)
             → StandsFor self.new (reverse (earlier ++ records.now))) }
         ensures refused { IfErr result (λ fault. (earlier : List Record)
@@ -105,7 +105,7 @@ impl Session {
     pub(crate) fn take(&mut self, rec: &Record) -> Result<(), GraphFault>
         requires some { IsSession self.old }
         requires room { self.old.records < most_lines }
-        requires version { has_record self.old.graph.version rec.now ≡ true }
+        requires of_version { has_record self.old.graph.version rec.now ≡ true }
         ensures taken { OnOk result ((h : List Record) → StandsFor self.old h
             → StandsFor self.new (rec.now ∷ h)) }
         ensures refused { IfErr result (λ fault. (h : List Record) → StandsFor self.old h

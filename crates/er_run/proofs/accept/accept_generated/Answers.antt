@@ -14,8 +14,8 @@ use Rattle.er_run.proofs.accept.accept_generated.Goals as goal
 pub judge-requires-clause-room : goal.judge-requires-clause-room
 judge-requires-clause-room g c = rw (c.as_slice.ensures.value, c.in-Ok.ensures) (few_generated c.args.number c.requires.most)
 
-pub judge-requires-clause-versions : goal.judge-requires-clause-versions
-judge-requires-clause-versions g c = rw (c.as_slice.ensures.value, c.in-Ok.ensures) (generated_of_version c.args.number c.requires.most)
+pub judge-requires-clause-of_version : goal.judge-requires-clause-of_version
+judge-requires-clause-of_version g c = rw (c.as_slice.ensures.value, c.in-Ok.ensures) (generated_of_version c.args.number c.requires.most)
 
 pub returns-in-Ok-judge-clause-verdict : goal.returns-in-Ok-judge-clause-verdict
 returns-in-Ok-judge-clause-verdict g c =
