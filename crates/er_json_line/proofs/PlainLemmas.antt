@@ -1,5 +1,5 @@
 -- The text of items whose strings need no escape is read as the items.
-use Rattle.std.proofs.Common.{◌≡◌, ℕ, ◌<◌, ◌≤◌, ◌^◌, List, [], ◌∷◌, ◌++◌, length, map, Bool, true, false, not, ◌&&◌, Option, Some, inl, refl, sym, ap, ap₂, ◌∙◌, subst, arith, lit<, append_assoc, append-nil, length-append}
+use Rattle.std.proofs.Common.{◌≡◌, ℕ, ◌+◌, ◌<◌, ◌≤◌, ◌^◌, List, [], ◌∷◌, ◌++◌, length, map, Bool, true, false, not, ◌&&◌, Option, Some, inl, refl, sym, ap, ap₂, ◌∙◌, subst, arith, lit<, append_assoc, append-nil, length-append}
 use Rattle.std.specs.Prelude.{decimal, codes, ◌==◌, IsAscii, option_map, option_and_then}
 use Rattle.std.specs.List.{AllByRecursion, list_all}
 use Rattle.std.proofs.lemmas.Bool.{and_parts, false≢true}
@@ -36,9 +36,11 @@ use Rattle.er_trace.specs.Spelling.{mode_word, loc_items, record_items}
 use Rattle.er_lines.specs.Steps.{IsFront}
 use Rattle.er_json_line.specs.Members.{IsMember, AreMembers, SpellsItems, Spells}
 use Rattle.er_json_line.specs.Plain.{needs_no_escape, string_text, gap, item_text, later_text, plain_text, is_plain_item, ArePlain, most_plain_bytes}
-use Rattle.er_json_line.proofs.PlainCuts.{at_most}
 
 -- bytes that need no escape
+
+at_most : (b : ℕ) → needs_no_escape b ≡ true → b ≤ 126
+at_most b h = grind (arith, nat_tests)
 
 at_least : (b : ℕ) → needs_no_escape b ≡ true → 32 ≤ b
 at_least b h = grind (arith, nat_tests)
@@ -112,17 +114,19 @@ printed spaced (Named name ∷ items) h =
     let p = and_parts (list_all needs_no_escape name) (list_all is_plain_item items) h in
     ap₂ (λ (x y : List ℕ). open_bracket ∷ (x ++ y)) (escaped_string name p.0) (later_printed spaced items p.1)
 
+-- an item is one token
+one_token : (i : Item) → tree.json_tokens (outline (item_data i)) ≡ item_token i ∷ []
+one_token (Word word) = refl
+one_token (Number n) = refl
+one_token (Named name) = refl
+
 later_tokens : (spaced : Bool) (items : List Item) → map (λ p. p.1) (later_pieces spaced items) ≡ tree.items_tokens (json_of items)
 later_tokens spaced [] = refl
-later_tokens spaced (Word word ∷ items) = ap (λ (ts : List Token). Token.string word ∷ ts) (later_tokens spaced items)
-later_tokens spaced (Number n ∷ items) = ap (λ (ts : List Token). Token.number (decimal n) ∷ ts) (later_tokens spaced items)
-later_tokens spaced (Named name ∷ items) = ap (λ (ts : List Token). Token.string name ∷ ts) (later_tokens spaced items)
+later_tokens spaced (i ∷ items) = ap₂ (λ (x y : List Token). x ++ y) (sym (one_token i)) (later_tokens spaced items)
 
 all_tokens : (spaced : Bool) (items : List Item) → map (λ p. p.1) (pieces spaced items) ≡ tree.json_tokens (outline (data_of items))
 all_tokens spaced [] = refl
-all_tokens spaced (Word word ∷ items) = ap (λ (ts : List Token). Token.begin_array ∷ Token.string word ∷ ts) (later_tokens spaced items)
-all_tokens spaced (Number n ∷ items) = ap (λ (ts : List Token). Token.begin_array ∷ Token.number (decimal n) ∷ ts) (later_tokens spaced items)
-all_tokens spaced (Named name ∷ items) = ap (λ (ts : List Token). Token.begin_array ∷ Token.string name ∷ ts) (later_tokens spaced items)
+all_tokens spaced (i ∷ items) = ap (λ (ts : List Token). Token.begin_array ∷ ts) (later_tokens spaced (i ∷ items))
 
 is_gap : (spaced : Bool) → IsGap (gap spaced)
 is_gap true = (inl refl, tt)
@@ -305,7 +309,7 @@ access_at spaced m loc bytes later behind first last =
     record {
       l = plain_text spaced (record_items (Access m loc));
       short = record { clear = text_clear spaced (record_items (Access m loc)) plain.0 plain.1; few = access_few spaced m loc last.0 };
-      spells = (plain.0, plain_spells spaced (record_items (Access m loc)) plain);
+      spells = ((plain.0, refl), plain_spells spaced (record_items (Access m loc)) plain);
       cut = first
           ∙ (ap (λ (l : List ℕ). open_bracket ∷ (mode ++ l)) last.1
           ∙ ap (λ (l : List ℕ). open_bracket ∷ l) (sym (append_assoc mode (later_text spaced (loc_items loc)) (line_end ∷ behind))));

@@ -1,19 +1,22 @@
 -- Members against a record.
-use Rattle.std.proofs.Common.{◌≡◌, ℕ, List, [], ◌∷◌, length, map, true, Some, refl, ap, sym, ◌∙◌, subst, arith}
-use Rattle.std.specs.Prelude.{nat_lt}
+use Rattle.std.proofs.Common.{◌≡◌, ℕ, List, [], ◌∷◌, length, map, Bool, true, false, not, Some, refl, ap, sym, ◌∙◌, subst, arith}
+use Rattle.std.specs.Prelude.{◌||◌, nat_lt}
 use Rattle.std.proofs.lemmas.Bool.Decides.{nat_tests}
 use Rattle.serde_json.specs.Data.{Data, array}
 use Rattle.serde_json.specs.View.{items_of}
 use Rattle.er_text.specs.Words.{words, joined}
 use Rattle.er_trace.specs.declared.record.Record.{Record}
-use Rattle.er_trace.specs.declared.record.Record.TheVariants.{Parse, ParseFrame, Exec, Timer, Tick, Dcl, Load, Eload, Fire, Wfire, Reply, Inline, Run, Close, Back, New, NewFrame, On, Set, Every, Send, Access}
+use Rattle.er_trace.specs.declared.record.Record.TheVariants.{Parse, ParseFrame, Exec, Timer, Tick, Dcl, Load, Eload, Fire, Wfire, Reply, Inline, Run, Close, Back, New, NewFrame, On, Set, Every, Send, Post, Ask, Queue, Message, Anim, Job, Access}
 use Rattle.er_trace.specs.declared.record.Kind.TheVariants as kinds
 use Rattle.er_trace.specs.declared.record.NewKind.TheVariants as new_kinds
 use Rattle.er_trace.specs.declared.record.Mode.TheVariants as modes
 use Rattle.er_trace.specs.declared.record.Loc.TheVariants.{Var, Elem, Slot}
 use Rattle.er_trace.specs.Heads.{head_word, record_head, later_words}
 use Rattle.er_trace.specs.Items.{Item, item_spelling}
+use Rattle.er_trace.specs.declared.version.Version.{Version}
+use Rattle.er_trace.specs.declared.version.Version.TheVariants.{Two}
 use Rattle.er_trace.specs.Spelling.{record_items, spelling, IsRecord}
+use Rattle.er_trace.specs.Versions.{is_of_task, has_record}
 use Rattle.er_trace.proofs.RecordLaws.{record_begins, words_of_spelling}
 use Rattle.er_trace.proofs.OneRecord.{one_record}
 use Rattle.er_json_line.specs.Members.{AreMembers, ReadsAs, SpellsItems, Spells, IsEnd, end_items}
@@ -49,6 +52,12 @@ record_is_plain (On h) = refl
 record_is_plain (Set t n) = refl
 record_is_plain (Every i n) = refl
 record_is_plain (Send r) = refl
+record_is_plain (Post m) = refl
+record_is_plain (Ask a) = refl
+record_is_plain (Queue j) = refl
+record_is_plain (Message m) = refl
+record_is_plain (Anim a) = refl
+record_is_plain (Job j) = refl
 record_is_plain (Access modes.R (Var o n)) = refl
 record_is_plain (Access modes.R (Elem o n)) = refl
 record_is_plain (Access modes.R (Slot o n)) = refl
@@ -105,9 +114,17 @@ members_of line ds items reads spells = subst (AreMembers items) (read_once line
 -- a line spells at most one record
 pub one_of_line : (line : List ℕ) (x y : Record) → Spells line x → Spells line y → x ≡ y
 one_of_line line x y first second =
-    let a : IsLineOf x first.1.members = line_written x first.1.members first.0 first.1.are in
-    let b : IsLineOf y first.1.members = line_written y first.1.members second.0 (members_of line first.1.members (record_items y) first.1.reads second.1) in
-    one_record x y first.0 second.0 (sym a.line ∙ b.line)
+    let a : IsLineOf x first.1.members = line_written x first.1.members first.0.0 first.1.are in
+    let b : IsLineOf y first.1.members = line_written y first.1.members second.0.0 (members_of line first.1.members (record_items y) first.1.reads second.1) in
+    one_record x y first.0.0 second.0.0 (sym a.line ∙ b.line)
+
+not_task : (task : Bool) → (not task || false) ≡ true → task ≡ false
+not_task true h = absurd (cc)
+not_task false h = refl
+
+-- a record of versions 1 and 2 is one of each version
+pub of_each : (v : Version) (x : Record) → has_record Two x ≡ true → has_record v x ≡ true
+of_each v x h = let none : is_of_task x ≡ false = not_task (is_of_task x) h in rw none refl
 
 -- the last line spells no record
 
@@ -140,6 +157,12 @@ has_two (On h) = refl
 has_two (Set t n) = refl
 has_two (Every i n) = refl
 has_two (Send r) = refl
+has_two (Post m) = refl
+has_two (Ask a) = refl
+has_two (Queue j) = refl
+has_two (Message m) = refl
+has_two (Anim a) = refl
+has_two (Job j) = refl
 has_two (Access m (Var o n)) = refl
 has_two (Access m (Elem o n)) = refl
 has_two (Access m (Slot o n)) = refl

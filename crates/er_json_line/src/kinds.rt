@@ -19,7 +19,13 @@ fn kinds_of(rec: &Record) -> &'static [bool]
         | Record::Close { .. }
         | Record::Back { .. }
         | Record::On { .. }
-        | Record::Send { .. } => &[false, true],
+        | Record::Send { .. }
+        | Record::Post { .. }
+        | Record::Ask { .. }
+        | Record::Queue { .. }
+        | Record::Message { .. }
+        | Record::Anim { .. }
+        | Record::Job { .. } => &[false, true],
         Record::Dcl { .. }
         | Record::Load { .. }
         | Record::Eload { .. }

@@ -1,12 +1,14 @@
 //! The members of a line, and the line of a trace that they are written as.
 
-ghost use Rattle.std.specs.Prelude.{◌≡◌, ◌≢◌, ◌⊎◌, ◌↔◌, List, [], ◌++◌, map, drop, Ok, Err, Some, IfOk, OnOk, IfSome, IfNone, IsTrue};
+ghost use Rattle.std.specs.Prelude.{◌≡◌, ◌≢◌, ◌⊎◌, ◌↔◌, false, List, [], ◌++◌, map, drop, Ok, Err, Some, IfOk, OnOk, IfSome, IfNone, IsTrue};
 ghost use Rattle.serde_json.specs.Data.{Data};
 ghost use Rattle.serde_json.specs.Find.{as_str};
 ghost use Rattle.serde_json.specs.View.{view};
 ghost use Rattle.er_trace.specs.declared.record.Record.{Record};
 ghost use Rattle.er_trace.specs.declared.version.Version.{Version};
-ghost use Rattle.er_trace.specs.Spelling.{record_items, spelling, IsRecord};
+ghost use Rattle.er_trace.specs.declared.version.Version.TheVariants.{Two};
+ghost use Rattle.er_trace.specs.Spelling.{record_items, spelling};
+ghost use Rattle.er_trace.specs.Versions.{has_tasks, IsRecordOf};
 ghost use Rattle.er_json_line.specs.Members.{AreMembers, ReadsAs, version_number, header_items, end_items};
 ghost use Rattle.er_json_line.specs.Texts.{member_word, next_word, text_of, HasWord, HaveWords, IsText, AreTexts, is_count, is_number};
 
@@ -90,10 +92,10 @@ pub fn members_of(alloc: Global, line: &[u8]) -> Result<Vec<Value>, LineFault>
     }
 }
 
-/// The record that the members are.
+/// The record of versions 1 and 2 that the members are.
 pub fn read_record(alloc: Global, members: &[Value]) -> Result<Record, LineFault>
-    ensures read { IfOk result (λ x. IsRecord x × AreMembers (record_items x) (map view members.now)) }
-    ensures exact { (x : Record) → IsRecord x → AreMembers (record_items x) (map view members.now)
+    ensures read { IfOk result (λ x. IsRecordOf Two x × AreMembers (record_items x) (map view members.now)) }
+    ensures exact { (x : Record) → IsRecordOf Two x → AreMembers (record_items x) (map view members.now)
         → (result ≡ Ok x) ⊎ (result ≡ Err LineFault.NoMemory) }
 {
     let mut letters = Letters {
@@ -108,16 +110,16 @@ pub fn read_record(alloc: Global, members: &[Value]) -> Result<Record, LineFault
     }
 }
 
-/// The record that is spelled behind a first byte.
+/// The record of versions 1 and 2 that is spelled behind a first byte.
 fn parse_text(alloc: Global, text: &[u8]) -> Result<Record, LineFault>
-    ensures read { IfOk result (λ x. IsRecord x × (text.now ≢ []) × (drop 1 text.now ≡ spelling x)) }
-    ensures exact { (x : Record) → IsRecord x → text.now ≢ [] → drop 1 text.now ≡ spelling x
+    ensures read { IfOk result (λ x. IsRecordOf Two x × (text.now ≢ []) × (drop 1 text.now ≡ spelling x)) }
+    ensures exact { (x : Record) → IsRecordOf Two x → text.now ≢ [] → drop 1 text.now ≡ spelling x
         → (result ≡ Ok x) ⊎ (result ≡ Err LineFault.NoMemory) }
 {
     if text.is_empty() {
         return Err(LineFault::BadRecord);
     }
-    parse_record(alloc, &text[1..])
+    parse_record(alloc, Version::Two, &text[1..])
 }
 
 /// The record, where the members that are numbers stand where it has numbers.
@@ -149,6 +151,7 @@ fn number_of(version: Version) -> u64
     match version {
         Version::One => 1,
         Version::Two => 2,
+        Version::Three => 3,
     }
 }
 
@@ -162,10 +165,11 @@ fn are_header(members: &[Value], version: Version) -> bool
     is_text(&members[0], "webtrace") && members[1].as_u64() == Some(number_of(version))
 }
 
-/// The version of the first line whose members they are.
+/// The version of the first line whose members they are, which is 1 or 2.
 pub fn header_of(members: &[Value]) -> Option<Version>
-    ensures some { IfSome result (λ version. AreMembers (header_items version) (map view members.now)) }
-    ensures none { IfNone result ((version : Version)
+    ensures some { IfSome result (λ version. (has_tasks version ≡ false)
+        × AreMembers (header_items version) (map view members.now)) }
+    ensures none { IfNone result ((version : Version) → has_tasks version ≡ false
         → ¬ AreMembers (header_items version) (map view members.now)) }
 {
     if are_header(members, Version::One) {

@@ -162,11 +162,12 @@ fn front_loc(alloc: Global, bytes: &[u8], spaced: bool) -> Option<(Loc, &[u8])>
 
 /// The access whose line stands at the front, and what stands behind the LF, where its name is short and
 /// needs no escape, and each comma has the same gap behind it, nothing or one space. `None` says nothing.
+#[tactic(auto, using(crate::proofs::PlainLemmas::access_at))]
 pub fn plain_json_line(alloc: Global, bytes: &[u8]) -> Option<(Record, &[u8])>
     ensures { IfSome result (λ pair. IsFront most_plain_bytes Spells bytes.now pair.0 pair.1.now) }
 {
     let (mode, later) = front_mode(bytes)?;
-    let spaced = later.len() > 1 && later[1] == b' ';
+    let spaced = later.get(1) == Some(&b' ');
     let (loc, left) = front_loc(alloc, later, spaced)?;
     Some((Record::Access { mode, loc }, left))
 }

@@ -2,7 +2,7 @@
 use Rattle.er_lines.specs.Format.{IsFormat}
 use Rattle.er_jsonl.specs.Trace.{json}
 use Rattle.er_json_line.proofs.HeaderLemmas.{one_version}
-use Rattle.er_json_line.proofs.RecordLemmas.{one_of_line, end_is_none}
+use Rattle.er_json_line.proofs.RecordLemmas.{one_of_line, of_each, end_is_none}
 
 pub json_is_format : IsFormat json
-json_is_format = record { one_version = one_version; one_record = one_of_line; not_end = end_is_none }
+json_is_format = record { one_version = one_version; one_record = λ v. one_of_line; of_version = λ v l x spells. of_each v x spells.0.1; not_end = λ v. end_is_none }

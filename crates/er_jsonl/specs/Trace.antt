@@ -13,7 +13,7 @@ abbrev pub most_line_bytes : ℕ
 most_line_bytes = 4096
 
 abbrev pub json : Format
-json = record { most = most_line_bytes; IsHeader = IsHeader; IsEnd = IsEnd; Spells = Spells }
+json = record { most = most_line_bytes; IsHeader = IsHeader; IsEnd = IsEnd; Spells = λ v. Spells }
 
 -- the bytes are a whole trace of that version with these records
 abbrev pub IsTrace : Version → List ℕ → List Record → Type 0

@@ -40,7 +40,7 @@ impl Lines for JsonLines {
         er_json_line::read_header(alloc, line)
     }
 
-    fn read_later(alloc: Global, line: &[u8]) -> Result<Later, LineFault>
+    fn read_later(alloc: Global, _version: Version, line: &[u8]) -> Result<Later, LineFault>
         ensures read { IfOk result (IsLater IsEnd Spells line.now) }
         ensures bad { result ≡ Err LineFault.BadRecord
             → ¬ IsEnd line.now × ((x : Record) → ¬ Spells line.now x) }
@@ -48,7 +48,12 @@ impl Lines for JsonLines {
         er_json_line::read_later(alloc, line)
     }
 
-    fn front<'a>(alloc: Global, piece: &'a [u8]) -> Option<(Record, &'a [u8])>
+    #[tactic(auto, using(crate::proofs::FrontLemmas::front_within))]
+    fn front<'a>(
+        alloc: Global,
+        _version: Version,
+        piece: &'a [u8],
+    ) -> Option<(Record, &'a [u8])>
         ensures { IfSome result (λ pair. IsFront most_line_bytes Spells piece.now pair.0 pair.1.now) }
     {
         plain_json_line(alloc, piece)

@@ -63,7 +63,7 @@ const RECORDS: [(&str, &str); 43] = [
 ];
 
 /// Lines that spell no record.
-const OTHERS: [&str; 50] = [
+const OTHERS: [&str; 52] = [
     "",
     " ",
     "null",
@@ -73,6 +73,9 @@ const OTHERS: [&str; 50] = [
     "\"exec\"",
     "[\"end\"]",
     "[\"webtrace\",1]",
+    // Version 3 is of lines of text alone.
+    "[\"post\",1]",
+    "[\"job\",1]",
     "[\"exec\"]",
     "[\"exec\",1,2]",
     "[\"exec\",\"1\"]",
@@ -191,7 +194,7 @@ const FRONTS: [(&str, Option<usize>); 20] = [
 
 /// How many bytes stand behind the access that is read at the front.
 fn left_of(alloc: Global, bytes: &str) -> Option<usize> {
-    match JsonLines::front(alloc, bytes.as_bytes()) {
+    match JsonLines::front(alloc, Version::One, bytes.as_bytes()) {
         Some((_, left)) => Some(left.len()),
         None => None,
     }

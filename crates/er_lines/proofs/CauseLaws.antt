@@ -12,6 +12,7 @@ use Rattle.er_text.specs.declared.causes.Cause.{Cause}
 use Rattle.er_text.specs.declared.causes.Cause.TheVariants.{BadHeader, LongLine, BadRecord, NoEnd, TooManyLines}
 use Rattle.er_text.proofs.ByteLaws.{lacks-append}
 use Rattle.er_text.proofs.LineLaws.{first_line_none, first_line_some, first_line_parts}
+use Rattle.er_trace.specs.declared.version.Version.{Version}
 use Rattle.er_trace.specs.Trace.{most_lines}
 use Rattle.er_lines.specs.Format.{Format}
 use Rattle.er_lines.specs.Lines.{Place, Start, After, Ended, IsShort, is_long, whole_line, IsNoHeader, SpellsNone, LineCause}
@@ -49,8 +50,8 @@ short_whole most bytes h = short_by most bytes (is_long most bytes) (first_line 
 abbrev pub StartBy : Format → Line → Cause → Type 0
 StartBy f whole c = MatchResult whole (λ l. IsNoHeader f l.0 × (c ≡ BadHeader)) (λ why. c ≡ why)
 
-abbrev pub CauseBy : Format → Bool → Line → Cause → Type 0
-CauseBy f many whole c = MatchBool many (c ≡ TooManyLines) (MatchResult whole (λ l. ¬ f.IsEnd l.0 × SpellsNone f l.0 × (c ≡ BadRecord)) (λ why. c ≡ why))
+abbrev pub CauseBy : Format → Version → Bool → Line → Cause → Type 0
+CauseBy f v many whole c = MatchBool many (c ≡ TooManyLines) (MatchResult whole (λ l. ¬ f.IsEnd l.0 × SpellsNone f v l.0 × (c ≡ BadRecord)) (λ why. c ≡ why))
 
 pub start_err : (f : Format) (whole : Line) (c : Cause) → whole ≡ Err c → StartBy f whole c
 start_err f (Ok l) c h = absurd (cc)
@@ -64,27 +65,27 @@ pub start_no_end : (f : Format) (whole : Line) → StartBy f whole NoEnd → who
 start_no_end f (Ok l) h = let e = h.1 in absurd (cc)
 start_no_end f (Err why) h = cc
 
-pub cause_many : (f : Format) (many : Bool) (whole : Line) (c : Cause) → many ≡ true → c ≡ TooManyLines → CauseBy f many whole c
-cause_many f true whole c is e = e
-cause_many f false whole c is e = absurd (cc)
+pub cause_many : (f : Format) (v : Version) (many : Bool) (whole : Line) (c : Cause) → many ≡ true → c ≡ TooManyLines → CauseBy f v many whole c
+cause_many f v true whole c is e = e
+cause_many f v false whole c is e = absurd (cc)
 
-cause_err_by : (f : Format) (whole : Line) (c : Cause) → whole ≡ Err c → CauseBy f false whole c
-cause_err_by f (Ok l) c h = absurd (cc)
-cause_err_by f (Err why) c h = cc
+cause_err_by : (f : Format) (v : Version) (whole : Line) (c : Cause) → whole ≡ Err c → CauseBy f v false whole c
+cause_err_by f v (Ok l) c h = absurd (cc)
+cause_err_by f v (Err why) c h = cc
 
-pub cause_err : (f : Format) (many : Bool) (whole : Line) (c : Cause) → many ≡ false → whole ≡ Err c → CauseBy f many whole c
-cause_err f true whole c few h = absurd (cc)
-cause_err f false whole c few h = cause_err_by f whole c h
+pub cause_err : (f : Format) (v : Version) (many : Bool) (whole : Line) (c : Cause) → many ≡ false → whole ≡ Err c → CauseBy f v many whole c
+cause_err f v true whole c few h = absurd (cc)
+cause_err f v false whole c few h = cause_err_by f v whole c h
 
-pub cause_bad : (f : Format) (many : Bool) (whole : Line) (l rest : List ℕ) (c : Cause) → many ≡ false → whole ≡ Ok (l, rest) → ¬ f.IsEnd l × SpellsNone f l × (c ≡ BadRecord) → CauseBy f many whole c
-cause_bad f true whole l rest c few h is = absurd (cc)
-cause_bad f false (Err why) l rest c few h is = absurd (cc)
-cause_bad f false (Ok found) l rest c few h is = let same : l ≡ found.0 = cc in rw same at is
+pub cause_bad : (f : Format) (v : Version) (many : Bool) (whole : Line) (l rest : List ℕ) (c : Cause) → many ≡ false → whole ≡ Ok (l, rest) → ¬ f.IsEnd l × SpellsNone f v l × (c ≡ BadRecord) → CauseBy f v many whole c
+cause_bad f v true whole l rest c few h is = absurd (cc)
+cause_bad f v false (Err why) l rest c few h is = absurd (cc)
+cause_bad f v false (Ok found) l rest c few h is = let same : l ≡ found.0 = cc in rw same at is
 
-pub cause_no_end : (f : Format) (many : Bool) (whole : Line) → CauseBy f many whole NoEnd → whole ≡ Err NoEnd
-cause_no_end f true whole h = absurd (cc)
-cause_no_end f false (Ok l) h = let e = h.2 in absurd (cc)
-cause_no_end f false (Err why) h = cc
+pub cause_no_end : (f : Format) (v : Version) (many : Bool) (whole : Line) → CauseBy f v many whole NoEnd → whole ≡ Err NoEnd
+cause_no_end f v true whole h = absurd (cc)
+cause_no_end f v false (Ok l) h = let e = h.2 in absurd (cc)
+cause_no_end f v false (Err why) h = cc
 
 -- whether the line of a number is one too many
 
@@ -177,9 +178,9 @@ more_bytes most bytes more = record {
       long_whole most (bytes ++ more) (is_long_by most (bytes ++ more) (take (most + 1) bytes) front parts.0 (omega (arith, parts.1, length-append bytes more))) ∙ ap Err (sym long.1);
 }
 
-no_end_alone : (f : Format) (many : Bool) (c : Cause) → many ≡ false → CauseBy f many (whole_line f.most []) c → c ≡ NoEnd
-no_end_alone f true c few h = absurd (cc)
-no_end_alone f false c few h = subst (λ (whole : Line). CauseBy f false whole c) (whole_short f.most [] record { clear = refl; few = omega arith }) h
+no_end_alone : (f : Format) (v : Version) (many : Bool) (c : Cause) → many ≡ false → CauseBy f v many (whole_line f.most []) c → c ≡ NoEnd
+no_end_alone f v true c few h = absurd (cc)
+no_end_alone f v false c few h = subst (λ (whole : Line). CauseBy f v false whole c) (whole_short f.most [] record { clear = refl; few = omega arith }) h
 
 start_more : (f : Format) (whole longer : Line) (more : List ℕ) (c : Cause) → IsMore whole longer more → StartBy f whole c → c ≢ NoEnd → StartBy f longer c
 start_more f (Ok l) longer more c is h other = start_bad f longer l.0 (l.1 ++ more) c (is.found l.0 l.1 refl) h
@@ -188,19 +189,19 @@ start_more f (Err why) longer more c is h other = start_err f longer c (is.refus
 same_many : (first : Bool) (k m : ℕ) → 0 < k → 0 < m → (first && nat_lt 0 k) ≡ (first && nat_lt 0 m)
 same_many first k m some also = grind (arith, nat_tests)
 
-cause_more : (f : Format) (many also : Bool) (whole longer : Line) (more : List ℕ) (c : Cause) → many ≡ also → IsMore whole longer more → CauseBy f many whole c → c ≢ NoEnd → CauseBy f also longer c
-cause_more f true true whole longer more c same is h other = h
-cause_more f true false whole longer more c same is h other = absurd (cc)
-cause_more f false true whole longer more c same is h other = absurd (cc)
-cause_more f false false (Ok l) longer more c same is h other = cause_bad f false longer l.0 (l.1 ++ more) c refl (is.found l.0 l.1 refl) h
-cause_more f false false (Err why) longer more c same is h other = cause_err f false longer c refl (is.refused c (cc) other)
+cause_more : (f : Format) (v : Version) (many also : Bool) (whole longer : Line) (more : List ℕ) (c : Cause) → many ≡ also → IsMore whole longer more → CauseBy f v many whole c → c ≢ NoEnd → CauseBy f v also longer c
+cause_more f v true true whole longer more c same is h other = h
+cause_more f v true false whole longer more c same is h other = absurd (cc)
+cause_more f v false true whole longer more c same is h other = absurd (cc)
+cause_more f v false false (Ok l) longer more c same is h other = cause_bad f v false longer l.0 (l.1 ++ more) c refl (is.found l.0 l.1 refl) h
+cause_more f v false false (Err why) longer more c same is h other = cause_err f v false longer c refl (is.refused c (cc) other)
 
 -- a refusal other than for a missing end stays, whatever comes behind
 pub line_cause_more : (f : Format) (place : Place) (rest more : List ℕ) (c : Cause) → LineCause f place rest c → c ≢ NoEnd → LineCause f place (rest ++ more) c
 line_cause_more f Start rest more c h other = start_more f (whole_line f.most rest) (whole_line f.most (rest ++ more)) more c (more_bytes f.most rest more) h other
-line_cause_more f (After v records) [] more c h other = absurd (other (no_end_alone f (nat_lt most_lines (length records + 2) && nat_lt 0 0) c (no_bytes_many (length records + 2)) h))
+line_cause_more f (After v records) [] more c h other = absurd (other (no_end_alone f v (nat_lt most_lines (length records + 2) && nat_lt 0 0) c (no_bytes_many (length records + 2)) h))
 line_cause_more f (After v records) (b ∷ rest) more c h other =
-    cause_more f (nat_lt most_lines (length records + 2) && nat_lt 0 (length (b ∷ rest))) (nat_lt most_lines (length records + 2) && nat_lt 0 (length ((b ∷ rest) ++ more))) (whole_line f.most (b ∷ rest)) (whole_line f.most ((b ∷ rest) ++ more)) more c
+    cause_more f v (nat_lt most_lines (length records + 2) && nat_lt 0 (length (b ∷ rest))) (nat_lt most_lines (length records + 2) && nat_lt 0 (length ((b ∷ rest) ++ more))) (whole_line f.most (b ∷ rest)) (whole_line f.most ((b ∷ rest) ++ more)) more c
     (same_many (nat_lt most_lines (length records + 2)) (length (b ∷ rest)) (length ((b ∷ rest) ++ more)) (omega arith) (omega arith))
     (more_bytes f.most (b ∷ rest) more) h other
 line_cause_more f (Ended v records) [] more c h other = absurd (h.0 refl)

@@ -40,18 +40,18 @@ short_front most first front back short e =
     }
 
 -- Where the lines of some records and a last line are cut: behind some of them, within the next.
-record IsCutBehind (f : Format) (records : List Record) (bytes : List ℕ) : Type 0 where
+record IsCutBehind (f : Format) (v : Version) (records : List Record) (bytes : List ℕ) : Type 0 where
   front : List Record
   back : List Record
   is : records ≡ front ++ back
   before : List ℕ
-  are : AreLines f before front
+  are : AreLines f v before front
   rest : List ℕ
   begins : bytes ≡ before ++ rest
   short : IsShort f.most rest
 
-cut_here : (f : Format) (records : List Record) (first bytes back : List ℕ) → IsShort f.most first → first ≡ bytes ++ back → IsCutBehind f records bytes
-cut_here f records first bytes back short e = record {
+cut_here : (f : Format) (v : Version) (records : List Record) (first bytes back : List ℕ) → IsShort f.most first → first ≡ bytes ++ back → IsCutBehind f v records bytes
+cut_here f v records first bytes back short e = record {
   front = [];
   back = records;
   is = refl;
@@ -62,8 +62,8 @@ cut_here f records first bytes back short e = record {
   short = short_front f.most first bytes back short e;
 }
 
-cut_more : (f : Format) (x : Record) (records : List Record) (l bytes later : List ℕ) → IsShort f.most l → f.Spells l x → bytes ≡ line l ++ later → IsCutBehind f records later → IsCutBehind f (x ∷ records) bytes
-cut_more f x records l bytes later short spells e cut = record {
+cut_more : (f : Format) (v : Version) (x : Record) (records : List Record) (l bytes later : List ℕ) → IsShort f.most l → f.Spells v l x → bytes ≡ line l ++ later → IsCutBehind f v records later → IsCutBehind f v (x ∷ records) bytes
+cut_more f v x records l bytes later short spells e cut = record {
   front = x ∷ cut.front;
   back = cut.back;
   is = ap (λ r. x ∷ r) cut.is;
@@ -74,20 +74,20 @@ cut_more f x records l bytes later short spells e cut = record {
   short = cut.short;
 }
 
-cut_end : (f : Format) (last bytes more : List ℕ) → IsShort f.most last → FrontOf last [] bytes more → 0 < length more → IsCutBehind f [] bytes
-cut_end f last bytes more short (inl within) some = cut_here f [] last bytes within.0 short within.1
-cut_end f last bytes more short (inr behind) some = absurd (omega (arith, some, ap length behind.2, length-append behind.0 more))
+cut_end : (f : Format) (v : Version) (last bytes more : List ℕ) → IsShort f.most last → FrontOf last [] bytes more → 0 < length more → IsCutBehind f v [] bytes
+cut_end f v last bytes more short (inl within) some = cut_here f v [] last bytes within.0 short within.1
+cut_end f v last bytes more short (inr behind) some = absurd (omega (arith, some, ap length behind.2, length-append behind.0 more))
 
-cut_lines : (f : Format) (records : List Record) (all last bytes more : List ℕ) → AreLines f all records → IsShort f.most last → all ++ line last ≡ bytes ++ more → 0 < length more → IsCutBehind f records bytes
-cut_lines f [] all last bytes more are short e some =
+cut_lines : (f : Format) (v : Version) (records : List Record) (all last bytes more : List ℕ) → AreLines f v all records → IsShort f.most last → all ++ line last ≡ bytes ++ more → 0 < length more → IsCutBehind f v records bytes
+cut_lines f v [] all last bytes more are short e some =
     let whole : line last ++ [] ≡ bytes ++ more = append-nil (line last) ∙ (ap (λ a. a ++ line last) (sym are) ∙ e) in
-    cut_end f last bytes more short (front_of last [] bytes more whole) some
-cut_lines f (x ∷ records) all last bytes more are short e some =
+    cut_end f v last bytes more short (front_of last [] bytes more whole) some
+cut_lines f v (x ∷ records) all last bytes more are short e some =
     let whole : line are.0 ++ (are.1 ++ line last) ≡ bytes ++ more =
     sym (append_assoc (line are.0) are.1 (line last)) ∙ (ap (λ a. a ++ line last) (sym are.4) ∙ e) in
     elim (front_of are.0 (are.1 ++ line last) bytes more whole) [
-      | inl within ↦ cut_here f (x ∷ records) are.0 bytes within.0 are.2 within.1
-      | inr behind ↦ cut_more f x records are.0 bytes behind.0 are.2 are.3 behind.1 (cut_lines f records are.1 last behind.0 more are.5 short behind.2 some)
+      | inl within ↦ cut_here f v (x ∷ records) are.0 bytes within.0 are.2 within.1
+      | inr behind ↦ cut_more f v x records are.0 bytes behind.0 are.2 are.3 behind.1 (cut_lines f v records are.1 last behind.0 more are.5 short behind.2 some)
     ]
 
 cut_first : (f : Format) (v : Version) (records : List Record) (first bytes back : List ℕ) → IsShort f.most first → first ≡ bytes ++ back → IsCutTrace f v records bytes
@@ -104,7 +104,7 @@ cut_first f v records first bytes back short e = (
   tt,
 )
 
-cut_later : (f : Format) (v : Version) (records : List Record) (first bytes later : List ℕ) → length records + 2 ≤ most_lines → IsShort f.most first → f.IsHeader v first → bytes ≡ line first ++ later → IsCutBehind f records later → IsCutTrace f v records bytes
+cut_later : (f : Format) (v : Version) (records : List Record) (first bytes later : List ℕ) → length records + 2 ≤ most_lines → IsShort f.most first → f.IsHeader v first → bytes ≡ line first ++ later → IsCutBehind f v records later → IsCutTrace f v records bytes
 cut_later f v records first bytes later within short header e cut =
     let few : length cut.front + 2 ≤ most_lines = omega (arith, within, ap length cut.is, length-append cut.front cut.back) in (
       After v cut.front,
@@ -114,7 +114,7 @@ cut_later f v records first bytes later within short header e cut =
         are = record { first = first; short = short; header = header; later = cut.before; begins = refl; lines = cut.are };
         few = omega (arith, few);
         begins = e ∙ (ap (λ r. line first ++ r) cut.begins ∙ sym (append_assoc (line first) cut.before cut.rest));
-        cause = cause_err f (nat_lt most_lines (length cut.front + 2) && nat_lt 0 (length cut.rest)) (whole_line f.most cut.rest) NoEnd (few_many (length cut.front + 2) cut.rest few) (whole_short f.most cut.rest cut.short);
+        cause = cause_err f v (nat_lt most_lines (length cut.front + 2) && nat_lt 0 (length cut.rest)) (whole_line f.most cut.rest) NoEnd (few_many (length cut.front + 2) cut.rest few) (whole_short f.most cut.rest cut.short);
       },
       (refl, (cut.back, cut.is)),
     )
@@ -128,5 +128,5 @@ cut_trace f v records bytes more is some =
     sym (append_assoc (line first) later (line last)) ∙ (ap (λ l. l ++ line last) (sym is.whole.behind.begins) ∙ sym is.whole.begins) in
     elim (front_of first (later ++ line last) bytes more whole) [
       | inl within ↦ cut_first f v records first bytes within.0 is.whole.behind.short within.1
-      | inr behind ↦ cut_later f v records first bytes behind.0 is.few is.whole.behind.short is.whole.behind.header behind.1 (cut_lines f records later last behind.0 more is.whole.behind.lines is.whole.short behind.2 some)
+      | inr behind ↦ cut_later f v records first bytes behind.0 is.few is.whole.behind.short is.whole.behind.header behind.1 (cut_lines f v records later last behind.0 more is.whole.behind.lines is.whole.short behind.2 some)
     ]

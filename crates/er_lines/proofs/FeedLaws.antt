@@ -21,14 +21,14 @@ use Rattle.er_lines.proofs.CauseLaws.{whole_short, short_whole, start_err, start
 -- a line that is not at its end yet is short
 pub unfinished_short : (f : Format) (place : Place) (line : List ℕ) → IsUnfinished f place line → IsShort f.most line
 unfinished_short f Start line h = short_whole f.most line (start_no_end f (whole_line f.most line) h)
-unfinished_short f (After v records) line h = short_whole f.most line (cause_no_end f (nat_lt most_lines (length records + 2) && nat_lt 0 (length line)) (whole_line f.most line) h)
+unfinished_short f (After v records) line h = short_whole f.most line (cause_no_end f v (nat_lt most_lines (length records + 2) && nat_lt 0 (length line)) (whole_line f.most line) h)
 unfinished_short f (Ended v records) line h = rw h record { clear = refl; few = omega arith }
 
 -- where a line may stand, a short one is not at its end yet
 pub short_unfinished : (f : Format) (place : Place) (line : List ℕ) → IsOpen (mark_of place) → IsShort f.most line → IsUnfinished f place line
 short_unfinished f Start line free h = start_err f (whole_line f.most line) NoEnd (whole_short f.most line h)
 short_unfinished f (After v records) line free h =
-    cause_err f (nat_lt most_lines (length records + 2) && nat_lt 0 (length line)) (whole_line f.most line) NoEnd (few_many (length records + 2) line free) (whole_short f.most line h)
+    cause_err f v (nat_lt most_lines (length records + 2) && nat_lt 0 (length line)) (whole_line f.most line) NoEnd (few_many (length records + 2) line free) (whole_short f.most line h)
 short_unfinished f (Ended v records) line free h = elim free [ ]
 
 none_short : (most : ℕ) → IsShort most []
@@ -37,7 +37,7 @@ none_short most = record { clear = refl; few = omega arith }
 -- no byte of a line has come
 pub none_unfinished : (f : Format) (place : Place) → IsUnfinished f place []
 none_unfinished f Start = start_err f (whole_line f.most []) NoEnd (whole_short f.most [] (none_short f.most))
-none_unfinished f (After v records) = cause_err f (nat_lt most_lines (length records + 2) && nat_lt 0 0) (whole_line f.most []) NoEnd (no_bytes_many (length records + 2)) (whole_short f.most [] (none_short f.most))
+none_unfinished f (After v records) = cause_err f v (nat_lt most_lines (length records + 2) && nat_lt 0 0) (whole_line f.most []) NoEnd (no_bytes_many (length records + 2)) (whole_short f.most [] (none_short f.most))
 none_unfinished f (Ended v records) = refl
 
 pub number_of_place : (place : Place) → number_at (mark_of place) ≡ line_number place
@@ -52,18 +52,18 @@ line_behind before kept front bytes l begins is =
     ∙ ap (λ b. before ++ b) (sym (append_assoc kept front (10 ∷ [])) ∙ ap with_end is)
 
 -- lines with one more
-pub lines_more : (f : Format) (bytes : List ℕ) (records : List Record) (l : List ℕ) (x : Record) → AreLines f bytes records → IsShort f.most l → f.Spells l x → AreLines f (bytes ++ with_end l) (records ++ x ∷ [])
-lines_more f bytes [] l x are short spells = (l, [], short, spells, ap (λ b. b ++ with_end l) are ∙ sym (append-nil (with_end l)), refl)
-lines_more f bytes (y ∷ records) l x are short spells = (
+pub lines_more : (f : Format) (v : Version) (bytes : List ℕ) (records : List Record) (l : List ℕ) (x : Record) → AreLines f v bytes records → IsShort f.most l → f.Spells v l x → AreLines f v (bytes ++ with_end l) (records ++ x ∷ [])
+lines_more f v bytes [] l x are short spells = (l, [], short, spells, ap (λ b. b ++ with_end l) are ∙ sym (append-nil (with_end l)), refl)
+lines_more f v bytes (y ∷ records) l x are short spells = (
   are.0,
   are.1 ++ with_end l,
   are.2,
   are.3,
   ap (λ b. b ++ with_end l) are.4 ∙ append_assoc (with_end are.0) are.1 (with_end l),
-  lines_more f are.1 records l x are.5 short spells,
+  lines_more f v are.1 records l x are.5 short spells,
 )
 
-pub behind_more : (f : Format) (v : Version) (bytes : List ℕ) (records : List Record) (l : List ℕ) (x : Record) → AreBehind f v bytes records → IsShort f.most l → f.Spells l x
+pub behind_more : (f : Format) (v : Version) (bytes : List ℕ) (records : List Record) (l : List ℕ) (x : Record) → AreBehind f v bytes records → IsShort f.most l → f.Spells v l x
     → AreBehind f v (bytes ++ with_end l) (records ++ x ∷ [])
 behind_more f v bytes records l x are short spells = record {
   first = are.first;
@@ -71,7 +71,7 @@ behind_more f v bytes records l x are short spells = record {
   header = are.header;
   later = are.later ++ with_end l;
   begins = ap (λ b. b ++ with_end l) are.begins ∙ append_assoc (with_end are.first) are.later (with_end l);
-  lines = lines_more f are.later records l x are.lines short spells;
+  lines = lines_more f v are.later records l x are.lines short spells;
 }
 
 pub stands_line : (f : Format) (place : Place) (next : Mark) (before kept front bytes : List ℕ) (came earlier : List Record) → AreBefore f place before → line_number place ≤ most_lines + 1 → IsOpen (mark_of place) → IsShort f.most (kept ++ front)
@@ -139,11 +139,12 @@ more_behind : (before kept rest piece bytes : List ℕ) → bytes ≡ before ++ 
 more_behind before kept rest piece bytes begins same = (ap (λ b. b ++ piece) begins ∙ append_assoc before rest piece) ∙ ap (λ r. before ++ (r ++ piece)) (sym same)
 
 -- the line of a record stands at the front
-pub front_at : (f : Format) (mark : Mark) (kept piece left : List ℕ) (x : Record) (v : Version) (n : ℕ) → mark ≡ marks.After v n → n + 2 ≤ most_lines → kept ≡ [] → IsFront f.most f.Spells piece x left
+pub front_at : (f : Format) (mark : Mark) (kept piece left : List ℕ) (x : Record) (v : Version) (n : ℕ) → mark ≡ marks.After v n → n + 2 ≤ most_lines → kept ≡ [] → IsFront f.most (f.Spells v) piece x left
     → IsFrontAt f mark kept piece (marks.After v (n + 1)) x left
 front_at f mark kept piece left x v n at few none front = record {
   free = subst IsOpen (sym at) few;
   none = none;
+  version = v;
   front = front;
   line = subst (λ (m : Mark). IsLine f m front.l (marks.After v (n + 1)) (x ∷ [])) (sym at) (x, front.spells, refl, refl);
 }
@@ -205,7 +206,7 @@ refused f mark kept piece later n c old new why other numbered same = record {
 bad_cause : (f : Format) (place : Place) (l rest bytes : List ℕ) (c : Cause) → IsOpen (mark_of place) → IsBadLine f (mark_of place) l c → whole_line f.most bytes ≡ Ok (l, rest) → LineCause f place bytes c
 bad_cause f Start l rest bytes c free is whole = start_bad f (whole_line f.most bytes) l rest c whole is
 bad_cause f (After v records) l rest bytes c free is whole =
-    cause_bad f (nat_lt most_lines (length records + 2) && nat_lt 0 (length bytes)) (whole_line f.most bytes) l rest c (few_many (length records + 2) bytes free) whole is
+    cause_bad f v (nat_lt most_lines (length records + 2) && nat_lt 0 (length bytes)) (whole_line f.most bytes) l rest c (few_many (length records + 2) bytes free) whole is
 bad_cause f (Ended v records) l rest bytes c free is whole = elim free [ ]
 
 bad_is_no_end : (f : Format) (mark : Mark) (l : List ℕ) (c : Cause) → IsBadLine f mark l c → c ≢ NoEnd
@@ -226,7 +227,7 @@ refused_line f mark next kept piece front later left n c old new free is e clear
 long_cause : (f : Format) (place : Place) (bytes : List ℕ) → IsOpen (mark_of place) → whole_line f.most bytes ≡ Err LongLine → LineCause f place bytes LongLine
 long_cause f Start bytes free long = start_err f (whole_line f.most bytes) LongLine long
 long_cause f (After v records) bytes free long =
-    cause_err f (nat_lt most_lines (length records + 2) && nat_lt 0 (length bytes)) (whole_line f.most bytes) LongLine (few_many (length records + 2) bytes free) long
+    cause_err f v (nat_lt most_lines (length records + 2) && nat_lt 0 (length bytes)) (whole_line f.most bytes) LongLine (few_many (length records + 2) bytes free) long
 long_cause f (Ended v records) bytes free long = elim free [ ]
 
 -- a line is too long
@@ -240,7 +241,7 @@ refused_long f mark kept piece left n c old free clear many numbered is =
 closed_cause : (f : Format) (place : Place) (kept piece : List ℕ) (c : Cause) → IsClosed (mark_of place) c → 0 < length piece → LineCause f place (kept ++ piece) c
 closed_cause f (After v records) kept piece c is some =
     let many : (nat_lt most_lines (length records + 2) && nat_lt 0 (length (kept ++ piece))) ≡ true = some_many (length records + 2) (kept ++ piece) is.0 (omega (arith, length-append kept piece)) in
-    cause_many f (nat_lt most_lines (length records + 2) && nat_lt 0 (length (kept ++ piece))) (whole_line f.most (kept ++ piece)) c many is.1
+    cause_many f v (nat_lt most_lines (length records + 2) && nat_lt 0 (length (kept ++ piece))) (whole_line f.most (kept ++ piece)) c many is.1
 closed_cause f (Ended v records) kept piece c is some = ((λ e. absurd (omega (arith, ap length e, length-append kept piece))), is)
 closed_cause f Start kept piece c is some = elim is [ ]
 

@@ -8,3 +8,4 @@ pub mod HeaderLaws
 pub mod LinesBefore
 pub mod TextLaws
 pub mod CutTraces
+pub mod VersionLaws

@@ -25,19 +25,19 @@ count_of_line a clear =
     let none : count_of_lf a ≡ 0 = count_of_none a clear in
     omega (arith, e, none)
 
-count_of_lines : (f : Format) (bytes : List ℕ) (records : List Record) → AreLines f bytes records → count_of_lf bytes ≡ length records
-count_of_lines f bytes [] are = ap count_of_lf are
-count_of_lines f bytes (x ∷ records) are =
+count_of_lines : (f : Format) (v : Version) (bytes : List ℕ) (records : List Record) → AreLines f v bytes records → count_of_lf bytes ≡ length records
+count_of_lines f v bytes [] are = ap count_of_lf are
+count_of_lines f v bytes (x ∷ records) are =
     let e : count_of_lf bytes ≡ count_of_lf (line are.0) + count_of_lf are.1 = ap count_of_lf are.4 ∙ count_of_both (line are.0) are.1 in
     let one : count_of_lf (line are.0) ≡ 1 = count_of_line are.0 are.2.clear in
-    let later : count_of_lf are.1 ≡ length records = count_of_lines f are.1 records are.5 in
+    let later : count_of_lf are.1 ≡ length records = count_of_lines f v are.1 records are.5 in
     omega (arith, e, one, later)
 
 count_of_behind : (f : Format) (v : Version) (bytes : List ℕ) (records : List Record) → AreBehind f v bytes records → count_of_lf bytes ≡ length records + 1
 count_of_behind f v bytes records are =
     let e : count_of_lf bytes ≡ count_of_lf (line are.first) + count_of_lf are.later = ap count_of_lf are.begins ∙ count_of_both (line are.first) are.later in
     let one : count_of_lf (line are.first) ≡ 1 = count_of_line are.first are.short.clear in
-    let later : count_of_lf are.later ≡ length records = count_of_lines f are.later records are.lines in
+    let later : count_of_lf are.later ≡ length records = count_of_lines f v are.later records are.lines in
     omega (arith, e, one, later)
 
 pub line_of_a_place : (f : Format) (p : Place) (bytes : List ℕ) → AreBefore f p bytes → line_number p ≡ count_of_lf bytes + 1

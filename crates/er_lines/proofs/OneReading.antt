@@ -16,9 +16,9 @@ pub data Stop : Type 0 where
   Faulty : (c : Cause) → Stop
   AtEnd : (later : List ℕ) → Stop
 
-abbrev pub StopsAt : Format → ℕ → List ℕ → Stop → Type 0
-StopsAt f number rest (Faulty c) = RecordCause f number rest c
-StopsAt f number rest (AtEnd later) = (l : List ℕ) × (number ≤ most_lines) × IsShort f.most l × f.IsEnd l × (rest ≡ line l ++ later)
+abbrev pub StopsAt : Format → Version → ℕ → List ℕ → Stop → Type 0
+StopsAt f v number rest (Faulty c) = RecordCause f v number rest c
+StopsAt f v number rest (AtEnd later) = (l : List ℕ) × (number ≤ most_lines) × IsShort f.most l × f.IsEnd l × (rest ≡ line l ++ later)
 
 abbrev pub a_line : List ℕ → List ℕ → Line
 a_line l rest = Ok (l, rest)
@@ -31,22 +31,22 @@ abbrev pub rest_of : Line → List ℕ
 rest_of (Ok l) = l.1
 rest_of (Err why) = []
 
-cause_once_by : (f : Format) (many : Bool) (whole : Line) (c d : Cause) → CauseBy f many whole c → CauseBy f many whole d → c ≡ d
-cause_once_by f true whole c d first second = cc
-cause_once_by f false (Ok l) c d first second = first.2 ∙ sym second.2
-cause_once_by f false (Err why) c d first second = cc
+cause_once_by : (f : Format) (v : Version) (many : Bool) (whole : Line) (c d : Cause) → CauseBy f v many whole c → CauseBy f v many whole d → c ≡ d
+cause_once_by f v true whole c d first second = cc
+cause_once_by f v false (Ok l) c d first second = first.2 ∙ sym second.2
+cause_once_by f v false (Err why) c d first second = cc
 
-cause_of_line : (f : Format) (many : Bool) (whole : Line) (c : Cause) (l rest : List ℕ) → CauseBy f many whole c → many ≡ false → whole ≡ Ok (l, rest) → ¬ f.IsEnd l × SpellsNone f l
-cause_of_line f true whole c l rest h few is = absurd (cc)
-cause_of_line f false (Ok found) c l rest h few is =
+cause_of_line : (f : Format) (v : Version) (many : Bool) (whole : Line) (c : Cause) (l rest : List ℕ) → CauseBy f v many whole c → many ≡ false → whole ≡ Ok (l, rest) → ¬ f.IsEnd l × SpellsNone f v l
+cause_of_line f v true whole c l rest h few is = absurd (cc)
+cause_of_line f v false (Ok found) c l rest h few is =
     let same : found.0 ≡ l = cc in
-    let both : ¬ f.IsEnd found.0 × SpellsNone f found.0 = (h.0, h.1) in
-    subst (λ (m : List ℕ). ¬ f.IsEnd m × SpellsNone f m) same both
-cause_of_line f false (Err why) c l rest h few is = absurd (cc)
+    let both : ¬ f.IsEnd found.0 × SpellsNone f v found.0 = (h.0, h.1) in
+    subst (λ (m : List ℕ). ¬ f.IsEnd m × SpellsNone f v m) same both
+cause_of_line f v false (Err why) c l rest h few is = absurd (cc)
 
 -- a line with a cause is neither a record nor the end
-pub no_line : (f : Format) (number : ℕ) (bytes l rest : List ℕ) (c : Cause) → RecordCause f number bytes c → number ≤ most_lines → whole_line f.most bytes ≡ Ok (l, rest) → ¬ f.IsEnd l × SpellsNone f l
-no_line f number bytes l rest c h few is = cause_of_line f (nat_lt most_lines number && nat_lt 0 (length bytes)) (whole_line f.most bytes) c l rest h (few_many number bytes few) is
+pub no_line : (f : Format) (v : Version) (number : ℕ) (bytes l rest : List ℕ) (c : Cause) → RecordCause f v number bytes c → number ≤ most_lines → whole_line f.most bytes ≡ Ok (l, rest) → ¬ f.IsEnd l × SpellsNone f v l
+no_line f v number bytes l rest c h few is = cause_of_line f v (nat_lt most_lines number && nat_lt 0 (length bytes)) (whole_line f.most bytes) c l rest h (few_many number bytes few) is
 
 -- the whole line at the front of the bytes
 pub front_of : (most : ℕ) (bytes l rest : List ℕ) → IsShort most l → bytes ≡ line l ++ rest → whole_line most bytes ≡ Ok (l, rest)
@@ -62,19 +62,19 @@ same_front most bytes l m a b first second e other =
     let same : a_line l a ≡ a_line m b = sym (front_of most bytes l a first e) ∙ front_of most bytes m b second other in
     record { line = ap bytes_of same; rest = ap rest_of same }
 
-stop_once : (f : Format) (number : ℕ) (rest : List ℕ) (p q : Stop) → StopsAt f number rest p → StopsAt f number rest q → p ≡ q
-stop_once f number rest (Faulty c) (Faulty d) first second = ap Faulty (cause_once_by f (nat_lt most_lines number && nat_lt 0 (length rest)) (whole_line f.most rest) c d first second)
-stop_once f number rest (Faulty c) (AtEnd later) first second = absurd ((no_line f number rest second.0 later c first second.1 (front_of f.most rest second.0 later second.2 second.4)).0 second.3)
-stop_once f number rest (AtEnd later) (Faulty d) first second = absurd ((no_line f number rest first.0 later d second first.1 (front_of f.most rest first.0 later first.2 first.4)).0 first.3)
-stop_once f number rest (AtEnd later) (AtEnd more) first second = ap AtEnd (same_front f.most rest first.0 second.0 later more first.2 second.2 first.4 second.4).rest
+stop_once : (f : Format) (v : Version) (number : ℕ) (rest : List ℕ) (p q : Stop) → StopsAt f v number rest p → StopsAt f v number rest q → p ≡ q
+stop_once f v number rest (Faulty c) (Faulty d) first second = ap Faulty (cause_once_by f v (nat_lt most_lines number && nat_lt 0 (length rest)) (whole_line f.most rest) c d first second)
+stop_once f v number rest (Faulty c) (AtEnd later) first second = absurd ((no_line f v number rest second.0 later c first second.1 (front_of f.most rest second.0 later second.2 second.4)).0 second.3)
+stop_once f v number rest (AtEnd later) (Faulty d) first second = absurd ((no_line f v number rest first.0 later d second first.1 (front_of f.most rest first.0 later first.2 first.4)).0 first.3)
+stop_once f v number rest (AtEnd later) (AtEnd more) first second = ap AtEnd (same_front f.most rest first.0 second.0 later more first.2 second.2 first.4 second.4).rest
 
 -- no record stands where the records stop
-no_record_at : (f : Format) → IsFormat f → (number : ℕ) (rest : List ℕ) (p : Stop) (x : Record) (l later : List ℕ) → StopsAt f number rest p → number ≤ most_lines → IsShort f.most l → f.Spells l x → rest ≡ line l ++ later → ⊥
-no_record_at f is number rest (Faulty c) x l later stops few short spells e =
-    (no_line f number rest l later c stops few (front_of f.most rest l later short e)).1 x spells
-no_record_at f is number rest (AtEnd more) x l later stops few short spells e =
+no_record_at : (f : Format) → IsFormat f → (v : Version) (number : ℕ) (rest : List ℕ) (p : Stop) (x : Record) (l later : List ℕ) → StopsAt f v number rest p → number ≤ most_lines → IsShort f.most l → f.Spells v l x → rest ≡ line l ++ later → ⊥
+no_record_at f is v number rest (Faulty c) x l later stops few short spells e =
+    (no_line f v number rest l later c stops few (front_of f.most rest l later short e)).1 x spells
+no_record_at f is v number rest (AtEnd more) x l later stops few short spells e =
     let same : l ≡ stops.0 = (same_front f.most rest l stops.0 later more short stops.2 e stops.4).line in
-    is.not_end l x spells (subst f.IsEnd (sym same) stops.3)
+    is.not_end v l x spells (subst f.IsEnd (sym same) stops.3)
 
 -- one reading of lines
 pub record SameLines (a b : List Record) (r s : List ℕ) (p q : Stop) : Type 0 where
@@ -82,27 +82,27 @@ pub record SameLines (a b : List Record) (r s : List ℕ) (p q : Stop) : Type 0 
   pub rest : r ≡ s
   pub stop : p ≡ q
 
-pub lines_once : (f : Format) → IsFormat f → (a b : List Record) (la lb : List ℕ) (number : ℕ) (r s : List ℕ) (p q : Stop) → AreLines f la a → AreLines f lb b → la ++ r ≡ lb ++ s
-    → number + length a ≤ most_lines + 1 → number + length b ≤ most_lines + 1 → StopsAt f (number + length a) r p → StopsAt f (number + length b) s q → SameLines a b r s p q
-lines_once f is [] [] la lb number r s p q first second e few_a few_b stops_a stops_b =
+pub lines_once : (f : Format) → IsFormat f → (v : Version) (a b : List Record) (la lb : List ℕ) (number : ℕ) (r s : List ℕ) (p q : Stop) → AreLines f v la a → AreLines f v lb b → la ++ r ≡ lb ++ s
+    → number + length a ≤ most_lines + 1 → number + length b ≤ most_lines + 1 → StopsAt f v (number + length a) r p → StopsAt f v (number + length b) s q → SameLines a b r s p q
+lines_once f is v [] [] la lb number r s p q first second e few_a few_b stops_a stops_b =
     let same : r ≡ s = (ap (λ l. l ++ r) (sym first) ∙ e) ∙ ap (λ l. l ++ s) second in
-    record { records = refl; rest = same; stop = stop_once f (number + 0) r p q stops_a (rw same stops_b) }
-lines_once f is [] (y ∷ b) la lb number r s p q first second e few_a few_b stops_a stops_b =
+    record { records = refl; rest = same; stop = stop_once f v (number + 0) r p q stops_a (rw same stops_b) }
+lines_once f is v [] (y ∷ b) la lb number r s p q first second e few_a few_b stops_a stops_b =
     let here : r ≡ line second.0 ++ (second.1 ++ s) = ((ap (λ l. l ++ r) (sym first) ∙ e) ∙ ap (λ l. l ++ s) second.4) ∙ append_assoc (line second.0) second.1 s in
-    absurd (no_record_at f is (number + 0) r p y second.0 (second.1 ++ s) stops_a (omega arith) second.2 second.3 here)
-lines_once f is (x ∷ a) [] la lb number r s p q first second e few_a few_b stops_a stops_b =
+    absurd (no_record_at f is v (number + 0) r p y second.0 (second.1 ++ s) stops_a (omega arith) second.2 second.3 here)
+lines_once f is v (x ∷ a) [] la lb number r s p q first second e few_a few_b stops_a stops_b =
     let here : s ≡ line first.0 ++ (first.1 ++ r) = ((ap (λ l. l ++ s) (sym second) ∙ sym e) ∙ ap (λ l. l ++ r) first.4) ∙ append_assoc (line first.0) first.1 r in
-    absurd (no_record_at f is (number + 0) s q x first.0 (first.1 ++ r) stops_b (omega arith) first.2 first.3 here)
-lines_once f is (x ∷ a) (y ∷ b) la lb number r s p q first second e few_a few_b stops_a stops_b =
+    absurd (no_record_at f is v (number + 0) s q x first.0 (first.1 ++ r) stops_b (omega arith) first.2 first.3 here)
+lines_once f is v (x ∷ a) (y ∷ b) la lb number r s p q first second e few_a few_b stops_a stops_b =
     let here : la ++ r ≡ line first.0 ++ (first.1 ++ r) = ap (λ l. l ++ r) first.4 ∙ append_assoc (line first.0) first.1 r in
     let there : la ++ r ≡ line second.0 ++ (second.1 ++ s) = (e ∙ ap (λ l. l ++ s) second.4) ∙ append_assoc (line second.0) second.1 s in
     let front : SameFront first.0 second.0 (first.1 ++ r) (second.1 ++ s) = same_front f.most (la ++ r) first.0 second.0 (first.1 ++ r) (second.1 ++ s) first.2 second.2 here there in
-    let same : x ≡ y = is.one_record first.0 x y first.3 (subst (λ (l : List ℕ). f.Spells l y) (sym front.line) second.3) in
+    let same : x ≡ y = is.one_record v first.0 x y first.3 (subst (λ (l : List ℕ). f.Spells v l y) (sym front.line) second.3) in
     let up_a : number + suc (length a) ≡ (number + 1) + length a = omega arith in
     let up_b : number + suc (length b) ≡ (number + 1) + length b = omega arith in
     let later : SameLines a b r s p q =
-    lines_once f is a b first.1 second.1 (number + 1) r s p q first.5 second.5 front.rest (omega arith) (omega arith)
-    (subst (λ (n : ℕ). StopsAt f n r p) up_a stops_a) (subst (λ (n : ℕ). StopsAt f n s q) up_b stops_b) in
+    lines_once f is v a b first.1 second.1 (number + 1) r s p q first.5 second.5 front.rest (omega arith) (omega arith)
+    (subst (λ (n : ℕ). StopsAt f v n r p) up_a stops_a) (subst (λ (n : ℕ). StopsAt f v n s q) up_b stops_b) in
     let both : a ≡ b = later.records in
     record { records = cc; rest = later.rest; stop = later.stop }
 
@@ -112,7 +112,7 @@ pub record Behind (f : Format) (v : Version) (bytes : List ℕ) (records : List 
   pub are : AreBehind f v front records
   pub few : 2 + length records ≤ most_lines + 1
   pub begins : bytes ≡ front ++ rest
-  pub stops : StopsAt f (2 + length records) rest stop
+  pub stops : StopsAt f v (2 + length records) rest stop
 
 pub behind_first : (f : Format) (v : Version) (bytes : List ℕ) (records : List Record) (rest : List ℕ) (stop : Stop) → (h : Behind f v bytes records rest stop) → bytes ≡ line h.are.first ++ (h.are.later ++ rest)
 behind_first f v bytes records rest stop h = (h.begins ∙ ap (λ l. l ++ rest) h.are.begins) ∙ append_assoc (line h.are.first) h.are.later rest
@@ -122,15 +122,24 @@ pub record SameBehind (v w : Version) (a b : List Record) (r s : List ℕ) (p q 
   pub version : v ≡ w
   pub lines : SameLines a b r s p q
 
-behind_once : (f : Format) → IsFormat f → (bytes : List ℕ) (v w : Version) (a b : List Record) (r s : List ℕ) (p q : Stop) → Behind f v bytes a r p → Behind f w bytes b s q → SameBehind v w a b r s p q
-behind_once f is bytes v w a b r s p q first second =
+version_once : (f : Format) → IsFormat f → (bytes : List ℕ) (v w : Version) (a b : List Record) (r s : List ℕ) (p q : Stop) → Behind f v bytes a r p → Behind f w bytes b s q → v ≡ w
+version_once f is bytes v w a b r s p q first second =
     let front : SameFront first.are.first second.are.first (first.are.later ++ r) (second.are.later ++ s) =
     same_front f.most bytes first.are.first second.are.first (first.are.later ++ r) (second.are.later ++ s) first.are.short second.are.short
     (behind_first f v bytes a r p first) (behind_first f w bytes b s q second) in
-    record {
-      version = is.one_version first.are.first v w first.are.header (subst (f.IsHeader w) (sym front.line) second.are.header);
-      lines = lines_once f is a b first.are.later second.are.later 2 r s p q first.are.lines second.are.lines front.rest first.few second.few first.stops second.stops;
-    }
+    is.one_version first.are.first v w first.are.header (subst (f.IsHeader w) (sym front.line) second.are.header)
+
+behind_lines : (f : Format) → IsFormat f → (bytes : List ℕ) (v : Version) (a b : List Record) (r s : List ℕ) (p q : Stop) → Behind f v bytes a r p → Behind f v bytes b s q → SameLines a b r s p q
+behind_lines f is bytes v a b r s p q first second =
+    let front : SameFront first.are.first second.are.first (first.are.later ++ r) (second.are.later ++ s) =
+    same_front f.most bytes first.are.first second.are.first (first.are.later ++ r) (second.are.later ++ s) first.are.short second.are.short
+    (behind_first f v bytes a r p first) (behind_first f v bytes b s q second) in
+    lines_once f is v a b first.are.later second.are.later 2 r s p q first.are.lines second.are.lines front.rest first.few second.few first.stops second.stops
+
+behind_once : (f : Format) → IsFormat f → (bytes : List ℕ) (v w : Version) (a b : List Record) (r s : List ℕ) (p q : Stop) → Behind f v bytes a r p → Behind f w bytes b s q → SameBehind v w a b r s p q
+behind_once f is bytes v w a b r s p q first second =
+    let version : v ≡ w = version_once f is bytes v w a b r s p q first second in
+    record { version = version; lines = behind_lines f is bytes v a b r s p q first (subst (λ (u : Version). Behind f u bytes b s q) (sym version) second) }
 
 -- a refusal is at the first line, at a line behind it, or after the last one
 pub data Refusal (f : Format) (bytes : List ℕ) (place : Place) (rest : List ℕ) (c : Cause) : Type 0 where
@@ -149,7 +158,7 @@ refusal f bytes (After v records) c h =
       are = h.are;
       few = omega (arith, h.few);
       begins = h.begins;
-      stops = subst (λ (n : ℕ). RecordCause f n h.rest c) up h.cause;
+      stops = subst (λ (n : ℕ). RecordCause f v n h.rest c) up h.cause;
     }) refl
 refusal f bytes (Ended v records) c h =
     PastEnd v records (line h.are.last ++ h.rest) h.cause.0 (record {

@@ -39,10 +39,10 @@ pub record IsShort (most : ℕ) (bytes : List ℕ) : Type 0 where
   pub clear : has_no_lf bytes ≡ true
   pub few : length bytes ≤ most
 
--- the bytes are lines that spell the records
-abbrev pub AreLines : Format → List ℕ → List Record → Type 0
-AreLines f bytes [] = bytes ≡ []
-AreLines f bytes (x ∷ records) = (l : List ℕ) × (later : List ℕ) × IsShort f.most l × f.Spells l x × (bytes ≡ line l ++ later) × AreLines f later records
+-- the bytes are lines that spell the records in a trace of the version
+abbrev pub AreLines : Format → Version → List ℕ → List Record → Type 0
+AreLines f v bytes [] = bytes ≡ []
+AreLines f v bytes (x ∷ records) = (l : List ℕ) × (later : List ℕ) × IsShort f.most l × f.Spells v l x × (bytes ≡ line l ++ later) × AreLines f v later records
 
 -- the bytes are a first line of the version, and lines that spell the records
 pub record AreBehind (f : Format) (v : Version) (bytes : List ℕ) (records : List Record) : Type 0 where
@@ -51,7 +51,7 @@ pub record AreBehind (f : Format) (v : Version) (bytes : List ℕ) (records : Li
   pub header : f.IsHeader v first
   pub later : List ℕ
   pub begins : bytes ≡ line first ++ later
-  pub lines : AreLines f later records
+  pub lines : AreLines f v later records
 
 -- the bytes are a first line of the version, lines that spell the records, and a last line
 pub record AreWhole (f : Format) (v : Version) (bytes : List ℕ) (records : List Record) : Type 0 where
@@ -80,21 +80,21 @@ whole_line most bytes = if is_long most bytes then Err LongLine else ok_or (firs
 abbrev pub IsNoHeader : Format → List ℕ → Type 0
 IsNoHeader f l = (v : Version) → ¬ f.IsHeader v l
 
--- no record is spelled so
-abbrev pub SpellsNone : Format → List ℕ → Type 0
-SpellsNone f l = (x : Record) → f.Spells l x → ⊥
+-- no record is spelled so in a trace of the version
+abbrev pub SpellsNone : Format → Version → List ℕ → Type 0
+SpellsNone f v l = (x : Record) → f.Spells v l x → ⊥
 
 -- Why the first line, with these bytes from it on, is no header.
 abbrev pub StartCause : Format → List ℕ → Cause → Type 0
 StartCause f rest c = MatchResult (whole_line f.most rest) (λ l. IsNoHeader f l.0 × (c ≡ BadHeader)) (λ why. c ≡ why)
 
--- Why the line of that number, with these bytes from it on, is neither a record nor the end: the first cause that applies.
-abbrev pub RecordCause : Format → ℕ → List ℕ → Cause → Type 0
-RecordCause f number rest c =
+-- Why the line of that number, with these bytes from it on, is neither a record of the version nor the end: the first cause that applies.
+abbrev pub RecordCause : Format → Version → ℕ → List ℕ → Cause → Type 0
+RecordCause f v number rest c =
     MatchBool (nat_lt most_lines number && nat_lt 0 (length rest))
     (c ≡ TooManyLines)
     (MatchResult (whole_line f.most rest)
-    (λ l. ¬ f.IsEnd l.0 × SpellsNone f l.0 × (c ≡ BadRecord))
+    (λ l. ¬ f.IsEnd l.0 × SpellsNone f v l.0 × (c ≡ BadRecord))
     (λ why. c ≡ why))
 
 -- Why the line that begins there, with these bytes from it on, is no line of a trace: the first of these that applies.
@@ -103,10 +103,10 @@ RecordCause f number rest c =
 -- long-line: more bytes than a line may have came without an LF
 -- no-end: no LF comes, also where there are no bytes
 -- bad-header: the first line is the header of no version
--- bad-record: a later line is neither a last one nor spells a record
+-- bad-record: a later line is neither a last one nor spells a record of the version
 abbrev pub LineCause : Format → Place → List ℕ → Cause → Type 0
 LineCause f Start rest c = StartCause f rest c
-LineCause f (After v records) rest c = RecordCause f (length records + 2) rest c
+LineCause f (After v records) rest c = RecordCause f v (length records + 2) rest c
 LineCause f (Ended v records) rest c = (rest ≢ []) × (c ≡ AfterEnd)
 
 -- the bytes are a whole trace of that version with these records

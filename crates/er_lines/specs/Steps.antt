@@ -4,6 +4,7 @@ use Rattle.er_text.specs.Bytes.{line_end, has_no_lf}
 use Rattle.er_text.specs.declared.causes.Cause.{Cause}
 use Rattle.er_text.specs.declared.causes.Cause.TheVariants.{BadHeader, BadRecord}
 use Rattle.er_trace.specs.declared.record.Record.{Record}
+use Rattle.er_trace.specs.declared.version.Version.{Version}
 use Rattle.er_trace.specs.declared.fault.FeedFault.{FeedFault}
 use Rattle.er_lines.specs.declared.mark.Mark.{Mark}
 use Rattle.er_lines.specs.declared.mark.Mark.TheVariants as marks
@@ -30,14 +31,14 @@ IsLater IsEnd Spells l (laters.One x) = Spells l x
 -- the whole line at the mark leads to the next mark, and these are its records
 abbrev pub IsLine : Format → Mark → List ℕ → Mark → List Record → Type 0
 IsLine f marks.Start bytes (marks.After w m) came = f.IsHeader w bytes × (m ≡ 0) × (came ≡ [])
-IsLine f (marks.After v n) bytes (marks.After w m) came = (x : Record) × f.Spells bytes x × (marks.After w m ≡ marks.After v (n + 1)) × (came ≡ x ∷ [])
+IsLine f (marks.After v n) bytes (marks.After w m) came = (x : Record) × f.Spells v bytes x × (marks.After w m ≡ marks.After v (n + 1)) × (came ≡ x ∷ [])
 IsLine f (marks.After v n) bytes (marks.Ended w m) came = f.IsEnd bytes × (marks.Ended w m ≡ marks.Ended v n) × (came ≡ [])
 IsLine f _ bytes _ came = ⊥
 
 -- the whole line at the mark has that cause
 abbrev pub IsBadLine : Format → Mark → List ℕ → Cause → Type 0
 IsBadLine f marks.Start bytes c = IsNoHeader f bytes × (c ≡ BadHeader)
-IsBadLine f (marks.After v n) bytes c = ¬ f.IsEnd bytes × SpellsNone f bytes × (c ≡ BadRecord)
+IsBadLine f (marks.After v n) bytes c = ¬ f.IsEnd bytes × SpellsNone f v bytes × (c ≡ BadRecord)
 IsBadLine f (marks.Ended v n) bytes c = ⊥
 
 -- the line of a record stands at the front, with what is left behind its LF
@@ -47,11 +48,12 @@ pub record IsFront (most : ℕ) (Spells : List ℕ → Record → Type 0) (piece
   pub spells : Spells l x
   pub cut : piece ≡ l ++ line_end ∷ left
 
--- the same, where a line may stand and nothing of it came before
+-- the same in a trace of some version, where a line may stand and nothing of it came before
 pub record IsFrontAt (f : Format) (mark : Mark) (kept piece : List ℕ) (next : Mark) (x : Record) (left : List ℕ) : Type 0 where
   pub free : IsOpen mark
   pub none : kept ≡ []
-  pub front : IsFront f.most f.Spells piece x left
+  pub version : Version
+  pub front : IsFront f.most (f.Spells version) piece x left
   pub line : IsLine f mark front.l next (x ∷ [])
 
 -- What is kept leads, with more bytes, to what is kept then, and more records came to the list.

@@ -148,7 +148,7 @@ impl<L: Lines> LineFeed<L> {
         if records > MOST_LINES - 2 {
             return None;
         }
-        let (found, left) = L::front(*self.line.allocator(), piece)?;
+        let (found, left) = L::front(*self.line.allocator(), version, piece)?;
         Some((Mark::After(version, records + 1), found, left))
     }
 

@@ -1,7 +1,8 @@
 //! Laws of the definitions that the contracts cite, for every format. Each is a function that does nothing,
 //! whose contract is the law.
 
-ghost use Rattle.std.specs.Prelude.{◌≡◌, ◌≢◌, ℕ, ◌+◌, ◌<◌, List, ◌++◌, length, Option, None};
+ghost use Rattle.std.specs.Prelude.{◌≡◌, ◌≢◌, true, ℕ, ◌+◌, ◌<◌, List, ◌++◌, length, Option, None};
+ghost use Rattle.std.specs.List.{list_all};
 ghost use Rattle.er_text.specs.Bytes.{count_of_lf};
 ghost use Rattle.er_text.specs.declared.causes.Cause.{Cause};
 ghost use Rattle.er_text.specs.declared.causes.Cause.TheVariants.{NoEnd};
@@ -12,6 +13,7 @@ ghost use Rattle.er_lines.specs.Feed.{Stands};
 ghost use Rattle.er_lines.specs.declared.mark.Mark.{Mark};
 ghost use Rattle.er_trace.specs.declared.fault.FeedFault.{FeedFault};
 ghost use Rattle.er_trace.specs.Trace as texts;
+ghost use Rattle.er_trace.specs.Versions.{has_record};
 ghost use Rattle.er_lines.specs.Text.{text};
 
 use crate::format::Lines;
@@ -35,8 +37,8 @@ pub fn one_cause<L: Lines>()
 /// The whole traces of lines of text are the texts of er_trace.
 pub fn text_traces()
     ensures to { (v : Version) (bytes : List ℕ) (records : List Record) → IsTrace text v bytes records
-        → texts.IsTrace records × (bytes ≡ texts.text v records) }
-    ensures from { (v : Version) (records : List Record) → texts.IsTrace records
+        → texts.IsTrace v records × (bytes ≡ texts.text v records) }
+    ensures from { (v : Version) (records : List Record) → texts.IsTrace v records
         → IsTrace text v (texts.text v records) records }
 {}
 
@@ -44,6 +46,12 @@ pub fn text_traces()
 pub fn one_version<L: Lines>()
     ensures { (bytes : List ℕ) (v w : Version) → BeginsWith L.format v bytes
         → BeginsWith L.format w bytes → v ≡ w }
+{}
+
+/// The records of a trace are of the version that its first line gives.
+pub fn records_of_version<L: Lines>()
+    ensures { (v : Version) (bytes : List ℕ) (records : List Record) → IsTrace L.format v bytes records
+        → list_all (has_record v) records ≡ true }
 {}
 
 /// The number of a line is one more than that of the LFs before it.

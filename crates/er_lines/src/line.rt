@@ -38,7 +38,7 @@ pub fn read_line<L: Lines>(
             Err(_) => Err(FeedFault::NoMemory),
         };
     };
-    match L::read_later(alloc, line) {
+    match L::read_later(alloc, version, line) {
         Ok(Later::End) => Ok(Mark::Ended(version, records)),
         Ok(Later::One(found)) => {
             let Ok(()) = out.push(found) else {

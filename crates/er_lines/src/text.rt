@@ -36,22 +36,27 @@ impl Lines for TextLines {
         Ok(version_of(line))
     }
 
-    fn read_later(alloc: Global, line: &[u8]) -> Result<Later, LineFault>
-        ensures read { IfOk result (IsLater (λ l. l ≡ end_word) IsSpelled line.now) }
+    fn read_later(alloc: Global, version: Version, line: &[u8]) -> Result<Later, LineFault>
+        ensures read { IfOk result (IsLater (λ l. l ≡ end_word) (IsSpelled version) line.now) }
         ensures bad { result ≡ Err LineFault.BadRecord
-            → ¬ (line.now ≡ end_word) × ((x : Record) → ¬ IsSpelled line.now x) }
+            → ¬ (line.now ≡ end_word) × ((x : Record) → ¬ IsSpelled version line.now x) }
     {
         if line == END.as_bytes() {
             return Ok(Later::End);
         }
-        match parse_record(alloc, line) {
+        match parse_record(alloc, version, line) {
             Ok(found) => Ok(Later::One(found)),
             Err(fault) => Err(fault),
         }
     }
 
-    fn front<'a>(alloc: Global, piece: &'a [u8]) -> Option<(Record, &'a [u8])>
-        ensures { IfSome result (λ pair. IsFront most_line_bytes IsSpelled piece.now pair.0 pair.1.now) }
+    fn front<'a>(
+        alloc: Global,
+        version: Version,
+        piece: &'a [u8],
+    ) -> Option<(Record, &'a [u8])>
+        ensures { IfSome result (λ pair. IsFront most_line_bytes (IsSpelled version) piece.now
+            pair.0 pair.1.now) }
     {
         plain_line(alloc, piece)
     }

@@ -196,7 +196,7 @@ fn hand(graph: &mut Graph, alloc: Global, line: u32, text: &str) -> Result<bool,
     requires whole { graph.old.has_failed ≡ false }
     ensures { OnOk result (graph.new.has_failed ≡ false) }
 {
-    let rec = parse_record(alloc, text.as_bytes())?;
+    let rec = parse_record(alloc, graph.version(), text.as_bytes())?;
     match graph.accept(line, &rec) {
         Ok(()) => Ok(true),
         Err(GraphFault::Refused { .. }) => Ok(false),

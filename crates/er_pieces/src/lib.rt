@@ -87,8 +87,8 @@ pub fn latest_pieces_of_dispatches_are_handed()
     ensures { HandsDispatches }
 {}
 
-/// What the six groups of rules hand, one behind the other, are sources of edges by all rules, and enough of them: so the paths over the handed numbers are those over all edges.
-pub fn six_groups_together_are_enough()
+/// What the seven groups of rules hand, one behind the other, are sources of edges by all rules, and enough of them: so the paths over the handed numbers are those over all edges.
+pub fn seven_groups_together_are_enough()
     ensures steady { SoundListsAreSteady }
     ensures handed { AllHand }
     ensures enough { HandedStayEnough }

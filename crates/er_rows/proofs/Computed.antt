@@ -21,12 +21,12 @@ pub unknown_timeout : UnknownTimeout
 unfolding digits item_line
 unknown_timeout asked = OfRecord One (step 1 ∷ []) refl (refl, tt) (record {
   before = _;
-  are = behind_from One _ ((tt, (omega arith, (omega arith, (tt, tt)))), tt);
+  are = behind_from One _ (((tt, (omega arith, (omega arith, (tt, tt)))), refl), tt);
   few = omega arith;
   read = Timer 9;
   l = spelling (Timer 9);
   short = short_spelling (Timer 9) (tt, (omega arith, tt));
-  spells = ((tt, (omega arith, tt)), refl);
+  spells = (((tt, (omega arith, tt)), refl), refl);
   rest = codes "end\n";
   begins = refl;
   cause = refl;
@@ -36,12 +36,12 @@ pub not_a_script : NotAScript
 unfolding digits item_line
 not_a_script asked = OfRecord One (step 1 ∷ []) refl (refl, tt) (record {
   before = _;
-  are = behind_from One _ ((tt, (omega arith, (omega arith, (tt, tt)))), tt);
+  are = behind_from One _ (((tt, (omega arith, (omega arith, (tt, tt)))), refl), tt);
   few = omega arith;
   read = Exec 1;
   l = spelling (Exec 1);
   short = short_spelling (Exec 1) (tt, (omega arith, tt));
-  spells = ((tt, (omega arith, tt)), refl);
+  spells = (((tt, (omega arith, tt)), refl), refl);
   rest = codes "end\n";
   begins = refl;
   cause = refl;
@@ -51,12 +51,12 @@ pub run_too_late : RunTooLate
 unfolding digits item_line
 run_too_late asked = OfRecord One (Parse 0 1 kinds.Sync ∷ step 2 ∷ []) refl (refl, (refl, tt)) (record {
   before = _;
-  are = behind_from One _ ((tt, (omega arith, (omega arith, (tt, tt)))), ((tt, (omega arith, (omega arith, (tt, tt)))), tt));
+  are = behind_from One _ (((tt, (omega arith, (omega arith, (tt, tt)))), refl), (((tt, (omega arith, (omega arith, (tt, tt)))), refl), tt));
   few = omega arith;
   read = Exec 1;
   l = spelling (Exec 1);
   short = short_spelling (Exec 1) (tt, (omega arith, tt));
-  spells = ((tt, (omega arith, tt)), refl);
+  spells = (((tt, (omega arith, tt)), refl), refl);
   rest = codes "end\n";
   begins = refl;
   cause = refl;

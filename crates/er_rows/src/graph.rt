@@ -3,7 +3,8 @@
 //! A record is forgotten where its end would come: its name lies in place, so that nothing is lost, and the proof of
 //! the end of a record takes as long as ten of these functions.
 
-ghost use Rattle.std.specs.Prelude.{◌≡◌, false, OnOk};
+ghost use Rattle.std.specs.Prelude.{◌≡◌, true, false, OnOk};
+ghost use Rattle.er_trace.specs.Versions.{has_record};
 
 use er_clocks::{Meter, Paths};
 use er_graph::{Graph, GraphFault};
@@ -102,6 +103,7 @@ fn hand_record(
     rec: &Record,
 ) -> Result<Option<(u32, Cause)>, LineFault>
     requires whole { graph.old.has_failed ≡ false }
+    requires of_version { has_record graph.old.version rec.now ≡ true }
     ensures { OnOk result (graph.new.has_failed ≡ false) }
 {
     match graph.accept(line, rec) {
@@ -121,7 +123,7 @@ pub(crate) fn hand(
     requires whole { graph.old.has_failed ≡ false }
     ensures { OnOk result (graph.new.has_failed ≡ false) }
 {
-    let rec = parse_record(alloc, text.as_bytes())?;
+    let rec = parse_record(alloc, graph.version(), text.as_bytes())?;
     let answer = hand_record(graph, line, &rec);
     forget(rec);
     answer
@@ -224,7 +226,7 @@ fn ask_graph(rt: &impl Abort, graph: &Graph, row: &Row) {
 
 /// Whether the crates of rules answer what is due for the record that the line spells.
 fn is_line_answered(graph: &Graph, alloc: Global, due: &Next) -> Result<bool, LineFault> {
-    let rec = parse_record(alloc, due.text.as_bytes())?;
+    let rec = parse_record(alloc, graph.version(), due.text.as_bytes())?;
     let answered = is_answered(graph, alloc, &rec, due);
     forget(rec);
     Ok(answered)

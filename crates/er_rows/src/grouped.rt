@@ -1,6 +1,7 @@
 //! The races of the realistic load, grouped by two shards that are held at the gate.
 
-ghost use Rattle.std.specs.Prelude.{◌≤◌, length};
+ghost use Rattle.std.specs.Prelude.{◌≡◌, ◌≤◌, true, length};
+ghost use Rattle.er_trace.specs.Versions.{has_record};
 
 use crate::gates::Holding;
 use crate::graph::let_go;
@@ -116,13 +117,15 @@ fn names_of(alloc: Global, groups: &Groups, races: u32) -> Result<Vec<u32>, Cove
 
 /// Takes the record of the next line.
 fn take(graph: &mut Graph, kept: &mut Kept, alloc: Global, text: &str) -> Result<(), LineFault> {
-    let rec = parse_record(alloc, text.as_bytes())?;
+    let rec = parse_record(alloc, graph.version(), text.as_bytes())?;
     let taken = take_record(graph, kept, &rec);
     forget(rec);
     taken
 }
 
-fn take_record(graph: &mut Graph, kept: &mut Kept, rec: &Record) -> Result<(), LineFault> {
+fn take_record(graph: &mut Graph, kept: &mut Kept, rec: &Record) -> Result<(), LineFault>
+    requires { has_record graph.old.version rec.now ≡ true }
+{
     if graph.accept(kept.line, rec).is_err() {
         return Err(LineFault::NoMemory);
     }

@@ -154,7 +154,7 @@ fn handed(graph: &Graph, rec: &Record, alloc: Global) -> Result<[usize; 6], NoMe
 fn handed_next(graph: &Graph, alloc: Global, text: &str) -> Result<[usize; 6], LineFault>
     requires whole { graph.now.has_failed ≡ false }
 {
-    let rec = parse_record(alloc, text.as_bytes())?;
+    let rec = parse_record(alloc, graph.version(), text.as_bytes())?;
     let counts = handed(graph, &rec, alloc);
     forget(rec);
     Ok(counts?)

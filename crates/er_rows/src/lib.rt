@@ -55,6 +55,8 @@ mod shards;
 #[cfg(test)]
 mod tables;
 #[cfg(test)]
+mod tasks;
+#[cfg(test)]
 mod through;
 #[cfg(test)]
 mod timers;

@@ -13,6 +13,12 @@ const INLINE: &str =
 const COVERED: &str =
     "webtrace 1\nparse 0 1 inline\nexec 1\nset 1 10\nset 2 0\ntimer 2\nw var 0 x\nset 3 0\ntimer 3\nw var 0 f\ntimer 1\nr var 0 f\nset 4 0\ntimer 4\nr var 0 x\nend\n";
 
+const JOB_BEFORE_TIMER: &str =
+    "webtrace 3\nparse 0 1 plain\nqueue 1\nset 1 0\njob 1\nw var 0 x\ntimer 1\nr var 0 x\nend\n";
+
+const JOB_IN_DISPATCH: &str =
+    "webtrace 3\nparse 0 1 plain\non 1\non 2\nfire 1 1 click\nrun 1 0 1\nqueue 1\njob 1\nw var 0 x\nrun 1 0 2\nclose 1\nr var 0 x\nend\n";
+
 static SCHEDULES: [Asked; 6] = [
     Asked {
         input: TIMEOUTS,
@@ -58,7 +64,7 @@ static SCHEDULES: [Asked; 6] = [
     },
 ];
 
-static EXPLANATIONS: [Asked; 8] = [
+static EXPLANATIONS: [Asked; 10] = [
     Asked {
         input: TRACE,
         words: "explain --from 12 --to 35",
@@ -105,6 +111,20 @@ static EXPLANATIONS: [Asked; 8] = [
         input: IN_ORDER,
         words: "explain --from 3 --to 3",
         written: "explain 3 3\nend\n",
+        status: 0,
+        compares: 0,
+    },
+    Asked {
+        input: JOB_BEFORE_TIMER,
+        words: "explain --from 1 --to 2",
+        written: "explain 1 2\nstep 1 2 30\nend\n",
+        status: 0,
+        compares: 0,
+    },
+    Asked {
+        input: JOB_IN_DISPATCH,
+        words: "explain --from 0 --to 5",
+        written: "explain 0 5\nstep 0 1 14\nstep 1 2 16\nstep 2 3 28\nstep 3 5 31\nend\n",
         status: 0,
         compares: 0,
     },

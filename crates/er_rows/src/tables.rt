@@ -3,7 +3,7 @@
 use crate::row::{Refusal, Row};
 use crate::through::{Call, Written, call_of, through};
 use crate::{
-    coverage, dispatches, first_path, loads, naming, orders, pieces, requests, rows, scripts,
+    coverage, dispatches, first_path, loads, naming, orders, pieces, requests, rows, scripts, tasks,
     timers,
 };
 use std::alloc::{AllocError, Global};
@@ -69,6 +69,7 @@ fn all_reports(rt: &(impl Abort + Threads + Sync), alloc: Global, words: &str, p
         &pieces::REPORTS,
         &orders::REPORTS,
         &coverage::REPORTS,
+        &tasks::REPORTS,
     ] {
         for row in rows {
             let same = is_reported(rt, alloc, words, piece, row);
@@ -84,6 +85,7 @@ fn all_refusals(rt: &(impl Abort + Threads + Sync), alloc: Global, piece: u32) {
         &scripts::REFUSALS,
         &orders::REFUSALS,
         &naming::REFUSALS,
+        &tasks::REFUSALS,
     ] {
         for row in rows {
             let same = is_refused(rt, alloc, piece, row);

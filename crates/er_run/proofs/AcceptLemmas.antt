@@ -38,19 +38,19 @@ around {X} (y ∷ ys) (suc k) x e =
     record { earlier = y ∷ r.earlier; later = r.later; is = ap (λ zs. y ∷ zs) r.is; taken = ap (λ zs. y ∷ zs) r.taken; count = ap suc r.count }
 
 -- lines around one of them
-pub record LinesAround (f : Format) (bytes : List ℕ) (earlier : List Record) (x : Record) (later : List Record) : Type 0 where
+pub record LinesAround (f : Format) (v : Version) (bytes : List ℕ) (earlier : List Record) (x : Record) (later : List Record) : Type 0 where
   pub before : List ℕ
-  pub are : AreLines f before earlier
+  pub are : AreLines f v before earlier
   pub l : List ℕ
   pub short : IsShort f.most l
-  pub spells : f.Spells l x
+  pub spells : f.Spells v l x
   pub rest : List ℕ
   pub begins : bytes ≡ before ++ (line l ++ rest)
 
-lines_around : (f : Format) (bytes : List ℕ) (earlier : List Record) (x : Record) (later : List Record) → AreLines f bytes (earlier ++ x ∷ later) → LinesAround f bytes earlier x later
-lines_around f bytes [] x later are = record { before = []; are = refl; l = are.0; short = are.2; spells = are.3; rest = are.1; begins = are.4 }
-lines_around f bytes (y ∷ earlier) x later are =
-    let r : LinesAround f are.1 earlier x later = lines_around f are.1 earlier x later are.5 in
+lines_around : (f : Format) (v : Version) (bytes : List ℕ) (earlier : List Record) (x : Record) (later : List Record) → AreLines f v bytes (earlier ++ x ∷ later) → LinesAround f v bytes earlier x later
+lines_around f v bytes [] x later are = record { before = []; are = refl; l = are.0; short = are.2; spells = are.3; rest = are.1; begins = are.4 }
+lines_around f v bytes (y ∷ earlier) x later are =
+    let r : LinesAround f v are.1 earlier x later = lines_around f v are.1 earlier x later are.5 in
     record {
       before = line are.0 ++ r.before;
       are = (are.0, r.before, are.2, are.3, refl, r.are);
@@ -66,8 +66,8 @@ pub illegal_record : (f : Format) (asked : Command) (v : Version) (bytes front m
     → slice_get records at ≡ Some x → IsLegal (rules v) (reverse (take at records)) → legality.cause (rules v) (reverse (take at records)) x ≡ Some c → FirstIllegal f asked bytes (at + 2) c
 illegal_record f asked v bytes front more records at x c spelled are few found legal cause =
     let r = around records at x found in
-    let there : AreLines f are.later (r.earlier ++ x ∷ r.later) = subst (AreLines f are.later) r.is are.lines in
-    let a : LinesAround f are.later r.earlier x r.later = lines_around f are.later r.earlier x r.later there in
+    let there : AreLines f v are.later (r.earlier ++ x ∷ r.later) = subst (AreLines f v are.later) r.is are.lines in
+    let a : LinesAround f v are.later r.earlier x r.later = lines_around f v are.later r.earlier x r.later there in
     let within : length r.earlier + 2 ≤ most_lines = omega (arith, r.count, slice_get_within records at x found) in
     let front_is : front ≡ (line are.first ++ a.before) ++ (line a.l ++ a.rest) = (are.begins ∙ ap (λ b. line are.first ++ b) a.begins) ∙ sym (append_assoc (line are.first) a.before (line a.l ++ a.rest)) in
     OfRecord v r.earlier (omega (arith, r.count)) (subst (λ h. IsLegal (rules v) (reverse h)) r.taken legal) (record {

@@ -35,15 +35,15 @@ behind_line : (bytes before l rest later : List ℕ) → bytes ≡ before ++ res
 behind_line bytes before l rest later begins is =
     (begins ∙ ap (λ r. before ++ r) (is ∙ sym (append_assoc l (10 ∷ []) later))) ∙ sym (append_assoc before (line l) later)
 
-at_refusal : (f : Format) (v : Version) (bytes : List ℕ) (records : List Record) (number : ℕ) (rest : List ℕ) (c : Cause) → At f v bytes records number rest → RecordCause f number rest c → Reads f bytes
+at_refusal : (f : Format) (v : Version) (bytes : List ℕ) (records : List Record) (number : ℕ) (rest : List ℕ) (c : Cause) → At f v bytes records number rest → RecordCause f v number rest c → Reads f bytes
 at_refusal f v bytes records number rest c at cause =
-    Until number c records (After v records, record { before = at.before; rest = rest; are = at.are; few = omega (arith, at.few, at.numbered); begins = at.begins; cause = subst (λ (n : ℕ). RecordCause f n rest c) at.numbered cause }, at.numbered, refl)
+    Until number c records (After v records, record { before = at.before; rest = rest; are = at.are; few = omega (arith, at.few, at.numbered); begins = at.begins; cause = subst (λ (n : ℕ). RecordCause f v n rest c) at.numbered cause }, at.numbered, refl)
 
-cause_by : (f : Format) (number : ℕ) (rest : List ℕ) (many : Bool) (whole : Line) (c : Cause) → many ≡ (nat_lt most_lines number && nat_lt 0 (length rest)) → whole ≡ whole_line f.most rest
-    → CauseBy f many whole c → RecordCause f number rest c
-cause_by f number rest many whole c is_many is_whole h =
-    let first : CauseBy f (nat_lt most_lines number && nat_lt 0 (length rest)) whole c = subst (λ b. CauseBy f b whole c) is_many h in
-    subst (λ w. CauseBy f (nat_lt most_lines number && nat_lt 0 (length rest)) w c) is_whole first
+cause_by : (f : Format) (v : Version) (number : ℕ) (rest : List ℕ) (many : Bool) (whole : Line) (c : Cause) → many ≡ (nat_lt most_lines number && nat_lt 0 (length rest)) → whole ≡ whole_line f.most rest
+    → CauseBy f v many whole c → RecordCause f v number rest c
+cause_by f v number rest many whole c is_many is_whole h =
+    let first : CauseBy f v (nat_lt most_lines number && nat_lt 0 (length rest)) whole c = subst (λ b. CauseBy f v b whole c) is_many h in
+    subst (λ w. CauseBy f v (nat_lt most_lines number && nat_lt 0 (length rest)) w c) is_whole first
 
 -- from the place that the reading is at
 abbrev GoesOn : Format → Version → List ℕ → ℕ → Type 0
@@ -73,7 +73,7 @@ ends_by f v bytes records number l rest (b ∷ later) at few short end is =
       refl,
     )
 
-at_more : (f : Format) (v : Version) (bytes : List ℕ) (records : List Record) (number : ℕ) (l rest later : List ℕ) (x : Record) → At f v bytes records number rest → number ≤ most_lines → IsShort f.most l → f.Spells l x → rest ≡ l ++ 10 ∷ later → At f v bytes (records ++ x ∷ []) (number + 1) later
+at_more : (f : Format) (v : Version) (bytes : List ℕ) (records : List Record) (number : ℕ) (l rest later : List ℕ) (x : Record) → At f v bytes records number rest → number ≤ most_lines → IsShort f.most l → f.Spells v l x → rest ≡ l ++ 10 ∷ later → At f v bytes (records ++ x ∷ []) (number + 1) later
 at_more f v bytes records number l rest later x at few short spells is = record {
   before = at.before ++ line l;
   are = behind_more f v at.before records l x at.are short spells;
@@ -88,9 +88,9 @@ number_within number bytes some few = grind (arith, nat_tests)
 reads_line : (f : Format) (v : Version) (n : ℕ) (bytes : List ℕ) (records : List Record) (number : ℕ) (rest : List ℕ) (many : Bool) (whole : Line)
     → many ≡ (nat_lt most_lines number && nat_lt 0 (length rest)) → whole ≡ whole_line f.most rest → length rest < suc n → At f v bytes records number rest → GoesOn f v bytes n → (Reads f bytes → ⊥) → ⊥
 reads_line f v n bytes records number rest true whole is_many is_whole below at again refute =
-    refute (at_refusal f v bytes records number rest TooManyLines at (cause_by f number rest true whole TooManyLines is_many is_whole refl))
+    refute (at_refusal f v bytes records number rest TooManyLines at (cause_by f v number rest true whole TooManyLines is_many is_whole refl))
 reads_line f v n bytes records number rest false (Err why) is_many is_whole below at again refute =
-    refute (at_refusal f v bytes records number rest why at (cause_by f number rest false (Err why) why is_many is_whole refl))
+    refute (at_refusal f v bytes records number rest why at (cause_by f v number rest false (Err why) why is_many is_whole refl))
 reads_line f v n bytes records number rest false (Ok (l, later)) is_many is_whole below at again refute =
     let h : whole_line f.most rest ≡ Ok (l, later) = sym is_whole in
     let is : rest ≡ l ++ 10 ∷ later = whole_line_parts f.most rest l later h in
@@ -98,8 +98,8 @@ reads_line f v n bytes records number rest false (Ok (l, later)) is_many is_whol
     let few : number ≤ most_lines = number_within number rest (omega (arith, ap length is, length-append l (10 ∷ later))) is_many in
     let not_end : ¬ f.IsEnd l = λ end. refute (ends_by f v bytes records number l rest later at few short end is) in
     let shorter : length later < n = omega (arith, ap length is, length-append l (10 ∷ later)) in
-    let none : SpellsNone f l = λ x spells. again (records ++ x ∷ []) (number + 1) later shorter (at_more f v bytes records number l rest later x at few short spells is) in
-    refute (at_refusal f v bytes records number rest BadRecord at (cause_by f number rest false (Ok (l, later)) BadRecord is_many is_whole (not_end, none, refl)))
+    let none : SpellsNone f v l = λ x spells. again (records ++ x ∷ []) (number + 1) later shorter (at_more f v bytes records number l rest later x at few short spells is) in
+    refute (at_refusal f v bytes records number rest BadRecord at (cause_by f v number rest false (Ok (l, later)) BadRecord is_many is_whole (not_end, none, refl)))
 
 reads_on : (f : Format) (v : Version) (n : ℕ) (bytes : List ℕ) → (Reads f bytes → ⊥) → GoesOn f v bytes n
 reads_on f v zero bytes refute = λ records number rest below at. absurd (omega arith)

@@ -16,3 +16,4 @@ pub mod FormatLemmas
 pub mod GeneratedLemmas
 pub mod RunLemmas
 pub mod ReadingLemmas
+pub mod VersionLemmas

@@ -20,46 +20,45 @@ use Rattle.er_run.specs.declared.outcome.Outcome.TheVariants.{Clean, Races, Usag
 use Rattle.er_run.specs.Answer.{IsLegalTrace, RefusesRecord, RefusesEnd, IsLegalBefore, FirstIllegal, OfLine, OfRecord, OfEnd, outcome_for, Answers}
 
 -- Two readings of the same bytes by records: one list is a front of the other.
-data Meets (f : Format) (a b : List Record) (r s : List ℕ) : Type 0 where
-  Equal : a ≡ b → r ≡ s → Meets f a b r s
-  Shorter : (x : Record) (more : List Record) (l rest : List ℕ) → IsShort f.most l → f.Spells l x → b ≡ a ++ x ∷ more → r ≡ line l ++ rest → Meets f a b r s
-  Longer : (x : Record) (more : List Record) (l rest : List ℕ) → IsShort f.most l → f.Spells l x → a ≡ b ++ x ∷ more → s ≡ line l ++ rest → Meets f a b r s
+data Meets (f : Format) (v : Version) (a b : List Record) (r s : List ℕ) : Type 0 where
+  Equal : a ≡ b → r ≡ s → Meets f v a b r s
+  Shorter : (x : Record) (more : List Record) (l rest : List ℕ) → IsShort f.most l → f.Spells v l x → b ≡ a ++ x ∷ more → r ≡ line l ++ rest → Meets f v a b r s
+  Longer : (x : Record) (more : List Record) (l rest : List ℕ) → IsShort f.most l → f.Spells v l x → a ≡ b ++ x ∷ more → s ≡ line l ++ rest → Meets f v a b r s
 
-meets_more : (f : Format) (x y : Record) (a b : List Record) (r s : List ℕ) → x ≡ y → Meets f a b r s → Meets f (x ∷ a) (y ∷ b) r s
-meets_more f x y a b r s same (Equal e there) = Equal (cc) there
-meets_more f x y a b r s same (Shorter z more l rest short is e there) = Shorter z more l rest short is (cc) there
-meets_more f x y a b r s same (Longer z more l rest short is e there) = Longer z more l rest short is (cc) there
+meets_more : (f : Format) (v : Version) (x y : Record) (a b : List Record) (r s : List ℕ) → x ≡ y → Meets f v a b r s → Meets f v (x ∷ a) (y ∷ b) r s
+meets_more f v x y a b r s same (Equal e there) = Equal (cc) there
+meets_more f v x y a b r s same (Shorter z more l rest short is e there) = Shorter z more l rest short is (cc) there
+meets_more f v x y a b r s same (Longer z more l rest short is e there) = Longer z more l rest short is (cc) there
 
 -- the first line of both spells one record
-same_first : (f : Format) → IsFormat f → (bytes l m a b : List ℕ) (x y : Record) → IsShort f.most l → IsShort f.most m → f.Spells l x → f.Spells m y → bytes ≡ line l ++ a → bytes ≡ line m ++ b → x ≡ y
-same_first f good bytes l m a b x y short other first second e there =
+same_first : (f : Format) → IsFormat f → (v : Version) (bytes l m a b : List ℕ) (x y : Record) → IsShort f.most l → IsShort f.most m → f.Spells v l x → f.Spells v m y → bytes ≡ line l ++ a → bytes ≡ line m ++ b → x ≡ y
+same_first f good v bytes l m a b x y short other first second e there =
     let same : l ≡ m = (same_front f.most bytes l m a b short other e there).line in
-    good.one_record l x y first (subst (λ (k : List ℕ). f.Spells k y) (sym same) second)
+    good.one_record v l x y first (subst (λ (k : List ℕ). f.Spells v k y) (sym same) second)
 
-meets_lines : (f : Format) → IsFormat f → (a b : List Record) (la lb r s : List ℕ) → AreLines f la a → AreLines f lb b → la ++ r ≡ lb ++ s → Meets f a b r s
-meets_lines f good [] [] la lb r s first second e = Equal refl ((ap (λ l. l ++ r) (sym first) ∙ e) ∙ ap (λ l. l ++ s) second)
-meets_lines f good [] (y ∷ b) la lb r s first second e =
+meets_lines : (f : Format) → IsFormat f → (v : Version) (a b : List Record) (la lb r s : List ℕ) → AreLines f v la a → AreLines f v lb b → la ++ r ≡ lb ++ s → Meets f v a b r s
+meets_lines f good v [] [] la lb r s first second e = Equal refl ((ap (λ l. l ++ r) (sym first) ∙ e) ∙ ap (λ l. l ++ s) second)
+meets_lines f good v [] (y ∷ b) la lb r s first second e =
     Shorter y b second.0 (second.1 ++ s) second.2 second.3 refl (((ap (λ l. l ++ r) (sym first) ∙ e) ∙ ap (λ l. l ++ s) second.4) ∙ append_assoc (line second.0) second.1 s)
-meets_lines f good (x ∷ a) [] la lb r s first second e =
+meets_lines f good v (x ∷ a) [] la lb r s first second e =
     Longer x a first.0 (first.1 ++ r) first.2 first.3 refl (((ap (λ l. l ++ s) (sym second) ∙ sym e) ∙ ap (λ l. l ++ r) first.4) ∙ append_assoc (line first.0) first.1 r)
-meets_lines f good (x ∷ a) (y ∷ b) la lb r s first second e =
+meets_lines f good v (x ∷ a) (y ∷ b) la lb r s first second e =
     let here : la ++ r ≡ line first.0 ++ (first.1 ++ r) = ap (λ l. l ++ r) first.4 ∙ append_assoc (line first.0) first.1 r in
     let there : la ++ r ≡ line second.0 ++ (second.1 ++ s) = (e ∙ ap (λ l. l ++ s) second.4) ∙ append_assoc (line second.0) second.1 s in
     let front : SameFront first.0 second.0 (first.1 ++ r) (second.1 ++ s) = same_front f.most (la ++ r) first.0 second.0 (first.1 ++ r) (second.1 ++ s) first.2 second.2 here there in
-    meets_more f x y a b r s (same_first f good (la ++ r) first.0 second.0 (first.1 ++ r) (second.1 ++ s) x y first.2 second.2 first.3 second.3 here there)
-    (meets_lines f good a b first.1 second.1 r s first.5 second.5 front.rest)
+    meets_more f v x y a b r s (same_first f good v (la ++ r) first.0 second.0 (first.1 ++ r) (second.1 ++ s) x y first.2 second.2 first.3 second.3 here there)
+    (meets_lines f good v a b first.1 second.1 r s first.5 second.5 front.rest)
 
 behind_line : (f : Format) (v : Version) (bytes front : List ℕ) (records : List Record) (rest : List ℕ) → (are : AreBehind f v front records) → bytes ≡ front ++ rest → bytes ≡ line are.first ++ (are.later ++ rest)
 behind_line f v bytes front records rest are e = (e ∙ ap (λ l. l ++ rest) are.begins) ∙ append_assoc (line are.first) are.later rest
 
 -- the same behind a first line, which gives one version
-meets : (f : Format) → IsFormat f → (v w : Version) (bytes : List ℕ) (a b : List Record) (p q r s : List ℕ) → AreBehind f v p a → AreBehind f w q b → bytes ≡ p ++ r → bytes ≡ q ++ s → (v ≡ w) × Meets f a b r s
+meets : (f : Format) → IsFormat f → (v w : Version) (bytes : List ℕ) (a b : List Record) (p q r s : List ℕ) → AreBehind f v p a → AreBehind f w q b → bytes ≡ p ++ r → bytes ≡ q ++ s → (v ≡ w) × Meets f w a b r s
 meets f good v w bytes a b p q r s first second e there =
     let front : SameFront first.first second.first (first.later ++ r) (second.later ++ s) =
-    same_front f.most bytes first.first second.first (first.later ++ r) (second.later ++ s) first.short second.short (behind_line f v bytes p a r first e) (behind_line f w bytes q b s second there) in (
-      good.one_version first.first v w first.header (subst (f.IsHeader w) (sym front.line) second.header),
-      meets_lines f good a b first.later second.later r s first.lines second.lines front.rest,
-    )
+    same_front f.most bytes first.first second.first (first.later ++ r) (second.later ++ s) first.short second.short (behind_line f v bytes p a r first e) (behind_line f w bytes q b s second there) in
+    let version : v ≡ w = good.one_version first.first v w first.header (subst (f.IsHeader w) (sym front.line) second.header) in
+    (version, meets_lines f good w a b first.later second.later r s (subst (λ (u : Version). AreLines f u first.later a) version first.lines) second.lines front.rest)
 
 -- a first line stands there
 no_start : (f : Format) (v : Version) (bytes front : List ℕ) (records : List Record) (rest : List ℕ) (c : Cause) → StartCause f bytes c → AreBehind f v front records → bytes ≡ front ++ rest → ⊥
@@ -91,7 +90,7 @@ record Faulty (f : Format) (v : Version) (bytes : List ℕ) (earlier : List Reco
   few : length earlier + 2 ≤ most_lines
   l : List ℕ
   short : IsShort f.most l
-  spells : f.Spells l x
+  spells : f.Spells v l x
   rest : List ℕ
   begins : bytes ≡ front ++ (line l ++ rest)
   cause : legality.cause (rules v) (reverse earlier) x ≡ Some c
@@ -107,32 +106,32 @@ faulty : (f : Format) (v : Version) (bytes : List ℕ) (earlier : List Record) (
 faulty f v bytes earlier c h = record { front = h.before; are = h.are; few = h.few; l = h.l; short = h.short; spells = h.spells; rest = h.rest; begins = h.begins; cause = h.cause }
 
 -- no record stands at the front of the bytes
-abbrev NoRecord : Format → List ℕ → Type 0
-NoRecord f bytes = (x : Record) (l rest : List ℕ) → IsShort f.most l → f.Spells l x → bytes ≡ line l ++ rest → ⊥
+abbrev NoRecord : Format → Version → List ℕ → Type 0
+NoRecord f v bytes = (x : Record) (l rest : List ℕ) → IsShort f.most l → f.Spells v l x → bytes ≡ line l ++ rest → ⊥
 
-not_legally_by : (f : Format) → IsFormat f → (table : List (ℕ × Rule)) (earlier records : List Record) (x : Record) (c : Cause) (l r s : List ℕ) → Meets f earlier records (line l ++ r) s → IsShort f.most l → f.Spells l x → legality.cause table (reverse earlier) x ≡ Some c → IsLegal table (reverse records)
-    → (length records ≤ length earlier → NoRecord f s) → ⊥
-not_legally_by f good table earlier records x c l r s (Equal e there) short is cause legal stops = stops (omega (arith, ap length e)) x l r short is (sym there)
-not_legally_by f good table earlier records x c l r s (Shorter y more m rest short_y is_y e there) short is cause legal stops =
-    let same : x ≡ y = same_first f good (line l ++ r) l m r rest x y short short_y is is_y refl there in
+not_legally_by : (f : Format) → IsFormat f → (v : Version) (table : List (ℕ × Rule)) (earlier records : List Record) (x : Record) (c : Cause) (l r s : List ℕ) → Meets f v earlier records (line l ++ r) s → IsShort f.most l → f.Spells v l x → legality.cause table (reverse earlier) x ≡ Some c → IsLegal table (reverse records)
+    → (length records ≤ length earlier → NoRecord f v s) → ⊥
+not_legally_by f good v table earlier records x c l r s (Equal e there) short is cause legal stops = stops (omega (arith, ap length e)) x l r short is (sym there)
+not_legally_by f good v table earlier records x c l r s (Shorter y more m rest short_y is_y e there) short is cause legal stops =
+    let same : x ≡ y = same_first f good v (line l ++ r) l m r rest x y short short_y is is_y refl there in
     no_cause table records earlier more x c legal (e ∙ ap (λ z. earlier ++ z ∷ more) (sym same)) cause
-not_legally_by f good table earlier records x c l r s (Longer y more m rest short_y is_y e there) short is cause legal stops =
+not_legally_by f good v table earlier records x c l r s (Longer y more m rest short_y is_y e there) short is cause legal stops =
     stops (omega (arith, ap length e, length-append records (y ∷ more))) y m rest short_y is_y there
 
 -- a record that has a cause stands before no place that legal records lead to, where no record follows
-not_legally : (f : Format) → IsFormat f → (v w : Version) (bytes : List ℕ) (earlier records : List Record) (x : Record) (c : Cause) (s : List ℕ) → Faulty f v bytes earlier x c → Legally f w bytes records s → (length records ≤ length earlier → NoRecord f s) → ⊥
+not_legally : (f : Format) → IsFormat f → (v w : Version) (bytes : List ℕ) (earlier records : List Record) (x : Record) (c : Cause) (s : List ℕ) → Faulty f v bytes earlier x c → Legally f w bytes records s → (length records ≤ length earlier → NoRecord f w s) → ⊥
 not_legally f good v w bytes earlier records x c s first second stops =
-    let both : (v ≡ w) × Meets f earlier records (line first.l ++ first.rest) s = meets f good v w bytes earlier records first.front second.front (line first.l ++ first.rest) s first.are second.are first.begins second.begins in
+    let both : (v ≡ w) × Meets f w earlier records (line first.l ++ first.rest) s = meets f good v w bytes earlier records first.front second.front (line first.l ++ first.rest) s first.are second.are first.begins second.begins in
     let cause : legality.cause (rules w) (reverse earlier) x ≡ Some c = subst (λ u. legality.cause (rules u) (reverse earlier) x ≡ Some c) both.0 first.cause in
-    not_legally_by f good (rules w) earlier records x c first.l first.rest s both.1 first.short first.spells cause second.legal stops
+    not_legally_by f good w (rules w) earlier records x c first.l first.rest s both.1 first.short (subst (λ (u : Version). f.Spells u first.l x) both.0 first.spells) cause second.legal stops
 
-no_record_at_end : (f : Format) → IsFormat f → (l later : List ℕ) → IsShort f.most l → f.IsEnd l → NoRecord f (line l ++ later)
-no_record_at_end f good l later short end x m rest other is e =
+no_record_at_end : (f : Format) → IsFormat f → (v : Version) (l later : List ℕ) → IsShort f.most l → f.IsEnd l → NoRecord f v (line l ++ later)
+no_record_at_end f good v l later short end x m rest other is e =
     let same : l ≡ m = (same_front f.most (line l ++ later) l m later rest short other refl e).line in
-    good.not_end m x is (subst f.IsEnd same end)
+    good.not_end v m x is (subst f.IsEnd same end)
 
-no_record_at_cause : (f : Format) (number : ℕ) (bytes : List ℕ) (c : Cause) → RecordCause f number bytes c → number ≤ most_lines → NoRecord f bytes
-no_record_at_cause f number bytes c h few x l rest short is e = (no_line f number bytes l rest c h few (front_of f.most bytes l rest short e)).1 x is
+no_record_at_cause : (f : Format) (v : Version) (number : ℕ) (bytes : List ℕ) (c : Cause) → RecordCause f v number bytes c → number ≤ most_lines → NoRecord f v bytes
+no_record_at_cause f v number bytes c h few x l rest short is e = (no_line f v number bytes l rest c h few (front_of f.most bytes l rest short e)).1 x is
 
 -- a record that has a cause, and a line that has one, where each stands behind legal records
 record_not_line : (f : Format) → IsFormat f → (asked : Command) (v : Version) (bytes : List ℕ) (earlier : List Record) (x : Record) (c d : Cause) (place : Place) → Faulty f v bytes earlier x c → IsLegalBefore asked place → Refuses f bytes place d → ⊥
@@ -141,7 +140,7 @@ record_not_line f good asked v bytes earlier x c d Start first legal second =
     no_start f v bytes first.front earlier (line first.l ++ first.rest) d (subst (λ (b : List ℕ). StartCause f b d) (sym same) second.cause) first.are first.begins
 record_not_line f good asked v bytes earlier x c d (After w records) first legal second =
     let behind : Legally f w bytes records second.rest = record { front = second.before; are = second.are; begins = second.begins; legal = legal } in
-    not_legally f good v w bytes earlier records x c second.rest first behind (λ (fits : length records ≤ length earlier). no_record_at_cause f (length records + 2) second.rest d second.cause (omega (arith, first.few)))
+    not_legally f good v w bytes earlier records x c second.rest first behind (λ (fits : length records ≤ length earlier). no_record_at_cause f w (length records + 2) second.rest d second.cause (omega (arith, first.few)))
 record_not_line f good asked v bytes earlier x c d (Ended w records) first legal second =
     let behind : Legally f w bytes records (line second.are.last ++ second.rest) = record {
       front = second.are.front;
@@ -149,30 +148,30 @@ record_not_line f good asked v bytes earlier x c d (Ended w records) first legal
       begins = (second.begins ∙ ap (λ b. b ++ second.rest) second.are.begins) ∙ append_assoc second.are.front (line second.are.last) second.rest;
       legal = legal.0;
     } in
-    not_legally f good v w bytes earlier records x c (line second.are.last ++ second.rest) first behind (λ (fits : length records ≤ length earlier). no_record_at_end f good second.are.last second.rest second.are.short second.are.end)
+    not_legally f good v w bytes earlier records x c (line second.are.last ++ second.rest) first behind (λ (fits : length records ≤ length earlier). no_record_at_end f good w second.are.last second.rest second.are.short second.are.end)
 
 -- the first records that have a cause are the same
-same_record_by : (f : Format) → IsFormat f → (table : List (ℕ × Rule)) (a b : List Record) (x y : Record) (c d : Cause) (l m r s : List ℕ) → Meets f a b (line l ++ r) (line m ++ s) → IsShort f.most l → IsShort f.most m → f.Spells l x → f.Spells m y
+same_record_by : (f : Format) → IsFormat f → (v : Version) (table : List (ℕ × Rule)) (a b : List Record) (x y : Record) (c d : Cause) (l m r s : List ℕ) → Meets f v a b (line l ++ r) (line m ++ s) → IsShort f.most l → IsShort f.most m → f.Spells v l x → f.Spells v m y
     → legality.cause table (reverse a) x ≡ Some c → legality.cause table (reverse b) y ≡ Some d → IsLegal table (reverse a) → IsLegal table (reverse b) → (a ≡ b) × (c ≡ d)
-same_record_by f good table a b x y c d l m r s (Equal e there) short_x short_y is_x is_y cause_x cause_y legal_a legal_b =
-    let same : x ≡ y = same_first f good (line l ++ r) l m r s x y short_x short_y is_x is_y refl there in
+same_record_by f good v table a b x y c d l m r s (Equal e there) short_x short_y is_x is_y cause_x cause_y legal_a legal_b =
+    let same : x ≡ y = same_first f good v (line l ++ r) l m r s x y short_x short_y is_x is_y refl there in
     let twice : legality.cause table (reverse a) x ≡ legality.cause table (reverse b) y = ap (λ l. legality.cause table (reverse l) x) e ∙ ap (legality.cause table (reverse b)) same in
     let causes : Some c ≡ Some d = (sym cause_x ∙ twice) ∙ cause_y in
     (e, cc)
-same_record_by f good table a b x y c d l m r s (Shorter z more k rest short_z is_z e there) short_x short_y is_x is_y cause_x cause_y legal_a legal_b =
-    let same : x ≡ z = same_first f good (line l ++ r) l k r rest x z short_x short_z is_x is_z refl there in
+same_record_by f good v table a b x y c d l m r s (Shorter z more k rest short_z is_z e there) short_x short_y is_x is_y cause_x cause_y legal_a legal_b =
+    let same : x ≡ z = same_first f good v (line l ++ r) l k r rest x z short_x short_z is_x is_z refl there in
     absurd (no_cause table b a more x c legal_b (e ∙ ap (λ w. a ++ w ∷ more) (sym same)) cause_x)
-same_record_by f good table a b x y c d l m r s (Longer z more k rest short_z is_z e there) short_x short_y is_x is_y cause_x cause_y legal_a legal_b =
-    let same : y ≡ z = same_first f good (line m ++ s) m k s rest y z short_y short_z is_y is_z refl there in
+same_record_by f good v table a b x y c d l m r s (Longer z more k rest short_z is_z e there) short_x short_y is_x is_y cause_x cause_y legal_a legal_b =
+    let same : y ≡ z = same_first f good v (line m ++ s) m k s rest y z short_y short_z is_y is_z refl there in
     absurd (no_cause table a b more y d legal_a (e ∙ ap (λ w. b ++ w ∷ more) (sym same)) cause_y)
 
 same_record : (f : Format) → IsFormat f → (v w : Version) (bytes : List ℕ) (a b : List Record) (x y : Record) (c d : Cause) → Faulty f v bytes a x c → Faulty f w bytes b y d → IsLegal (rules v) (reverse a) → IsLegal (rules w) (reverse b) → (a ≡ b) × (c ≡ d)
 same_record f good v w bytes a b x y c d first second legal_a legal_b =
-    let both : (v ≡ w) × Meets f a b (line first.l ++ first.rest) (line second.l ++ second.rest) =
+    let both : (v ≡ w) × Meets f w a b (line first.l ++ first.rest) (line second.l ++ second.rest) =
     meets f good v w bytes a b first.front second.front (line first.l ++ first.rest) (line second.l ++ second.rest) first.are second.are first.begins second.begins in
     let cause : legality.cause (rules w) (reverse a) x ≡ Some c = subst (λ u. legality.cause (rules u) (reverse a) x ≡ Some c) both.0 first.cause in
     let legal : IsLegal (rules w) (reverse a) = subst (λ u. IsLegal (rules u) (reverse a)) both.0 legal_a in
-    same_record_by f good (rules w) a b x y c d first.l second.l first.rest second.rest both.1 first.short second.short first.spells second.spells cause second.cause legal legal_b
+    same_record_by f good w (rules w) a b x y c d first.l second.l first.rest second.rest both.1 first.short second.short (subst (λ (u : Version). f.Spells u first.l x) both.0 first.spells) second.spells cause second.cause legal legal_b
 
 -- behind a first line these legal records stand, and then a last line, and it has a cause or none
 record Ending (f : Format) (asked : Command) (v : Version) (bytes : List ℕ) (records : List Record) (o : Option Cause) : Type 0 where
@@ -223,17 +222,17 @@ ending_line f asked v bytes records c legal h = record {
   cause = legal.1;
 }
 
-same_ends_by : (f : Format) → IsFormat f → (a b : List Record) (l m r s : List ℕ) → Meets f a b (line l ++ r) (line m ++ s) → IsShort f.most l → IsShort f.most m → f.IsEnd l → f.IsEnd m → a ≡ b
-same_ends_by f good a b l m r s (Equal e there) short_l short_m end_l end_m = e
-same_ends_by f good a b l m r s (Shorter x more k rest short is e there) short_l short_m end_l end_m = absurd (no_record_at_end f good l r short_l end_l x k rest short is there)
-same_ends_by f good a b l m r s (Longer x more k rest short is e there) short_l short_m end_l end_m = absurd (no_record_at_end f good m s short_m end_m x k rest short is there)
+same_ends_by : (f : Format) → IsFormat f → (v : Version) (a b : List Record) (l m r s : List ℕ) → Meets f v a b (line l ++ r) (line m ++ s) → IsShort f.most l → IsShort f.most m → f.IsEnd l → f.IsEnd m → a ≡ b
+same_ends_by f good v a b l m r s (Equal e there) short_l short_m end_l end_m = e
+same_ends_by f good v a b l m r s (Shorter x more k rest short is e there) short_l short_m end_l end_m = absurd (no_record_at_end f good v l r short_l end_l x k rest short is there)
+same_ends_by f good v a b l m r s (Longer x more k rest short is e there) short_l short_m end_l end_m = absurd (no_record_at_end f good v m s short_m end_m x k rest short is there)
 
 -- the records before the last line are the same
 same_ends : (f : Format) → IsFormat f → (asked : Command) (v w : Version) (bytes : List ℕ) (a b : List Record) (o p : Option Cause) → Ending f asked v bytes a o → Ending f asked w bytes b p → (a ≡ b) × (o ≡ p)
 same_ends f good asked v w bytes a b o p first second =
-    let both : (v ≡ w) × Meets f a b (line first.l ++ first.rest) (line second.l ++ second.rest) =
+    let both : (v ≡ w) × Meets f w a b (line first.l ++ first.rest) (line second.l ++ second.rest) =
     meets f good v w bytes a b first.behind.front second.behind.front (line first.l ++ first.rest) (line second.l ++ second.rest) first.behind.are second.behind.are first.behind.begins second.behind.begins in
-    let same : a ≡ b = same_ends_by f good a b first.l second.l first.rest second.rest both.1 first.short second.short first.end second.end in
+    let same : a ≡ b = same_ends_by f good w a b first.l second.l first.rest second.rest both.1 first.short second.short first.end second.end in
     (same, (sym first.cause ∙ (ap (λ u. end_cause_for asked u (reverse a)) both.0 ∙ ap (λ l. end_cause_for asked w (reverse l)) same)) ∙ second.cause)
 
 -- a last line has a cause or none
@@ -243,14 +242,14 @@ not_both f good asked v w bytes a b c first second = let same : Some c ≡ None 
 -- a record that has a cause stands before no last line
 record_not_end : (f : Format) → IsFormat f → (asked : Command) (v w : Version) (bytes : List ℕ) (earlier records : List Record) (x : Record) (c : Cause) (o : Option Cause) → Faulty f v bytes earlier x c → Ending f asked w bytes records o → ⊥
 record_not_end f good asked v w bytes earlier records x c o first second =
-    not_legally f good v w bytes earlier records x c (line second.l ++ second.rest) first second.behind (λ (fits : length records ≤ length earlier). no_record_at_end f good second.l second.rest second.short second.end)
+    not_legally f good v w bytes earlier records x c (line second.l ++ second.rest) first second.behind (λ (fits : length records ≤ length earlier). no_record_at_end f good w second.l second.rest second.short second.end)
 
 -- a line that has a cause is no last line, and no record stands there
-line_not_end_by : (f : Format) → IsFormat f → (records others : List Record) (d : Cause) (l r s : List ℕ) → Meets f records others (line l ++ r) s → IsShort f.most l → f.IsEnd l → length records + 2 ≤ most_lines → RecordCause f (length others + 2) s d → ⊥
-line_not_end_by f good records others d l r s (Equal e there) short end few h =
-    (no_line f (length others + 2) s l r d h (omega (arith, ap length e)) (front_of f.most s l r short (sym there))).0 end
-line_not_end_by f good records others d l r s (Shorter x more k rest short_x is e there) short end few h = no_record_at_end f good l r short end x k rest short_x is there
-line_not_end_by f good records others d l r s (Longer x more k rest short_x is e there) short end few h = no_record_at_cause f (length others + 2) s d h (omega (arith, ap length e, length-append others (x ∷ more))) x k rest short_x is there
+line_not_end_by : (f : Format) → IsFormat f → (v : Version) (records others : List Record) (d : Cause) (l r s : List ℕ) → Meets f v records others (line l ++ r) s → IsShort f.most l → f.IsEnd l → length records + 2 ≤ most_lines → RecordCause f v (length others + 2) s d → ⊥
+line_not_end_by f good v records others d l r s (Equal e there) short end few h =
+    (no_line f v (length others + 2) s l r d h (omega (arith, ap length e)) (front_of f.most s l r short (sym there))).0 end
+line_not_end_by f good v records others d l r s (Shorter x more k rest short_x is e there) short end few h = no_record_at_end f good v l r short end x k rest short_x is there
+line_not_end_by f good v records others d l r s (Longer x more k rest short_x is e there) short end few h = no_record_at_cause f v (length others + 2) s d h (omega (arith, ap length e, length-append others (x ∷ more))) x k rest short_x is there
 
 -- a last line that has a cause, and another line that has one, where each stands behind legal lines
 end_not_line : (f : Format) → IsFormat f → (asked : Command) (v : Version) (bytes : List ℕ) (records : List Record) (c d : Cause) (place : Place) → RefusesEnd f asked v bytes records c → Ending f asked v bytes records (Some c) → IsLegalBefore asked place → Refuses f bytes place d → ⊥
@@ -258,8 +257,8 @@ end_not_line f good asked v bytes records c d Start h first legal second =
     let same : bytes ≡ second.rest = second.begins ∙ ap (λ b. b ++ second.rest) second.are in
     no_start f v bytes h.before records (line h.l ++ h.rest) d (subst (λ (b : List ℕ). StartCause f b d) (sym same) second.cause) h.are h.begins
 end_not_line f good asked v bytes records c d (After w others) h first legal second =
-    let both : (v ≡ w) × Meets f records others (line h.l ++ h.rest) second.rest = meets f good v w bytes records others h.before second.before (line h.l ++ h.rest) second.rest h.are second.are h.begins second.begins in
-    line_not_end_by f good records others d h.l h.rest second.rest both.1 h.short h.end h.few second.cause
+    let both : (v ≡ w) × Meets f w records others (line h.l ++ h.rest) second.rest = meets f good v w bytes records others h.before second.before (line h.l ++ h.rest) second.rest h.are second.are h.begins second.begins in
+    line_not_end_by f good w records others d h.l h.rest second.rest both.1 h.short h.end h.few second.cause
 end_not_line f good asked v bytes records c d (Ended w others) h first legal second = not_both f good asked v w bytes records others c first (ending_line f asked w bytes others d legal second)
 
 -- what refuses the bytes first: a line, a record, or the end

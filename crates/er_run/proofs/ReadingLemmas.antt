@@ -104,16 +104,16 @@ abbrev pub most_bytes : Format → ℕ → ℕ
 most_bytes f n = (f.most + 1) * n
 
 -- each line has at most one byte more than the most with its LF
-lines_short : (f : Format) (bytes : List ℕ) (records : List Record) → AreLines f bytes records → length bytes ≤ most_bytes f (length records)
-lines_short f bytes [] are = omega (arith, ap length are)
-lines_short f bytes (x ∷ records) are =
-    let rest : length are.1 ≤ most_bytes f (length records) = lines_short f are.1 records are.5 in
+lines_short : (f : Format) (v : Version) (bytes : List ℕ) (records : List Record) → AreLines f v bytes records → length bytes ≤ most_bytes f (length records)
+lines_short f v bytes [] are = omega (arith, ap length are)
+lines_short f v bytes (x ∷ records) are =
+    let rest : length are.1 ≤ most_bytes f (length records) = lines_short f v are.1 records are.5 in
     let up : (f.most + 1) * suc (length records) ≡ (f.most + 1) * length records + (f.most + 1) = grind arith in
     omega (arith, rest, up, are.2.few, ap length are.4, length-append (line are.0) are.1, length-append are.0 (10 ∷ []))
 
 behind_short : (f : Format) (v : Version) (bytes : List ℕ) (records : List Record) → AreBehind f v bytes records → length bytes ≤ most_bytes f (length records + 1)
 behind_short f v bytes records are =
-    let rest : length are.later ≤ most_bytes f (length records) = lines_short f are.later records are.lines in
+    let rest : length are.later ≤ most_bytes f (length records) = lines_short f v are.later records are.lines in
     let up : (f.most + 1) * (length records + 1) ≡ (f.most + 1) * length records + (f.most + 1) = grind arith in
     omega (arith, rest, up, are.short.few, ap length are.begins, length-append (line are.first) are.later, length-append are.first (10 ∷ []))
 

@@ -48,7 +48,7 @@ pub record RefusesRecord (f : Format) (v : Version) (bytes : List ℕ) (earlier 
   pub read : Record
   pub l : List ℕ
   pub short : IsShort f.most l
-  pub spells : f.Spells l read
+  pub spells : f.Spells v l read
   pub rest : List ℕ
   pub begins : bytes ≡ before ++ (line l ++ rest)
   pub cause : legality.cause (rules v) (reverse earlier) read ≡ Some c

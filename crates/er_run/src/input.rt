@@ -1,8 +1,10 @@
 //! Reads a trace piece by piece, and judges each record as its line ends.
 
-ghost use Rattle.std.specs.Prelude.{◌≡◌, ◌≢◌, ℕ, ◌+◌, ◌<◌, ◌≤◌, List, [], ◌++◌, length, reverse, Option, Ok, Err, Some, None, IfOk, OnOk, IfErr, IsErrOf};
+ghost use Rattle.std.specs.Prelude.{◌≡◌, ◌≢◌, true, ℕ, ◌+◌, ◌<◌, ◌≤◌, List, [], ◌++◌, length, reverse, Option, Ok, Err, Some, None, IfOk, OnOk, IfErr, IsErrOf};
+ghost use Rattle.std.specs.List.{list_all};
 ghost use Rattle.er_outside.specs.Ends.{Rose, one_more};
 ghost use Rattle.er_trace.specs.Trace.{most_lines};
+ghost use Rattle.er_trace.specs.Versions.{has_record};
 ghost use Rattle.er_lines.specs.Lines.{IsTraceOf};
 ghost use Rattle.er_lines.specs.Feed.{Stands};
 ghost use Rattle.er_trace.specs.declared.version.Version.{Version};
@@ -199,7 +201,7 @@ fn take_piece<L: Lines>(
 }
 
 /// Takes the records one after the other, to the first that is refused, in the version that the first line
-/// gave.
+/// gave. They are of that version.
 fn judge_all(
     alloc: Global,
     session: &mut Session,
@@ -208,6 +210,7 @@ fn judge_all(
 ) -> Result<(), FeedFault>
     requires some { IsReady session.old given }
     requires room { session.old.records + length records.now ≤ most_lines }
+    requires of_version { list_all (has_record (begun session.old.graph.version given)) records.now ≡ true }
     ensures taken { OnOk result ((earlier : List Record) → StandsFor session.old (reverse earlier)
         → IsBegun session.old.graph.version given (reverse earlier)
         → StandsFor session.new (reverse (earlier ++ records.now))) }

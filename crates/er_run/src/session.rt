@@ -1,8 +1,10 @@
 //! What the accepted records say and access, and which record comes next.
 
 ghost use Rattle.std.specs.Prelude.{◌≡◌, ◌≢◌, true, false, ℕ, ◌+◌, ◌<◌, ◌≤◌, List, [], ◌∷◌, ◌++◌, reverse, length, Err, OnOk, IfOk, IfErr};
+ghost use Rattle.std.specs.List.{list_all};
 ghost use Rattle.er_trace.specs.declared.record.Record.{Record};
 ghost use Rattle.er_trace.specs.Trace.{most_lines};
+ghost use Rattle.er_trace.specs.Versions.{has_record};
 ghost use Rattle.er_page.specs.Page.{IsPage};
 ghost use Rattle.er_run.specs.Session.{StandsFor, IsSession, IsFaultAfter, IsFaultOf, IsBegun, begun, AreEarlier, AreKept, IsPastRoom, kept_with};
 
@@ -34,7 +36,8 @@ impl Drop for Session {
 
 /// What the records of a trace in version 1 come to, or the first that is refused.
 pub(crate) fn judge(alloc: Global, records: &[Record]) -> Result<Session, GraphFault>
-    requires { length records.now ≤ most_lines }
+    requires room { length records.now ≤ most_lines }
+    requires of_version { list_all (has_record Version.One) records.now ≡ true }
     ensures stands { IfOk result (λ session. StandsFor session (reverse records.now)) }
     ensures version { IfOk result (λ session. session.graph.version ≡ Version.One) }
     ensures refused { IfErr result (λ fault. IsFaultOf Version.One records.now fault) }
@@ -78,10 +81,11 @@ impl Session {
         Ok(())
     }
 
-    /// Takes the records one after the other, to the first that is refused.
+    /// Takes the records one after the other, to the first that is refused. They are of its version.
     pub(crate) fn take_all(&mut self, records: &[Record]) -> Result<(), GraphFault>
         requires some { IsSession self.old }
         requires room { self.old.records + length records.now ≤ most_lines }
+        requires of_version { list_all (has_record self.old.graph.version) records.now ≡ true }
         ensures taken { OnOk result ((earlier : List Record) → StandsFor self.old (reverse earlier)
             → StandsFor self.new (reverse (earlier ++ records.now))) }
         ensures refused { IfErr result (λ fault. (earlier : List Record)
@@ -101,6 +105,7 @@ impl Session {
     pub(crate) fn take(&mut self, rec: &Record) -> Result<(), GraphFault>
         requires some { IsSession self.old }
         requires room { self.old.records < most_lines }
+        requires of_version { has_record self.old.graph.version rec.now ≡ true }
         ensures taken { OnOk result ((h : List Record) → StandsFor self.old h
             → StandsFor self.new (rec.now ∷ h)) }
         ensures refused { IfErr result (λ fault. (h : List Record) → StandsFor self.old h
@@ -131,15 +136,11 @@ fn is_same(one: Version, other: Version) -> bool
     ensures same { result ≡ true → one ≡ other }
     ensures other { result ≡ false → one ≢ other }
 {
-    match one {
-        Version::One => match other {
-            Version::One => true,
-            Version::Two => false,
-        },
-        Version::Two => match other {
-            Version::One => false,
-            Version::Two => true,
-        },
+    match (one, other) {
+        (Version::One, Version::One) => true,
+        (Version::Two, Version::Two) => true,
+        (Version::Three, Version::Three) => true,
+        _ => false,
     }
 }
 

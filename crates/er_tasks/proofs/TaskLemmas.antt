@@ -3,13 +3,14 @@ use Rattle.std.proofs.Common.{◌≡◌, ℕ, ◌<◌, ◌≤◌, Bool, true, fa
 use Rattle.std.specs.Prelude.{◌-◌, ◌+◌, ◌==◌, if◌then◌else◌, is_some, IfSome, IsSome, map, nat_lt}
 use Rattle.std.specs.List.{All}
 use Rattle.std.proofs.lemmas.List.Elements.{All-weaker, All-push}
-use Rattle.std.proofs.lemmas.Bool.{eq-eqb}
+use Rattle.std.proofs.lemmas.Bool.{eq-eqb, eqb-true}
+use Rattle.std.proofs.lemmas.List.{append-nil, get_or_default}
 use Rattle.std.proofs.lemmas.Bool.Decides.{nat_tests}
 use Rattle.std.proofs.lemmas.Grind.{common_steps}
 use Rattle.er_trace.specs.declared.record.Record.{Record}
 use Rattle.er_trace.specs.declared.record.Record.TheVariants.{Message, Anim, Job}
 use Rattle.er_history.specs.History as history
-use Rattle.er_history.specs.History.{told, or_else, first_to, makes_task, running, actions_after, Action, Entry}
+use Rattle.er_history.specs.History.{told, or_else, first_to, makes_task, running, actions_after, action_begun, Action, Entry}
 use Rattle.er_history.specs.Tasks.{TaskKind, OfMessage, OfAnim, OfJob, declares_task, starts_task, task_started, task_made, task_place, if_made, if_queued, started_by, queued_by}
 use Rattle.er_firsts.specs.declared.firsts.Now.{Now}
 use Rattle.er_firsts.specs.Found.{IsRanked}
@@ -21,7 +22,7 @@ use Rattle.er_tasks.specs.declared.begun.Started.{Started}
 use Rattle.er_tasks.specs.declared.tasks.BegunTask.{BegunTask}
 use Rattle.er_tasks.specs.declared.tasks.Task.{Task}
 use Rattle.er_tasks.specs.Begun.{IsBegun, GoesOn, IsRunTo, AreRuns, AreBegun}
-use Rattle.er_tasks.specs.Tasks.{declared_of, declared, TasksDeclared, TaskGiven, with_task, numbers_in, task_of, event_under, number_under, queuer_of, IsStarted, TasksAreRanked, task_rank}
+use Rattle.er_tasks.specs.Tasks.{Declared, declared_of, declared, TasksDeclared, TaskGiven, with_task, numbers_in, task_of, event_under, number_under, under, queuer_of, IsStarted, TasksAreRanked, task_rank}
 
 -- the task that a record declares
 
@@ -109,25 +110,27 @@ started_listed kind h x found (Some n) stands e = by (found n) (task_made kind h
 
 -- and the event that queued it, where it is a job
 
-abbrev pub under : ℕ → Option (ℕ × Task) → List ℕ
-under u None = []
-under u (Some p) = if p.1.maker == u then p.0 ∷ [] else []
+abbrev pub pair_under : ℕ → Option (ℕ × Task) → List ℕ
+pair_under u None = []
+pair_under u (Some p) = under u p.1 p.0
 
 pub job_listed : (h : List Record) (x : Record) (found : ℕ → Option Task) (job : Option Started) (u : ℕ) → TasksDeclared OfJob found h → option_map task_of job ≡ with_task found (task_started OfJob x)
     → number_under u job ≡ queued_by h u x
-job_listed h x found job u stands e = same job ∙ (ap (under u) e ∙ at (task_started OfJob x) refl)
+job_listed h x found job u stands e = same job ∙ (ap (pair_under u) e ∙ at (task_started OfJob x) refl)
   where
-    same : (job : Option Started) → number_under u job ≡ under u (option_map task_of job)
+    same : (job : Option Started) → number_under u job ≡ pair_under u (option_map task_of job)
     same None = refl
     same (Some y) = refl
 
-    by : (n : ℕ) (f : Option Task) (m : Option history.Task) → option_map declared_of f ≡ option_map declared m → under u (option_map (λ (t : Task). (n, t)) f) ≡ if_queued u n m
+    by : (n : ℕ) (f : Option Task) (m : Option history.Task) → option_map declared_of f ≡ option_map declared m → pair_under u (option_map (λ (t : Task). (n, t)) f) ≡ if_queued u n m
     by n None None e = refl
     by n None (Some y) e = absurd (cc)
     by n (Some y) None e = absurd (cc)
-    by n (Some y) (Some z) e = let maker : y.maker ≡ z.maker = cc in ap (λ (k : ℕ). if k == u then n ∷ [] else []) maker
+    by n (Some y) (Some z) e =
+        let same : declared_of y ≡ declared z = cc in
+        ap (λ (d : Declared). if d.maker == u then n ∷ [] else []) same
 
-    at : (o : Option ℕ) → task_started OfJob x ≡ o → under u (with_task found o) ≡ queued_by h u x
+    at : (o : Option ℕ) → task_started OfJob x ≡ o → pair_under u (with_task found o) ≡ queued_by h u x
     at None e = rw e refl
     at (Some n) e = by n (found n) (task_made OfJob h n) (stands.made n) ∙ rw e refl
 
@@ -146,7 +149,8 @@ job_events h x now job u is e = same job ∙ (ap (map (λ (j : ℕ). now.event))
 
     at : (x : Record) → IsNow h x now → map (λ (j : ℕ). now.event) (queued_by h u x) ≡ map (λ j. length (told h).actions) (queued_by h u x)
     at (Job j) is =
-        let same : length (told h).actions ≡ is.running_action.event.number = cc in
+        let begun : action_begun (told h) (Job j) ≡ is.running_action = cc in
+        let same : length (told h).actions ≡ is.running_action.event.number = ap (λ (a : Action). a.event.number) begun in
         ap (λ (n : ℕ). map (λ (j : ℕ). n) (queued_by h u (Job j))) (is.event ∙ sym same)
     at _ is = refl
 
@@ -156,9 +160,9 @@ event_there old new None event more = tt
 event_there old new (Some n) event more = by (old n) (n == n) (eq-eqb n n refl) (more n)
   where
     by : (o : Option ℕ) (b : Bool) → b ≡ true → new n ≡ or_else o (if b then Some event else None) → IsSome (new n)
-    by None true e f = subst IsSome (sym f) tt
+    by None true e f = subst IsSome (sym f) refl
     by None false e f = absurd (cc)
-    by (Some y) b e f = subst IsSome (sym f) tt
+    by (Some y) b e f = subst IsSome (sym f) refl
 
 pub event_keeps : (old new : ℕ → Option ℕ) (number : Option ℕ) (event : ℕ) → ((k : ℕ) → new k ≡ or_else (old k) (if is_number k number then Some event else None)) → KeepsEach old new
 event_keeps old new number event more k x is = more k ∙ ap (λ (o : Option ℕ). or_else o (if is_number k number then Some event else None)) is
@@ -168,7 +172,7 @@ pub made_there : (found : ℕ → Option Task) (number : Option ℕ) (P : ℕ �
 made_there found None P is = tt
 made_there found (Some n) P is = by (found n)
   where
-    by : (o : Option Task) → IfSome (option_map (λ (t : Task). (n, t)) o) (λ p. P p.0)
+    by : (o : Option Task) → IfSome {T = ℕ × Task} (option_map (λ (t : Task). (n, t)) o) (λ p. P p.0)
     by None = tt
     by (Some t) = is
 
@@ -176,7 +180,7 @@ pub made_found : (old new : ℕ → Option Task) (number : Option ℕ) → Keeps
 made_found old new None keeps = tt
 made_found old new (Some n) keeps = by (old n) refl
   where
-    by : (o : Option Task) → old n ≡ o → IfSome (option_map (λ (t : Task). (n, t)) o) (λ p. new p.0 ≡ Some p.1)
+    by : (o : Option Task) → old n ≡ o → IfSome {T = ℕ × Task} (option_map (λ (t : Task). (n, t)) o) (λ p. new p.0 ≡ Some p.1)
     by None e = tt
     by (Some t) e = keeps n t e
 
@@ -232,6 +236,18 @@ begun_more found events xs s run are is to = record {
   runs = runs_more xs (record { number = s.number; event = s.event; task = s.task; run = run }) are.runs to;
 }
 
+-- the list of one event more, where it queued the task
+pub begun_under : (found : ℕ → Option Task) (events : ℕ → Option ℕ) (at : ℕ → List BegunTask) (s : Started) (run u : ℕ) → ((u : ℕ) → AreBegun found events (at u)) → IsStarted found events s → IsRunTo (at s.task.maker) s.task run
+    → AreBegun found events (at u ++ under u s.task (record { number = s.number; event = s.event; task = s.task; run = run }))
+begun_under found events at s run u are is to = by (s.task.maker == u) refl
+  where
+    begun : BegunTask
+    begun = record { number = s.number; event = s.event; task = s.task; run = run }
+
+    by : (b : Bool) → (s.task.maker == u) ≡ b → AreBegun found events (at u ++ (if b then begun ∷ [] else []))
+    by true e = begun_more found events (at u) s run (are u) is (subst (λ k. IsRunTo (at k) s.task run) (eqb-true s.task.maker u e) to)
+    by false e = subst (AreBegun found events) (sym (append-nil (at u))) (are u)
+
 pub none_begun : (found : ℕ → Option Task) (events : ℕ → Option ℕ) → AreBegun found events []
 none_begun found events = record {
   each = λ k d lt. absurd (omega (arith, lt));
@@ -239,8 +255,8 @@ none_begun found events = record {
 }
 
 -- where the last goes on to it, so do those of its run
-pub run_goes_on : (xs : List BegunTask) (n : ℕ) (last : BegunTask) (task : Task) → AreRuns xs → n ≡ length xs → 0 < n → ((d : BegunTask) → get_or xs (n - 1) d ≡ last) → GoesOn last.task task → IsRunTo xs task last.run
-run_goes_on xs n last task are count some at goes = record {
+last_goes_on : (xs : List BegunTask) (n : ℕ) (last : BegunTask) (task : Task) → AreRuns xs → n ≡ length xs → 0 < n → ((d : BegunTask) → get_or xs (n - 1) d ≡ last) → GoesOn last.task task → IsRunTo xs task last.run
+last_goes_on xs n last task are count some at goes = record {
   within = omega (arith, are.within (n - 1) last (omega (arith, count, some)), ap (λ (y : BegunTask). y.run) (at last), count, some);
   each = λ j d from lt. elim (at_or_end j (n - 1) (omega (arith, lt, count, some))) [
     | inl before ↦
@@ -252,3 +268,6 @@ run_goes_on xs n last task are count some at goes = record {
         subst (λ (y : BegunTask). GoesOn y.task task) (sym same) goes
   ];
 }
+
+pub run_goes_on : (xs : List BegunTask) (e : BegunTask) (task : Task) → AreRuns xs → 0 < length xs → GoesOn (get_or xs (length xs - 1) e).task task → IsRunTo xs task (get_or xs (length xs - 1) e).run
+run_goes_on xs e task are some goes = last_goes_on xs (length xs) (get_or xs (length xs - 1) e) task are refl some (λ d. get_or_default xs (length xs - 1) d e (omega (arith, some))) goes

@@ -90,15 +90,19 @@ pub record QueuedAre (queued : Queued) (h : List Record) : Type 0 where
 abbrev pub queuer_of : (ℕ → Option Task) → Record → Option ℕ
 queuer_of found x = option_map (λ (p : ℕ × Task). p.1.maker) (with_task found (task_started OfJob x))
 
--- the event, or the number of the job, where this event queued it
+-- what is said of a job, where this event queued it
+abbrev pub under : {X : Type 0} → ℕ → Task → X → List X
+under u task x = if task.maker == u then x ∷ [] else []
+
+-- the event, or the number of the job
 
 abbrev pub event_under : ℕ → Option Started → ℕ → List ℕ
 event_under u None event = []
-event_under u (Some x) event = if x.task.maker == u then event ∷ [] else []
+event_under u (Some x) event = under u x.task event
 
 abbrev pub number_under : ℕ → Option Started → List ℕ
 number_under u None = []
-number_under u (Some x) = if x.task.maker == u then x.number ∷ [] else []
+number_under u (Some x) = under u x.task x.number
 
 -- what declared the task, and its event, are those that are found under its number
 abbrev pub IsStarted : (ℕ → Option Task) → (ℕ → Option ℕ) → Started → Type 0

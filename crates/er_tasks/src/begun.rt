@@ -1,9 +1,7 @@
 //! Lists of tasks whose events have begun.
 
-ghost use Rattle.std.specs.Prelude.{◌≡◌, ◌<◌, ◌↔◌, ℕ, [], ◌∷◌, ◌++◌, IsTrue, Option, OnOk, map};
-ghost use Rattle.er_tasks.specs.declared.tasks.Task.{Task};
-ghost use Rattle.er_tasks.specs.Begun.{AreBegun, AreRuns, GoesOn, HasPlace, IsRunTo, task_number};
-ghost use Rattle.er_tasks.specs.Tasks.{IsStarted};
+ghost use Rattle.std.specs.Prelude.{◌≡◌, ◌↔◌, [], ◌∷◌, ◌++◌, IsTrue, OnOk, map};
+ghost use Rattle.er_tasks.specs.Begun.{AreRuns, GoesOn, HasPlace, IsRunTo, task_number};
 
 use crate::tasks::{BegunTask, Task};
 use er_outside::NoMemory;
@@ -62,40 +60,32 @@ impl Begun {
     }
 
     /// Puts a task at the end, listed by that number.
-    pub(crate) fn push(&mut self, listed: u32, started: Started)
+    pub(crate) fn push(&mut self, listed: u32, begun: BegunTask)
         requires room { HasPlace self.old }
         ensures listed { self.new.listed.items ≡ self.old.listed.items ++ listed ∷ [] }
-        ensures numbers { map task_number self.new.tasks.items ≡ map task_number self.old.tasks.items ++ started.number ∷ [] }
-        ensures begun { (found : ℕ → Option Task) (events : ℕ → Option ℕ)
-            → AreBegun found events self.old.tasks.items → IsStarted found events started
-            → AreBegun found events self.new.tasks.items }
+        ensures tasks { self.new.tasks.items ≡ self.old.tasks.items ++ begun ∷ [] }
+        ensures numbers { map task_number self.new.tasks.items ≡ map task_number self.old.tasks.items ++ begun.number ∷ [] }
     {
-        let run = self.run_to(started.task);
         let Ok(()) = self.listed.push(listed) else {
             unreachable!()
         };
-        let Ok(()) = self.tasks.push(BegunTask {
-            number: started.number,
-            event: started.event,
-            task: started.task,
-            run,
-        }) else {
+        let Ok(()) = self.tasks.push(begun) else {
             unreachable!()
         };
     }
+}
 
-    /// From where on all tasks were declared in the piece of this one, before it.
-    fn run_to(&self, task: Task) -> usize
-        ensures { AreRuns self.now.tasks.items → IsRunTo self.now.tasks.items task result }
-    {
-        let count = self.tasks.len();
-        if count == 0 {
-            return 0;
-        }
-        let last = self.tasks[count - 1];
-        if goes_on(last.task, task) {
-            return last.run;
-        }
-        count
+/// From where on all of these tasks were declared in the piece of this one, before it.
+pub(crate) fn run_to(begun: &[BegunTask], task: Task) -> usize
+    ensures { AreRuns begun.now → IsRunTo begun.now task result }
+{
+    let count = begun.len();
+    if count == 0 {
+        return 0;
     }
+    let last = begun[count - 1];
+    if goes_on(last.task, task) {
+        return last.run;
+    }
+    count
 }

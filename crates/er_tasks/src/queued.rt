@@ -5,9 +5,9 @@ ghost use Rattle.indexmap.specs.IndexMap.{get};
 ghost use Rattle.er_tasks.specs.declared.begun.Started.{Started};
 ghost use Rattle.er_tasks.specs.declared.tasks.Task.{Task};
 ghost use Rattle.er_tasks.specs.Begun.{AreBegun, HasPlaceFor, ListHasPlace, listed_at, task_number, tasks_at};
-ghost use Rattle.er_tasks.specs.Tasks.{IsStarted, QueuedAre, event_under, number_under};
+ghost use Rattle.er_tasks.specs.Tasks.{IsStarted, QueuedAre, event_under, number_under, under};
 
-use crate::begun::{Begun, Started};
+use crate::begun::{Begun, Started, run_to};
 use crate::tasks::BegunTask;
 use er_outside::NoMemory;
 use indexmap::IndexMap;
@@ -82,7 +82,16 @@ impl Queued {
             → (u : ℕ) → AreBegun found started (tasks_at self.new u) }
     {
         if let Some(started) = job {
-            self.put(started, event);
+            let run = run_to(self.tasks(started.task.maker), started.task);
+            self.put(
+                BegunTask {
+                    number: started.number,
+                    event: started.event,
+                    task: started.task,
+                    run,
+                },
+                event,
+            );
         }
     }
 
@@ -113,15 +122,12 @@ impl Queued {
     }
 
     /// Puts it into the list of the event that queued it.
-    fn put(&mut self, job: Started, event: u32)
+    fn put(&mut self, job: BegunTask, event: u32)
         requires room { ListHasPlace self.old job.task.maker }
-        ensures listed { (u : ℕ) → listed_at self.new u ≡ listed_at self.old u ++ event_under u (Some job) event }
+        ensures listed { (u : ℕ) → listed_at self.new u ≡ listed_at self.old u ++ under u job.task event }
+        ensures tasks { (u : ℕ) → tasks_at self.new u ≡ tasks_at self.old u ++ under u job.task job }
         ensures numbers { (u : ℕ) → map task_number (tasks_at self.new u)
-            ≡ map task_number (tasks_at self.old u) ++ number_under u (Some job) }
-        ensures begun { (found : ℕ → Option Task) (started : ℕ → Option ℕ)
-            → ((u : ℕ) → AreBegun found started (tasks_at self.old u))
-            → IsStarted found started job
-            → (u : ℕ) → AreBegun found started (tasks_at self.new u) }
+            ≡ map task_number (tasks_at self.old u) ++ under u job.task job.number }
     {
         let Some(begun) = self.lists.get_mut(&job.task.maker) else {
             unreachable!()

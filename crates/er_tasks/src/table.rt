@@ -15,7 +15,7 @@ ghost use Rattle.er_tasks.specs.declared.tasks.Task.{Task};
 ghost use Rattle.er_tasks.specs.Begun.{AreBegun, HasPlace, task_number};
 ghost use Rattle.er_tasks.specs.Tasks.{HaveRoom, IsNoted, IsStarted, TaskGiven, TaskTableIs, TasksAreRanked, TasksDeclared, numbers_in, task_of, task_rank, with_task};
 
-use crate::begun::{Begun, Started};
+use crate::begun::{Begun, Started, run_to};
 use crate::tasks::{BegunTask, Task};
 use er_firsts::firsts::{Now, make_room, note_maker, note_pair};
 use er_outside::NoMemory;
@@ -118,13 +118,21 @@ impl TaskTable {
         let Some(event) = self.started.get(&number).copied() else {
             unreachable!()
         };
-        let started = Started {
+        let run = run_to(self.begun.tasks.as_slice(), task);
+        self.begun.push(
+            number,
+            BegunTask {
+                number,
+                event,
+                task,
+                run,
+            },
+        );
+        Some(Started {
             number,
             event,
             task,
-        };
-        self.begun.push(number, started);
-        Some(started)
+        })
     }
 
     /// The event that queued, posted or asked for a task.

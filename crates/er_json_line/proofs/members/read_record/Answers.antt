@@ -10,7 +10,7 @@ use Rattle.er_json_line.proofs.members.read_record.Goals as goal
 
 pub returns-in-Err-clause-exact : goal.returns-in-Err-clause-exact
 returns-in-Err-clause-exact c = λ x is are.
-    let w : IsLineOf x (map view c.args.members.now) = line_written x (map view c.args.members.now) is are in
+    let w : IsLineOf x (map view c.args.members.now) = line_written x (map view c.args.members.now) is.0 are in
     elim (c.put_members.ensures.exact w.have) [ inl e ↦ absurd (cc) | inr e ↦ inr (cc) ]
 
 pub returns-in-Ok-clause-read : goal.returns-in-Ok-clause-read
@@ -20,12 +20,12 @@ returns-in-Ok-clause-read c =
     let some : text_of (map view c.args.members.now) ≢ [] = rw (sym text) got.1 in
     let line : drop 1 (text_of (map view c.args.members.now)) ≡ _ = ap (drop 1) (sym text) ∙ got.2 in
     IfOk-weaker c.with_kinds.result _ _
-    (λ x h. rw h.0 (got.0, members_back c.in-Ok.rec (map view c.args.members.now) got.0 some line c.in_default.ensures.read.0 c.in_default.ensures.read.1 (sym (kinds_viewed c.args.members.now) ∙ h.1)))
+    (λ x h. rw h.0 (got.0, members_back c.in-Ok.rec (map view c.args.members.now) got.0.0 some line c.in_default.ensures.read.0 c.in_default.ensures.read.1 (sym (kinds_viewed c.args.members.now) ∙ h.1)))
     c.with_kinds.ensures.read
 
 pub returns-in-Ok-clause-exact : goal.returns-in-Ok-clause-exact
 returns-in-Ok-clause-exact c = λ x is are.
-    let w : IsLineOf x (map view c.args.members.now) = line_written x (map view c.args.members.now) is are in
+    let w : IsLineOf x (map view c.args.members.now) = line_written x (map view c.args.members.now) is.0 are in
     let text : c.as_slice.result.now ≡ text_of (map view c.args.members.now) = (c.as_slice.ensures.value ∙ c.in_default.ensures.read.2) ∙ ap (λ b. b ++ text_of (map view c.args.members.now)) c.new.ensures.items in
     let some : c.as_slice.result.now ≢ [] = rw text w.some in
     let line : drop 1 c.as_slice.result.now ≡ _ = ap (drop 1) text ∙ w.line in
@@ -35,7 +35,7 @@ returns-in-Ok-clause-exact c = λ x is are.
 
 pub returns-clause-exact : goal.returns-clause-exact
 returns-clause-exact c = λ x is are.
-    let w : IsLineOf x (map view c.args.members.now) = line_written x (map view c.args.members.now) is are in
+    let w : IsLineOf x (map view c.args.members.now) = line_written x (map view c.args.members.now) is.0 are in
     let text : c.as_slice.result.now ≡ text_of (map view c.args.members.now) = (c.as_slice.ensures.value ∙ c.in_default.ensures.read.2) ∙ ap (λ b. b ++ text_of (map view c.args.members.now)) c.new.ensures.items in
     let some : c.as_slice.result.now ≢ [] = rw text w.some in
     let line : drop 1 c.as_slice.result.now ≡ _ = ap (drop 1) text ∙ w.line in

@@ -8,10 +8,14 @@ use Rattle.er_run.specs.Reading.{IsReading}
 use Rattle.er_run.proofs.AcceptLemmas.{refused_judged}
 use Rattle.er_run.proofs.GeneratedLemmas.{few_generated, generated_read}
 use Rattle.er_run.proofs.ReadingLemmas.{reportable, verdict_by}
+use Rattle.er_run.proofs.VersionLemmas.{generated_of_version}
 use Rattle.er_run.proofs.accept.accept_generated.Goals as goal
 
-pub judge-requires : goal.judge-requires
-judge-requires g c = rw (c.as_slice.ensures.value, c.in-Ok.ensures) (few_generated c.args.number c.requires.most)
+pub judge-requires-clause-room : goal.judge-requires-clause-room
+judge-requires-clause-room g c = rw (c.as_slice.ensures.value, c.in-Ok.ensures) (few_generated c.args.number c.requires.most)
+
+pub judge-requires-clause-of_version : goal.judge-requires-clause-of_version
+judge-requires-clause-of_version g c = rw (c.as_slice.ensures.value, c.in-Ok.ensures) (generated_of_version c.args.number c.requires.most)
 
 pub returns-in-Ok-judge-clause-verdict : goal.returns-in-Ok-judge-clause-verdict
 returns-in-Ok-judge-clause-verdict g c =

@@ -6,3 +6,6 @@ returns-in-Ok-take_all-clause-stands c = c.in-Ok-take_all.ensures.taken [] c.in-
 
 pub returns-in-Err-clause-refused : goal.returns-in-Err-clause-refused
 returns-in-Err-clause-refused c = rw c.in-Ok.ensures.version at (c.in-Err.ensures.refused [] c.in-Ok.ensures.stands)
+
+pub take_all-requires-clause-of_version : goal.take_all-requires-clause-of_version
+take_all-requires-clause-of_version c = rw c.in-Ok.ensures.version c.requires.of_version

@@ -1,5 +1,6 @@
 use Rattle.std.proofs.Common.{◌∷◌, ◌∙◌, refl, arith}
 use Rattle.er_run.proofs.JudgeLemmas.{stands_first, stands_last, stands_more, fault_at}
+use Rattle.er_run.proofs.VersionLemmas.{version_at}
 use Rattle.er_run.proofs.session.Session.take_all.Goals as goal
 
 pub loop-at-init : goal.loop-at-init
@@ -28,3 +29,7 @@ returns-in-Err-clause-refused c = λ earlier stands.
 
 pub returns-clause-taken : goal.returns-clause-taken
 returns-clause-taken c = λ earlier stands. stands_last c.loop-at.self earlier c.args.records.now c.loop-at.at (omega arith) (c.loop-at.invariant.stands earlier stands)
+
+pub take-requires-clause-of_version : goal.take-requires-clause-of_version
+take-requires-clause-of_version c =
+    rw c.loop-at.invariant.version (version_at c.args.self.now.graph.version c.args.records.now c.loop-at.at c.index-records-at.result c.requires.of_version c.loop-at-test.true c.index-records-at.is)

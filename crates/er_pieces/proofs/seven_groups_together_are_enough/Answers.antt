@@ -1,5 +1,5 @@
 use Rattle.er_pieces.proofs.TogetherLemmas.{sound_lists_are_steady, all_hand, handed_stay_enough, handed_are_below}
-use Rattle.er_pieces.proofs.six_groups_together_are_enough.Goals as goal
+use Rattle.er_pieces.proofs.seven_groups_together_are_enough.Goals as goal
 
 pub returns-clause-steady : goal.returns-clause-steady
 returns-clause-steady c = sound_lists_are_steady
