@@ -1,6 +1,6 @@
 use Rattle.std.proofs.Common.{arith, ap, sym, length, reverse, subst, ◌∙◌, ◌++◌, ◌∷◌, []}
 use Rattle.er_page.specs.Roles.{role_by}
-use Rattle.er_page.specs.Stack.{HasDepth}
+use Rattle.er_page.specs.Stack.{HasDepth, StackIs}
 use Rattle.er_page.proofs.TakenLemmas.{page_begun, pieces_few, depth_next}
 use Rattle.er_page.proofs.PiecesLemmas.{pieces_same}
 use Rattle.er_page.proofs.WithinLemmas.{within_kept}
@@ -16,7 +16,7 @@ pub returns-clause-taken : goal.returns-clause-taken
 returns-clause-taken c = λ h is next starts.
     let pieces = c.make_room.new.self in
     let role = c.role_by-role.ensures h is.names ∙ (λ i. role_by h (c.first_of-first.ensures i) (c.served_of.ensures i)) in
-    let stack = record { levels = ap reverse c.in_ok-make_room-2.ensures.kept ∙ is.stack.levels } in
+    let stack : StackIs c.make_room-2.new.self h = record { levels = ap reverse c.in_ok-make_room-2.ensures.kept ∙ is.stack.levels } in
     page_begun _ c.make_room-2.new.self pieces c.make_room-3.new.self c.make_room-4.new.self c.job_dispatch-dispatch.result h c.args.rec.now c.args.start c.count-action.result c.role_by-role.result
     stack
     (pieces_same c.args.self.now.pieces pieces h is.pieces c.in_ok-make_room.ensures.list c.in_ok-make_room.ensures.latest)
