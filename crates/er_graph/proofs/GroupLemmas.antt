@@ -6,14 +6,14 @@ use Rattle.er_trace.specs.declared.record.Record.{Record}
 use Rattle.er_trace.specs.declared.record.Record.TheVariants.{Back}
 use Rattle.er_trace.specs.declared.version.Version.{Version}
 use Rattle.er_history.specs.History.{History, Action, told, event_begun, begins}
-use Rattle.er_history.specs.Rules.{Rule, any_holds, rules, parse_rules, script_rules, load_rules, dispatch_rules, timer_rules, request_rules}
+use Rattle.er_history.specs.Rules.{Rule, any_holds, rules, parse_rules, script_rules, load_rules, dispatch_rules, timer_rules, request_rules, task_rules}
 use Rattle.er_history.specs.Edges.{path}
 use Rattle.er_history.specs.Sound.{leads_back, out_of_order}
 use Rattle.er_history.proofs.OrderLemmas.{leads_append, none_passes, not_both}
 
 -- one a crate of rules, in the order of their numbers
 abbrev pub groups : Version → List (List (ℕ × Rule))
-groups v = parse_rules ∷ script_rules ∷ load_rules ∷ dispatch_rules ∷ timer_rules v ∷ request_rules ∷ []
+groups v = parse_rules ∷ script_rules ∷ load_rules ∷ dispatch_rules ∷ timer_rules v ∷ request_rules ∷ task_rules ∷ []
 
 -- the rules of all groups
 abbrev pub together : List (List (ℕ × Rule)) → List (ℕ × Rule)

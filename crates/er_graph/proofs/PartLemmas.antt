@@ -12,6 +12,7 @@ use Rattle.er_paths.specs.Paths.{joins}
 use Rattle.er_paths.specs.Laws.{IsEnough}
 use Rattle.er_paths.proofs.Paths.{enough_long, handed_paths, any_from, paths_stand}
 use Rattle.er_trace.specs.declared.version.Version.{Version}
+use Rattle.er_trace.specs.Versions.{has_record}
 use Rattle.er_history.specs.History.{told, begins, or_else, action_begun, Action, History}
 use Rattle.er_history.specs.Edges.{edge, edges, sources, path}
 use Rattle.er_history.specs.Laws.{IsNumbered}
@@ -30,7 +31,7 @@ use Rattle.er_page.specs.Page as pages
 use Rattle.er_page.specs.Page.{IsPage, IsSomePage}
 use Rattle.er_rules_timer.specs.Timed.{IsTimed, IsSomeTimed}
 use Rattle.er_history.specs.Rules.{Rule, rules}
-use Rattle.er_graph.specs.Accepted.{Accepted, records, lines_of, cause_now, edges_of, IsTold, AreTimed, IsNext, IsSomeGraph}
+use Rattle.er_graph.specs.Accepted.{Accepted, AreOf, records, lines_of, cause_now, edges_of, IsTold, AreTimed, IsNext, IsSomeGraph}
 
 -- causes
 
@@ -83,16 +84,16 @@ some_timed v page links kept x some = ∥∥₁_map some (λ next. record { list
 pub next_page : (v : Version) (page : Page) (links : List (List ℕ)) (kept : List ℕ) (x : Record) → ∥ IsNext v page links kept x ∥₁ → ∥ pages.IsNext page x ∥₁
 next_page v page links kept x some = ∥∥₁_map some (λ next. let p = no_cause (rules v) (records next.accepted) x next.legal in record { list = records next.accepted; stands = next.told.page; named = p.named; fits = p.fits })
 
-pub known_sources : (v : Version) (page : Page) (links : List (List ℕ)) (kept : List ℕ) (x : Record) (found passed : List ℕ) → ∥ IsNext v page links kept x ∥₁ → passed ≡ found
-    → ((h : List Record) → IsTimed v page links h → IsSound (rules v) h → naming h x ≡ None → out_of_order (rules v) h x ≡ false → ArePiecesHanded (rules v) (path (rules v) h) (told h) x found)
+pub known_sources : (v : Version) (page : Page) (links : List (List ℕ)) (kept : List ℕ) (x : Record) (found passed : List ℕ) → has_record v x ≡ true → ∥ IsNext v page links kept x ∥₁ → passed ≡ found
+    → ((h : List Record) → IsTimed v page links h → AreOf v (x ∷ h) → IsSound (rules v) h → naming h x ≡ None → out_of_order (rules v) h x ≡ false → ArePiecesHanded (rules v) (path (rules v) h) (told h) x found)
     → All (λ k. k < length links) passed
-known_sources v page links kept x found passed some same handed = ∥∥₁_elim some (hlevel props) (λ next. known next)
+known_sources v page links kept x found passed of_version some same handed = ∥∥₁_elim some (hlevel props) (λ next. known next)
   where
     known : IsNext v page links kept x → All (λ k. k < length links) passed
     known next =
         let h = records next.accepted in
         let p = no_cause (rules v) h x next.legal in
-        let are = handed h (record { page = next.told.page; clocks = next.timed }) next.told.sound p.named p.ordered in
+        let are = handed h (record { page = next.told.page; clocks = next.timed }) (of_version, next.told.of_version) next.told.sound p.named p.ordered in
         subst (All (λ k. k < length links)) (sym same) (subst (λ n. All (λ k. k < n) found) (clocks_counted v links next.accepted next.timed) (handed_are_below (rules v) h x found are))
 
 -- an action that may begin has room in the clocks
@@ -142,24 +143,24 @@ begun_lines line x accepted kept new begin is grown =
 pub same_lines : (line : ℕ) (x : Record) (accepted : List Accepted) (kept : List ℕ) → begins x ≡ false → kept ≡ lines_of accepted → kept ≡ lines_of (record { line = line; read = x } ∷ accepted)
 same_lines line x accepted kept begin is = is ∙ sym (ap (λ b. if b then lines_of accepted ++ line ∷ [] else lines_of accepted) begin)
 
-pub told_more : (v : Version) (old new : Page) (kept grown : List ℕ) (line : ℕ) (x : Record) (accepted : List Accepted) → IsTold v old kept accepted → cause_now v accepted x ≡ None
+pub told_more : (v : Version) (old new : Page) (kept grown : List ℕ) (line : ℕ) (x : Record) (accepted : List Accepted) → IsTold v old kept accepted → has_record v x ≡ true → cause_now v accepted x ≡ None
     → ((h : List Record) → IsPage old h → naming h x ≡ None → room h x ≡ None → IsPage new (x ∷ h)) → grown ≡ lines_of (record { line = line; read = x } ∷ accepted) → IsTold v new grown (record { line = line; read = x } ∷ accepted)
-told_more v old new kept grown line x accepted told legal taken lines =
+told_more v old new kept grown line x accepted told of_version legal taken lines =
     let p = no_cause (rules v) (records accepted) x legal in
-    record { page = taken (records accepted) told.page p.named p.fits; sound = (legal, told.sound); lines = lines }
+    record { page = taken (records accepted) told.page p.named p.fits; of_version = (of_version, told.of_version); sound = (legal, told.sound); lines = lines }
 
 pub told_still : (v : Version) (old new : Page) (kept same : List ℕ) (accepted : List Accepted) → ((h : List Record) → IsPage old h → IsPage new h) → same ≡ kept → IsTold v old kept accepted → IsTold v new same accepted
-told_still v old new kept same accepted stays e told = record { page = stays (records accepted) told.page; sound = told.sound; lines = e ∙ told.lines }
+told_still v old new kept same accepted stays e told = record { page = stays (records accepted) told.page; of_version = told.of_version; sound = told.sound; lines = e ∙ told.lines }
 
 -- a record that begins an action is pushed, with enough of the sources of edges to it
-pub timed_more : (v : Version) (page : Page) (links more : List (List ℕ)) (kept : List ℕ) (line : ℕ) (x : Record) (accepted : List Accepted) (found passed : List ℕ) → IsTold v page kept accepted → AreTimed v links accepted → cause_now v accepted x ≡ None → begins x ≡ true
-    → ((h : List Record) → IsTimed v page links h → IsSound (rules v) h → naming h x ≡ None → out_of_order (rules v) h x ≡ false → ArePiecesHanded (rules v) (path (rules v) h) (told h) x found)
+pub timed_more : (v : Version) (page : Page) (links more : List (List ℕ)) (kept : List ℕ) (line : ℕ) (x : Record) (accepted : List Accepted) (found passed : List ℕ) → IsTold v page kept accepted → AreTimed v links accepted → has_record v x ≡ true → cause_now v accepted x ≡ None → begins x ≡ true
+    → ((h : List Record) → IsTimed v page links h → AreOf v (x ∷ h) → IsSound (rules v) h → naming h x ≡ None → out_of_order (rules v) h x ≡ false → ArePiecesHanded (rules v) (path (rules v) h) (told h) x found)
     → passed ≡ found → ((lists : List (List ℕ)) → StandsFor links lists → StandsFor more (passed ∷ lists)) → AreTimed v more (record { line = line; read = x } ∷ accepted)
-timed_more v page links more kept line x accepted found passed told_ timed legal begin handed same pushed =
+timed_more v page links more kept line x accepted found passed told_ timed of_version legal begin handed same pushed =
     let h = records accepted in
     let p = no_cause (rules v) h x legal in
     let now = edges_of v (record { line = line; read = x } ∷ accepted) in
-    let enough = handed_stay_enough (rules v) h x found (edges_of v accepted) begin (handed h (record { page = told_.page; clocks = timed }) told_.sound p.named p.ordered) (enough_itself (rules v) (told h).actions (actions_are_numbered h)) in
+    let enough = handed_stay_enough (rules v) h x found (edges_of v accepted) begin (handed h (record { page = told_.page; clocks = timed }) (of_version, told_.of_version) told_.sound p.named p.ordered) (enough_itself (rules v) (told h).actions (actions_are_numbered h)) in
     clocks_of_paths more (found ∷ edges_of v accepted) now (enough_long (found ∷ edges_of v accepted) now enough) (λ i j. handed_paths (found ∷ edges_of v accepted) now i j enough)
     (subst (λ (l : List ℕ). StandsFor more (l ∷ edges_of v accepted)) same (pushed (edges_of v accepted) timed))
 
@@ -190,6 +191,6 @@ line_there v page kept accepted action is below = omega (arith, lines_counted ac
 pub nothing_yet : (v : Version) (page : Page) (links : List (List ℕ)) (kept : List ℕ) → IsPage page [] → StandsFor links [] → kept ≡ [] → IsSomeGraph v page links kept false
 nothing_yet v page links kept shown clocks empty = record {
   accepted = [];
-  told = record { page = shown; sound = tt; lines = empty };
+  told = record { page = shown; of_version = tt; sound = tt; lines = empty };
   timed = λ e. clocks;
 }

@@ -1,8 +1,9 @@
 -- Records that were accepted with their lines, and what is kept of them. Lists stand newest first.
-use Rattle.std.specs.Prelude.{◌≡◌, ℕ, Bool, false, List, [], ◌∷◌, ◌++◌, map, if◌then◌else◌, Option, None}
+use Rattle.std.specs.Prelude.{◌≡◌, ℕ, Bool, true, false, List, [], ◌∷◌, ◌++◌, map, if◌then◌else◌, Option, None}
 use Rattle.er_text.specs.declared.causes.Cause.{Cause}
 use Rattle.er_trace.specs.declared.record.Record.{Record}
 use Rattle.er_trace.specs.declared.version.Version.{Version}
+use Rattle.er_trace.specs.Versions.{has_record}
 use Rattle.er_history.specs.History.{told, begins}
 use Rattle.er_history.specs.Edges.{edges}
 use Rattle.er_history.specs.Sound.{cause, IsSound}
@@ -24,9 +25,15 @@ abbrev pub lines_of : List Accepted → List ℕ
 lines_of [] = []
 lines_of (x ∷ older) = if begins x.read then lines_of older ++ x.line ∷ [] else lines_of older
 
--- a page and lines say what the accepted records say
+-- the version has each of these records
+abbrev pub AreOf : Version → List Record → Type 0
+AreOf v [] = Unit {0}
+AreOf v (x ∷ older) = (has_record v x ≡ true) × AreOf v older
+
+-- a page and lines say what the accepted records say, all of the version
 pub record IsTold (v : Version) (shown : Page) (kept : List ℕ) (accepted : List Accepted) : Type 0 where
   pub page : IsPage shown (records accepted)
+  pub of_version : AreOf v (records accepted)
   pub sound : IsSound (rules v) (records accepted)
   pub lines : kept ≡ lines_of accepted
 

@@ -1,6 +1,7 @@
 //! How records are accepted, and what the graph answers.
 
-ghost use Rattle.std.specs.Prelude.{◌≡◌, ◌<◌, List, [], ◌∷◌, Some, None, slice_get, OnOk, OnErr, IfOk, IfErr};
+ghost use Rattle.std.specs.Prelude.{◌≡◌, ◌<◌, List, [], ◌∷◌, true, Some, None, slice_get, OnOk, OnErr, IfOk, IfErr};
+ghost use Rattle.er_trace.specs.Versions.{has_record};
 ghost use Rattle.er_page.specs.Accepted.{result_of};
 ghost use Rattle.er_page.specs.Page.{IsPage};
 ghost use Rattle.er_graph.specs.Accepted.{Accepted, records, lines_of, cause_now, AreTimed, IsNext};
@@ -35,8 +36,9 @@ impl Graph {
 
     /// Accepts the next record, which stands in this line, or answers the first cause against it.
     ///
-    /// Naming and nesting are asked first, then order, then room. After `NoMemory` every later call answers `NoMemory`.
+    /// The version has the record. Naming and nesting are asked first, then order, then room. After `NoMemory` every later call answers `NoMemory`.
     pub fn accept(&mut self, line: u32, rec: &Record) -> Result<(), GraphFault>
+        requires of_version { has_record self.old.version rec.now ≡ true }
         ensures accepted { OnOk result ((accepted : List Accepted) → IsGraph self.old accepted → (cause_now self.old.version accepted rec.now ≡ None) × IsGraph self.new (record { line = line; read = rec.now } ∷ accepted)) }
         ensures refused { IfErr result (λ fault. IsFault fault line rec.now self.old self.new) }
         ensures failed { HasFailed self.old → result ≡ Err (GraphFault.NoMemory) }
@@ -107,6 +109,7 @@ impl Graph {
     /// Takes a record that `check` accepts. The graph is marked as failed first, so that it stays so where memory runs out.
     fn take(&mut self, line: u32, rec: &Record) -> Result<(), NoMemory>
         requires next { ∥ IsNext self.old.version self.old.page self.old.clocks self.old.lines.items rec.now ∥₁ }
+        requires of_version { has_record self.old.version rec.now ≡ true }
         ensures taken { OnOk result ((accepted : List Accepted) → IsGraph self.old accepted → cause_now self.old.version accepted rec.now ≡ None → IsGraph self.new (record { line = line; read = rec.now } ∷ accepted)) }
         ensures failed { OnErr result (HasFailed self.new) }
         ensures version { self.new.version ≡ self.old.version }

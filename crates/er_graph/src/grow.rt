@@ -1,6 +1,7 @@
 //! How the parts of a graph grow by a record.
 
 ghost use Rattle.std.specs.Prelude.{◌≡◌, ◌∷◌, List, true, false, None, OnOk, OnErr};
+ghost use Rattle.er_trace.specs.Versions.{has_record};
 ghost use Rattle.er_history.specs.History as history;
 ghost use Rattle.er_graph.specs.Accepted.{Accepted, cause_now, IsTold, AreTimed, IsNext};
 
@@ -22,6 +23,7 @@ pub(crate) fn grow(
     rec: &Record,
 ) -> Result<(), NoMemory>
     requires next { ∥ IsNext version page.old clocks.old lines.old.items rec.now ∥₁ }
+    requires of_version { has_record version rec.now ≡ true }
     ensures told { OnOk result ((accepted : List Accepted) → IsTold version page.old lines.old.items accepted → cause_now version accepted rec.now ≡ None → IsTold version page.new lines.new.items (record { line = line; read = rec.now } ∷ accepted)) }
     ensures timed { OnOk result ((accepted : List Accepted) → IsTold version page.old lines.old.items accepted → AreTimed version clocks.old accepted → cause_now version accepted rec.now ≡ None → AreTimed version clocks.new (record { line = line; read = rec.now } ∷ accepted)) }
     ensures kept { OnErr result ((accepted : List Accepted) → IsTold version page.old lines.old.items accepted → IsTold version page.new lines.new.items accepted) }
@@ -42,6 +44,7 @@ fn begin(
     rec: &Record,
 ) -> Result<(), NoMemory>
     requires next { ∥ IsNext version page.old clocks.old lines.old.items rec.now ∥₁ }
+    requires of_version { has_record version rec.now ≡ true }
     requires begins { history.begins rec.now ≡ true }
     ensures told { OnOk result ((accepted : List Accepted) → IsTold version page.old lines.old.items accepted → cause_now version accepted rec.now ≡ None → IsTold version page.new lines.new.items (record { line = line; read = rec.now } ∷ accepted)) }
     ensures timed { OnOk result ((accepted : List Accepted) → IsTold version page.old lines.old.items accepted → AreTimed version clocks.old accepted → cause_now version accepted rec.now ≡ None → AreTimed version clocks.new (record { line = line; read = rec.now } ∷ accepted)) }

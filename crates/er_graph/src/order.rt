@@ -1,17 +1,20 @@
 //! The rules of all crates together: whether a record comes too late, and what comes before it. A crate of rules is a line in each.
 
-ghost use Rattle.std.specs.Prelude.{◌≡◌, List, Bool, false, None, IfOk};
+ghost use Rattle.std.specs.Prelude.{◌≡◌, List, ◌∷◌, Bool, false, None, IfOk, OnOk};
 ghost use Rattle.std.specs.List.{list_any};
 ghost use Rattle.er_trace.specs.declared.record.Record.{Record};
 ghost use Rattle.er_history.specs.History.{told};
-ghost use Rattle.er_history.specs.Rules.{rules};
+ghost use Rattle.er_history.specs.Handed.{HasHanded};
+ghost use Rattle.er_history.specs.Rules.{rules, task_rules};
 ghost use Rattle.er_history.specs.Edges.{path};
 ghost use Rattle.er_history.specs.Naming.{naming};
 ghost use Rattle.er_history.specs.Sound.{IsSound, out_of_order};
+ghost use Rattle.er_pieces.specs.Contract.{ComesNext};
 ghost use Rattle.er_pieces.specs.PiecesHanded.{ArePiecesHanded};
 ghost use Rattle.er_page.specs.Page.{IsPage, IsSomePage};
 ghost use Rattle.er_rules_timer.specs.Timed.{IsTimed, IsSomeTimed};
 ghost use Rattle.er_trace.specs.declared.version.Version.{Version};
+ghost use Rattle.er_graph.specs.Accepted.{AreOf};
 
 use er_clocks::Clocks;
 use er_outside::NoMemory;
@@ -21,6 +24,7 @@ use er_rules_load as load;
 use er_rules_parse as parse;
 use er_rules_request as request;
 use er_rules_script as script;
+use er_rules_task as task;
 use er_rules_timer as timer;
 use er_trace::record::Record;
 use er_trace::version::Version;
@@ -39,6 +43,7 @@ pub(crate) fn is_late(page: &Page, rec: &Record) -> bool
         dispatch::against::against(page, rec),
         timer::against::against(page, rec),
         request::against::against(page, rec),
+        task::against::against(page, rec),
     ];
     is_any(&late)
 }
@@ -60,7 +65,8 @@ pub(crate) fn sources(
     requires some { ∥ IsSomePage page.now ∥₁ }
     requires timed { ∥ IsSomeTimed version page.now clocks.now ∥₁ }
     ensures { IfOk result (λ found. (h : List Record) → IsTimed version page.now clocks.now h
-        → IsSound (rules version) h → naming h rec.now ≡ None → out_of_order (rules version) h rec.now ≡ false
+        → AreOf version (rec.now ∷ h) → IsSound (rules version) h → naming h rec.now ≡ None
+        → out_of_order (rules version) h rec.now ≡ false
         → ArePiecesHanded (rules version) (path (rules version) h) (told h) rec.now found.items) }
 {
     let mut found = SmallVec::new(alloc);
@@ -70,5 +76,26 @@ pub(crate) fn sources(
     dispatch::predecessors::predecessors(page, rec, &mut found)?;
     timer::predecessors::predecessors(page, clocks, version, rec, &mut found)?;
     request::predecessors::predecessors(page, rec, &mut found)?;
+    task_sources(page, clocks, version, rec, &mut found)?;
     Ok(found)
+}
+
+/// Hands the sources by the rules of tasks. A version that has no records of tasks has none.
+fn task_sources(
+    page: &Page,
+    clocks: &Clocks,
+    version: Version,
+    rec: &Record,
+    out: &mut SmallVec<u32, 8>,
+) -> Result<(), NoMemory>
+    requires timed { ∥ IsSomeTimed version page.now clocks.now ∥₁ }
+    ensures { OnOk result ((h : List Record) → IsTimed version page.now clocks.now h
+        → AreOf version (rec.now ∷ h) → ComesNext (rules version) h rec.now
+        → HasHanded task_rules (path (rules version) h) (told h) rec.now out.old.items out.new.items) }
+{
+    match version {
+        Version::One => Ok(()),
+        Version::Two => Ok(()),
+        Version::Three => task::predecessors::predecessors(page, clocks, rec, out),
+    }
 }

@@ -4,16 +4,11 @@ use Rattle.std.specs.Prelude.{IfSome}
 use Rattle.std.proofs.lemmas.List.Elements.{All-weaker}
 use Rattle.er_trace.specs.declared.record.Record.{Record}
 use Rattle.er_trace.specs.declared.record.Record.TheVariants.{Timer}
-use Rattle.er_history.specs.History.{or_else}
+use Rattle.er_firsts.specs.Taken.{KeepsEach}
 use Rattle.er_names.specs.declared.fired.Fired.{Fired}
 use Rattle.er_names.specs.declared.names.SetTimeout.{SetTimeout}
 use Rattle.er_names.specs.declared.names.Timeout.{Timeout}
-use Rattle.er_names.specs.Noted.{noted_in}
-use Rattle.er_names.specs.Fired.{AreFound, IsFound, KeepsEach, numbered, timer_found, timeouts_at}
-
--- a note keeps what stands there
-pub note_keeps : {X : Type 0} (old new : ℕ → Option X) (pair : Option (ℕ × X)) → ((k : ℕ) → new k ≡ or_else (old k) (noted_in k pair)) → KeepsEach old new
-note_keeps old new pair more k x is = more k ∙ ap (λ o. or_else o (noted_in k pair)) is
+use Rattle.er_names.specs.Fired.{AreFound, IsFound, numbered, timer_found, timeouts_at}
 
 is_still_found : (old new : ℕ → Option Timeout) (x : SetTimeout) → KeepsEach old new → IsFound old x → IsFound new x
 is_still_found old new x keeps is = by (old x.timeout) refl is

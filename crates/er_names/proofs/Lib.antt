@@ -2,4 +2,3 @@ pub mod AccessLemmas
 pub mod FoundLemmas
 pub mod NamesLemmas
 pub mod RankLemmas
-pub mod TaskLemmas

@@ -1,41 +1,18 @@
 -- How a table comes to stand for one record more.
-use Rattle.std.proofs.Common.{◌≡◌, ℕ, Bool, true, false, List, [], ◌∷◌, length, Option, Some, None, option_map, is_some, refl, sym, ap, subst, ◌∙◌}
-use Rattle.std.specs.Prelude.{◌||◌, ◌==◌, if◌then◌else◌, map}
+use Rattle.std.proofs.Common.{◌≡◌, ℕ, Bool, true, false, List, [], ◌∷◌, length, Option, Some, None, option_map, refl, sym, ap, ◌∙◌}
+use Rattle.std.specs.Prelude.{◌==◌, if◌then◌else◌, map}
 use Rattle.er_trace.specs.declared.record.Record.{Record}
 use Rattle.er_trace.specs.declared.record.Record.TheVariants.{Timer}
 use Rattle.er_history.specs.History as history
 use Rattle.er_history.specs.History.{told, or_else, first_to, makes_element, makes_timeout, running, actions_after, Action, Entry}
 use Rattle.er_history.specs.LookUps.{timeout_made, fires, fires_of}
+use Rattle.er_firsts.specs.Noted.{noted_in}
+use Rattle.er_firsts.proofs.FirstLemmas.{map_or_else, known_more, entry_more}
 use Rattle.er_names.specs.declared.names.Element.{Element}
 use Rattle.er_names.specs.declared.names.SetTimeout.{SetTimeout}
 use Rattle.er_names.specs.declared.names.Timeout.{Timeout}
-use Rattle.er_names.specs.Noted.{noted_in}
 use Rattle.er_names.specs.Fired.{number_of, numbered, timer_found, timer_listed, timers_of}
 use Rattle.er_names.specs.Names.{Setting, ElementsAre, TimeoutsAre, ElementGiven, SettingGiven, element_of, setting_of, setting}
-
-pub map_or_else : {A B : Type 0} (f : A → B) (o p : Option A) → option_map f (or_else o p) ≡ or_else (option_map f o) (option_map f p)
-map_or_else f None p = refl
-map_or_else f (Some x) p = refl
-
-pub known_more : {A : Type 0} (new old given : Option A) (b c : Bool) → new ≡ or_else old given → is_some old ≡ c → is_some given ≡ b → is_some new ≡ (b || c)
-known_more new None given b c e f g = ap is_some e ∙ (g ∙ step b c f)
-  where
-    step : (b c : Bool) → false ≡ c → b ≡ (b || c)
-    step true c f = refl
-    step false c f = f
-known_more new (Some x) given b c e f g = ap is_some e ∙ step b c f
-  where
-    step : (b c : Bool) → true ≡ c → true ≡ (b || c)
-    step true c f = refl
-    step false c f = f
-
--- the entry of a record after which this action runs
-pub entry_more : {B : Type 0} (f : Entry → Option B) (h : List Record) (x : Record) (a : Action) (o made : Option B) → running (actions_after (told h) x) ≡ Some a
-    → o ≡ first_to f (told h).entries → made ≡ f (record { read = x; place = length (told h).entries; action = Some a })
-    → or_else o made ≡ first_to f (told (x ∷ h)).entries
-entry_more f h x a o made runs e g =
-    let Same : Option Action → Type 0 = λ r. or_else o made ≡ or_else (first_to f (told h).entries) (f (record { read = x; place = length (told h).entries; action = r })) in
-    subst Same (sym runs) (ap (λ q. or_else q made) e ∙ ap (or_else (first_to f (told h).entries)) g)
 
 pub elements_more : (old new : ℕ → Option Element) (pair : Option (ℕ × Element)) (h : List Record) (x : Record) (a : Action)
     → ((k : ℕ) → new k ≡ or_else (old k) (noted_in k pair)) → ElementsAre old h → ElementGiven pair x a → running (actions_after (told h) x) ≡ Some a → ElementsAre new (x ∷ h)

@@ -27,10 +27,6 @@ numbered t x = record {
 abbrev pub IsFound : (ℕ → Option Timeout) → SetTimeout → Type 0
 IsFound found x = option_map (numbered x.timeout) (found x.timeout) ≡ Some x
 
--- what was found under a number is found there still
-abbrev pub KeepsEach : {X : Type 0} → (ℕ → Option X) → (ℕ → Option X) → Type 0
-KeepsEach {X} old new = (k : ℕ) (x : X) → old k ≡ Some x → new k ≡ Some x
-
 -- no list is as an empty one
 
 abbrev pub numbers_of : Option Firings → List ℕ

@@ -1,28 +1,23 @@
 -- What the tables of names stand for. Lists of records stand newest first.
-use Rattle.std.specs.Prelude.{◌≡◌, ℕ, ◌<◌, ◌||◌, Bool, List, ◌∷◌, length, Option, Some, None, is_some, option_map, nat_eq}
+use Rattle.std.specs.Prelude.{◌≡◌, ℕ, ◌<◌, ◌||◌, Bool, false, List, length, Option, Some, None, is_some, option_map, nat_eq}
 use Rattle.std.specs.List.{list_any}
 use Rattle.indexmap.specs.IndexMap.{get, spare, index_map_len}
 use Rattle.er_trace.specs.declared.record.Record.{Record}
+use Rattle.er_trace.specs.declared.record.Record.TheVariants.{Post, Ask, Queue, Message, Anim, Job}
 use Rattle.er_history.specs.History as history
-use Rattle.er_history.specs.History.{told, first_to, maker_by, makes_element, makes_timeout, declares_document, declares_handler, declares_interval, declares_request, running, actions_after, Action, Entry}
-use Rattle.er_history.specs.Tasks.{TaskKind, OfMessage, OfAnim, OfJob}
+use Rattle.er_history.specs.History.{told, first_to, makes_element, makes_timeout, declares_document, declares_handler, declares_interval, declares_request, Action}
+use Rattle.er_history.specs.Naming as naming
 use Rattle.er_history.specs.Naming.{knows_document, declares_element, sets_timeout, runs_script, fires_timeout, begins_dispatch, is_dcl, is_load, is_eload}
+use Rattle.er_firsts.specs.Found.{entry_of, MakersAre, FirstsAre, IsRanked}
+use Rattle.er_firsts.specs.Noted.{noted_in}
 use Rattle.er_names.specs.declared.names.Form.{Form}
 use Rattle.er_names.specs.declared.names.Form.TheVariants.{Kinded, Framing}
 use Rattle.er_names.specs.declared.names.Element.{Element}
 use Rattle.er_names.specs.declared.names.SetTimeout.{SetTimeout}
-use Rattle.er_names.specs.declared.names.BegunTask.{BegunTask}
-use Rattle.er_names.specs.declared.names.Task.{Task}
 use Rattle.er_names.specs.declared.names.Timeout.{Timeout}
-use Rattle.er_names.specs.declared.task_table.TaskTable.{TaskTable}
 use Rattle.er_names.specs.declared.names.Names.{Names}
-use Rattle.er_names.specs.declared.names.Now.{Now}
 use Rattle.er_names.specs.declared.tables.Tables.{Tables}
-pub use Rattle.er_names.specs.Found.{entry_of, MakersAre, FirstsAre, IsUnder, IsRanked}
-use Rattle.er_names.specs.Begun.{AreBegun}
-use Rattle.er_names.specs.Tasks.{TasksAre, HaveRoomFor}
 use Rattle.er_names.specs.Fired.{FiredAre, AreFound, HasPlaceFor, numbered, timer_found}
-use Rattle.er_names.specs.Noted.{noted_in}
 use Rattle.er_history.specs.LookUps.{place_of, closes_dispatch, makes_frame, begins_dcl, begins_load, begins_eload}
 
 abbrev pub form_of : Form → history.Form
@@ -106,12 +101,11 @@ pub record TablesAre (tables : Tables) (h : List Record) : Type 0 where
   pub loads : FirstsAre is_load begins_load (get nat_eq tables.loads) h
   pub eloads : FirstsAre is_eload begins_eload (get nat_eq tables.eloads) h
 
--- each table answers what the list says, and so do those of what has fired and of tasks
+-- each table answers what the list says, and so do those of what has fired
 pub record NamesAre (names : Names) (h : List Record) : Type 0 where
   pub tables : TablesAre names.tables h
   pub fired : FiredAre names.fired h
   pub found : AreFound (get nat_eq names.tables.timeouts) names.fired
-  pub tasks : TasksAre names.tasks h
 
 -- the timeout of this number
 abbrev pub timeout_at : Names → ℕ → Option SetTimeout
@@ -120,20 +114,6 @@ timeout_at names t = option_map (numbered t) (get nat_eq names.tables.timeouts t
 -- it is the timeout of its number
 abbrev pub IsSet : Names → SetTimeout → Type 0
 IsSet names x = timeout_at names x.timeout ≡ Some x
-
--- the table of a kind of tasks
-abbrev pub table_of : TaskKind → Names → TaskTable
-table_of OfMessage names = names.tasks.messages
-table_of OfAnim names = names.tasks.anims
-table_of OfJob names = names.tasks.jobs
-
--- what declared the task of this number
-abbrev pub task_at : TaskKind → Names → ℕ → Option Task
-task_at kind names number = get nat_eq (table_of kind names).declared number
-
--- these tasks have begun, each as the names have it, and they stand in runs
-abbrev pub HaveBegun : TaskKind → Names → List BegunTask → Type 0
-HaveBegun kind names tasks = AreBegun (get nat_eq (table_of kind names).declared) (get nat_eq (table_of kind names).started) tasks
 
 -- each table has room for one number more
 pub record HaveSpare (tables : Tables) : Type 0 where
@@ -152,34 +132,31 @@ pub record HaveSpare (tables : Tables) : Type 0 where
   pub loads : 0 < spare tables.loads
   pub eloads : 0 < spare tables.eloads
 
--- and so have the list of a timeout whose callback the record begins, and that of the event that queued a job
+-- and so has the list of a timeout whose callback the record begins
 pub record HasRoomFor (names : Names) (x : Record) : Type 0 where
   pub tables : HaveSpare names.tables
   pub fired : HasPlaceFor names.fired (timer_found (get nat_eq names.tables.timeouts) x)
-  pub tasks : HaveRoomFor names.tasks x
-
--- the action that runs when the record has been read, and its event
-pub record IsNow (h : List Record) (x : Record) (now : Now) : Type 0 where
-  pub running_action : Action
-  pub runs : running (actions_after (told h) x) ≡ Some running_action
-  pub action : now.action ≡ running_action.number
-  pub event : now.event ≡ running_action.event.number
-
--- what stood for a list stands for it still
-abbrev pub Keeps : {X : Type 0} → (X → List Record → Type 0) → X → X → Type 0
-Keeps Are old new = (h : List Record) → Are old h → Are new h
-
--- what stood for a list stands for the list with this record, if this action runs after it
-abbrev pub Takes : {X : Type 0} → (X → List Record → Type 0) → X → X → Record → Now → Type 0
-Takes Are old new x now = (h : List Record) → Are old h → IsNow h x now → Are new (x ∷ h)
-
--- the same whichever action runs
-abbrev pub TakesAny : {X : Type 0} → (X → List Record → Type 0) → X → X → Record → Type 0
-TakesAny Are old new x = (h : List Record) → Are old h → Are new (x ∷ h)
 
 -- the element or the document is declared
 abbrev pub declares_either : ℕ → ℕ → List Record → Bool
 declares_either element inner h = list_any (declares_element element) h || knows_document h inner
+
+-- What naming asks of records that neither declare nor begin a message, an animation callback or a job; of those it is asked elsewhere.
+
+abbrev pub unknown_name : List Record → Record → Bool
+unknown_name h (Message m) = false
+unknown_name h (Anim a) = false
+unknown_name h (Job j) = false
+unknown_name h x = naming.unknown h x
+
+abbrev pub name_again : List Record → Record → Bool
+name_again h (Post m) = false
+name_again h (Ask a) = false
+name_again h (Queue j) = false
+name_again h (Message m) = false
+name_again h (Anim a) = false
+name_again h (Job j) = false
+name_again h x = naming.again h x
 
 -- for every list that the names stand for, the result is what is said of the list
 abbrev pub Answers : {A : Type 0} → Names → (List Record → A) → A → Type 0

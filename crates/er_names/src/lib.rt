@@ -1,4 +1,4 @@
-//! What the records have declared, started and finished, by number.
+//! What the records have declared, started and finished, by number: all but messages, animation callbacks and jobs (er_tasks).
 //!
 //! `Names` stands for each list of accepted records that its tables tell of (`NamesAre` of specs/Names.antt).
 //! A look-up answers what its word of er_history (specs/LookUps.antt) says of such a list, and `None` where the list has nothing of the kind.
@@ -12,27 +12,16 @@
 //! | a document | `frame_of`, `dcl_of`, `load_of` |
 //! | a timeout | `timeout`, `delay_of`, `setting_piece`, `timer_event`; two of them: `set_before`; all that have fired: `fired`, `fired_timeouts` |
 //! | a dispatch | `begin_event`, `close_event` |
-//! | an event | `fired_with`, `fired_timeouts_with`, `jobs_queued`, `begun_jobs_of` |
-//! | a message | `message`, `message_piece`, `message_event`; all that have begun: `messages`, `begun_messages` |
-//! | an animation callback | `anim`, `anim_piece`, `anim_event`; all that have begun: `anims`, `begun_anims` |
-//! | a job | `job`, `job_piece`, `job_event`; all that have begun: `jobs`, `begun_jobs` |
-//! | two notes of tasks | `declared_before` |
+//! | an event | `fired_with`, `fired_timeouts_with` |
 //!
 //! A record is taken in two steps. `make_room` may answer `NoMemory`, and leaves what the names stand for;
 //! `take` needs the room and the action that runs when the record has been read, with its event (`Now`), and can't fail.
 #![tactic(auto)]
 
-mod begun;
 mod fired;
-mod firsts;
 pub mod look_ups;
 mod made;
 pub mod names;
 mod naming;
 mod notes;
-mod queued;
 mod tables;
-mod task_forms;
-pub mod task_look_ups;
-mod task_table;
-mod tasks;

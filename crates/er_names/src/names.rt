@@ -1,11 +1,12 @@
 //! What the records have declared, started and finished, and how one record more is taken.
 
 ghost use Rattle.std.specs.Prelude.{[], OnOk};
-ghost use Rattle.er_names.specs.Names.{NamesAre, HasRoomFor, Keeps, Takes};
+ghost use Rattle.er_firsts.specs.Taken.{Keeps, Takes};
+ghost use Rattle.er_names.specs.Names.{NamesAre, HasRoomFor};
 
 use crate::fired::Fired;
 use crate::tables::Tables;
-use crate::tasks::Tasks;
+use er_firsts::firsts::Now;
 use er_outside::NoMemory;
 use er_trace::record::{Kind, Record};
 use std::alloc::Global;
@@ -47,35 +48,10 @@ pub struct SetTimeout {
     pub rank: usize,
 }
 
-/// What declared a message, an animation callback or a job: the event and the piece, and how many of its kind were declared before.
-#[derive(Clone, Copy)]
-pub struct Task {
-    pub maker: u32,
-    pub piece: u32,
-    pub rank: usize,
-}
-
-/// A task whose event has begun: its number, the event, and what declared it. From the place `run` of its list on, each task before it was declared before it in the same piece.
-#[derive(Clone, Copy)]
-pub struct BegunTask {
-    pub number: u32,
-    pub event: u32,
-    pub task: Task,
-    pub run: usize,
-}
-
-/// The running action, and its event.
-#[derive(Clone, Copy)]
-pub struct Now {
-    pub action: u32,
-    pub event: u32,
-}
-
 /// What the records have declared, started and finished, by number.
 pub struct Names {
     pub(crate) tables: Tables,
     pub(crate) fired: Fired,
-    pub(crate) tasks: Tasks,
 }
 
 impl Drop for Names {
@@ -83,7 +59,6 @@ impl Drop for Names {
         let Names {
             tables: _,
             fired: _,
-            tasks: _,
         } = self;
     }
 }
@@ -96,7 +71,6 @@ impl Names {
         Names {
             tables: Tables::new(alloc),
             fired: Fired::new(alloc),
-            tasks: Tasks::new(alloc),
         }
     }
 
@@ -107,8 +81,7 @@ impl Names {
     {
         self.tables.make_room()?;
         let timer = self.tables.timer_in(rec);
-        self.fired.make_room(timer)?;
-        self.tasks.make_room(rec)
+        self.fired.make_room(timer)
     }
 
     /// Takes the record, after which this action runs.
@@ -119,6 +92,5 @@ impl Names {
         let timer = self.tables.timer_in(rec);
         self.tables.take(rec, now);
         self.fired.take(timer);
-        self.tasks.take(rec, now);
     }
 }

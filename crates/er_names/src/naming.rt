@@ -6,15 +6,15 @@ ghost use Rattle.er_trace.specs.declared.record.Record.{Record};
 ghost use Rattle.er_history.specs.History.{told};
 ghost use Rattle.er_history.specs.LookUps.{element_made};
 ghost use Rattle.er_history.specs.Naming as naming;
-ghost use Rattle.er_names.specs.Names.{Answers, declares_either, element_of};
+ghost use Rattle.er_names.specs.Names.{Answers, declares_either, element_of, name_again, unknown_name};
 
 use crate::names::{Element, Form, Names};
 use er_trace::record::{Kind, Record};
 
 impl Names {
-    /// Whether the record uses a number that no earlier record declared.
+    /// Whether the record uses a number that no earlier record declared. That of a message, an animation callback or a job is not asked here.
     pub fn is_unknown(&self, rec: &Record) -> bool
-        ensures { Answers self.now (λ h. naming.unknown h rec.now) result }
+        ensures { Answers self.now (λ h. unknown_name h rec.now) result }
     {
         match rec {
             Record::Parse { doc, .. } => !self.knows_document(*doc),
@@ -30,9 +30,6 @@ impl Names {
             Record::Inline { element, .. } => !self.has_element(*element),
             Record::Timer { timeout } => !self.tables.timeouts.contains_key(timeout),
             Record::Tick { interval } => !self.tables.intervals.contains_key(interval),
-            Record::Message { message } => !self.tasks.messages.has(*message),
-            Record::Anim { anim } => !self.tasks.anims.has(*anim),
-            Record::Job { job } => !self.tasks.jobs.has(*job),
             Record::Reply { request, .. } => !self.tables.requests.contains_key(request),
             Record::Run {
                 dispatch,
@@ -48,13 +45,16 @@ impl Names {
             Record::Post { .. } => false,
             Record::Ask { .. } => false,
             Record::Queue { .. } => false,
+            Record::Message { .. } => false,
+            Record::Anim { .. } => false,
+            Record::Job { .. } => false,
             Record::Access { .. } => false,
         }
     }
 
-    /// Whether it declares or starts what was declared or started before.
+    /// Whether it declares or starts what was declared or started before. That of a message, an animation callback or a job is not asked here.
     pub fn is_again(&self, rec: &Record) -> bool
-        ensures { Answers self.now (λ h. naming.again h rec.now) result }
+        ensures { Answers self.now (λ h. name_again h rec.now) result }
     {
         match rec {
             Record::Parse { element, .. } => self.has_element(*element),
@@ -80,12 +80,12 @@ impl Names {
             Record::Set { timeout, .. } => self.tables.timeouts.contains_key(timeout),
             Record::Every { interval, .. } => self.tables.intervals.contains_key(interval),
             Record::Send { request } => self.tables.requests.contains_key(request),
-            Record::Post { message } => self.tasks.messages.has(*message),
-            Record::Ask { anim } => self.tasks.anims.has(*anim),
-            Record::Queue { job } => self.tasks.jobs.has(*job),
-            Record::Message { message } => self.tasks.messages.has_begun(*message),
-            Record::Anim { anim } => self.tasks.anims.has_begun(*anim),
-            Record::Job { job } => self.tasks.jobs.has_begun(*job),
+            Record::Post { .. } => false,
+            Record::Ask { .. } => false,
+            Record::Queue { .. } => false,
+            Record::Message { .. } => false,
+            Record::Anim { .. } => false,
+            Record::Job { .. } => false,
             Record::Tick { .. } => false,
             Record::Run { .. } => false,
             Record::Close { .. } => false,

@@ -2,17 +2,18 @@
 
 ghost use Rattle.std.specs.Prelude.{◌≡◌, ℕ, [], OnOk, nat_eq};
 ghost use Rattle.indexmap.specs.IndexMap.{get};
-ghost use Rattle.er_names.specs.Fired.{KeepsEach, timer_found};
+ghost use Rattle.er_firsts.specs.Taken.{Keeps, KeepsEach, Takes};
+ghost use Rattle.er_names.specs.Fired.{timer_found};
 ghost use Rattle.er_names.specs.Fired as says;
-ghost use Rattle.er_names.specs.Names.{TablesAre, HaveSpare, Keeps, Takes};
+ghost use Rattle.er_names.specs.Names.{TablesAre, HaveSpare};
 
-use crate::firsts::make_room;
 use crate::made::{note_element, note_timeout};
-use crate::names::{Element, Now, SetTimeout, Timeout};
+use crate::names::{Element, SetTimeout, Timeout};
 use crate::notes::{
     note_begin, note_callback, note_close, note_dcl, note_document, note_eload, note_frame,
     note_handler, note_interval, note_load, note_request, note_run,
 };
+use er_firsts::firsts::{Now, make_room};
 use er_outside::NoMemory;
 use er_trace::record::Record;
 use indexmap::IndexMap;

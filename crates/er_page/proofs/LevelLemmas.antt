@@ -43,11 +43,11 @@ any_inline s n e = ap (nat_lt 0) e ∙ by s
   where
     by : (s : List Open) → nat_lt 0 (inlines s) ≡ list_any (λ (o : Open). is_inline o.dispatch) s
     by [] = refl
-    by (o ∷ below) = step (is_inline o.dispatch)
+    by (o ∷ below) = step (is_inline o.dispatch) (by below)
       where
-        step : (b : Bool) → nat_lt 0 (length (if b then o ∷ filter (λ (q : Open). is_inline q.dispatch) below else filter (λ (q : Open). is_inline q.dispatch) below)) ≡ (b || list_any (λ (q : Open). is_inline q.dispatch) below)
-        step true = grind (arith, nat_tests)
-        step false = by below
+        step : (b : Bool) → nat_lt 0 (inlines below) ≡ list_any (λ (q : Open). is_inline q.dispatch) below → nat_lt 0 (length (if b then o ∷ filter (λ (q : Open). is_inline q.dispatch) below else filter (λ (q : Open). is_inline q.dispatch) below)) ≡ (b || list_any (λ (q : Open). is_inline q.dispatch) below)
+        step true rest = grind (arith, nat_tests)
+        step false rest = rest
 
 -- one record more
 

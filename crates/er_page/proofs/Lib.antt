@@ -1,5 +1,6 @@
 pub mod AcceptedLemmas
 pub mod LevelLemmas
+pub mod NamingLemmas
 pub mod PageLemmas
 pub mod PiecesLemmas
 pub mod RoleLemmas

@@ -28,24 +28,24 @@ is_job (Job j) = true
 is_job _ = false
 
 not_job : (p n : ℕ) (x : Record) (w : What) → is_job x ≡ false → Form x w → test p n w ≡ false
-not_job p n (Parse d e k) w no form = ap (test p n) form.1
-not_job p n (ParseFrame d e f) w no form = ap (test p n) form.1
-not_job p n (Exec e) w no form = ap (test p n) form.1
-not_job p n (Timer t) w no form = ap (test p n) form.1
-not_job p n (Tick i) w no form = ap (test p n) form.1
-not_job p n (Message m) w no form = ap (test p n) form.1
-not_job p n (Anim a) w no form = ap (test p n) form.1
-not_job p n (Dcl q c) w no form = ap (test p n) form.1.1
-not_job p n (Load q c) w no form = ap (test p n) form.1.1
-not_job p n (Eload q e) w no form = ap (test p n) form.1.1
-not_job p n (Fire q e m) w no form = ap (test p n) form.1.1
-not_job p n (Inline q e m) w no form = ap (test p n) form.1.1
-not_job p n (Wfire q c m) w no form = ap (test p n) form.1.1
-not_job p n (Reply q r) w no form = ap (test p n) form.1.1
-not_job p n (Run q g y) w no form = ap (test p n) form.2
-not_job p n (Close q) w no form = ap (test p n) form.1
-not_job p n (Job j) w no form = absurd (cc)
-not_job p n _ w no form = absurd form
+not_job p n (Parse d e k) w apart form = ap (test p n) form.1
+not_job p n (ParseFrame d e f) w apart form = ap (test p n) form.1
+not_job p n (Exec e) w apart form = ap (test p n) form.1
+not_job p n (Timer t) w apart form = ap (test p n) form.1
+not_job p n (Tick i) w apart form = ap (test p n) form.1
+not_job p n (Message m) w apart form = ap (test p n) form.1
+not_job p n (Anim a) w apart form = ap (test p n) form.1
+not_job p n (Dcl q c) w apart form = ap (test p n) form.1.1
+not_job p n (Load q c) w apart form = ap (test p n) form.1.1
+not_job p n (Eload q e) w apart form = ap (test p n) form.1.1
+not_job p n (Fire q e m) w apart form = ap (test p n) form.1.1
+not_job p n (Inline q e m) w apart form = ap (test p n) form.1.1
+not_job p n (Wfire q c m) w apart form = ap (test p n) form.1.1
+not_job p n (Reply q r) w apart form = ap (test p n) form.1.1
+not_job p n (Run q g y) w apart form = ap (test p n) form.2
+not_job p n (Close q) w apart form = ap (test p n) form.1
+not_job p n (Job j) w apart form = absurd (cc)
+not_job p n _ w apart form = absurd form
 
 -- an action that is no first piece, or whose event is no such job
 

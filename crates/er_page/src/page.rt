@@ -5,9 +5,10 @@
 ghost use Rattle.std.specs.Prelude.{◌≡◌, List, [], ◌∷◌, Some, None, IfOk, OnOk, OnErr};
 ghost use Rattle.er_trace.specs.declared.record.Record.{Record};
 ghost use Rattle.er_history.specs.History.{told};
-ghost use Rattle.er_history.specs.Naming.{misplaced, naming, room, too_many_actions, too_deep};
+ghost use Rattle.er_history.specs.Naming.{again, misplaced, naming, room, too_many_actions, too_deep, unknown};
 ghost use Rattle.er_page.specs.Accepted.{result_of};
 ghost use Rattle.er_names.specs.Names.{HasRoomFor};
+ghost use Rattle.er_tasks.specs.Tasks.{HaveRoomFor};
 ghost use Rattle.er_page.specs.Page.{IsPage, IsNext, IsNextOf, Answers};
 ghost use Rattle.er_page.specs.Pieces.{about_start, about_begun};
 
@@ -16,10 +17,12 @@ use crate::roles::{first_of, role_by, served_of};
 use crate::stack::Stack;
 use crate::starts::start_of;
 use crate::within::{Within, job_dispatch};
+use er_firsts::firsts::Now;
 use er_latest::latest::Latest;
 use er_latest::role::Now as Told;
-use er_names::names::{Names, Now};
+use er_names::names::Names;
 use er_outside::NoMemory;
+use er_tasks::tasks::Tasks;
 use er_text::Cause;
 use er_trace::record::Record;
 use std::alloc::Global;
@@ -33,6 +36,7 @@ const MOST_INLINE: u32 = 256;
 /// What a list of accepted records declares, has run and has on the stack.
 pub struct Page {
     pub(crate) names: Names,
+    pub(crate) tasks: Tasks,
     pub(crate) stack: Stack,
     pub(crate) pieces: Pieces,
     pub(crate) latest: Latest,
@@ -43,6 +47,7 @@ impl Drop for Page {
     fn drop(self) {
         let Page {
             names: _,
+            tasks: _,
             stack: _,
             pieces: _,
             latest: _,
@@ -58,6 +63,7 @@ impl Page {
     {
         Ok(Page {
             names: Names::new(alloc),
+            tasks: Tasks::new(alloc),
             stack: Stack::new(alloc),
             pieces: Pieces::new(alloc),
             latest: Latest::new(alloc),
@@ -69,10 +75,10 @@ impl Page {
     pub fn check(&self, rec: &Record) -> Result<(), Cause>
         ensures { Answers self.now (λ h. result_of (naming h rec.now)) result }
     {
-        if self.names.is_unknown(rec) {
+        if self.is_unknown(rec) {
             return Err(Cause::Unknown);
         }
-        if self.names.is_again(rec) {
+        if self.is_again(rec) {
             return Err(Cause::Again);
         }
         if self.names.is_not_script(rec) {
@@ -107,7 +113,7 @@ impl Page {
         if let Record::Access { .. } = rec {
             return Ok(());
         }
-        self.names.make_room(rec)?;
+        self.make_room(rec)?;
         match start_of(&self.stack, &self.pieces, rec) {
             Some(start) => self.begin(rec, start),
             None => {
@@ -117,10 +123,21 @@ impl Page {
         }
     }
 
+    /// Makes room for what the record declares, starts or finishes.
+    fn make_room(&mut self, rec: &Record) -> Result<(), NoMemory>
+        ensures kept { (h : List Record) → IsPage self.old h → IsPage self.new h }
+        ensures names { OnOk result (HasRoomFor self.new.names rec.now) }
+        ensures tasks { OnOk result (HaveRoomFor self.new.tasks rec.now) }
+    {
+        self.names.make_room(rec)?;
+        self.tasks.make_room(rec)
+    }
+
     /// Takes a record that begins a piece of this event. All that grows is made to grow first.
     fn begin(&mut self, rec: &Record, start: Start) -> Result<(), NoMemory>
         requires next { ∥ IsNext self.old rec.now ∥₁ }
-        requires room { HasRoomFor self.old.names rec.now }
+        requires names { HasRoomFor self.old.names rec.now }
+        requires tasks { HaveRoomFor self.old.tasks rec.now }
         ensures taken { OnOk result ((h : List Record) → IsPage self.old h → IsNextOf h rec.now → Some (about_start start) ≡ about_begun h rec.now → IsPage self.new (rec.now ∷ h)) }
         ensures kept { OnErr result ((h : List Record) → IsPage self.old h → IsPage self.new h) }
     {
@@ -136,6 +153,7 @@ impl Page {
         self.within.make_room(dispatch)?;
         self.latest.take(&role, Told { action, event });
         self.names.take(rec, Now { action, event });
+        self.tasks.take(rec, Now { action, event });
         self.stack.take(rec, action);
         self.pieces.take(begin, start);
         self.within.take(dispatch, action);
@@ -144,12 +162,28 @@ impl Page {
 
     /// Takes a note, which stands in the running action.
     fn note(&mut self, rec: &Record)
-        requires room { HasRoomFor self.old.names rec.now }
+        requires names { HasRoomFor self.old.names rec.now }
+        requires tasks { HaveRoomFor self.old.tasks rec.now }
         ensures { (h : List Record) → IsPage self.old h → IsNextOf h rec.now → None ≡ about_begun h rec.now → IsPage self.new (rec.now ∷ h) }
     {
         if let Some(now) = self.pieces.now() {
             self.names.take(rec, now);
+            self.tasks.take(rec, now);
         }
+    }
+
+    /// Whether the record uses a number that no earlier record declared.
+    fn is_unknown(&self, rec: &Record) -> bool
+        ensures { Answers self.now (λ h. unknown h rec.now) result }
+    {
+        self.names.is_unknown(rec) | self.tasks.is_unknown(rec)
+    }
+
+    /// Whether it declares or starts what was declared or started before.
+    fn is_again(&self, rec: &Record) -> bool
+        ensures { Answers self.now (λ h. again h rec.now) result }
+    {
+        self.names.is_again(rec) | self.tasks.is_again(rec)
     }
 
     /// Whether the record begins an action that is one too many.

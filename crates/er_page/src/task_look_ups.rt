@@ -4,12 +4,12 @@ ghost use Rattle.std.specs.Prelude.{◌≡◌, List, map};
 ghost use Rattle.er_trace.specs.declared.record.Record.{Record};
 ghost use Rattle.er_history.specs.LookUps as says;
 ghost use Rattle.er_history.specs.Tasks.{OfMessage, OfAnim, OfJob, queued_jobs};
-ghost use Rattle.er_names.specs.Begun.{task_number};
-ghost use Rattle.er_names.specs.Names.{HaveBegun, task_at};
+ghost use Rattle.er_tasks.specs.Begun.{task_number};
+ghost use Rattle.er_tasks.specs.Tasks.{HaveBegun, task_at};
 ghost use Rattle.er_page.specs.Page.{Answers, IsPage};
 
 use crate::page::Page;
-use er_names::names::{BegunTask, Task};
+use er_tasks::tasks::{BegunTask, Task};
 use er_trace::record::Record;
 
 /// Messages.
@@ -18,36 +18,36 @@ impl Page {
     pub fn message_piece(&self, message: u32) -> Option<u32>
         ensures { Answers self.now (λ h. says.message_piece h message) result }
     {
-        self.names.message_piece(message)
+        self.tasks.message_piece(message)
     }
 
     /// The event of the message.
     pub fn message_event(&self, message: u32) -> Option<u32>
         ensures { Answers self.now (λ h. says.message_event h message) result }
     {
-        self.names.message_event(message)
+        self.tasks.message_event(message)
     }
 
     /// The messages whose events have begun, in order.
     pub fn messages(&self) -> &[u32]
         ensures { Answers self.now says.messages result.now }
     {
-        self.names.messages()
+        self.tasks.messages()
     }
 
     /// What posted the message.
     pub fn message(&self, message: u32) -> Option<Task>
-        ensures { result ≡ task_at OfMessage self.now.names message }
+        ensures { result ≡ task_at OfMessage self.now.tasks message }
     {
-        self.names.message(message)
+        self.tasks.message(message)
     }
 
     /// The messages whose events have begun, in order, with what posted them.
     pub fn begun_messages(&self) -> &[BegunTask]
         ensures numbers { Answers self.now says.messages (map task_number result.now) }
-        ensures begun { (h : List Record) → IsPage self.now h → HaveBegun OfMessage self.now.names result.now }
+        ensures begun { (h : List Record) → IsPage self.now h → HaveBegun OfMessage self.now.tasks result.now }
     {
-        self.names.begun_messages()
+        self.tasks.begun_messages()
     }
 }
 
@@ -57,36 +57,36 @@ impl Page {
     pub fn anim_piece(&self, anim: u32) -> Option<u32>
         ensures { Answers self.now (λ h. says.anim_piece h anim) result }
     {
-        self.names.anim_piece(anim)
+        self.tasks.anim_piece(anim)
     }
 
     /// The event that is the callback.
     pub fn anim_event(&self, anim: u32) -> Option<u32>
         ensures { Answers self.now (λ h. says.anim_event h anim) result }
     {
-        self.names.anim_event(anim)
+        self.tasks.anim_event(anim)
     }
 
     /// The callbacks that have begun, in order.
     pub fn anims(&self) -> &[u32]
         ensures { Answers self.now says.anims result.now }
     {
-        self.names.anims()
+        self.tasks.anims()
     }
 
     /// What asked for the callback.
     pub fn anim(&self, anim: u32) -> Option<Task>
-        ensures { result ≡ task_at OfAnim self.now.names anim }
+        ensures { result ≡ task_at OfAnim self.now.tasks anim }
     {
-        self.names.anim(anim)
+        self.tasks.anim(anim)
     }
 
     /// The callbacks that have begun, in order, with what asked for them.
     pub fn begun_anims(&self) -> &[BegunTask]
         ensures numbers { Answers self.now says.anims (map task_number result.now) }
-        ensures begun { (h : List Record) → IsPage self.now h → HaveBegun OfAnim self.now.names result.now }
+        ensures begun { (h : List Record) → IsPage self.now h → HaveBegun OfAnim self.now.tasks result.now }
     {
-        self.names.begun_anims()
+        self.tasks.begun_anims()
     }
 }
 
@@ -96,28 +96,28 @@ impl Page {
     pub fn job_piece(&self, job: u32) -> Option<u32>
         ensures { Answers self.now (λ h. says.job_piece h job) result }
     {
-        self.names.job_piece(job)
+        self.tasks.job_piece(job)
     }
 
     /// The event that is the job.
     pub fn job_event(&self, job: u32) -> Option<u32>
         ensures { Answers self.now (λ h. says.job_event h job) result }
     {
-        self.names.job_event(job)
+        self.tasks.job_event(job)
     }
 
     /// The jobs that have begun, in order.
     pub fn jobs(&self) -> &[u32]
         ensures { Answers self.now says.jobs result.now }
     {
-        self.names.jobs()
+        self.tasks.jobs()
     }
 
     /// The events of the jobs queued in the event that have begun, in order.
     pub fn jobs_queued(&self, event: u32) -> &[u32]
         ensures { Answers self.now (λ h. says.jobs_queued h event) result.now }
     {
-        self.names.jobs_queued(event)
+        self.tasks.jobs_queued(event)
     }
 
     /// The events of the jobs begun while the dispatch was on the stack, in order.
@@ -129,25 +129,25 @@ impl Page {
 
     /// What queued the job.
     pub fn job(&self, job: u32) -> Option<Task>
-        ensures { result ≡ task_at OfJob self.now.names job }
+        ensures { result ≡ task_at OfJob self.now.tasks job }
     {
-        self.names.job(job)
+        self.tasks.job(job)
     }
 
     /// The jobs that have begun, in order, with what queued them.
     pub fn begun_jobs(&self) -> &[BegunTask]
         ensures numbers { Answers self.now says.jobs (map task_number result.now) }
-        ensures begun { (h : List Record) → IsPage self.now h → HaveBegun OfJob self.now.names result.now }
+        ensures begun { (h : List Record) → IsPage self.now h → HaveBegun OfJob self.now.tasks result.now }
     {
-        self.names.begun_jobs()
+        self.tasks.begun_jobs()
     }
 
     /// The jobs queued in the event that have begun, in order, with what queued them.
     pub fn begun_jobs_of(&self, event: u32) -> &[BegunTask]
         ensures numbers { Answers self.now (λ h. queued_jobs h event) (map task_number result.now) }
-        ensures begun { (h : List Record) → IsPage self.now h → HaveBegun OfJob self.now.names result.now }
+        ensures begun { (h : List Record) → IsPage self.now h → HaveBegun OfJob self.now.tasks result.now }
     {
-        self.names.begun_jobs_of(event)
+        self.tasks.begun_jobs_of(event)
     }
 }
 
@@ -157,6 +157,6 @@ impl Page {
     pub fn declared_before(&self, first: &Record, second: &Record) -> bool
         ensures { Answers self.now (λ h. says.declared_before h first.now second.now) result }
     {
-        self.names.declared_before(first, second)
+        self.tasks.declared_before(first, second)
     }
 }

@@ -1,3 +1,4 @@
 pub mod ReadLemmas
 pub mod NumberLemmas
 pub mod ReasonLemmas
+pub mod TaskLemmas

@@ -1,9 +1,11 @@
 -- An event is what the record of its first piece and the whole list say. Lists of records stand newest first.
 use Rattle.std.proofs.Common.{◌≡◌, ◌<◌, ℕ, true, List, length, option_map, Option, Some, None, refl, sym, ap, subst, ◌∙◌, arith}
+use Rattle.std.specs.Prelude.{[], if◌then◌else◌}
 use Rattle.std.proofs.Math.Logic.{∥∥₁_map}
+use Rattle.std.proofs.lemmas.Bool.{eq-eqb}
 use Rattle.er_trace.specs.declared.record.Record.{Record}
-use Rattle.er_trace.specs.declared.record.Record.TheVariants.{Parse, ParseFrame, Exec, Timer, Tick, Dcl, Load, Eload, Fire, Wfire, Reply, Inline, Run, Close}
-use Rattle.er_history.specs.History.{told, begins, Dispatch, Delivery, DclOf, LoadOf, EloadOf, FireAt, InlineAt, WindowFire, ReplyOf, What, ParseStep, ScriptRun, TimeoutRun, TickRun, BeginOf, HandlerOf, Event, Action, action_at}
+use Rattle.er_trace.specs.declared.record.Record.TheVariants.{Parse, ParseFrame, Exec, Timer, Tick, Dcl, Load, Eload, Fire, Wfire, Reply, Inline, Run, Close, Message, Anim, Job}
+use Rattle.er_history.specs.History.{told, begins, Dispatch, Delivery, DclOf, LoadOf, EloadOf, FireAt, InlineAt, WindowFire, ReplyOf, What, ParseStep, ScriptRun, TimeoutRun, TickRun, BeginOf, HandlerOf, MessageRun, AnimRun, JobRun, Event, Action, action_at}
 use Rattle.er_history.specs.Facts.{DeliveryIs, WhatIs}
 use Rattle.er_history.specs.LookUps.{begin_of, begin_event, event_of, maker_of_handler}
 use Rattle.er_history.specs.Naming.{IsNamed, begins_dispatch}
@@ -23,7 +25,7 @@ use Rattle.er_page.specs.Page.{IsPage, IsSomePage}
 use Rattle.er_page.proofs.AcceptedLemmas.{accepted_named}
 use Rattle.er_page.proofs.RoleLemmas.{Form, form_first}
 use Rattle.er_page.proofs.SeenLemmas.{found_below}
-use Rattle.er_reasons.specs.Read.{delivery_read, dispatch_by, dispatch_read, begun_what, handler_what, close_what, what_read, EventsAreAsRead}
+use Rattle.er_reasons.specs.Read.{delivery_read, dispatch_by, dispatch_read, begun_what, handler_what, close_what, within_in, within_at, within_of, what_read, EventsAreAsRead}
 
 -- what a dispatch delivers
 
@@ -106,6 +108,14 @@ events_are_as_read h a named among own = by a.begin a.event.what refl (form_firs
     by (Exec e) w is form exact number = let found = subst (WhatIs (told h).entries) form.1 exact in form.1 ∙ ap (ScriptRun e) found.0
     by (Timer t) w is form exact number = let found = subst (WhatIs (told h).entries) form.1 exact in form.1 ∙ ap (TimeoutRun t) found.0
     by (Tick i) w is form exact number = form.1 ∙ ap (TickRun i) (subst (WhatIs (told h).entries) form.1 exact)
+    by (Message m) w is form exact number = let found = subst (WhatIs (told h).entries) form.1 exact in form.1 ∙ ap (MessageRun m) found.0
+    by (Anim k) w is form exact number = let found = subst (WhatIs (told h).entries) form.1 exact in form.1 ∙ ap (AnimRun k) found.0
+    by (Job j) w is form exact number =
+        let found = subst (WhatIs (told h).entries) form.2 exact in
+        let there = found_by_number (told h).actions a (actions_are_numbered h) among in
+        let within : within_of h a.number ≡ form.1 =
+        ap within_at there ∙ (ap (λ b. if b then within_in a.event.what else []) (eq-eqb a.number a.event.number (sym own)) ∙ ap within_in (is ∙ form.2)) in
+        form.2 ∙ (λ i. JobRun j (found.0 i) (sym within i))
     by (Run p g y) w is form exact number =
         let d = form.0 in
         let found = subst (WhatIs (told h).entries) form.2 exact in

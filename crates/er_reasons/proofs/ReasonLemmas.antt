@@ -6,7 +6,7 @@ use Rattle.er_trace.specs.declared.record.Record.{Record}
 use Rattle.er_trace.specs.declared.version.Version.{Version}
 use Rattle.er_links.proofs.Tests.{decide, never}
 use Rattle.er_history.specs.History.{told, action_at, Action, Event}
-use Rattle.er_history.specs.Rules.{Rule, rules, parse_rules, script_rules, load_rules, dispatch_rules, timer_rules, request_rules}
+use Rattle.er_history.specs.Rules.{Rule, rules, parse_rules, script_rules, load_rules, dispatch_rules, timer_rules, request_rules, task_rules}
 use Rattle.er_history.specs.Edges.{path, up_to}
 use Rattle.er_history.specs.Laws.{IsNumbered}
 use Rattle.er_history.specs.LookUps.{begin_of}
@@ -71,30 +71,34 @@ rule_told version h i j a b x u v events pieces forward first second is_u is_v b
     same_record e = cc
 
 -- the groups of rules one after the other
-pub groups_told : (version : Version) (joined : ℕ → ℕ → Bool) (u v : Event) → least_rule (rules version) joined u v
-    ≡ lesser (lesser (lesser (lesser (lesser (least_rule parse_rules joined u v) (least_rule script_rules joined u v)) (least_rule load_rules joined u v)) (least_rule dispatch_rules joined u v)) (least_rule (timer_rules version) joined u v)) (least_rule request_rules joined u v)
+
+abbrev first_six : Version → (ℕ → ℕ → Bool) → Event → Event → Option ℕ
+first_six version joined u v =
+    lesser (lesser (lesser (lesser (lesser (least_rule parse_rules joined u v) (least_rule script_rules joined u v)) (least_rule load_rules joined u v)) (least_rule dispatch_rules joined u v)) (least_rule (timer_rules version) joined u v)) (least_rule request_rules joined u v)
+
+pub groups_told : (version : Version) (joined : ℕ → ℕ → Bool) (u v : Event) → least_rule (rules version) joined u v ≡ lesser (first_six version joined u v) (least_rule task_rules joined u v)
 groups_told version joined u v =
     let p = parse_rules in
-    least_append (p ++ script_rules ++ load_rules ++ dispatch_rules ++ timer_rules version) request_rules joined u v
+    least_append (p ++ script_rules ++ load_rules ++ dispatch_rules ++ timer_rules version ++ request_rules) task_rules joined u v
+    ∙ ap (λ (o : Option ℕ). lesser o (least_rule task_rules joined u v)) (least_append (p ++ script_rules ++ load_rules ++ dispatch_rules ++ timer_rules version) request_rules joined u v
     ∙ ap (λ (o : Option ℕ). lesser o (least_rule request_rules joined u v)) (least_append (p ++ script_rules ++ load_rules ++ dispatch_rules) (timer_rules version) joined u v
     ∙ ap (λ (o : Option ℕ). lesser o (least_rule (timer_rules version) joined u v)) (least_append (p ++ script_rules ++ load_rules) dispatch_rules joined u v
     ∙ ap (λ (o : Option ℕ). lesser o (least_rule dispatch_rules joined u v)) (least_append (p ++ script_rules) load_rules joined u v
-    ∙ ap (λ (o : Option ℕ). lesser o (least_rule load_rules joined u v)) (least_append p script_rules joined u v))))
+    ∙ ap (λ (o : Option ℕ). lesser o (least_rule load_rules joined u v)) (least_append p script_rules joined u v)))))
 
 -- found group by group
-pub groups_found : (version : Version) (joined : ℕ → ℕ → Bool) (u v : Event) (parse script load dispatch timer request two three four five all : Option ℕ)
+pub groups_found : (version : Version) (joined : ℕ → ℕ → Bool) (u v : Event) (parse script load dispatch timer request task two three four five six all : Option ℕ)
     → parse ≡ least_rule parse_rules joined u v → script ≡ least_rule script_rules joined u v → load ≡ least_rule load_rules joined u v → dispatch ≡ least_rule dispatch_rules joined u v
-    → timer ≡ least_rule (timer_rules version) joined u v → request ≡ least_rule request_rules joined u v
-    → two ≡ lesser parse script → three ≡ lesser two load → four ≡ lesser three dispatch → five ≡ lesser four timer → all ≡ lesser five request
+    → timer ≡ least_rule (timer_rules version) joined u v → request ≡ least_rule request_rules joined u v → task ≡ least_rule task_rules joined u v
+    → two ≡ lesser parse script → three ≡ lesser two load → four ≡ lesser three dispatch → five ≡ lesser four timer → six ≡ lesser five request → all ≡ lesser six task
     → all ≡ least_rule (rules version) joined u v
-groups_found version joined u v parse script load dispatch timer request two three four five all e1 e2 e3 e4 e5 e6 f2 f3 f4 f5 f6 =
-    let a : two ≡ lesser (least_rule parse_rules joined u v) (least_rule script_rules joined u v) = f2 ∙ ap (λ (o : Option ℕ). lesser o script) e1 ∙ ap (lesser (least_rule parse_rules joined u v)) e2 in
-    let b = f3 ∙ ap (λ (o : Option ℕ). lesser o load) a ∙ ap (lesser (lesser (least_rule parse_rules joined u v) (least_rule script_rules joined u v))) e3 in
-    let c = f4 ∙ ap (λ (o : Option ℕ). lesser o dispatch) b ∙ ap (lesser (lesser (lesser (least_rule parse_rules joined u v) (least_rule script_rules joined u v)) (least_rule load_rules joined u v))) e4 in
-    let d = f5 ∙ ap (λ (o : Option ℕ). lesser o timer) c ∙ ap (lesser (lesser (lesser (lesser (least_rule parse_rules joined u v) (least_rule script_rules joined u v)) (least_rule load_rules joined u v)) (least_rule dispatch_rules joined u v))) e5 in
-    f6 ∙ ap (λ (o : Option ℕ). lesser o request) d
-    ∙ ap (lesser (lesser (lesser (lesser (lesser (least_rule parse_rules joined u v) (least_rule script_rules joined u v)) (least_rule load_rules joined u v)) (least_rule dispatch_rules joined u v)) (least_rule (timer_rules version) joined u v))) e6
-    ∙ sym (groups_told version joined u v)
+groups_found version joined u v parse script load dispatch timer request task two three four five six all e1 e2 e3 e4 e5 e6 e7 f2 f3 f4 f5 f6 f7 =
+    let a : two ≡ lesser (least_rule parse_rules joined u v) (least_rule script_rules joined u v) = f2 ∙ (λ i. lesser (e1 i) (e2 i)) in
+    let b = f3 ∙ (λ i. lesser (a i) (e3 i)) in
+    let c = f4 ∙ (λ i. lesser (b i) (e4 i)) in
+    let d = f5 ∙ (λ i. lesser (c i) (e5 i)) in
+    let e : six ≡ first_six version joined u v = f6 ∙ (λ i. lesser (d i) (e6 i)) in
+    f7 ∙ ((λ i. lesser (e i) (e7 i)) ∙ sym (groups_told version joined u v))
 
 -- between different events
 pub events_told : (table : List (ℕ × Rule)) (joined : ℕ → ℕ → Bool) (u v : Event) (found : Option ℕ) → (u.number == v.number) ≡ false → found ≡ least_rule table joined u v → found ≡ rule_of_events table joined u v

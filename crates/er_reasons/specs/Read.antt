@@ -1,5 +1,5 @@
 -- What an event is, by the record that began it and what the whole list says. Lists of records stand newest first.
-use Rattle.std.specs.Prelude.{◌≡◌, ℕ, List, [], Option, Some, None}
+use Rattle.std.specs.Prelude.{◌≡◌, ◌==◌, if◌then◌else◌, ℕ, List, [], Option, Some, None}
 use Rattle.er_trace.specs.declared.record.Record.{Record}
 use Rattle.er_trace.specs.declared.record.Record.TheVariants.{Parse, ParseFrame, Exec, Timer, Tick, Dcl, Load, Eload, Fire, Wfire, Reply, Inline, Run, Close, Message, Anim, Job}
 use Rattle.er_history.specs.History.{Delivery, DclOf, LoadOf, EloadOf, FireAt, InlineAt, WindowFire, ReplyOf, Dispatch, What, ParseStep, ScriptRun, TimeoutRun, TickRun, BeginOf, HandlerOf, CloseOf, MessageRun, AnimRun, JobRun, Unnamed, Action, action_at, told}
@@ -56,13 +56,14 @@ abbrev pub within_in : What → List ℕ
 within_in (JobRun j made within) = within
 within_in _ = []
 
--- when the job began that is this action
+-- of a job's first piece
+abbrev pub within_at : Option Action → List ℕ
+within_at None = []
+within_at (Some a) = if a.number == a.event.number then within_in a.event.what else []
+
+-- when the job began of which this action is the first piece
 abbrev pub within_of : List Record → ℕ → List ℕ
-within_of h k = of (action_at k (told h).actions)
-  where
-    of : Option Action → List ℕ
-    of None = []
-    of (Some a) = within_in a.event.what
+within_of h k = within_at (action_at k (told h).actions)
 
 -- what the event is that a record began as action k
 abbrev pub what_read : List Record → ℕ → Record → What

@@ -1,7 +1,7 @@
 -- Parts of the rules: the tests between what two events deliver.
 use Rattle.std.specs.Prelude.{ℕ, Bool, false, not, ◌==◌, ◌&&◌, nat_lt, nat_le, List, Option}
 use Rattle.er_trace.specs.declared.record.Record.{Record}
-use Rattle.er_history.specs.History.{Delivery, LoadOf, EloadOf, FireAt, InlineAt, ReplyOf, What, ScriptRun, CloseOf, Timeout, Event, Action, is_inline}
+use Rattle.er_history.specs.History.{Delivery, LoadOf, EloadOf, FireAt, InlineAt, ReplyOf, What, ScriptRun, TimeoutRun, TickRun, CloseOf, MessageRun, AnimRun, Task, Timeout, Event, Action, is_inline}
 use Rattle.er_history.specs.Rules.{of_made, both_made, is_plain, declared, same_bytes}
 
 -- the run of this script
@@ -45,6 +45,18 @@ fires_in_order made later = both_made (λ x y. (x.maker == y.maker) && (nat_lt x
 -- the one timeout was set before the other with no greater delay, and a path leads from the piece that set it to that of the other
 abbrev pub fires_behind : (ℕ → ℕ → Bool) → Option Timeout → Option Timeout → Bool
 fires_behind joined made later = both_made (λ x y. nat_lt x.place y.place && (nat_le x.delay y.delay && joined x.piece y.piece)) made later
+
+-- the event that declared the task
+abbrev pub is_declarer : Option Task → ℕ → Bool
+is_declarer made event = of_made (λ (x : Task). x.maker == event) made
+
+-- the callback of a timeout or an interval that this event set, the event of a message that it posted, or an animation callback that it asked for
+abbrev pub declares : ℕ → What → Bool
+declares maker (TimeoutRun t made) = is_setter made maker
+declares maker (TickRun i m) = of_made (λ (k : ℕ). k == maker) m
+declares maker (MessageRun m made) = is_declarer made maker
+declares maker (AnimRun a made) = is_declarer made maker
+declares maker _ = false
 
 -- an action of this number, begun by a record, a piece of an event
 abbrev pub piece : ℕ → Record → Event → Action

@@ -3,14 +3,15 @@ use Rattle.std.specs.Prelude.{ℕ, ◌+◌, ◌||◌, Bool, List, length, Option
 use Rattle.er_trace.specs.declared.record.Record.{Record}
 use Rattle.er_trace.specs.declared.record.Record.TheVariants.{Timer, Tick, Close, Message, Anim, Job}
 use Rattle.er_trace.specs.declared.version.Version.TheVariants.{Three}
-use Rattle.er_history.specs.History.{Event, Task, told, event_begun}
+use Rattle.er_history.specs.History.{Event, told, event_begun}
 use Rattle.er_history.specs.Rules.{rules, messages_in_order, anims_in_order, jobs_in_order}
 use Rattle.er_history.specs.Edges.{path, up_to}
 use Rattle.er_history.specs.Latest.{events_of_each}
 use Rattle.er_history.specs.LookUps.{jobs_queued, jobs_in, maker_of_timeout, maker_of_interval}
 use Rattle.er_history.specs.Tasks.{OfMessage, OfAnim, task_made}
+use Rattle.er_rules_task.specs.Due.{maker_of}
 
--- one of rules 25, 27 and 29 leads from the first event to the other
+-- rule 25, 27 or 29 leads from the first event to the other
 abbrev pub in_order : (ℕ → ℕ → Bool) → Event → Event → Bool
 in_order joined u v = messages_in_order joined u v || (anims_in_order joined u v || jobs_in_order joined u v)
 
@@ -25,10 +26,6 @@ earlier_count h x = by (event_begun (told h) x)
 abbrev pub queued_count : List Record → Option ℕ → ℕ
 queued_count h None = 0
 queued_count h (Some u) = length (jobs_queued h u)
-
-abbrev pub maker_of : Option Task → Option ℕ
-maker_of None = None
-maker_of (Some x) = Some x.maker
 
 -- what declared the task, those of its kind before it, and for a message or an animation callback the jobs of the event that declared it; before a timeout and a tick these jobs; before a close the jobs that began while the dispatch was on the stack
 abbrev pub most_task : List Record → Record → ℕ

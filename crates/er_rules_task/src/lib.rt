@@ -13,5 +13,6 @@
 
 pub mod against;
 mod before;
+mod kinds;
 pub mod laws;
 pub mod predecessors;

@@ -8,7 +8,7 @@ apply-requires c = record { next = next_page c.args.version c.args.page.now c.ar
 
 pub returns-clause-told : goal.returns-clause-told
 returns-clause-told c = on_ok_weaker c.apply.result (λ taken accepted told legal.
-    told_more c.args.version c.args.page.now c.apply.new.self c.args.lines.now.items c.args.lines.now.items c.args.line c.args.rec.now accepted told legal taken
+    told_more c.args.version c.args.page.now c.apply.new.self c.args.lines.now.items c.args.lines.now.items c.args.line c.args.rec.now accepted told c.requires.of_version legal taken
     (same_lines c.args.line c.args.rec.now accepted c.args.lines.now.items (sym c.if-begins.ensures) told.lines)) c.apply.ensures.taken
 
 pub returns-clause-timed : goal.returns-clause-timed

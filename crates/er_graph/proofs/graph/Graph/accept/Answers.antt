@@ -10,7 +10,7 @@ returns-in-Err-clause-refused c = (refl, refl, λ accepted listed. err_some (cau
 pub take-requires : goal.take-requires
 take-requires c =
     let self = c.args.self.now in
-    record { next = next_parts self.version self.page self.clocks self.lines.items self.has_failed c.args.rec.now self.stands c.if-self.false (λ accepted listed. ok_none (cause_now c.args.self.now.version accepted c.args.rec.now) (c.in_default.ensures accepted listed)) }
+    record { of_version = c.requires.of_version; next = next_parts self.version self.page self.clocks self.lines.items self.has_failed c.args.rec.now self.stands c.if-self.false (λ accepted listed. ok_none (cause_now c.args.self.now.version accepted c.args.rec.now) (c.in_default.ensures accepted listed)) }
 
 pub returns-clause-accepted : goal.returns-clause-accepted
 returns-clause-accepted c = λ accepted graph.

@@ -7,13 +7,4 @@ returns-clause-kept c = λ h stands. record {
   tables = c.make_room.ensures.kept h stands.tables;
   fired = c.make_room-2.ensures.kept h stands.fired;
   found = c.make_room-2.ensures.found _ (are_still_found _ _ c.args.self.now.fired (λ k x is. c.make_room.ensures.timeouts k ∙ is) stands.found);
-  tasks = c.make_room-3.ensures.kept h stands.tasks;
-}
-
-pub returns-in_err-make_room-2-clause-kept : goal.returns-in_err-make_room-2-clause-kept
-returns-in_err-make_room-2-clause-kept c = λ h stands. record {
-  tables = c.make_room.ensures.kept h stands.tables;
-  fired = c.make_room-2.ensures.kept h stands.fired;
-  found = c.make_room-2.ensures.found _ (are_still_found _ _ c.args.self.now.fired (λ k x is. c.make_room.ensures.timeouts k ∙ is) stands.found);
-  tasks = stands.tasks;
 }

@@ -1,7 +1,7 @@
 use Rattle.std.proofs.Common.{[], refl, rules}
 use Rattle.er_history.specs.LookUps.{place_of}
 use Rattle.er_names.specs.Names.{rank_of}
-use Rattle.er_names.proofs.RankLemmas.{none_ranked}
+use Rattle.er_firsts.proofs.RankLemmas.{none_ranked}
 use Rattle.er_names.proofs.tables.Tables.new.Goals as goal
 
 pub returns : goal.returns

@@ -3,11 +3,15 @@ use Rattle.std.specs.Prelude.{option_map}
 use Rattle.std.proofs.lemmas.Result.{on_ok_weaker, on_err_weaker}
 use Rattle.er_page.specs.Pieces.{about_start}
 use Rattle.er_page.proofs.AcceptedLemmas.{accepted_named}
-use Rattle.er_page.proofs.TakenLemmas.{accessed, with_room, next_with_room}
+use Rattle.er_page.proofs.TakenLemmas.{accessed, next_kept}
 use Rattle.er_page.proofs.page.Page.apply.Goals as goal
 
 pub begin-requires : goal.begin-requires
-begin-requires c = record { next = next_with_room c.args.self.now c.make_room.new.self c.args.rec.now c.in_ok-make_room.ensures.kept c.requires.next; room = c.in_ok-make_room.ensures.room }
+begin-requires c = record {
+  next = next_kept c.args.self.now c.make_room.new.self c.args.rec.now c.in_ok-make_room.ensures.kept c.requires.next;
+  names = c.in_ok-make_room.ensures.names;
+  tasks = c.in_ok-make_room.ensures.tasks;
+}
 
 pub returns-in-Access-clause-taken : goal.returns-in-Access-clause-taken
 returns-in-Access-clause-taken c = λ h is named fits. accessed c.args.self.now h c.args.rec.now _ _ c.in-Access.is is named fits
@@ -15,15 +19,15 @@ returns-in-Access-clause-taken c = λ h is named fits. accessed c.args.self.now 
 pub returns-in-Some : goal.returns-in-Some
 returns-in-Some c = record {
   taken = on_ok_weaker c.begin.result (λ taken h is named fits.
-      taken h (with_room c.args.self.now c.make_room.new.self h c.in_ok-make_room.ensures.kept is) (named, fits)
-      (ap (option_map about_start) (sym c.in-Some.is) ∙ c.start_of.ensures h is.stack is.pieces (named, accepted_named h is.accepted))) c.begin.ensures.taken;
-  kept = on_err_weaker c.begin.result (λ kept h is. kept h (with_room c.args.self.now c.make_room.new.self h c.in_ok-make_room.ensures.kept is)) c.begin.ensures.kept;
+      let kept = c.in_ok-make_room.ensures.kept h is in
+      taken h kept (named, fits) (ap (option_map about_start) (sym c.in-Some.is) ∙ c.start_of.ensures h kept.stack kept.pieces (named, accepted_named h is.accepted))) c.begin.ensures.taken;
+  kept = on_err_weaker c.begin.result (λ kept h is. kept h (c.in_ok-make_room.ensures.kept h is)) c.begin.ensures.kept;
 }
 
 pub returns-in-None : goal.returns-in-None
 returns-in-None c = record {
   taken = λ h is named fits.
-      c.note.ensures h (with_room c.args.self.now c.make_room.new.self h c.in_ok-make_room.ensures.kept is) (named, fits)
-      (ap (option_map about_start) (sym c.in-None.is) ∙ c.start_of.ensures h is.stack is.pieces (named, accepted_named h is.accepted));
+      let kept = c.in_ok-make_room.ensures.kept h is in
+      c.note.ensures h kept (named, fits) (ap (option_map about_start) (sym c.in-None.is) ∙ c.start_of.ensures h kept.stack kept.pieces (named, accepted_named h is.accepted));
   kept = tt;
 }

@@ -1,0 +1,20 @@
+use Rattle.std.proofs.Common.{refl, subst}
+use Rattle.std.proofs.lemmas.Result.{on_ok_weaker}
+use Rattle.er_trace.specs.declared.version.Version.{Version}
+use Rattle.er_trace.specs.declared.version.Version.TheVariants.{One, Two, Three}
+use Rattle.er_history.specs.Rules.{rules}
+use Rattle.er_rules_timer.specs.Timed.{IsSomeTimed}
+use Rattle.er_graph.proofs.TaskLemmas.{nothing_by_tasks}
+use Rattle.er_graph.proofs.order.task_sources.Goals as goal
+
+pub returns-in-One : goal.returns-in-One
+returns-in-One c = rw c.in-One.is (λ h timed are next. nothing_by_tasks One (rules One) h c.args.rec.now c.args.out.now.items refl are next)
+
+pub returns-in-Two : goal.returns-in-Two
+returns-in-Two c = rw c.in-Two.is (λ h timed are next. nothing_by_tasks Two (rules Two) h c.args.rec.now c.args.out.now.items refl are next)
+
+pub predecessors-requires : goal.predecessors-requires
+predecessors-requires c = record { timed = subst (λ (v : Version). ∥ IsSomeTimed v c.args.page.now c.args.clocks.now ∥₁) c.in-Three.is c.requires.timed }
+
+pub returns-in-Three : goal.returns-in-Three
+returns-in-Three c = rw c.in-Three.is (on_ok_weaker c.predecessors.result (λ hands h timed are next. hands h timed next) c.predecessors.ensures.enough)
