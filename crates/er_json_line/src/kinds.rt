@@ -39,7 +39,8 @@ fn kinds_of(rec: &Record) -> &'static [bool]
 
 /// Whether the members that are numbers stand where the record has numbers.
 pub fn are_kinds(rec: &Record, members: &[Value]) -> bool
-    ensures { IsTrue result ↔ (map (λ m. is_count (view m)) members.now ≡ map is_number (record_items rec.now)) }
+    ensures { IsTrue result
+        ↔ (map (λ m. is_count (view m)) members.now ≡ map is_number (record_items rec.now)) }
 {
     let kinds = kinds_of(rec);
     if members.len() != kinds.len() {

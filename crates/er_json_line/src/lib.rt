@@ -5,5 +5,7 @@ mod kinds;
 mod letters;
 mod line;
 mod members;
+mod plain;
 
 pub use line::{parse_json_line, read_header, read_later};
+pub use plain::plain_json_line;

@@ -122,8 +122,10 @@ fn parse_text(alloc: Global, text: &[u8]) -> Result<Record, LineFault>
 
 /// The record, where the members that are numbers stand where it has numbers.
 fn with_kinds(rec: Record, members: &[Value]) -> Result<Record, LineFault>
-    ensures read { IfOk result (λ x. (x ≡ rec) × (map (λ m. is_count (view m)) members.now ≡ map is_number (record_items rec))) }
-    ensures exact { map (λ m. is_count (view m)) members.now ≡ map is_number (record_items rec) → result ≡ Ok rec }
+    ensures read { IfOk result (λ x. (x ≡ rec)
+        × (map (λ m. is_count (view m)) members.now ≡ map is_number (record_items rec))) }
+    ensures exact { map (λ m. is_count (view m)) members.now ≡ map is_number (record_items rec)
+        → result ≡ Ok rec }
 {
     if !are_kinds(&rec, members) {
         return Err(LineFault::BadRecord);
@@ -163,7 +165,8 @@ fn are_header(members: &[Value], version: Version) -> bool
 /// The version of the first line whose members they are.
 pub fn header_of(members: &[Value]) -> Option<Version>
     ensures some { IfSome result (λ version. AreMembers (header_items version) (map view members.now)) }
-    ensures none { IfNone result ((version : Version) → ¬ AreMembers (header_items version) (map view members.now)) }
+    ensures none { IfNone result ((version : Version)
+        → ¬ AreMembers (header_items version) (map view members.now)) }
 {
     if are_header(members, Version::One) {
         return Some(Version::One);

@@ -1,18 +1,20 @@
 //! Reading a trace of JSON lines that comes in pieces.
 
-ghost use Rattle.std.specs.Prelude.{◌≡◌, Err, IfOk};
+ghost use Rattle.std.specs.Prelude.{◌≡◌, Err, IfOk, IfSome};
 ghost use Rattle.std.proofs.Common.{refl, lit<};
 ghost use Rattle.er_trace.specs.declared.record.Record.{Record};
 ghost use Rattle.er_lines.specs.Format.{IsVersionOf};
-ghost use Rattle.er_lines.specs.Steps.{IsLater};
+ghost use Rattle.er_lines.specs.Steps.{IsLater, IsFront};
 ghost use Rattle.er_json_line.specs.Members.{Spells, IsHeader, IsEnd};
 ghost use Rattle.er_jsonl.specs.Trace.{json, most_line_bytes};
 ghost use Rattle.er_jsonl.specs.Lawful.{json_is_format};
 
+use er_json_line::plain_json_line;
 use er_lines::feed::LineFeed;
 use er_lines::format::{Later, Lines};
 use er_outside::NoMemory;
 use er_trace::fault::LineFault;
+use er_trace::record::Record;
 use er_trace::version::Version;
 use std::alloc::Global;
 
@@ -40,9 +42,16 @@ impl Lines for JsonLines {
 
     fn read_later(alloc: Global, line: &[u8]) -> Result<Later, LineFault>
         ensures read { IfOk result (IsLater IsEnd Spells line.now) }
-        ensures bad { result ≡ Err LineFault.BadRecord → ¬ IsEnd line.now × ((x : Record) → ¬ Spells line.now x) }
+        ensures bad { result ≡ Err LineFault.BadRecord
+            → ¬ IsEnd line.now × ((x : Record) → ¬ Spells line.now x) }
     {
         er_json_line::read_later(alloc, line)
+    }
+
+    fn front<'a>(alloc: Global, piece: &'a [u8]) -> Option<(Record, &'a [u8])>
+        ensures { IfSome result (λ pair. IsFront most_line_bytes Spells piece.now pair.0 pair.1.now) }
+    {
+        plain_json_line(alloc, piece)
     }
 
     ghost most = { refl };

@@ -25,18 +25,22 @@ pub fn one_trace()
 
 /// Bytes are refused at one place, for one cause. A whole trace is not refused.
 pub fn one_cause()
-    ensures place { (bytes : List ℕ) (p q : Place) (c d : Cause) → Refuses bytes p c → Refuses bytes q d → p ≡ q }
-    ensures cause { (bytes : List ℕ) (p q : Place) (c d : Cause) → Refuses bytes p c → Refuses bytes q d → c ≡ d }
+    ensures place { (bytes : List ℕ) (p q : Place) (c d : Cause) → Refuses bytes p c → Refuses bytes q d
+        → p ≡ q }
+    ensures cause { (bytes : List ℕ) (p q : Place) (c d : Cause) → Refuses bytes p c → Refuses bytes q d
+        → c ≡ d }
     ensures never { (v : Version) (bytes : List ℕ) (records : List Record) (p : Place) (c : Cause)
         → IsTrace v bytes records → ¬ Refuses bytes p c }
 {}
 
 /// A refusal for another cause than `no-end` is that of every longer input.
 pub fn longer_input()
-    ensures { (bytes more : List ℕ) (place : Place) (c : Cause) → Refuses bytes place c → c ≢ NoEnd → Refuses (bytes ++ more) place c }
+    ensures { (bytes more : List ℕ) (place : Place) (c : Cause) → Refuses bytes place c → c ≢ NoEnd
+        → Refuses (bytes ++ more) place c }
 {}
 
 /// The line of `no-end` is one more than the LFs of the bytes.
 pub fn line_of_no_end()
-    ensures { (bytes : List ℕ) (place : Place) → Refuses bytes place NoEnd → line_number place ≡ count_of_lf bytes + 1 }
+    ensures { (bytes : List ℕ) (place : Place) → Refuses bytes place NoEnd
+        → line_number place ≡ count_of_lf bytes + 1 }
 {}

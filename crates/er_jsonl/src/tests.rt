@@ -1,6 +1,7 @@
 //! Lines, and traces that come in pieces, however they are cut.
 
-use crate::{JsonFeed, parse_json_line};
+use crate::{JsonFeed, JsonLines, parse_json_line};
+use er_lines::format::Lines;
 use er_outside::{MemorySink, put_all};
 use er_text::Cause;
 use er_trace::fault::{FeedFault, LineFault};
@@ -157,6 +158,52 @@ fn bytes_that_are_no_text(rt: HostRuntime) {
     assert!(rt; is_refused(rt.alloc(), b"[\"exec\",1]\xff"));
 }
 
+/// Bytes, and how many of them stand behind the access that is read at their front.
+const FRONTS: [(&str, Option<usize>); 20] = [
+    ("[\"r\",\"var\",0,\"x\"]\n", Some(0)),
+    ("[\"w\",\"elem\",4294967295,\"i\"]\n[", Some(1)),
+    ("[\"r\", \"slot\", 10, \"on click\"]\nrest", Some(4)),
+    ("[\"w\",\"var\",7,\"a%~\"]\n\n", Some(1)),
+    // A name of 30 bytes, and one of 31.
+    (
+        "[\"r\",\"var\",0,\"abcdefghijabcdefghijabcdefghij\"]\n",
+        Some(0),
+    ),
+    (
+        "[\"r\",\"var\",0,\"abcdefghijabcdefghijabcdefghijk\"]\n",
+        None,
+    ),
+    ("[\"r\",\"var\",0,\"x\"]", None),
+    ("[\"r\",\"var\",0,\"x\"]\r\n", None),
+    ("[\"r\",\"var\",0,\"x", None),
+    ("[\"r\",\"var\",0", None),
+    ("[\"r\"", None),
+    ("", None),
+    ("[\"r\", \"var\",0,\"x\"]\n", None),
+    ("[\"r\",\"var\",00,\"x\"]\n", None),
+    ("[\"r\",\"var\",4294967296,\"x\"]\n", None),
+    ("[\"r\",\"var\",0,\"\"]\n", None),
+    ("[\"r\",\"var\",0,\"a\\\\b\"]\n", None),
+    ("[\"r\",\"var\",0,\"\u{e9}\"]\n", None),
+    ("[\"r\",\"set\",0,\"x\"]\n", None),
+    ("[\"set\",1,10]\n", None),
+];
+
+/// How many bytes stand behind the access that is read at the front.
+fn left_of(alloc: Global, bytes: &str) -> Option<usize> {
+    match JsonLines::front(alloc, bytes.as_bytes()) {
+        Some((_, left)) => Some(left.len()),
+        None => None,
+    }
+}
+
+#[test]
+fn fronts(rt: HostRuntime) {
+    for (bytes, left) in FRONTS {
+        assert_eq!(rt; left_of(rt.alloc(), bytes), left, "{bytes}");
+    }
+}
+
 /// An access of a name of so many letters.
 fn with_name(alloc: Global, letters: usize) -> Result<Vec<u8>, Fail> {
     let mut line = Vec::from_slice(alloc, b"[\"r\",\"var\",0,\"").map_err(|_| "memory")?;
@@ -198,7 +245,7 @@ fn deep_lines(rt: HostRuntime) -> Result<(), Fail> {
 }
 
 /// Traces, the lines of the records that come of each, and the line that is refused.
-const ROWS: [(&str, &str, Option<(u32, Cause)>); 22] = [
+const ROWS: [(&str, &str, Option<(u32, Cause)>); 23] = [
     ("", "", Some((1, Cause::NoEnd))),
     ("[\"webtrace\",1]", "", Some((1, Cause::NoEnd))),
     ("[\"webtrace\",1]\n", "", Some((2, Cause::NoEnd))),
@@ -247,6 +294,11 @@ const ROWS: [(&str, &str, Option<(u32, Cause)>); 22] = [
         "[\"webtrace\",1]\n[ \"r\", \"var\", 0, \"x y\" ]\n[\"w\",\"elem\",3,\"z\"]\n[\"r\"",
         "r var 0 x%20y\nw elem 3 z\n",
         Some((4, Cause::NoEnd)),
+    ),
+    (
+        "[\"webtrace\",1]\n[\"r\",\"var\",0,\"x\"]\n[\"w\", \"slot\", 10, \"a b\"]\n[\"r\",\"elem\",4294967295,\"y%\"]\n[\"end\"]\n",
+        "r var 0 x\nw slot 10 a%20b\nr elem 4294967295 y%25\n",
+        None,
     ),
     (
         "[\"webtrace\",1]\n[\"parse\",0,1,\"plain\"]\n[\"set\",1,7.0]\n[\"end\"]\n",

@@ -106,8 +106,8 @@ impl<L: Lines> LineFeed<L> {
         Ok(())
     }
 
-    /// Takes the next bytes of one line, and answers those after it. Most lines stand whole in their piece, and
-    /// the format may read them without their ends being looked for first.
+    /// Takes the next bytes of one line, and answers those after it. Most lines stand whole in their piece,
+    /// and the format may read them without their ends being looked for first.
     fn take_next<'a>(
         &mut self,
         piece: &'a [u8],
@@ -242,7 +242,8 @@ impl<L: Lines> LineFeed<L> {
             → ReadsUntil L.format bytes n c records }
         ensures accepts { (version : Version) (bytes : List ℕ) (list records : List Record)
             → IsTrace L.format version bytes list
-            → Stands L.format self.now.mark self.now.line.items self.now.fault bytes records → result ≡ Ok tt }
+            → Stands L.format self.now.mark self.now.line.items self.now.fault bytes records
+            → result ≡ Ok tt }
         ensures refuses { (bytes : List ℕ) (records : List Record) (place : Place) (c : Cause)
             → Stands L.format self.now.mark self.now.line.items self.now.fault bytes records
             → Refuses L.format bytes place c → result ≡ Err (FeedFault.Refused (line_number place) c) }

@@ -36,10 +36,11 @@ pub trait Lines {
     /// What the line is behind the first.
     fn read_later(alloc: Global, line: &[u8]) -> Result<Later, LineFault>
         ensures read { IfOk result (IsLater format.IsEnd format.Spells line.now) }
-        ensures bad { result ≡ Err LineFault.BadRecord → ¬ format.IsEnd line.now × ((x : Record) → ¬ format.Spells line.now x) };
+        ensures bad { result ≡ Err LineFault.BadRecord
+            → ¬ format.IsEnd line.now × ((x : Record) → ¬ format.Spells line.now x) };
 
-    /// A record whose whole line stands at the front, and what stands behind its LF: for lines that can be read
-    /// without their ends being looked for first. `None` says nothing.
+    /// A record whose whole line stands at the front, and what stands behind its LF: for lines that can be
+    /// read without their ends being looked for first. `None` says nothing.
     fn front<'a>(_alloc: Global, _piece: &'a [u8]) -> Option<(Record, &'a [u8])>
         ensures { IfSome result (λ pair. IsFront format.most format.Spells _piece.now pair.0 pair.1.now) }
     {

@@ -24,8 +24,10 @@ pub fn one_trace<L: Lines>()
 
 /// Bytes are refused at one place, for one cause. A whole trace is not refused.
 pub fn one_cause<L: Lines>()
-    ensures place { (bytes : List ℕ) (p q : Place) (c d : Cause) → Refuses L.format bytes p c → Refuses L.format bytes q d → p ≡ q }
-    ensures cause { (bytes : List ℕ) (p q : Place) (c d : Cause) → Refuses L.format bytes p c → Refuses L.format bytes q d → c ≡ d }
+    ensures place { (bytes : List ℕ) (p q : Place) (c d : Cause) → Refuses L.format bytes p c
+        → Refuses L.format bytes q d → p ≡ q }
+    ensures cause { (bytes : List ℕ) (p q : Place) (c d : Cause) → Refuses L.format bytes p c
+        → Refuses L.format bytes q d → c ≡ d }
     ensures never { (v : Version) (bytes : List ℕ) (records : List Record) (p : Place) (c : Cause)
         → IsTrace L.format v bytes records → ¬ Refuses L.format bytes p c }
 {}
@@ -40,36 +42,44 @@ pub fn text_traces()
 
 /// The first line gives one version.
 pub fn one_version<L: Lines>()
-    ensures { (bytes : List ℕ) (v w : Version) → BeginsWith L.format v bytes → BeginsWith L.format w bytes → v ≡ w }
+    ensures { (bytes : List ℕ) (v w : Version) → BeginsWith L.format v bytes
+        → BeginsWith L.format w bytes → v ≡ w }
 {}
 
 /// The number of a line is one more than that of the LFs before it.
 pub fn line_of_a_place<L: Lines>()
-    ensures { (p : Place) (bytes : List ℕ) → AreBefore L.format p bytes → line_number p ≡ count_of_lf bytes + 1 }
+    ensures { (p : Place) (bytes : List ℕ) → AreBefore L.format p bytes
+        → line_number p ≡ count_of_lf bytes + 1 }
 {}
 
 /// A refusal for another cause than `no-end` is that of every longer input.
 pub fn longer_input<L: Lines>()
-    ensures { (bytes more : List ℕ) (place : Place) (c : Cause) → Refuses L.format bytes place c → c ≢ NoEnd → Refuses L.format (bytes ++ more) place c }
+    ensures { (bytes more : List ℕ) (place : Place) (c : Cause) → Refuses L.format bytes place c → c ≢ NoEnd
+        → Refuses L.format (bytes ++ more) place c }
 {}
 
 /// A trace without some of its last bytes is refused for `no-end`, at its first line or behind the lines of
 /// some of its records.
 pub fn cut_trace<L: Lines>()
-    ensures { (v : Version) (records : List Record) (bytes more : List ℕ) → IsTrace L.format v (bytes ++ more) records
-        → 0 < length more → IsCutTrace L.format v records bytes }
+    ensures { (v : Version) (records : List Record) (bytes more : List ℕ)
+        → IsTrace L.format v (bytes ++ more) records → 0 < length more → IsCutTrace L.format v records bytes }
 {}
 
 /// The line of `no-end` is one more than the LFs of the bytes.
 pub fn line_of_no_end<L: Lines>()
-    ensures { (bytes : List ℕ) (place : Place) → Refuses L.format bytes place NoEnd → line_number place ≡ count_of_lf bytes + 1 }
+    ensures { (bytes : List ℕ) (place : Place) → Refuses L.format bytes place NoEnd
+        → line_number place ≡ count_of_lf bytes + 1 }
 {}
 
 /// What stands for the same bytes stands for the same records and keeps the same, however the bytes
 /// were cut.
 pub fn one_feed<L: Lines>()
-    ensures records { (m n : Mark) (k l bytes : List ℕ) (g h : Option FeedFault) (a b : List Record) → Stands L.format m k g bytes a → Stands L.format n l h bytes b → a ≡ b }
-    ensures mark { (m n : Mark) (k l bytes : List ℕ) (g h : Option FeedFault) (a b : List Record) → Stands L.format m k g bytes a → Stands L.format n l h bytes b → m ≡ n }
-    ensures fault { (m n : Mark) (k l bytes : List ℕ) (g h : Option FeedFault) (a b : List Record) → Stands L.format m k g bytes a → Stands L.format n l h bytes b → g ≡ h }
-    ensures line { (m n : Mark) (k l bytes : List ℕ) (g h : Option FeedFault) (a b : List Record) → Stands L.format m k g bytes a → Stands L.format n l h bytes b → g ≡ None → k ≡ l }
+    ensures records { (m n : Mark) (k l bytes : List ℕ) (g h : Option FeedFault) (a b : List Record)
+        → Stands L.format m k g bytes a → Stands L.format n l h bytes b → a ≡ b }
+    ensures mark { (m n : Mark) (k l bytes : List ℕ) (g h : Option FeedFault) (a b : List Record)
+        → Stands L.format m k g bytes a → Stands L.format n l h bytes b → m ≡ n }
+    ensures fault { (m n : Mark) (k l bytes : List ℕ) (g h : Option FeedFault) (a b : List Record)
+        → Stands L.format m k g bytes a → Stands L.format n l h bytes b → g ≡ h }
+    ensures line { (m n : Mark) (k l bytes : List ℕ) (g h : Option FeedFault) (a b : List Record)
+        → Stands L.format m k g bytes a → Stands L.format n l h bytes b → g ≡ None → k ≡ l }
 {}

@@ -38,7 +38,8 @@ impl Lines for TextLines {
 
     fn read_later(alloc: Global, line: &[u8]) -> Result<Later, LineFault>
         ensures read { IfOk result (IsLater (λ l. l ≡ end_word) IsSpelled line.now) }
-        ensures bad { result ≡ Err LineFault.BadRecord → ¬ (line.now ≡ end_word) × ((x : Record) → ¬ IsSpelled line.now x) }
+        ensures bad { result ≡ Err LineFault.BadRecord
+            → ¬ (line.now ≡ end_word) × ((x : Record) → ¬ IsSpelled line.now x) }
     {
         if line == END.as_bytes() {
             return Ok(Later::End);
