@@ -6,10 +6,19 @@ const http = require('node:http');
 const zlib = require('node:zlib');
 const { after, before, test } = require('node:test');
 const { Chromium } = require('../browser/chromium.js');
+const { BEGINS, wordOf } = require('../trace/intake.js');
 const { recordPage, judge, firstMissing } = require('./support.js');
 
 const PAGE = Buffer.from('<!doctype html><title>h</title><p id="caf\u00e9">caf\u00e9</p><script src="code.js" integrity="sha256-x"></script><script src="lost.js"></script><script>seen = word</script>', 'latin1');
+/** 4,500 elements, 1,500 timeouts and 1,000 clicks by a script, of four actions each. */
+const MANY = `<!doctype html><title>m</title>${'<p class="one">x</p>'.repeat(4490)}<button id="go">go</button><script>
+var clicks = 0, timeouts = 0;
+document.getElementById('go').addEventListener('click', function onGo() { clicks++; });
+for (let k = 0; k < 1500; k++) setTimeout(function late() { timeouts++; }, k % 50);
+setTimeout(function clickOften() { for (let k = 0; k < 1000; k++) document.getElementById('go').click(); }, 60);
+</script>`;
 const ANSWERS = {
+  '/many': [200, { 'content-type': 'text/html' }, MANY],
   '/source': [200, { 'content-type': 'text/html' }, '<!doctype html><script>var last; var source = new EventSource("stream"); source.onmessage = function onMessage(event) { last = event.data; };</script>'],
   '/start': [302, { location: '/page' }, ''],
   '/page': [200, { 'content-type': 'text/html; charset=iso-8859-1', 'content-security-policy': "script-src 'none'" }, PAGE],
@@ -78,4 +87,14 @@ test('the events of an event source are replies', { timeout: 150000 }, async () 
   const due = ['send', 'on onMessage', 'reply', 'run onMessage', 'w last', 'close', 'reply', 'run onMessage', 'w last'];
   assert.strictEqual(firstMissing(trace.readable, due), null, trace.readable.join('\n'));
   assert.deepStrictEqual(judge(trace).races, []);
+});
+
+test('ten thousand actions in under a minute', { timeout: 150000 }, async () => {
+  const begin = Date.now();
+  const trace = await recordPage(browser, `${origin}/many`, ['--time', '50']);
+  const seconds = (Date.now() - begin) / 1000;
+  const actions = trace.lines.filter((line) => BEGINS.has(wordOf(line))).length;
+  assert.ok(actions >= 10000 && seconds < 60, `${actions} actions in ${seconds} s`);
+  assert.strictEqual(trace.lines.filter((line) => line.startsWith('timer ')).length, 1501);
+  assert.strictEqual(judge(trace).refused, '');
 });
