@@ -9,6 +9,7 @@ const { LocalServer } = require('./browser/local-server.js');
 const { User } = require('./browser/user.js');
 const { sleep, within } = require('./browser/time.js');
 const { markAhead } = require('./instrument/ahead.js');
+const { warmUp } = require('./instrument/warm-up.js');
 const { Sources } = require('./sources.js');
 const { Intake } = require('./trace/intake.js');
 const { pageScript } = require('./page-script.js');
@@ -135,7 +136,7 @@ class Recorder {
   async prepareScripts(address, folder) {
     const place = [folder, new LocalServer()].find((one) => one && one.has(address));
     const marked = place ? await markAhead(this.sources, place, address) : 0;
-    if (!marked) this.sources.warmUp();
+    if (!marked) warmUp();
   }
 
   async prepareTab(folder) {
