@@ -2,8 +2,9 @@
 // Asks a web server on this machine, as a developer's own, for files that the browser will ask for too.
 
 const http = require('node:http');
+const os = require('node:os');
 
-const OF_THIS_MACHINE = /^http:\/\/(?:(?:[\w-]+\.)*localhost|127(?:\.\d+){3}|\[::1\])(?::\d+)?\//i;
+const LOCAL_NAME = /^(?:(?:[\w-]+\.)*localhost|127(?:\.\d+){3})$/;
 /** No answer is waited for longer than this. */
 const LONGEST_ANSWER = 2000;
 const MOST_REDIRECTS = 5;
@@ -22,9 +23,20 @@ function ask(address) {
   });
 }
 
+const addressesOfMachine = () => Object.values(os.networkInterfaces()).flat().map(({ address, family }) => (family === 'IPv4' ? address : `[${address}]`));
+
 class LocalServer {
+  constructor() {
+    this.own = new Set(addressesOfMachine());
+  }
+
   has(address) {
-    return OF_THIS_MACHINE.test(address);
+    try {
+      const { protocol, hostname } = new URL(address);
+      return protocol === 'http:' && (LOCAL_NAME.test(hostname) || this.own.has(hostname));
+    } catch {
+      return false; // no address
+    }
   }
 
   /**

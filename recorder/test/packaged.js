@@ -14,6 +14,8 @@ const { serveFolder } = require('./server.js');
 const TOP = path.join(__dirname, '..', '..');
 const LOAD_LINE = /load of the page: ([\d.]+) s/;
 const LONGEST_RUN = 120000;
+/** Of the whole machine no more is served than this. */
+const DOCUMENTATION = '/usr/share/';
 
 async function record(page, file, words) {
   const { stderr, status } = await run(path.join(TOP, 'er_record'), [page, file, ...words], { longest: LONGEST_RUN });
@@ -45,7 +47,7 @@ async function recordBoth(address, file, words, times) {
 
 async function recordPage({ package: name, page, root = '/usr/share', words }, { times, folder, isServed }) {
   const file = path.join(folder, `${name}.trace`);
-  const server = isServed ? await serveFolder(root) : null;
+  const server = isServed ? await serveFolder(root, root === '/' ? DOCUMENTATION : '/') : null;
   const address = server ? server.addressOf(resolveAddress(page, root).address) : page;
   const { plain, recorded, loads } = await recordBoth(address, file, server ? words : ['--root', root, ...words], times);
   server?.close();
