@@ -37,6 +37,16 @@ async function scriptsOf(page, place) {
   return answers.filter(isWhole);
 }
 
+/** A script that can't be marked is tried again when the browser asks for it, and told then. */
+function isMarked(sources, { address, type, body }) {
+  try {
+    sources.rewriteScript(address, decodeText(body, type, false));
+    return true;
+  } catch {
+    return false;
+  }
+}
+
 /**
  * @param {import('../sources.js').Sources} sources
  * @param {import('../browser/folder.js').Folder|import('../browser/local-server.js').LocalServer} place where the page comes from
@@ -47,9 +57,7 @@ async function markAhead(sources, place, address) {
   const page = { address, ...await place.answer(address.replace(/#.*$/, '')) };
   if (!isWhole(page)) return 0;
   sources.builtins = new Set(COMMON_NAMES);
-  const scripts = await scriptsOf(page, place);
-  scripts.forEach((script) => sources.rewriteScript(script.address, decodeText(script.body, script.type, false)));
-  return scripts.length;
+  return (await scriptsOf(page, place)).filter((script) => isMarked(sources, script)).length;
 }
 
 module.exports = { markAhead };

@@ -127,6 +127,8 @@ test('the scripts that a page of this machine names are marked before it loads',
   assert.strictEqual(sources.rewriteScript(`${origin}/folder/code.js`, CODE), marked);
   assert.strictEqual(sources.files.length, 1);
   assert.strictEqual(await markAhead(new Sources(), new LocalServer(), `${origin}/never`), 0);
+  const deep = { rewriteScript() { throw new RangeError('too deep'); } };
+  assert.strictEqual(await markAhead(deep, new LocalServer(), `${origin}/named`), 0);
   const machine = new LocalServer();
   for (const address of ['http://localhost:8080/', 'http://shop.localhost/', 'http://127.0.0.1/']) assert.ok(machine.has(address), address);
   for (const address of ['http://example.org/', 'https://localhost/', 'http://localhost.example.org/', 'http://203.0.113.1/', 'http://', 'data:text/html,x']) {
