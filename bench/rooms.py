@@ -21,10 +21,23 @@ MEMORY = 2_000_000_000
 # the most jobs that one check gains from
 MOST_JOBS = 4
 # rt, which sums up a crate's sources anew for each way down crates.txt that leads to it: at the upper crates a minute a call. Nothing in a room changes, so once is enough.
+# What the check of an edit says is put beside the edit, with .said behind its name.
 STAMPED_ONCE = """
-import functools, runpy, sys
+import functools, runpy, sys, threading
 rt = runpy.run_path(sys.argv[1])
 rt["rtlib"].Crate.stamp = functools.cache(rt["rtlib"].Crate.stamp)
+own = rt["main"].__globals__
+must_fail, checked, now = own["must_fail"], own["checked"], threading.local()
+def must_fail_of(crate, edit, *words):
+    now.edit = edit
+    return must_fail(crate, edit, *words)
+def checked_of(crate, texts, *words):
+    ran = checked(crate, texts, *words)
+    if texts:
+        with open(now.edit + ".said", "w", encoding="utf-8") as it:
+            it.write(ran.stdout)
+    return ran
+own["must_fail"], own["checked"] = must_fail_of, checked_of
 sys.exit(rt["main"](sys.argv[2:]))
 """
 

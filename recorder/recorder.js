@@ -5,9 +5,11 @@ const { Chromium, BrowserFault } = require('./browser/chromium.js');
 const { Tab } = require('./browser/tab.js');
 const { Responses } = require('./browser/responses.js');
 const { resolveAddress } = require('./browser/folder.js');
+const { LocalServer } = require('./browser/local-server.js');
 const { User } = require('./browser/user.js');
 const { sleep, within } = require('./browser/time.js');
 const { markAhead } = require('./instrument/ahead.js');
+const { warmUp } = require('./instrument/warm-up.js');
 const { Sources } = require('./sources.js');
 const { Intake } = require('./trace/intake.js');
 const { pageScript } = require('./page-script.js');
@@ -121,8 +123,9 @@ class Recorder {
       this.browser.once('gone', (why) => this.stop(new RecordingFault(`the browser has gone: ${why}`, STATUS.noBrowser)));
       if (!this.options.browser) {
         this.browser.start(SIZE.width, SIZE.height);
-        if (!this.options.isRaw) this.prepareScripts(address, folder); // while the browser starts
+        const isPrepared = this.options.isRaw ? null : this.prepareScripts(address, folder); // while the browser starts
         await this.browser.hasStarted();
+        await isPrepared;
       }
       this.tab = await Tab.open(this.browser, SIZE);
     } catch (fault) {
@@ -130,8 +133,10 @@ class Recorder {
     }
   }
 
-  prepareScripts(address, folder) {
-    if (!folder || !folder.has(address) || !markAhead(this.sources, folder, address)) this.sources.warmUp();
+  async prepareScripts(address, folder) {
+    const place = [folder, new LocalServer()].find((one) => one && one.has(address));
+    const marked = place ? await markAhead(this.sources, place, address) : 0;
+    if (!marked) warmUp();
   }
 
   async prepareTab(folder) {

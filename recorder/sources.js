@@ -2,14 +2,12 @@
 // The texts of the pages and scripts that were instrumented, and the places in them: of a site (a number that marked code
 // hands over), of a position that the browser tells of its copy, and of the start tags of a page.
 
-const fs = require('node:fs');
 const { EditedText, Lines } = require('./instrument/edits.js');
 const { instrument } = require('./instrument/instrument.js');
 const { PageRewriter } = require('./instrument/page.js');
 
 /** The numbers of the objects that stand for modules begin here; form fields begin at 1,000,000 (page/fields.js). */
 const FIRST_MODULE = 2000000;
-const WARM_UPS = 3;
 
 /** One text, as it came from the network. */
 class Source {
@@ -85,13 +83,6 @@ class Sources {
     if (result.fault) result = instrument(code, source.options('module', 0));
     if (result.fault) source.miss('scripts that are no JavaScript');
     return source.edit(result.edits || []);
-  }
-
-  /** Marks some scripts that nobody asked for, so that the page's own do not wait for a cold program. */
-  warmUp() {
-    const apart = new Sources();
-    const code = fs.readFileSync(require.resolve('/usr/share/nodejs/acorn'), 'utf8');
-    for (let k = 0; k < WARM_UPS; k++) apart.rewriteScript('', code);
   }
 
   addSource(address, text) {

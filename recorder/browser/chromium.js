@@ -62,13 +62,19 @@ class Chromium extends EventEmitter {
     this.readMessages();
   }
 
+  /** A message ends with a zero. A long one comes in many pieces, which are joined once. */
   readMessages() {
-    let text = '';
+    let pieces = [];
     this.process.stdio[4].setEncoding('utf8');
-    this.process.stdio[4].on('data', (piece) => {
-      const messages = (text + piece).split('\0');
-      text = messages.pop();
-      messages.forEach((message) => this.receive(JSON.parse(message)));
+    this.process.stdio[4].on('data', (text) => {
+      const ends = text.split('\0');
+      const rest = ends.pop();
+      for (const end of ends) {
+        const message = [...pieces, end].join('');
+        pieces = [];
+        this.receive(JSON.parse(message));
+      }
+      pieces.push(rest);
     });
   }
 

@@ -63,4 +63,4 @@ function resolveAddress(given, root) {
   return { address: folder.addressOf(isFolder ? path.join(file, 'index.html') : file, rest), folder };
 }
 
-module.exports = { Folder, resolveAddress };
+module.exports = { Folder, resolveAddress, ORIGIN };

@@ -1,5 +1,5 @@
 'use strict';
-// Marks the scripts that a page of a folder names while the browser starts, so that the page does not wait for them.
+// Marks the scripts that a page of this machine names while the browser starts, so that the page does not wait for them.
 
 const { decodeText } = require('../browser/text.js');
 const { scanTags, attributeOf, decodeValue } = require('./html-scanner.js');
@@ -27,20 +27,37 @@ function addressOfScript(tag, page) {
   }
 }
 
+const isWhole = (answer) => answer !== null && answer.status === 200;
+
+/** The answers for the scripts that a page names and that stand in the same place as the page. */
+async function scriptsOf(page, place) {
+  const tags = scanTags(decodeText(page.body, page.type, true));
+  const addresses = new Set(tags.map((tag) => addressOfScript(tag, page.address)).filter((address) => address && place.has(address)));
+  const answers = await Promise.all([...addresses].map(async (address) => ({ address, ...await place.answer(address) })));
+  return answers.filter(isWhole);
+}
+
+/** A script that can't be marked is tried again when the browser asks for it, and told then. */
+function isMarked(sources, { address, type, body }) {
+  try {
+    sources.rewriteScript(address, decodeText(body, type, false));
+    return true;
+  } catch {
+    return false;
+  }
+}
+
 /**
  * @param {import('../sources.js').Sources} sources
- * @param {import('../browser/folder.js').Folder} folder
- * @param {string} page the page's address
- * @returns {number} how many scripts were marked
+ * @param {import('../browser/folder.js').Folder|import('../browser/local-server.js').LocalServer} place where the page comes from
+ * @param {string} address the page's address
+ * @returns {Promise<number>} how many scripts were marked
  */
-function markAhead(sources, folder, page) {
+async function markAhead(sources, place, address) {
+  const page = { address, ...await place.answer(address.replace(/#.*$/, '')) };
+  if (!isWhole(page)) return 0;
   sources.builtins = new Set(COMMON_NAMES);
-  const textOf = ({ body, type }, isPage) => decodeText(body, type, isPage);
-  const tags = scanTags(textOf(folder.answer(page), true));
-  const scripts = new Set(tags.map((tag) => addressOfScript(tag, page)).filter((address) => address && folder.has(address)));
-  const answers = [...scripts].map((address) => ({ address, answer: folder.answer(address) })).filter(({ answer }) => answer.status === 200);
-  answers.forEach(({ address, answer }) => sources.rewriteScript(address, textOf(answer, false)));
-  return answers.length;
+  return (await scriptsOf(page, place)).filter((script) => isMarked(sources, script)).length;
 }
 
 module.exports = { markAhead };

@@ -42,29 +42,29 @@ class Lines {
 class EditedText {
   constructor(original, edits) {
     this.original = original;
-    const sorted = [...edits].sort((a, b) => a.start - b.start);
-    this.changedStarts = [];
-    this.originalStarts = [];
-    this.text = this.assemble(sorted);
+    this.changedStarts = [0];
+    this.originalStarts = [0];
+    this.text = this.assemble([...edits].sort((a, b) => a.start - b.start));
   }
 
   assemble(edits) {
-    let text = '';
+    const pieces = [];
+    let length = 0;
     let done = 0;
-    const note = (from) => {
-      this.changedStarts.push(text.length);
-      this.originalStarts.push(from);
+    const add = (piece, next) => {
+      pieces.push(piece);
+      length += piece.length;
+      this.changedStarts.push(length);
+      this.originalStarts.push(next);
     };
-    note(0);
     for (const { start, end, insert } of edits) {
       if (start < done) continue; // inside a text that an earlier edit replaced
-      text += this.original.slice(done, start);
-      note(start);
-      text += insert;
+      add(this.original.slice(done, start), start);
+      add(insert, end);
       done = end;
-      note(end);
     }
-    return text + this.original.slice(done);
+    pieces.push(this.original.slice(done));
+    return pieces.join('');
   }
 
   /** The original offset of an offset in the changed text; what an edit inserted stands for the place of the edit. */

@@ -12,6 +12,10 @@ const NEVER_RECORDED = new Set(['undefined', 'arguments', 'eval', 'NaN', 'Infini
 const MARK_BEGIN = '/*<*/';
 const MARK_END = '/*>*/';
 const BLANK = '\u2005';
+const SEMICOLON = 59;
+const CLOSING_BRACE = 125;
+/** The greatest of the codes of a blank, a tab and the ends of lines. */
+const BLANK_CODE = 32;
 
 /** A script may also be imported by a worker, in which there is no recorder: there its marks do nothing. */
 const IDLE = 'globalThis.__er||(globalThis.__er=new Proxy({},{get:(t,n)=>/^[rwu]o$/.test(n)?o=>o:()=>{}}));';
@@ -55,9 +59,15 @@ class Instrumenter {
     return () => this.insert(node.end, ')');
   }
 
-  /** A statement may end without a semicolon: one is inserted, as the next one may now begin with a bracket. */
+  /** A statement may end without a semicolon: one is inserted where another statement follows, as that may now begin with a bracket. */
   endStatement(node) {
-    if (this.code[node.end - 1] !== ';') this.insert(node.end, ';');
+    if (this.code.charCodeAt(node.end - 1) !== SEMICOLON && !this.isLastOfBlock(node.end)) this.insert(node.end, ';');
+  }
+
+  isLastOfBlock(offset) {
+    let at = offset;
+    while (this.code.charCodeAt(at) <= BLANK_CODE) at++;
+    return at >= this.code.length || this.code.charCodeAt(at) === CLOSING_BRACE;
   }
 
   /** The call that records an access to a name, or null where the name is none of the page's global variables. */
@@ -78,18 +88,22 @@ class Instrumenter {
   // ---- walking
 
   visit(node, scope) {
-    if (this[node.type]) this[node.type](node, scope);
-    else this.visitChildren(node, scope);
+    const visitor = this[node.type];
+    if (visitor === undefined) this.visitChildren(node, scope);
+    else visitor.call(this, node, scope);
   }
 
   visitAll(nodes, scope) {
-    nodes.forEach((node) => node && this.visit(node, scope));
+    for (let k = 0; k < nodes.length; k++) {
+      if (nodes[k]) this.visit(nodes[k], scope);
+    }
   }
 
   visitChildren(node, scope, skipped) {
-    for (const key of keysOf(node)) {
-      const value = node[key];
-      if (Array.isArray(value)) value.forEach((one) => isNode(one) && one !== skipped && this.visit(one, scope));
+    const keys = keysOf(node);
+    for (let k = 0; k < keys.length; k++) {
+      const value = node[keys[k]];
+      if (Array.isArray(value)) this.visitAll(value, scope);
       else if (isNode(value) && value !== skipped) this.visit(value, scope);
     }
   }
@@ -138,6 +152,10 @@ class Instrumenter {
   }
 
   // ---- expressions
+
+  Literal() {}
+  ThisExpression() {}
+  TemplateElement() {}
 
   Identifier(node, scope) {
     const read = this.access('r', node.name, scope, node.start);

@@ -17,45 +17,58 @@ function keysOf(node) {
   return keys;
 }
 
-/** The names that a pattern binds, as `a` and `b` of `{a, x: [b]}`. */
-function namesOfPattern(pattern) {
-  if (!pattern) return [];
+/** Adds the names that a pattern binds, as `a` and `b` of `{a, x: [b]}`, to a set. */
+function addNames(pattern, names) {
+  if (!pattern) return;
   switch (pattern.type) {
-    case 'Identifier': return [pattern.name];
-    case 'ObjectPattern': return pattern.properties.flatMap((property) => namesOfPattern(property.value || property.argument));
-    case 'ArrayPattern': return pattern.elements.flatMap(namesOfPattern);
-    case 'RestElement': return namesOfPattern(pattern.argument);
-    case 'AssignmentPattern': return namesOfPattern(pattern.left);
-    default: return [];
+    case 'Identifier': names.add(pattern.name); break;
+    case 'ObjectPattern': pattern.properties.forEach((property) => addNames(property.value || property.argument, names)); break;
+    case 'ArrayPattern': pattern.elements.forEach((element) => addNames(element, names)); break;
+    case 'RestElement': addNames(pattern.argument, names); break;
+    case 'AssignmentPattern': addNames(pattern.left, names); break;
+    default:
   }
 }
 
-const namesOfDeclaration = (declaration) => declaration.declarations.flatMap((one) => namesOfPattern(one.id));
+/** The names that a pattern binds. */
+function namesOfPattern(pattern) {
+  if (!pattern) return [];
+  if (pattern.type === 'Identifier') return [pattern.name];
+  const names = new Set();
+  addNames(pattern, names);
+  return [...names];
+}
 
-/** The parts of a statement that are statements themselves: a `var` stands in a statement, and never in an expression. */
-const INNER_STATEMENTS = {
-  BlockStatement: (node) => node.body,
-  IfStatement: (node) => [node.consequent, node.alternate],
-  ForStatement: (node) => [node.init, node.body],
-  ForInStatement: (node) => [node.left, node.body],
-  ForOfStatement: (node) => [node.left, node.body],
-  WhileStatement: (node) => [node.body],
-  DoWhileStatement: (node) => [node.body],
-  LabeledStatement: (node) => [node.body],
-  WithStatement: (node) => [node.body],
-  TryStatement: (node) => [node.block, node.handler && node.handler.body, node.finalizer],
-  SwitchStatement: (node) => node.cases.flatMap((one) => one.consequent),
-};
+function addDeclared(declaration, names) {
+  const { declarations } = declaration;
+  for (let k = 0; k < declarations.length; k++) addNames(declarations[k].id, names);
+}
 
-/** Adds the `var` names of a statement, and its functions in blocks, but nothing of inner functions. */
+function addHoistedOfAll(statements, names) {
+  for (let k = 0; k < statements.length; k++) addHoisted(statements[k], names);
+}
+
+/**
+ * Adds the `var` names of a statement, and its functions in blocks, but nothing of inner functions. A `var` stands in a statement,
+ * and never in an expression.
+ */
 function addHoisted(statement, names) {
-  if (statement.type === 'FunctionDeclaration') {
-    if (statement.id) names.add(statement.id.name);
-  } else if (statement.type === 'VariableDeclaration') {
-    if (statement.kind === 'var') namesOfDeclaration(statement).forEach((name) => names.add(name));
-  } else {
-    const inner = INNER_STATEMENTS[statement.type];
-    if (inner) inner(statement).forEach((one) => one && addHoisted(one, names));
+  if (!statement) return;
+  switch (statement.type) {
+    case 'FunctionDeclaration': addNames(statement.id, names); break;
+    case 'VariableDeclaration': if (statement.kind === 'var') addDeclared(statement, names); break;
+    case 'BlockStatement': addHoistedOfAll(statement.body, names); break;
+    case 'IfStatement': addHoisted(statement.consequent, names); addHoisted(statement.alternate, names); break;
+    case 'ForStatement': addHoisted(statement.init, names); addHoisted(statement.body, names); break;
+    case 'ForInStatement': case 'ForOfStatement': addHoisted(statement.left, names); addHoisted(statement.body, names); break;
+    case 'WhileStatement': case 'DoWhileStatement': case 'LabeledStatement': case 'WithStatement': addHoisted(statement.body, names); break;
+    case 'TryStatement':
+      addHoisted(statement.block, names);
+      addHoisted(statement.handler && statement.handler.body, names);
+      addHoisted(statement.finalizer, names);
+      break;
+    case 'SwitchStatement': statement.cases.forEach((one) => addHoistedOfAll(one.consequent, names)); break;
+    default:
   }
 }
 
@@ -67,12 +80,11 @@ function declaresForBlock(statement) {
 
 /** Adds the names that the statements of one block declare for this block alone. */
 function addLexical(statements, names) {
-  for (const statement of statements) {
-    if (statement.type === 'VariableDeclaration' && statement.kind !== 'var') {
-      namesOfDeclaration(statement).forEach((name) => names.add(name));
-    }
-    const named = statement.type === 'ClassDeclaration' || statement.type === 'FunctionDeclaration';
-    if (named && statement.id) names.add(statement.id.name);
+  for (let k = 0; k < statements.length; k++) {
+    const statement = statements[k];
+    if (!declaresForBlock(statement)) continue;
+    if (statement.type === 'VariableDeclaration') addDeclared(statement, names);
+    else addNames(statement.id, names);
   }
 }
 
@@ -93,21 +105,31 @@ class Scope {
   }
 
   static ofFunction(parent, node) {
-    const scope = new Scope(parent, node.params.flatMap(namesOfPattern));
-    if (node.type !== 'ArrowFunctionExpression') scope.names.add('arguments');
-    if (node.id && node.type === 'FunctionExpression') scope.names.add(node.id.name);
+    const scope = new Scope(parent);
+    const { names } = scope;
+    node.params.forEach((parameter) => addNames(parameter, names));
+    if (node.type !== 'ArrowFunctionExpression') names.add('arguments');
+    if (node.type === 'FunctionExpression') addNames(node.id, names);
     if (node.body.type === 'BlockStatement') {
-      node.body.body.forEach((statement) => addHoisted(statement, scope.names));
-      addLexical(node.body.body, scope.names);
+      addHoistedOfAll(node.body.body, names);
+      addLexical(node.body.body, names);
     }
     return scope;
   }
 
   /** 'local', 'global', 'module' (a variable of the module itself), or 'unknown' where a `with` stands between. */
   where(name) {
+    for (let scope = this; scope; scope = scope.parent) {
+      const found = scope.own(name);
+      if (found) return found;
+    }
+    return 'global';
+  }
+
+  /** What this scope alone says of a name, or '' where it knows nothing of it. */
+  own(name) {
     if (this.dynamic) return 'unknown';
-    if (this.names.has(name)) return 'local';
-    return this.parent ? this.parent.where(name) : 'global';
+    return this.names.has(name) ? 'local' : '';
   }
 }
 
@@ -115,18 +137,18 @@ class Scope {
 class ModuleScope extends Scope {
   constructor(program) {
     super(null);
-    this.own = new Set();
+    this.declared = new Set();
     const declarations = program.body.map((statement) => statement.declaration || statement);
     for (const statement of program.body) {
       if (statement.type === 'ImportDeclaration') statement.specifiers.forEach((one) => this.names.add(one.local.name));
     }
-    declarations.forEach((declaration) => addHoisted(declaration, this.own));
-    addLexical(declarations, this.own);
+    declarations.forEach((declaration) => addHoisted(declaration, this.declared));
+    addLexical(declarations, this.declared);
   }
 
-  where(name) {
+  own(name) {
     if (this.names.has(name)) return 'local';
-    return this.own.has(name) ? 'module' : 'global';
+    return this.declared.has(name) ? 'module' : '';
   }
 }
 

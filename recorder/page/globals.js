@@ -20,6 +20,8 @@ class Globals {
       Object.getOwnPropertyNames(owner).forEach((name) => this.builtins.add(name));
     }
     this.values = new Map();
+    /** Names of properties that an enumeration of the window does not give. */
+    this.hidden = [];
     /** For each site in marked code the number of the last action that had its access. */
     this.lastActions = new Uint32Array(FIRST_SITES);
   }
@@ -63,17 +65,43 @@ class Globals {
     this.recording.accessNow('w', this.location(name), site);
   }
 
-  /** Writes that no mark saw, as `root.x = 1`: the window's own properties are compared at the end of each piece. */
-  compare() {
+  /** To list all properties of a window takes long, so those that no enumeration gives are noted as they are made. */
+  start() {
     const { window } = this.page;
-    for (const name of Object.getOwnPropertyNames(window)) {
-      if (this.builtins.has(name) || /^\d+$/.test(name)) continue;
-      const descriptor = Object.getOwnPropertyDescriptor(window, name);
-      if (descriptor && 'value' in descriptor) this.compareOne(name, descriptor.value);
-    }
+    const noteOne = (target, name, descriptor) => this.noteHidden(target, name, descriptor);
+    const noteAll = (target, descriptors) => each(Object.keys(descriptors), (name) => this.noteHidden(target, name, descriptors[name]));
+    for (const owner of [window.Object, window.Reflect]) this.replaceDefinition(owner, 'defineProperty', noteOne);
+    this.replaceDefinition(window.Object, 'defineProperties', noteAll);
   }
 
-  compareOne(name, value) {
+  replaceDefinition(owner, name, note) {
+    replaceMethod(owner, name, (native) => function define(target, given, descriptor) {
+      const result = native.call(this, target, given, descriptor);
+      note(target, given, descriptor);
+      return result;
+    });
+  }
+
+  noteHidden(target, name, descriptor) {
+    const page = findItem(this.recording.documents, (one) => one.window === target);
+    if (!page || descriptor.enumerable || typeof name === 'symbol') return;
+    const { hidden } = page.globals;
+    if (!hasItem(hidden, String(name))) hidden[hidden.length] = String(name);
+  }
+
+  /** Writes that no mark saw, as `root.x = 1`: the window's own properties are compared at the end of each piece. */
+  compare() {
+    each(Object.keys(this.page.window), (name) => this.compareOne(name));
+    each(this.hidden, (name) => this.compareOne(name));
+  }
+
+  compareOne(name) {
+    if (this.builtins.has(name) || /^\d+$/.test(name)) return;
+    const descriptor = Object.getOwnPropertyDescriptor(this.page.window, name);
+    if (descriptor && 'value' in descriptor) this.compareValue(name, descriptor.value);
+  }
+
+  compareValue(name, value) {
     const isNew = !this.values.has(name);
     if (!isNew && Object.is(this.values.get(name), value)) return;
     this.values.set(name, value);

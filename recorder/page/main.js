@@ -26,7 +26,8 @@ class Page {
     documents.splice(0, documents.length, ...keep(documents, (page) => page.window !== this.window), this);
     this.recording.elementNumbers.delete(this.window); // a frame's window stays the same object for its next page
     this.beginDocument();
-    const parts = [this.handlers, this.dispatches, this.calls, this.lookups, this.fields, this.timers, this.jobs, this.requests, this.connections, this.messages];
+    const parts = [this.handlers, this.dispatches, this.calls, this.lookups, this.fields, this.timers, this.jobs, this.requests, this.connections, this.messages,
+      this.globals];
     parts.forEach((part) => part.start());
     this.replaceToString();
     this.elements.start();

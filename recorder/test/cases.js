@@ -76,6 +76,12 @@ exports.cases = [
     due: ['exec script', 'w made', 'w Shop', 'r Shop', 'w Other', 'exec script', 'w seen', 'r Other'],
   },
   {
+    page: 'hidden-variables.html',
+    due: [
+      'exec script', 'w three', 'w five', 'w one', 'w two', 'w four', 'exec script', 'w seen', 'r one', 'r two', 'r three', 'r five', 'w one',
+    ],
+  },
+  {
     page: 'own-arrays.html',
     due: [
       'w calls', 'parse button#go plain', 'new p#added plain', 'w #added', 'inline button#go click', 'w clicked',

@@ -2,16 +2,15 @@
 // How the commands end: what they write, what they say, their statuses, and that no browser and no folder is left behind.
 
 const assert = require('node:assert');
-const { spawn, spawnSync } = require('node:child_process');
 const fs = require('node:fs');
-const os = require('node:os');
 const path = require('node:path');
-const { after, test } = require('node:test');
+const { test } = require('node:test');
+const { run: runProgram, start, temporaryFolder } = require('./cleanup.js');
 
 const TOP = path.join(__dirname, '..', '..');
 const PAGES = path.join(__dirname, 'pages');
-const folder = fs.mkdtempSync(path.join(os.tmpdir(), 'er-test-'));
-after(() => fs.rmSync(folder, { recursive: true, force: true }));
+const LONGEST_RUN = 90000;
+const folder = temporaryFolder('test');
 
 const traceFile = (name) => path.join(folder, `${name}.trace`);
 /** A folder for temporary files of its own, so that what is left behind is seen. */
@@ -21,9 +20,8 @@ function temporary(name) {
   return own;
 }
 
-function run(command, words, own) {
-  return spawnSync(path.join(TOP, command), words, { encoding: 'utf8', cwd: folder, timeout: 90000, env: { ...process.env, TMPDIR: own } });
-}
+const withFolder = (own) => ({ cwd: folder, env: { ...process.env, TMPDIR: own } });
+const run = (command, words, own) => runProgram(path.join(TOP, command), words, { ...withFolder(own), longest: LONGEST_RUN });
 
 function isWhole(file) {
   const text = fs.readFileSync(file, 'utf8');
@@ -46,9 +44,9 @@ function assertNothingLeft(own) {
   assert.deepStrictEqual(processesOf(own), []);
 }
 
-test('a recording writes the trace and its names', () => {
+test('a recording writes the trace and its names', { timeout: 150000 }, async () => {
   const own = temporary('plain');
-  const { status, stderr } = run('er_record', [path.join(PAGES, 'timer.html'), traceFile('plain')], own);
+  const { status, stderr } = await run('er_record', [path.join(PAGES, 'timer.html'), traceFile('plain')], own);
   assert.strictEqual(status, 0, stderr);
   assert.match(stderr, /er_record: \d+ actions in [\d.]+ s/);
   assert.ok(isWhole(traceFile('plain')));
@@ -58,34 +56,31 @@ test('a recording writes the trace and its names', () => {
   assertNothingLeft(own);
 });
 
-test('words that ask for nothing', () => {
+test('words that ask for nothing', { timeout: 150000 }, async () => {
   for (const words of [[], ['a'], ['a', 'b', '--what'], ['a', 'b', '--do', 'jump:x'], ['a', 'b', '--version', '9'], ['a', 'b', '--time', 'x']]) {
-    const { status, stderr } = run('er_record', words, temporary('usage'));
+    const { status, stderr } = await run('er_record', words, temporary('usage'));
     assert.strictEqual(status, 2, words.join(' '));
     assert.match(stderr, /usage: er_record/);
   }
-  assert.strictEqual(run('er_page', [], temporary('usage')).status, 2);
-  assert.strictEqual(run('er_view', [], temporary('usage')).status, 2);
+  assert.strictEqual((await run('er_page', [], temporary('usage'))).status, 2);
+  assert.strictEqual((await run('er_view', [], temporary('usage'))).status, 2);
 });
 
-test('a page that does not load', () => {
+test('a page that does not load', { timeout: 150000 }, async () => {
   const own = temporary('missing');
-  const missing = run('er_record', [path.join(PAGES, 'not-there.html'), traceFile('missing')], own);
+  const missing = await run('er_record', [path.join(PAGES, 'not-there.html'), traceFile('missing')], own);
   assert.strictEqual(missing.status, 4, missing.stderr);
   assert.match(missing.stderr, /not-there.html did not load/);
   assert.ok(isWhole(traceFile('missing')));
-  const closed = run('er_record', ['http://127.0.0.1:1/', traceFile('closed')], own);
+  const closed = await run('er_record', ['http://127.0.0.1:1/', traceFile('closed')], own);
   assert.strictEqual(closed.status, 4);
   assert.match(closed.stderr, /did not load: net::ERR/);
   assertNothingLeft(own);
 });
 
 function startRecording(name, page, own) {
-  const child = spawn(path.join(TOP, 'er_record'), [path.join(PAGES, page), traceFile(name), '--do', 'wait:60000', '--time', '80'], { env: { ...process.env, TMPDIR: own } });
-  child.said = '';
-  child.stderr.on('data', (piece) => { child.said += piece; });
-  child.ended = new Promise((resolve) => child.on('close', resolve));
-  return child;
+  const words = [path.join(PAGES, page), traceFile(name), '--do', 'wait:60000', '--time', '80'];
+  return start(path.join(TOP, 'er_record'), words, withFolder(own));
 }
 
 /** Waits until the recording says that actions came. */
@@ -116,30 +111,42 @@ test('a browser that is gone: what was recorded so far is written', { timeout: 1
   assertNothingLeft(own);
 });
 
-test('a page without an end is recorded for as long as was said', { timeout: 150000 }, () => {
+test('a page without an end is recorded for as long as was said', { timeout: 150000 }, async () => {
   const own = temporary('endless');
-  const { status, stderr } = run('er_record', [path.join(PAGES, 'endless.html'), traceFile('endless'), '--time', '4'], own);
+  const { status, stderr } = await run('er_record', [path.join(PAGES, 'endless.html'), traceFile('endless'), '--time', '4'], own);
   assert.strictEqual(status, 0, stderr);
   assert.ok(isWhole(traceFile('endless')));
   assertNothingLeft(own);
 });
 
-test('from a page to its races', { timeout: 90000 }, () => {
+test('from a page to its races', { timeout: 150000 }, async () => {
   const own = temporary('page');
-  const { status, stdout, stderr } = run('er_page', [path.join(TOP, 'examples/shop/index.html'), '--slow', '300', '--do', 'early click:#add'], own);
+  const { status, stdout, stderr } = await run('er_page', [path.join(TOP, 'examples/shop/index.html'), '--slow', '300', '--do', 'early click:#add'], own);
   assert.strictEqual(status, 1, stderr);
   assert.match(stdout, /^1\. .*nothing orders them/m);
   for (const ending of ['trace', 'names.json', 'report', 'html']) assert.ok(fs.existsSync(path.join(folder, 'shop.races', `page.${ending}`)), ending);
-  const clean = run('er_page', [path.join(PAGES, 'no-race.html')], own);
+  const clean = await run('er_page', [path.join(PAGES, 'no-race.html')], own);
   assert.strictEqual(clean.status, 0, clean.stderr);
   assert.match(clean.stdout, /^No race\.$/m);
   assertNothingLeft(own);
 });
 
-test('a trace that is refused', () => {
+test('a trace that is refused', { timeout: 150000 }, async () => {
   const file = traceFile('refused');
   fs.writeFileSync(file, 'webtrace 1\ntimer 9\nend\n');
-  const { status, stderr } = run('er_view', [file], temporary('view'));
+  const { status, stderr } = await run('er_view', [file], temporary('view'));
   assert.strictEqual(status, 3);
   assert.match(stderr, /refused at line 2: unknown/);
+});
+
+test('a test that a signal ends leaves nothing behind', { timeout: 150000 }, async () => {
+  const own = temporary('ended');
+  const env = { ...process.env, TMPDIR: own, NODE_TEST_CONTEXT: undefined };
+  const command = start(process.execPath, ['--stack-size=4000', path.join(__dirname, 'pages.test.js')], { env });
+  const hasBrowser = () => fs.readdirSync(own).some((name) => fs.existsSync(path.join(own, name, 'Default')));
+  for (let k = 0; k < 600 && !hasBrowser(); k++) await new Promise((resolve) => setTimeout(resolve, 100));
+  assert.ok(hasBrowser(), command.said);
+  command.kill('SIGTERM');
+  assert.strictEqual(await command.ended, 143);
+  assertNothingLeft(own);
 });

@@ -6,23 +6,50 @@ const http = require('node:http');
 const zlib = require('node:zlib');
 const { after, before, test } = require('node:test');
 const { Chromium } = require('../browser/chromium.js');
+const { LocalServer } = require('../browser/local-server.js');
+const { markAhead } = require('../instrument/ahead.js');
+const { Sources } = require('../sources.js');
+const { BEGINS, wordOf } = require('../trace/intake.js');
 const { recordPage, judge, firstMissing } = require('./support.js');
 
 const PAGE = Buffer.from('<!doctype html><title>h</title><p id="caf\u00e9">caf\u00e9</p><script src="code.js" integrity="sha256-x"></script><script src="lost.js"></script><script>seen = word</script>', 'latin1');
+/** 4,500 elements, 1,500 timeouts and 1,000 clicks by a script, of four actions each; a request is open until all is done. */
+const MANY = `<!doctype html><title>m</title>${'<p class="one">x</p>'.repeat(4490)}<button id="go">go</button><script>
+var clicks = 0;
+document.getElementById('go').addEventListener('click', function onGo() { clicks++; });
+(function () {
+  let left = 1500;
+  const isDone = () => { left--; if (left === 0) fetch('done'); };
+  fetch('open');
+  for (let k = 0; k < 1500; k++) setTimeout(isDone, k % 50);
+})();
+for (let k = 0; k < 1000; k++) document.getElementById('go').click();
+</script>`;
+const CODE = 'var named = 1;\n';
 const ANSWERS = {
+  '/named': [302, { location: '/folder/named' }, ''],
+  '/folder/named': [200, { 'content-type': 'text/html' }, `<!doctype html><script src="code.js"></script><script src="/lost.js"></script><script src="http://127.0.0.2:1/never.js"></script><script src="/code.js"></script>`],
+  '/folder/code.js': [200, { 'content-type': 'text/javascript' }, CODE],
+  '/many': [200, { 'content-type': 'text/html' }, MANY],
   '/source': [200, { 'content-type': 'text/html' }, '<!doctype html><script>var last; var source = new EventSource("stream"); source.onmessage = function onMessage(event) { last = event.data; };</script>'],
   '/start': [302, { location: '/page' }, ''],
   '/page': [200, { 'content-type': 'text/html; charset=iso-8859-1', 'content-security-policy': "script-src 'none'" }, PAGE],
   '/code.js': [200, { 'content-type': 'text/javascript', 'content-encoding': 'gzip' }, zlib.gzipSync("var word = document.getElementById('caf\u00e9').textContent;\nif (word !== 'caf\u00e9') throw new Error(word);\n")],
 };
 
+const asked = [];
+let opened;
 let browser;
 let server;
 let origin;
 before(async () => {
   browser = await Chromium.launch({ width: 1100, height: 800 });
   server = http.createServer((request, response) => {
+    asked.push(request.url);
     if (request.url === '/never') return;
+    if (request.url === '/open') opened = response;
+    if (request.url === '/done') opened.end();
+    if (request.url === '/open') return;
     if (request.url === '/half') {
       response.writeHead(200, { 'content-type': 'text/html' }).write('<!doctype html><p id="first">1</p><script>came = 1</script><p>');
       return;
@@ -78,4 +105,33 @@ test('the events of an event source are replies', { timeout: 150000 }, async () 
   const due = ['send', 'on onMessage', 'reply', 'run onMessage', 'w last', 'close', 'reply', 'run onMessage', 'w last'];
   assert.strictEqual(firstMissing(trace.readable, due), null, trace.readable.join('\n'));
   assert.deepStrictEqual(judge(trace).races, []);
+});
+
+test('ten thousand actions in under a minute', { timeout: 150000 }, async () => {
+  const begin = Date.now();
+  const trace = await recordPage(browser, `${origin}/many`, ['--time', '50']);
+  const seconds = (Date.now() - begin) / 1000;
+  const actions = trace.lines.filter((line) => BEGINS.has(wordOf(line))).length;
+  assert.ok(actions >= 10000 && seconds < 60, `${actions} actions in ${seconds} s`);
+  assert.strictEqual(trace.lines.filter((line) => line.startsWith('timer ')).length, 1500);
+  assert.strictEqual(judge(trace).refused, '');
+});
+
+test('the scripts that a page of this machine names are marked before it loads', { timeout: 150000 }, async () => {
+  const sources = new Sources();
+  asked.length = 0;
+  assert.strictEqual(await markAhead(sources, new LocalServer(), `${origin}/named#here`), 1);
+  assert.deepStrictEqual(asked.sort(), ['/code.js', '/folder/code.js', '/folder/named', '/lost.js', '/named']);
+  assert.deepStrictEqual(sources.files.map(({ address }) => address), [`${origin}/folder/code.js`]);
+  const marked = sources.files[0].edited.text;
+  assert.strictEqual(sources.rewriteScript(`${origin}/folder/code.js`, CODE), marked);
+  assert.strictEqual(sources.files.length, 1);
+  assert.strictEqual(await markAhead(new Sources(), new LocalServer(), `${origin}/never`), 0);
+  const deep = { rewriteScript() { throw new RangeError('too deep'); } };
+  assert.strictEqual(await markAhead(deep, new LocalServer(), `${origin}/named`), 0);
+  const machine = new LocalServer();
+  for (const address of ['http://localhost:8080/', 'http://shop.localhost/', 'http://127.0.0.1/']) assert.ok(machine.has(address), address);
+  for (const address of ['http://example.org/', 'https://localhost/', 'http://localhost.example.org/', 'http://203.0.113.1/', 'http://', 'data:text/html,x']) {
+    assert.ok(!machine.has(address), address);
+  }
 });

@@ -6,6 +6,7 @@ const { test } = require('node:test');
 const { EditedText } = require('../instrument/edits.js');
 const { instrument } = require('../instrument/instrument.js');
 const { scanTags } = require('../instrument/html-scanner.js');
+const { warmUp, MINIFIED } = require('../instrument/warm-up.js');
 const { Sources } = require('../sources.js');
 
 const BUILTINS = new Set(['window', 'document', 'setTimeout', 'String', 'Array', 'Object', 'Promise']);
@@ -64,6 +65,16 @@ test('a module: its own variables, and those of the window', () => {
   assert.match(text, /__er\.rm\(2000000,"own"/);
   assert.match(text, /,"shared",\d+\)\)/);
   assert.match(text, /__er\.um\(2000000,"x"/);
+});
+
+test('a statement without a semicolon, where another one follows', () => {
+  assert.strictEqual(marked('b = a\na++').text.match(/;\/\*>\*\//g).length, 3); // the begin, the statement, the end
+  assert.strictEqual(marked('{ b = a }\nif (a) { b\n}').text.match(/;\/\*>\*\//g).length, 2);
+});
+
+test('code to mark before the page comes', () => {
+  assert.doesNotThrow(warmUp);
+  assert.strictEqual(strip(marked(MINIFIED).text), MINIFIED);
 });
 
 test('text that is no JavaScript', () => {

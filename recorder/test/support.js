@@ -3,6 +3,7 @@
 
 const { spawnSync } = require('node:child_process');
 const path = require('node:path');
+require('./cleanup.js');
 const { Recorder } = require('../recorder.js');
 const { parseOptions } = require('../options.js');
 const { Names } = require('../trace/names.js');

@@ -2,31 +2,30 @@
 // The view in a real browser: what it shows, its filter, what folds out, text of the page that looks like markup, and many races.
 
 const assert = require('node:assert');
-const { spawnSync } = require('node:child_process');
 const fs = require('node:fs');
-const os = require('node:os');
 const path = require('node:path');
 const { pathToFileURL } = require('node:url');
 const { after, before, test } = require('node:test');
 const { Chromium } = require('../browser/chromium.js');
 const { Tab } = require('../browser/tab.js');
+const { run, temporaryFolder } = require('./cleanup.js');
 
 const TOP = path.join(__dirname, '..', '..');
 const SIZE = { width: 1100, height: 800 };
-const folder = fs.mkdtempSync(path.join(os.tmpdir(), 'er-view-test-'));
+const LONGEST_RUN = 90000;
+const folder = temporaryFolder('view-test');
 let browser;
 before(async () => { browser = await Chromium.launch(SIZE); });
-after(async () => {
-  await browser.close();
-  fs.rmSync(folder, { recursive: true, force: true });
-});
+after(async () => { await browser.close(); });
+
+const view = (...words) => run(path.join(TOP, 'er_view'), words, { longest: LONGEST_RUN });
 
 /** Writes a trace and its names, makes the view, and opens it. */
 async function openView(name, lines, names) {
   const file = path.join(folder, `${name}.trace`);
   fs.writeFileSync(file, ['webtrace 1', ...lines, 'end', ''].join('\n'));
   if (names) fs.writeFileSync(path.join(folder, `${name}.names.json`), JSON.stringify(names));
-  const { status, stderr } = spawnSync(path.join(TOP, 'er_view'), [file], { encoding: 'utf8' });
+  const { status, stderr } = await view(file);
   assert.strictEqual(status, 1, stderr);
   const tab = await Tab.open(browser, SIZE);
   const errors = [];
@@ -99,17 +98,17 @@ test('groups in words, a filter, and what folds out', { timeout: 150000 }, async
   assert.deepStrictEqual(errors, []);
 });
 
-test('why two actions are ordered', () => {
+test('why two actions are ordered', { timeout: 150000 }, async () => {
   const file = path.join(folder, 'why.trace');
   fs.writeFileSync(file, ['webtrace 1', ...SHOP, 'end', ''].join('\n'));
-  const ask = (from, to) => spawnSync(path.join(TOP, 'er_view'), [file, '--why', from, to], { encoding: 'utf8' });
-  const ordered = ask('0', '4');
+  const ask = (from, to) => view(file, '--why', from, to);
+  const ordered = await ask('0', '4');
   if (ordered.status !== 0) { // a program without the mode `explain` says so
     assert.match(ordered.stderr, /^er_view: no explanation: /);
     return;
   }
   assert.match(ordered.stdout, /^These steps put action 0 .* before action 4 .*:\n {2}.*by rule \d+: /);
-  assert.match(ask('4', '5').stdout, /^Nothing puts action 4 .* before action 5 .*\./);
+  assert.match((await ask('4', '5')).stdout, /^Nothing puts action 4 .* before action 5 .*\./);
 });
 
 test('a trace without names', { timeout: 150000 }, async () => {
