@@ -1,12 +1,11 @@
 -- A version that has no records of tasks hands none by their rules. Lists of records stand newest first.
-use Rattle.std.proofs.Common.{◌≡◌, ℕ, Bool, true, false, List, [], ◌∷◌, ◌++◌, None, refl, sym, ap, subst, ◌∙◌, inl, inr, append-nil}
-use Rattle.std.specs.Prelude.{◌==◌, ◌&&◌, ◌||◌, not, if◌then◌else◌}
+use Rattle.std.proofs.Common.{◌≡◌, ℕ, Bool, true, false, List, [], ◌∷◌, ◌++◌, refl, sym, ap, ◌∙◌, inl, inr, append-nil}
+use Rattle.std.specs.Prelude.{◌==◌, ◌||◌, not, if◌then◌else◌}
 use Rattle.std.specs.List.{list_any}
 use Rattle.er_trace.specs.declared.record.Record.{Record}
 use Rattle.er_trace.specs.declared.record.Record.TheVariants.{Timer, Tick, Close, Message, Anim, Job}
 use Rattle.er_trace.specs.declared.version.Version.{Version}
-use Rattle.er_trace.specs.declared.version.Version.TheVariants.{One, Two}
-use Rattle.er_trace.specs.Versions.{is_of_task, has_tasks, has_record}
+use Rattle.er_trace.specs.Versions.{is_of_task, has_tasks}
 use Rattle.er_history.specs.History.{Event, Action, told, event_begun, action_begun}
 use Rattle.er_history.specs.Edges.{path, up_to}
 use Rattle.er_history.specs.Handed.{HasHanded}
