@@ -177,9 +177,15 @@ fn runs(rt: &impl Abort, page: &Page) {
 }
 
 fn tasks(rt: &impl Abort, page: &Page) {
-    assert!(rt; page.message(2).is_some_and(|task| task.maker == 0 && task.rank == 1));
+    assert!(rt;
+        page.message(2)
+            .is_some_and(|task| task.maker == 0 && task.rank == 1)
+    );
     assert!(rt; page.anim(1).is_some_and(|task| task.piece == 0));
-    assert!(rt; page.job(4).is_some_and(|task| task.maker == 6 && task.rank == 3));
+    assert!(rt;
+        page.job(4)
+            .is_some_and(|task| task.maker == 6 && task.rank == 3)
+    );
     assert!(rt; page.message(99).is_none());
     assert!(rt; page.anim(99).is_none());
     assert!(rt; page.job(99).is_none());
