@@ -1,4 +1,5 @@
-//! What the list of accepted records says of messages, animation callbacks and jobs. No look-up takes memory, and none goes through the actions.
+//! What the list of accepted records says of messages, animation callbacks and jobs. No look-up
+//! takes memory, and none goes through the actions.
 
 ghost use Rattle.std.specs.Prelude.{◌≡◌, List, map};
 ghost use Rattle.er_trace.specs.declared.record.Record.{Record};
@@ -45,7 +46,8 @@ impl Page {
     /// The messages whose events have begun, in order, with what posted them.
     pub fn begun_messages(&self) -> &[BegunTask]
         ensures numbers { Answers self.now says.messages (map task_number result.now) }
-        ensures begun { (h : List Record) → IsPage self.now h → HaveBegun OfMessage self.now.tasks result.now }
+        ensures begun { (h : List Record) → IsPage self.now h
+            → HaveBegun OfMessage self.now.tasks result.now }
     {
         self.tasks.begun_messages()
     }
@@ -84,7 +86,8 @@ impl Page {
     /// The callbacks that have begun, in order, with what asked for them.
     pub fn begun_anims(&self) -> &[BegunTask]
         ensures numbers { Answers self.now says.anims (map task_number result.now) }
-        ensures begun { (h : List Record) → IsPage self.now h → HaveBegun OfAnim self.now.tasks result.now }
+        ensures begun { (h : List Record) → IsPage self.now h
+            → HaveBegun OfAnim self.now.tasks result.now }
     {
         self.tasks.begun_anims()
     }
@@ -137,7 +140,8 @@ impl Page {
     /// The jobs that have begun, in order, with what queued them.
     pub fn begun_jobs(&self) -> &[BegunTask]
         ensures numbers { Answers self.now says.jobs (map task_number result.now) }
-        ensures begun { (h : List Record) → IsPage self.now h → HaveBegun OfJob self.now.tasks result.now }
+        ensures begun { (h : List Record) → IsPage self.now h
+            → HaveBegun OfJob self.now.tasks result.now }
     {
         self.tasks.begun_jobs()
     }
@@ -145,7 +149,8 @@ impl Page {
     /// The jobs queued in the event that have begun, in order, with what queued them.
     pub fn begun_jobs_of(&self, event: u32) -> &[BegunTask]
         ensures numbers { Answers self.now (λ h. queued_jobs h event) (map task_number result.now) }
-        ensures begun { (h : List Record) → IsPage self.now h → HaveBegun OfJob self.now.tasks result.now }
+        ensures begun { (h : List Record) → IsPage self.now h
+            → HaveBegun OfJob self.now.tasks result.now }
     {
         self.tasks.begun_jobs_of(event)
     }
@@ -153,7 +158,8 @@ impl Page {
 
 /// Notes.
 impl Page {
-    /// Whether two notes of one kind declare numbers that are declared, the first in an earlier line.
+    /// Whether two notes of one kind declare numbers that are declared, the first in an earlier
+    /// line.
     pub fn declared_before(&self, first: &Record, second: &Record) -> bool
         ensures { Answers self.now (λ h. says.declared_before h first.now second.now) result }
     {

@@ -26,7 +26,8 @@ impl Drop for Within {
     }
 }
 
-/// The dispatch on the stack, where the record begins a job. There is no second one: none is inline, and no other is put on another.
+/// The dispatch on the stack, where the record begins a job. There is no second one: none is
+/// inline, and no other is put on another.
 pub(crate) fn job_dispatch(stack: &Stack, rec: &Record) -> Option<u32>
     ensures { (h : List Record) → StackIs stack.now h → result ≡ says.job_dispatch h rec.now }
 {

@@ -428,8 +428,21 @@ pub(crate) static MISPLACED: [&[&str]; 74] = [
     &["queue 1"],
     &["parse 0 1 plain", "post 1", "fire 1 1 a", "message 1"],
     &["parse 0 1 plain", "ask 1", "fire 1 1 a", "anim 1"],
-    &["parse 0 1 inline", "exec 1", "queue 1", "inline 1 1 a", "job 1"],
-    &["parse 0 1 inline", "exec 1", "queue 1", "inline 1 1 a", "close 1", "job 1"],
+    &[
+        "parse 0 1 inline",
+        "exec 1",
+        "queue 1",
+        "inline 1 1 a",
+        "job 1",
+    ],
+    &[
+        "parse 0 1 inline",
+        "exec 1",
+        "queue 1",
+        "inline 1 1 a",
+        "close 1",
+        "job 1",
+    ],
 ];
 
 /// Nothing is against the last line either.
@@ -570,7 +583,15 @@ pub(crate) static ACCEPTED: [&[&str]; 40] = [
     &["parse 0 1 plain", "queue 1", "fire 1 1 a", "job 1"],
     &["parse 0 1 plain", "post 1", "message 1", "inline 1 1 a"],
     &["parse 0 1 plain", "ask 1", "anim 1", "inline 1 1 a"],
-    &["parse 0 1 plain", "queue 1", "fire 1 1 a", "job 1", "inline 2 1 b", "close 2", "back 2"],
+    &[
+        "parse 0 1 plain",
+        "queue 1",
+        "fire 1 1 a",
+        "job 1",
+        "inline 2 1 b",
+        "close 2",
+        "back 2",
+    ],
     &[
         "parse 0 1 plain",
         "post 1",

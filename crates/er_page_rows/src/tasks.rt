@@ -117,21 +117,47 @@ fn in_order(rt: &impl Abort, page: &Page) {
     assert!(rt; page.jobs_in(99).is_empty());
 }
 
+/// A note, by what it declares.
+#[derive(Clone, Copy)]
+enum Note {
+    Post(u32),
+    Ask(u32),
+    Queue(u32),
+}
+
+fn note_of(note: Note) -> Record {
+    match note {
+        Note::Post(message) => Record::Post { message },
+        Note::Ask(anim) => Record::Ask { anim },
+        Note::Queue(job) => Record::Queue { job },
+    }
+}
+
 /// Two notes, and whether the first declares its number in an earlier line.
-static NOTES: [(Record, Record, bool); 8] = [
-    (Record::Post { message: 1 }, Record::Post { message: 2 }, true),
-    (Record::Post { message: 2 }, Record::Post { message: 1 }, false),
-    (Record::Post { message: 2 }, Record::Post { message: 2 }, false),
-    (Record::Post { message: 2 }, Record::Post { message: 99 }, false),
-    (Record::Post { message: 99 }, Record::Post { message: 2 }, false),
-    (Record::Ask { anim: 1 }, Record::Queue { job: 3 }, false),
-    (Record::Queue { job: 1 }, Record::Queue { job: 4 }, true),
-    (Record::Queue { job: 6 }, Record::Queue { job: 3 }, false),
+static NOTES: [(Note, Note, bool); 8] = [
+    (Note::Post(1), Note::Post(2), true),
+    (Note::Post(2), Note::Post(1), false),
+    (Note::Post(2), Note::Post(2), false),
+    (Note::Post(2), Note::Post(99), false),
+    (Note::Post(99), Note::Post(2), false),
+    (Note::Ask(1), Note::Queue(3), false),
+    (Note::Queue(1), Note::Queue(4), true),
+    (Note::Queue(6), Note::Queue(3), false),
 ];
+
+/// The end of a record is long to prove. A note has nothing to let go.
+fn is_before(page: &Page, first: Note, second: Note) -> bool {
+    let first = note_of(first);
+    let second = note_of(second);
+    let before = page.declared_before(&first, &second);
+    std::mem::forget(first);
+    std::mem::forget(second);
+    before
+}
 
 fn by_notes(rt: &impl Abort, page: &Page) {
     for (first, second, due) in &NOTES {
-        assert!(rt; page.declared_before(first, second) == *due);
+        assert!(rt; is_before(page, *first, *second) == *due);
     }
 }
 
@@ -151,9 +177,15 @@ fn runs(rt: &impl Abort, page: &Page) {
 }
 
 fn tasks(rt: &impl Abort, page: &Page) {
-    assert!(rt; page.message(2).is_some_and(|task| task.maker == 0 && task.rank == 1));
+    assert!(rt;
+        page.message(2)
+            .is_some_and(|task| task.maker == 0 && task.rank == 1)
+    );
     assert!(rt; page.anim(1).is_some_and(|task| task.piece == 0));
-    assert!(rt; page.job(4).is_some_and(|task| task.maker == 6 && task.rank == 3));
+    assert!(rt;
+        page.job(4)
+            .is_some_and(|task| task.maker == 6 && task.rank == 3)
+    );
     assert!(rt; page.message(99).is_none());
     assert!(rt; page.anim(99).is_none());
     assert!(rt; page.job(99).is_none());

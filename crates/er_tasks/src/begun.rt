@@ -15,7 +15,8 @@ pub(crate) struct Started {
     pub(crate) task: Task,
 }
 
-/// Tasks in the order in which their events began: a number for each, and beside it what is known of it.
+/// Tasks in the order in which their events began: a number for each, and beside it what is known
+/// of it.
 pub(crate) struct Begun {
     pub(crate) listed: Vec<u32>,
     pub(crate) tasks: Vec<BegunTask>,
@@ -64,7 +65,8 @@ impl Begun {
         requires room { HasPlace self.old }
         ensures listed { self.new.listed.items ≡ self.old.listed.items ++ listed ∷ [] }
         ensures tasks { self.new.tasks.items ≡ self.old.tasks.items ++ begun ∷ [] }
-        ensures numbers { map task_number self.new.tasks.items ≡ map task_number self.old.tasks.items ++ begun.number ∷ [] }
+        ensures numbers { map task_number self.new.tasks.items
+            ≡ map task_number self.old.tasks.items ++ begun.number ∷ [] }
     {
         let Ok(()) = self.listed.push(listed) else {
             unreachable!()

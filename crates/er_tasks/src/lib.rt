@@ -1,7 +1,10 @@
-//! Messages, animation callbacks and jobs: tasks of three kinds, each numbered apart from all else. What declared each, which have begun, and which event queued which jobs.
+//! Messages, animation callbacks and jobs: tasks of three kinds, each numbered apart from all else.
+//! What declared each, which have begun, and which event queued which jobs.
 //!
-//! `Tasks` stands for each list of accepted records that its tables tell of (`TasksAre` of specs/Tasks.antt).
-//! A look-up answers what its word of er_history (specs/LookUps.antt) says of such a list, and `None` where the list has nothing of the kind.
+//! `Tasks` stands for each list of accepted records that its tables tell of (`TasksAre` of
+//! specs/Tasks.antt).
+//! A look-up answers what its word of er_history (specs/LookUps.antt) says of such a list, and
+//! `None` where the list has nothing of the kind.
 //! None takes memory.
 //!
 //! | Asked of | Look-ups |
@@ -13,8 +16,10 @@
 //! | an event | `jobs_queued`, `begun_jobs_of` |
 //! | two notes | `declared_before` |
 //!
-//! A record is taken in two steps. `make_room` may answer `NoMemory`, and leaves what the tasks stand for;
-//! `take` needs the room and the action that runs when the record has been read, with its event (`Now`), and can't fail.
+//! A record is taken in two steps. `make_room` may answer `NoMemory`, and leaves what the tasks
+//! stand for;
+//! `take` needs the room and the action that runs when the record has been read, with its event
+//! (`Now`), and can't fail.
 #![tactic(auto)]
 
 mod begun;

@@ -1,4 +1,5 @@
-//! What the list of accepted records says of messages, animation callbacks and jobs. No look-up takes memory.
+//! What the list of accepted records says of messages, animation callbacks and jobs. No look-up
+//! takes memory.
 
 ghost use Rattle.std.specs.Prelude.{◌≡◌, List, map};
 ghost use Rattle.er_trace.specs.declared.record.Record.{Record};
@@ -43,7 +44,8 @@ impl Tasks {
     /// The messages whose events have begun, in order, with what posted them.
     pub fn begun_messages(&self) -> &[BegunTask]
         ensures numbers { Answers self.now says.messages (map task_number result.now) }
-        ensures begun { (h : List Record) → TasksAre self.now h → HaveBegun OfMessage self.now result.now }
+        ensures begun { (h : List Record) → TasksAre self.now h
+            → HaveBegun OfMessage self.now result.now }
     {
         self.messages.tasks()
     }
@@ -82,7 +84,8 @@ impl Tasks {
     /// The callbacks that have begun, in order, with what asked for them.
     pub fn begun_anims(&self) -> &[BegunTask]
         ensures numbers { Answers self.now says.anims (map task_number result.now) }
-        ensures begun { (h : List Record) → TasksAre self.now h → HaveBegun OfAnim self.now result.now }
+        ensures begun { (h : List Record) → TasksAre self.now h
+            → HaveBegun OfAnim self.now result.now }
     {
         self.anims.tasks()
     }
@@ -128,7 +131,8 @@ impl Tasks {
     /// The jobs that have begun, in order, with what queued them.
     pub fn begun_jobs(&self) -> &[BegunTask]
         ensures numbers { Answers self.now says.jobs (map task_number result.now) }
-        ensures begun { (h : List Record) → TasksAre self.now h → HaveBegun OfJob self.now result.now }
+        ensures begun { (h : List Record) → TasksAre self.now h
+            → HaveBegun OfJob self.now result.now }
     {
         self.jobs.tasks()
     }
@@ -136,7 +140,8 @@ impl Tasks {
     /// The jobs queued in the event that have begun, in order, with what queued them.
     pub fn begun_jobs_of(&self, event: u32) -> &[BegunTask]
         ensures numbers { Answers self.now (λ h. queued_jobs h event) (map task_number result.now) }
-        ensures begun { (h : List Record) → TasksAre self.now h → HaveBegun OfJob self.now result.now }
+        ensures begun { (h : List Record) → TasksAre self.now h
+            → HaveBegun OfJob self.now result.now }
     {
         self.queued.tasks(event)
     }
@@ -144,7 +149,8 @@ impl Tasks {
 
 /// Notes.
 impl Tasks {
-    /// Whether two notes of one kind declare numbers that are declared, the first in an earlier line.
+    /// Whether two notes of one kind declare numbers that are declared, the first in an earlier
+    /// line.
     pub fn declared_before(&self, first: &Record, second: &Record) -> bool
         ensures { Answers self.now (λ h. says.declared_before h first.now second.now) result }
     {

@@ -13,7 +13,8 @@ use er_outside::NoMemory;
 use indexmap::IndexMap;
 use std::alloc::Global;
 
-/// The jobs whose events have begun, by the events that queued them: their events, and beside each what is known of the job.
+/// The jobs whose events have begun, by the events that queued them: their events, and beside each
+/// what is known of the job.
 pub(crate) struct Queued {
     pub(crate) lists: IndexMap<u32, Begun>,
     pub(crate) alloc: Global,
@@ -73,7 +74,8 @@ impl Queued {
     /// Takes a job that begins as this event, if there is one.
     pub(crate) fn take(&mut self, job: Option<Started>, event: u32)
         requires room { HasPlaceFor self.old (option_map (λ (x : Started). x.task.maker) job) }
-        ensures listed { (u : ℕ) → listed_at self.new u ≡ listed_at self.old u ++ event_under u job event }
+        ensures listed { (u : ℕ) → listed_at self.new u
+            ≡ listed_at self.old u ++ event_under u job event }
         ensures numbers { (u : ℕ) → map task_number (tasks_at self.new u)
             ≡ map task_number (tasks_at self.old u) ++ number_under u job }
         ensures begun { (found : ℕ → Option Task) (started : ℕ → Option ℕ)
@@ -124,8 +126,10 @@ impl Queued {
     /// Puts it into the list of the event that queued it.
     fn put(&mut self, job: BegunTask, event: u32)
         requires room { ListHasPlace self.old job.task.maker }
-        ensures listed { (u : ℕ) → listed_at self.new u ≡ listed_at self.old u ++ under u job.task event }
-        ensures tasks { (u : ℕ) → tasks_at self.new u ≡ tasks_at self.old u ++ under u job.task job }
+        ensures listed { (u : ℕ) → listed_at self.new u
+            ≡ listed_at self.old u ++ under u job.task event }
+        ensures tasks { (u : ℕ) → tasks_at self.new u
+            ≡ tasks_at self.old u ++ under u job.task job }
         ensures numbers { (u : ℕ) → map task_number (tasks_at self.new u)
             ≡ map task_number (tasks_at self.old u) ++ under u job.task job.number }
     {

@@ -57,7 +57,8 @@ impl TaskTable {
     /// Makes room for one task more, and for one event more.
     pub(crate) fn make_room(&mut self) -> Result<(), NoMemory>
         ensures kept { (kind : TaskKind) → Keeps (TaskTableIs kind) self.old self.new }
-        ensures declared { (k : ℕ) → get nat_eq self.new.declared k ≡ get nat_eq self.old.declared k }
+        ensures declared { (k : ℕ) → get nat_eq self.new.declared k
+            ≡ get nat_eq self.old.declared k }
         ensures started { (k : ℕ) → get nat_eq self.new.started k ≡ get nat_eq self.old.started k }
         ensures room { OnOk result (HaveRoom self.new) }
     {
@@ -75,11 +76,12 @@ impl TaskTable {
         now: Now,
     ) -> Option<Started>
         requires room { HaveRoom self.old }
-        ensures taken { (kind : TaskKind) (h : List Record) (x : Record) → IsNoted kind x posted begun
-            → TaskTableIs kind self.old h → IsNow h x now → TaskTableIs kind self.new (x ∷ h) }
+        ensures taken { (kind : TaskKind) (h : List Record) (x : Record)
+            → IsNoted kind x posted begun → TaskTableIs kind self.old h → IsNow h x now → TaskTableIs kind self.new (x ∷ h) }
         ensures declared { KeepsEach (get nat_eq self.old.declared) (get nat_eq self.new.declared) }
         ensures started { KeepsEach (get nat_eq self.old.started) (get nat_eq self.new.started) }
-        ensures answers { option_map task_of result ≡ with_task (get nat_eq self.old.declared) begun }
+        ensures answers { option_map task_of result
+            ≡ with_task (get nat_eq self.old.declared) begun }
         ensures found { IfSome result
             (IsStarted (get nat_eq self.new.declared) (get nat_eq self.new.started)) }
     {
@@ -105,11 +107,14 @@ impl TaskTable {
         requires made { IfSome made (λ p. get nat_eq self.old.declared p.0 ≡ Some p.1) }
         ensures declared { self.new.declared ≡ self.old.declared }
         ensures started { self.new.started ≡ self.old.started }
-        ensures listed { self.new.begun.listed.items ≡ self.old.begun.listed.items ++ numbers_in made }
+        ensures listed { self.new.begun.listed.items
+            ≡ self.old.begun.listed.items ++ numbers_in made }
         ensures numbers { map task_number self.new.begun.tasks.items
             ≡ map task_number self.old.begun.tasks.items ++ numbers_in made }
-        ensures begun { AreBegun (get nat_eq self.old.declared) (get nat_eq self.old.started) self.old.begun.tasks.items
-            → AreBegun (get nat_eq self.old.declared) (get nat_eq self.old.started) self.new.begun.tasks.items }
+        ensures begun { AreBegun (get nat_eq self.old.declared) (get nat_eq self.old.started)
+            self.old.begun.tasks.items
+            → AreBegun (get nat_eq self.old.declared) (get nat_eq self.old.started)
+            self.new.begun.tasks.items }
         ensures answers { option_map task_of result ≡ made }
         ensures found { IfSome result
             (IsStarted (get nat_eq self.old.declared) (get nat_eq self.old.started)) }
@@ -119,15 +124,13 @@ impl TaskTable {
             unreachable!()
         };
         let run = run_to(self.begun.tasks.as_slice(), task);
-        self.begun.push(
+        let begun = BegunTask {
             number,
-            BegunTask {
-                number,
-                event,
-                task,
-                run,
-            },
-        );
+            event,
+            task,
+            run,
+        };
+        self.begun.push(number, begun);
         Some(Started {
             number,
             event,
@@ -137,7 +140,8 @@ impl TaskTable {
 
     /// The event that queued, posted or asked for a task.
     pub(crate) fn maker(&self, number: Option<u32>) -> Option<u32>
-        ensures { result ≡ option_map (λ (p : ℕ × Task). p.1.maker) (with_task (get nat_eq self.now.declared) number) }
+        ensures { result ≡ option_map (λ (p : ℕ × Task). p.1.maker)
+            (with_task (get nat_eq self.now.declared) number) }
     {
         let (_, task) = self.made(number)?;
         Some(task.maker)
@@ -237,7 +241,8 @@ fn note_task(table: &mut IndexMap<u32, Task>, number: Option<u32>, now: Now)
     note_pair(table, pair);
 }
 
-/// The task of a number that the running action declares, and so many of its kind were declared before.
+/// The task of a number that the running action declares, and so many of its kind were declared
+/// before.
 fn task_in(number: Option<u32>, now: Now, rank: usize) -> Option<(u32, Task)>
     ensures given { (kind : TaskKind) (x : Record) (a : Action)
         → ((k : ℕ) → is_number k number ≡ declares_task kind k x)

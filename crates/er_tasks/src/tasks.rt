@@ -1,4 +1,5 @@
-//! What declared messages, animation callbacks and jobs, which have begun, and how one record more is taken.
+//! What declared messages, animation callbacks and jobs, which have begun, and how one record more
+//! is taken.
 
 ghost use Rattle.std.specs.Prelude.{[], OnOk};
 ghost use Rattle.er_firsts.specs.Taken.{Keeps, Takes};
@@ -12,7 +13,8 @@ use er_outside::NoMemory;
 use er_trace::record::Record;
 use std::alloc::Global;
 
-/// What declared a message, an animation callback or a job: the event and the piece, and how many of its kind were declared before.
+/// What declared a message, an animation callback or a job: the event and the piece, and how many
+/// of its kind were declared before.
 #[derive(Clone, Copy)]
 pub struct Task {
     pub maker: u32,
@@ -20,7 +22,8 @@ pub struct Task {
     pub rank: usize,
 }
 
-/// A task whose event has begun: its number, the event, and what declared it. From the place `run` of its list on, each task before it was declared before it in the same piece.
+/// A task whose event has begun: its number, the event, and what declared it. From the place `run`
+/// of its list on, each task before it was declared before it in the same piece.
 #[derive(Clone, Copy)]
 pub struct BegunTask {
     pub number: u32,
