@@ -1,11 +1,11 @@
 -- What the look-ups of tasks say for the rules. Lists of records stand newest first.
-use Rattle.std.proofs.Common.{◌≡◌, ℕ, ◌<◌, Bool, true, false, List, [], ◌∷◌, ◌++◌, length, reverse, Option, Some, None, refl, sym, ap, ◌∙◌, arith}
+use Rattle.std.proofs.Common.{◌≡◌, ℕ, Bool, true, false, List, [], ◌∷◌, reverse, Option, Some, None, refl, sym, ap, ◌∙◌, arith}
 use Rattle.std.specs.Prelude.{◌==◌, ◌&&◌, ◌||◌, nat_lt, if◌then◌else◌}
 use Rattle.std.specs.List.{list_any}
-use Rattle.std.proofs.lemmas.Bool.{eqb-true, eq-eqb, ne_eqb}
+use Rattle.std.proofs.lemmas.Bool.{eqb-true}
 use Rattle.std.proofs.lemmas.List.{reverse-append}
 use Rattle.er_trace.specs.declared.record.Record.{Record}
-use Rattle.er_paths.specs.Paths.{is_among, joins}
+use Rattle.er_paths.specs.Paths.{is_among}
 use Rattle.er_history.specs.History as history
 use Rattle.er_history.specs.History.{told, action_at, What, TimeoutRun, TickRun, MessageRun, AnimRun, JobRun, Event, Action}
 use Rattle.er_history.specs.Kinds.{is_job_within}
@@ -20,7 +20,7 @@ use Rattle.er_page.specs.declared.page.Page.{Page}
 use Rattle.er_page.specs.Page.{IsPage}
 use Rattle.er_tasks.specs.declared.tasks.Task.{Task}
 use Rattle.er_tasks.specs.Tasks.{task_at}
-use Rattle.er_rules_task.proofs.ListLemmas.{TaskSays, task_says, none_made, ranks_are}
+use Rattle.er_rules_task.proofs.ListLemmas.{task_says, none_made, ranks_are}
 use Rattle.er_reasons.specs.Read.{within_in, within_at, within_of}
 use Rattle.er_pieces.proofs.ChainLemmas.{event_with}
 use Rattle.er_reasons.specs.Words.{is_declarer, declares}

@@ -9,4 +9,4 @@ pub returns-in-Two : goal.returns-in-Two
 returns-in-Two c = λ h lists stands timed. rw c.in-Two.is (c.timers_of_joined_pieces_in_order.ensures h lists stands timed)
 
 pub returns-in-Three : goal.returns-in-Three
-returns-in-Three c = λ h lists stands timed. rw c.in-Three.is (c.timers_of_joined_pieces_in_order.ensures h lists stands timed)
+returns-in-Three c = λ h lists stands timed. rw c.in-Three.is (c.timers_of_joined_pieces_in_order-in-Three.ensures h lists stands timed)
