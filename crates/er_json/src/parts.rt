@@ -5,6 +5,7 @@ ghost use Rattle.er_outside.specs.Ends.{Puts};
 ghost use Rattle.er_json.specs.Parts.{part_text};
 
 use crate::location::put_location;
+use er_buffer::Text;
 use er_outside::{Failed, Sink, put_all};
 use er_text::put_number;
 use er_trace::record::Loc;
@@ -19,9 +20,22 @@ pub(crate) enum Part<'a> {
     Location(&'a Loc),
 }
 
-/// Writes the parts, one behind the other.
+/// Some parts, one behind the other.
+#[derive(Drop)]
+pub(crate) struct Piece<'a> {
+    pub(crate) parts: &'a [Part<'a>],
+}
+
+impl<'a> Text for Piece<'a> {
+    ghost text = { λ piece. flat_map part_text piece.parts.now };
+
+    fn put<K: Sink>(&self, sink: &mut K) -> Result<(), Failed> {
+        put_parts(sink, self.parts)
+    }
+}
+
 #[tactic(auto, using(er_outside::proofs::Puts::composes))]
-pub(crate) fn put_parts<K: Sink>(sink: &mut K, parts: &[Part]) -> Result<(), Failed>
+fn put_parts<K: Sink>(sink: &mut K, parts: &[Part]) -> Result<(), Failed>
     ensures { Puts K.got K.faults sink.old (flat_map part_text parts.now) sink.new result }
 {
     let Some((part, later)) = parts.split_first() else {

@@ -1,6 +1,7 @@
 //! The writers of the line of a report, and of that of a refusal.
 
 ghost use Rattle.std.specs.Prelude.{◌≡◌, ◌≤◌, List, ◌++◌, length, All, OnOk, OnErr};
+ghost use Rattle.std.specs.List.{flat_map};
 ghost use Rattle.er_outside.specs.Ends.{Gets, GetsPart, Puts};
 ghost use Rattle.er_paths.specs.Paths.{joins};
 ghost use Rattle.er_clocks.specs.Clock.{Tells};
@@ -9,9 +10,14 @@ ghost use Rattle.er_races.specs.Races.{races_of, most_races, ArePairs, IsWithin}
 ghost use Rattle.er_cover.specs.Groups.{grouping_of};
 ghost use Rattle.er_buffer.specs.Buffered.{CountsFaults, HoldsRest};
 ghost use Rattle.er_json.specs.Json as spec;
+ghost use Rattle.er_json.specs.Parts.{part_text};
 ghost use Rattle.er_json.specs.Pieces.{group_items, race_items, pieces_of};
 
-use crate::pieces::{AfterRaces, BeforeGroups, BeforeRaces, GroupItem, RaceItem, Refusal};
+use crate::parts::{Part, Piece};
+use crate::pieces::{
+    parts_after_races, parts_before_groups, parts_before_races, parts_of_group, parts_of_race,
+    parts_of_refusal,
+};
 use er_access::Table;
 use er_buffer::{Buffer, flush, put_text};
 use er_clocks::Clocks;
@@ -36,7 +42,7 @@ pub fn write_json_report<K: Sink>(
         Puts K.got K.faults sink.old (spec.report lists table.now) sink.new result) }
 {
     let counts = count_all(table, clocks, races, groups);
-    put_report(sink, table, races, groups, counts)?;
+    put_report(sink, table, races, groups, &counts)?;
     Ok(())
 }
 
@@ -46,7 +52,7 @@ pub fn write_json_refusal<K: Sink>(sink: &mut K, line: u32, cause: Cause) -> Res
     ensures { Puts K.got K.faults sink.old (spec.refusal line cause) sink.new result }
 {
     let mut buffer = Buffer::new();
-    put_text(sink, &mut buffer, &Refusal { line, cause })?;
+    put_piece(sink, &mut buffer, &parts_of_refusal(line, cause))?;
     flush(sink, &mut buffer)?;
     Ok(())
 }
@@ -58,26 +64,26 @@ fn put_report<K: Sink>(
     table: &Table,
     races: &[Race],
     groups: &Groups,
-    counts: Counts,
+    counts: &Counts,
 ) -> Result<(), Failed>
     requires within { All (IsWithin table.now) races.now }
     requires few { length races.now ≤ most_races }
     requires names { length groups.now.names ≡ length races.now }
     requires sizes { length groups.now.sizes ≡ length groups.now.representatives }
     ensures whole { (pairs : List (Kept × Kept)) → ArePairs table.now races.now pairs
-        → OnOk result (Gets (K.got sink.old) (pieces_of pairs groups.now counts)
+        → OnOk result (Gets (K.got sink.old) (pieces_of pairs groups.now counts.now)
         (K.got sink.new)) }
     ensures part { (pairs : List (Kept × Kept)) → ArePairs table.now races.now pairs
-        → OnErr result (GetsPart (K.got sink.old) (pieces_of pairs groups.now counts)
+        → OnErr result (GetsPart (K.got sink.old) (pieces_of pairs groups.now counts.now)
         (K.got sink.new)) }
     ensures counts { CountsFaults K.faults sink.old sink.new result }
 {
     let mut buffer = Buffer::new();
-    put_text(sink, &mut buffer, &BeforeGroups { counts })?;
+    put_piece(sink, &mut buffer, &parts_before_groups(counts))?;
     put_groups(sink, &mut buffer, groups)?;
-    put_text(sink, &mut buffer, &BeforeRaces { counts })?;
+    put_piece(sink, &mut buffer, &parts_before_races(counts))?;
     put_races(sink, &mut buffer, table, races, groups)?;
-    put_text(sink, &mut buffer, &AfterRaces)?;
+    put_piece(sink, &mut buffer, &parts_after_races())?;
     flush(sink, &mut buffer)
 }
 
@@ -95,12 +101,8 @@ fn put_groups<K: Sink>(
     ensures counts { CountsFaults K.faults sink.old sink.new result }
 {
     for g in 0..groups.count() {
-        let group = GroupItem {
-            number: g as u64 + 1,
-            representative: groups.representative(g),
-            size: groups.size(g),
-        };
-        put_text(sink, buffer, &group)?;
+        let parts = parts_of_group(g as u64 + 1, groups.representative(g), groups.size(g));
+        put_piece(sink, buffer, &parts)?;
     }
     Ok(())
 }
@@ -129,15 +131,19 @@ fn put_races<K: Sink>(
         let second = table.access(race.second);
         let loc = table.location(first.location);
         let group = groups.names(place as u32);
-        let number = place as u64 + 1;
-        let item = RaceItem {
-            number,
-            first,
-            second,
-            loc,
-            group,
-        };
-        put_text(sink, buffer, &item)?;
+        let parts = parts_of_race(place as u64 + 1, first, second, loc, group);
+        put_piece(sink, buffer, &parts)?;
     }
     Ok(())
+}
+
+/// Puts the parts into the buffer, as one text.
+fn put_piece<K: Sink>(sink: &mut K, buffer: &mut Buffer, parts: &[Part]) -> Result<(), Failed>
+    ensures whole { OnOk result (HoldsRest (K.got sink.old) (buffer.old ++ flat_map part_text parts.now)
+        (K.got sink.new) buffer.new) }
+    ensures part { OnErr result (GetsPart (K.got sink.old) (buffer.old ++ flat_map part_text parts.now)
+        (K.got sink.new)) }
+    ensures counts { CountsFaults K.faults sink.old sink.new result }
+{
+    put_text(sink, buffer, &Piece { parts })
 }

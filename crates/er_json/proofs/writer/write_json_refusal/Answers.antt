@@ -9,7 +9,7 @@ use Rattle.er_json.proofs.writer.write_json_refusal.Goals as goal
 pub returns-in_err-flush : goal.returns-in_err-flush
 returns-in_err-flush g c =
     let sink = g.K.Sink.got in
-    let part : GetsPart (sink c.args.sink.now) (refusal c.args.line c.args.cause) (sink c.flush.new.sink) = part_came _ _ _ _ _ _ c.new-buffer.ensures c.in_ok-put_text.ensures.whole c.in_err-flush.ensures.puts.part in
+    let part : GetsPart (sink c.args.sink.now) (refusal c.args.line c.args.cause) (sink c.flush.new.sink) = part_came _ _ _ _ _ _ c.new-buffer.ensures (rw c.parts_of_refusal.ensures at c.in_ok-put_piece.ensures.whole) c.in_err-flush.ensures.puts.part in
     record {
       whole = search rules;
       stands = search rules;
@@ -20,7 +20,7 @@ returns-in_err-flush g c =
 
 pub returns : goal.returns
 returns g c = record {
-  whole = all_came _ _ _ _ _ _ c.new-buffer.ensures c.in_ok-put_text.ensures.whole c.in_ok-flush.ensures.puts.whole;
+  whole = all_came _ _ _ _ _ _ c.new-buffer.ensures (rw c.parts_of_refusal.ensures at c.in_ok-put_piece.ensures.whole) c.in_ok-flush.ensures.puts.whole;
   stands = grind (arith, common_steps, composes);
   part = search rules;
   cause = search rules;
