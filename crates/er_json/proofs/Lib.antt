@@ -1,2 +1,3 @@
-pub mod SpellingLemmas
-pub mod ValueLemmas
+pub mod LetterLemmas
+pub mod PieceLemmas
+pub mod LineLemmas

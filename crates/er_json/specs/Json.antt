@@ -34,7 +34,7 @@ values_of value_of xs = array (items_of (map value_of xs))
 abbrev pub refusal_value : ℕ → Cause → Data
 refusal_value n c = object (member (codes "refused") (object (member (codes "cause") (string (cause_name c)) (member (codes "line") (whole n) no_members))) no_members)
 
-abbrev pub refusal : ℕ → Cause → List ℕ
+unfoldable pub refusal : ℕ → Cause → List ℕ
 refusal n c = json_line (refusal_value n c)
 
 -- a race, and the place of the group that it names
@@ -56,5 +56,5 @@ value_of races groups c = object (member (codes "accesses") (whole c.accesses) (
 abbrev pub report_value : List (List ℕ) → List Kept → Data
 report_value lists accesses = value_of (races_by (joins lists) accesses) (grouping_of (joins lists) accesses) (counts lists accesses)
 
-abbrev pub report : List (List ℕ) → List Kept → List ℕ
+unfoldable pub report : List (List ℕ) → List Kept → List ℕ
 report lists accesses = json_line (report_value lists accesses)

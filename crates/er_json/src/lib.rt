@@ -2,11 +2,9 @@
 #![tactic(auto)]
 
 pub mod laws;
-mod letters;
-mod line;
-mod refused;
-mod report;
-mod values;
+mod location;
+mod parts;
+mod pieces;
+mod writer;
 
-pub use refused::json_refusal;
-pub use report::json_report;
+pub use writer::{write_json_refusal, write_json_report};

@@ -12,7 +12,7 @@ pub(crate) const TIMEOUTS: &str =
 /// A trace whose script runs too late.
 const TOO_LATE: &str = "webtrace 1\nparse 0 1 sync\nparse 0 2 plain\nexec 1\nend\n";
 
-static ASKED: [Asked; 11] = [
+static ASKED: [Asked; 12] = [
     Asked {
         words: "check",
         input: "webtrace 1\nend\n",
@@ -38,6 +38,14 @@ static ASKED: [Asked; 11] = [
         words: "--json",
         input: TIMEOUTS,
         written: "{\"accesses\":2,\"actions\":4,\"chains\":2,\"groups\":[{\"race\":1,\"size\":1}],\"links\":3,\"pairs\":1,\"races\":[{\"actions\":[2,3],\"group\":1,\"lines\":[7,9],\"location\":\"var 0 x\",\"modes\":\"wr\"}],\"version\":1}\n",
+        status: 1,
+        compares: 1,
+    },
+    // JSON escapes the quote and the backslash, and the trace has escaped the space
+    Asked {
+        words: "--json",
+        input: "webtrace 1\nparse 0 1 inline\nexec 1\nset 1 10\nset 2 0\ntimer 2\nw elem 3 \"a\\\\b%20\ntimer 1\nr elem 3 \"a\\\\b%20\nend\n",
+        written: "{\"accesses\":2,\"actions\":4,\"chains\":2,\"groups\":[{\"race\":1,\"size\":1}],\"links\":3,\"pairs\":1,\"races\":[{\"actions\":[2,3],\"group\":1,\"lines\":[7,9],\"location\":\"elem 3 \\\"a\\\\\\\\b%20\",\"modes\":\"wr\"}],\"version\":1}\n",
         status: 1,
         compares: 1,
     },

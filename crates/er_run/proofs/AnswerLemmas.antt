@@ -105,7 +105,7 @@ compares_refusal f asked bytes n c due Clean got_old got_new old new came = absu
 compares_refusal f asked bytes n c due Races got_old got_new old new came = absurd came
 compares_refusal f asked bytes n c due Usage got_old got_new old new came = absurd came
 compares_refusal f asked bytes n c due ReadFault got_old got_new old new came = absurd came
-compares_refusal f asked bytes n c due NoMemory got_old got_new old new came = tt
+compares_refusal f asked bytes n c due NoMemory got_old got_new old new came = absurd came
 
 pub compares_fault : (f : Format) (asked : Command) (bytes : List ℕ) (fault : FeedFault) (outcome : Outcome) (got_old got_new : Option (List ℕ)) (old new : ℕ) → FailedAs asked fault outcome got_old got_new → Compares f asked bytes outcome old new
 compares_fault f asked bytes (faults.Refused n c) outcome got_old got_new old new came = compares_refusal f asked bytes n c (refusal_for asked n c) outcome got_old got_new old new came
@@ -138,7 +138,7 @@ tests_refusal f asked bytes n c due Clean got_old got_new old new came = absurd 
 tests_refusal f asked bytes n c due Races got_old got_new old new came = absurd came
 tests_refusal f asked bytes n c due Usage got_old got_new old new came = absurd came
 tests_refusal f asked bytes n c due ReadFault got_old got_new old new came = absurd came
-tests_refusal f asked bytes n c due NoMemory got_old got_new old new came = tt
+tests_refusal f asked bytes n c due NoMemory got_old got_new old new came = absurd came
 
 pub tests_fault : (f : Format) (asked : Command) (bytes : List ℕ) (fault : FeedFault) (outcome : Outcome) (got_old got_new : Option (List ℕ)) (old new : ℕ) → FailedAs asked fault outcome got_old got_new → Tests f asked bytes outcome old new
 tests_fault f asked bytes (faults.Refused n c) outcome got_old got_new old new came = tests_refusal f asked bytes n c (refusal_for asked n c) outcome got_old got_new old new came

@@ -309,10 +309,8 @@ report_due s links h has timed stands tells = by_kept s links h (λ lists access
 pub summary_due : (n : ℕ) (s : Session) (links : List (List ℕ)) (h : List Record) (has : List ℕ → Type 0) → AreClocks s.graph links → StandsFor s h → clocks.Tells links (λ lists. has (texts.summary n lists s.kept)) → has (summary s.graph.version n h)
 summary_due n s links h has timed stands tells = by_kept s links h (λ lists accesses. has (texts.summary n lists accesses)) timed stands tells
 
-pub line_due : {E : Type 0} (s : Session) (listing : Listing) (links : List (List ℕ)) (made : Result (Vec ℕ Global) E) → AreClocks s.graph links → clocks.Tells links (λ lists. IfOk made (λ line. line.items ≡ lines.report lists s.kept))
-    → IfOk made (λ line. (h : List Record) → StandsFor s h → line.items ≡ json_report s.graph.version h)
-line_due {E} s listing links (Ok line) timed tells = λ h stands. by_kept s links h (λ lists accesses. line.items ≡ lines.report lists accesses) timed stands tells
-line_due {E} s listing links (Err fault) timed tells = tt
+pub line_due : (s : Session) (links : List (List ℕ)) (h : List Record) (has : List ℕ → Type 0) → AreClocks s.graph links → StandsFor s h → clocks.Tells links (λ lists. has (lines.report lists s.kept)) → has (json_report s.graph.version h)
+line_due s links h has timed stands tells = by_kept s links h (λ lists accesses. has (lines.report lists accesses)) timed stands tells
 
 -- and so are the orders
 

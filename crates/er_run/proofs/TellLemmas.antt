@@ -35,15 +35,6 @@ some_outcome (x ∷ xs) some = refl
 pub outcome_some : (v : Version) (h : List Record) (found : List Race) (k : ℕ) → AreListed v found h → 1 ≤ k → k ≤ length found → outcome_of (races v h) ≡ Races
 outcome_some v h found k l least within = outcome_found v h found l ∙ some_outcome found (omega (arith, least, within))
 
--- one of the two outcomes of a legal trace
-
-abbrev pub IsReport : Outcome → Type 0
-IsReport o = (o ≡ Clean) ⊎ (o ≡ Races)
-
-pub of_found : {X : Type 0} (xs : List X) (o : Outcome) → o ≡ outcome_of xs → IsReport o
-of_found [] o is = inl is
-of_found (x ∷ xs) o is = inr is
-
 -- what came of a text that was put
 pub record Ends (old new : ℕ) (result : Outcome) : Type 0 where
   pub write_fault : result ≡ WriteFault → Rose old new
@@ -55,12 +46,13 @@ no_answer result P is answer = absurd (subst IsAnswer is answer)
 
 -- a report
 
-pub ends_report : {E : Type 0} (due : Outcome) (old new : ℕ) (written : Result Unit E) (result : Outcome) → IsReport due → EndsAs due written result → OnOk written (new ≡ old) → OnErr written (Rose old new) → Ends old new result
-ends_report {E} due old new (Ok done) result which ends stands cause = elim which [
-  | inl clean ↦ let is : result ≡ Clean = ends ∙ clean in record { write_fault = λ e. absurd (cc); no_memory = λ e. cc; stands = λ _. stands }
-  | inr some ↦ let is : result ≡ Races = ends ∙ some in record { write_fault = λ e. absurd (cc); no_memory = λ e. cc; stands = λ _. stands }
+pub ends_report : {E : Type 0} (asked : Command) (v : Version) (h : List Record) (due : Outcome) (old new : ℕ) (written : Result Unit E) (result : Outcome) → due ≡ outcome_for asked v h → EndsAs due written result
+    → OnOk written (new ≡ old) → OnErr written (Rose old new) → Ends old new result
+ends_report {E} asked v h due old new (Ok done) result is ends stands cause = elim (ends_so asked v h) [
+  | inl clean ↦ let e : result ≡ Clean = ends ∙ (is ∙ clean) in record { write_fault = λ w. absurd (cc); no_memory = λ w. cc; stands = λ _. stands }
+  | inr some ↦ let e : result ≡ Races = ends ∙ (is ∙ some) in record { write_fault = λ w. absurd (cc); no_memory = λ w. cc; stands = λ _. stands }
 ]
-ends_report {E} due old new (Err fault) result which ends stands cause = record { write_fault = λ _. cause; no_memory = λ e. cc; stands = no_answer result (new ≡ old) ends }
+ends_report {E} asked v h due old new (Err fault) result is ends stands cause = record { write_fault = λ _. cause; no_memory = λ w. cc; stands = no_answer result (new ≡ old) ends }
 
 pub reports : {E : Type 0} (asked : Command) (v : Version) (h : List Record) (text : List ℕ) (due : Outcome) (written : Result Unit E) (result : Outcome) (old new : Option (List ℕ)) → outcome_for asked v h ≡ due → EndsAs due written result
     → OnOk written (Gets old text new) → OnErr written (GetsPart old text new) → ReportsOf asked v h text result old new
@@ -69,12 +61,6 @@ reports {E} asked v h text due (Ok done) result old new same ends whole part = e
   | inr some ↦ subst (λ r. ReportsOf asked v h text r old new) (sym (ends ∙ (sym same ∙ some))) (some, whole)
 ]
 reports {E} asked v h text due (Err fault) result old new same ends whole part = subst (λ r. ReportsOf asked v h text r old new) (sym ends) part
-
--- what was found says what was asked
-pub told : {E : Type 0} (asked c : Command) (v : Version) (h : List Record) (due : Outcome) (written : Result Unit E) (result : Outcome) (old new : Option (List ℕ)) → asked ≡ c → outcome_for c v h ≡ due → EndsAs due written result
-    → OnOk written (Gets old (text_for v c h) new) → OnErr written (GetsPart old (text_for v c h) new) → ReportsOf asked v h (text_for v asked h) result old new
-told {E} asked c v h due written result old new is same ends whole part =
-    subst (λ a. ReportsOf a v h (text_for v a h) result old new) (sym is) (reports c v h (text_for v c h) due written result old new same ends whole part)
 
 -- a refusal
 

@@ -120,19 +120,17 @@ pub record IsAskable (asked : Asked) : Type 0 where
   pub most : asked.shards ≤ most_shards
   pub race : (k : ℕ) → asked.command ≡ Schedule k → 1 ≤ k
 
--- what came of writing the text that is due for these records, newest first, or of want of memory before it
+-- what came of writing the text that is due for these records, newest first
 abbrev pub ReportsOf : Command → Version → List Record → List ℕ → Outcome → Option (List ℕ) → Option (List ℕ) → Type 0
 ReportsOf asked v h due Clean old new = (outcome_for asked v h ≡ Clean) × Gets old due new
 ReportsOf asked v h due Races old new = (outcome_for asked v h ≡ Races) × Gets old due new
 ReportsOf asked v h due WriteFault old new = GetsPart old due new
-ReportsOf asked v h due NoMemory old new = Unit {0}
 ReportsOf asked v h due _ old new = ⊥
 
 -- and of writing that of a refusal
 abbrev pub RefusedAs : ℕ → Cause → List ℕ → Outcome → Option (List ℕ) → Option (List ℕ) → Type 0
 RefusedAs n c due (Refused m d) old new = (m ≡ n) × (d ≡ c) × Gets old due new
 RefusedAs n c due WriteFault old new = GetsPart old due new
-RefusedAs n c due NoMemory old new = Unit {0}
 RefusedAs n c due _ old new = ⊥
 
 -- and of writing it where the fault is one

@@ -12,11 +12,9 @@ use er_lines::format::Lines;
 use er_outside::Sink;
 use er_trace::fault::FeedFault;
 use er_words::Command;
-use std::alloc::Global;
 
 /// Writes the text that is due to the command for what its input came to, and answers how the run ends.
 pub(crate) fn answer<L: Lines, K: Sink>(
-    alloc: Global,
     asked: Command,
     verdict: Result<Judged, FeedFault>,
     sink: &mut K,
@@ -42,7 +40,7 @@ pub(crate) fn answer<L: Lines, K: Sink>(
     ensures writes { K.faults sink.old ≤ K.faults sink.new }
 {
     match verdict {
-        Ok(judged) => tell(alloc, &judged, sink),
-        Err(fault) => tell_fault(alloc, asked, fault, sink),
+        Ok(judged) => tell(&judged, sink),
+        Err(fault) => tell_fault(asked, fault, sink),
     }
 }

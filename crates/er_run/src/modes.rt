@@ -130,14 +130,9 @@ fn judge_lines<L: Lines, R: Threads + Sync, S: Source, K: Sink, G: Gate + Sync>(
 {
     let command = asked.command;
     match accept_input::<L, R, S, G>(rt, alloc, asked, source, compares, tests, gate) {
-        Ok(judged) => answer::<L, K>(alloc, command, Ok(judged), sink),
+        Ok(judged) => answer::<L, K>(command, Ok(judged), sink),
         Err(InputFault::Refused { line, cause }) => {
-            answer::<L, K>(
-                alloc,
-                command,
-                Err(FeedFault::Refused { line, cause }),
-                sink,
-            )
+            answer::<L, K>(command, Err(FeedFault::Refused { line, cause }), sink)
         }
         Err(InputFault::Failed) => Outcome::ReadFault,
         Err(InputFault::NoMemory) => Outcome::NoMemory,
@@ -183,5 +178,5 @@ pub(crate) fn judge_generated<R: Threads + Sync, K: Sink, G: Gate + Sync>(
     let command = Command::Gen { number };
     let asked = Asked { command, shards };
     let verdict = accept_generated(rt, alloc, asked, number, compares, tests, gate);
-    answer::<TextLines, K>(alloc, command, verdict, sink)
+    answer::<TextLines, K>(command, verdict, sink)
 }

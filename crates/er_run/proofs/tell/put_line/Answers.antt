@@ -1,0 +1,18 @@
+use Rattle.er_outside.specs.Ends.{Puts}
+use Rattle.er_run.proofs.JudgedLemmas.{found_by_clocks, groups_by_clocks, line_due}
+use Rattle.er_run.proofs.tell.put_line.Goals as goal
+
+pub write_json_report-requires : goal.write_json_report-requires
+write_json_report-requires g c =
+    let s = c.args.session.now in
+    let links = c.clocks.result.now in
+    let r = c.requires in
+    let listing = c.args.listing.now in
+    record {
+      races = rw c.deref.ensures.value (found_by_clocks s links r.list listing.races.items c.clocks.ensures r.stands r.is.listed);
+      groups = groups_by_clocks s links r.list listing.groups c.clocks.ensures r.stands r.is.grouped;
+    }
+
+pub returns : goal.returns
+returns g c = λ h stands.
+    line_due c.args.session.now c.clocks.result.now h (λ text. Puts g.K.Sink.got g.K.Sink.faults c.args.sink.now text c.write_json_report.new.sink c.write_json_report.result) c.clocks.ensures stands c.write_json_report.ensures
