@@ -48,6 +48,7 @@ impl Lines for JsonLines {
         er_json_line::read_later(alloc, line)
     }
 
+    #[tactic(auto, using(crate::proofs::FrontLemmas::front_within))]
     fn front<'a>(alloc: Global, piece: &'a [u8]) -> Option<(Record, &'a [u8])>
         ensures { IfSome result (λ pair. IsFront most_line_bytes Spells piece.now pair.0 pair.1.now) }
     {
