@@ -8,6 +8,8 @@ import re
 # as many edits as one check is given at most
 MOST_AT_ONCE = 10
 HEAD = re.compile(r"^( *)(?:pub(?:\([a-z]+\))? )?(?:const )?fn (\w+)")
+# what says that something is not proved
+OPEN = re.compile(r"\berror\b|is not proved")
 # what says that a proof file names a thing which the edit took away, and nothing of a clause
 NAME_ALONE = re.compile(r"has no field|is not in scope|has no `|was not admitted")
 
@@ -29,10 +31,12 @@ class Function:
     def has_error(self, said):
         """Whether a check's words have an error in this function or in its proof, beside names that are gone."""
         for path, line, text in re.findall(r"(?m)^(?:note: )?(?:\./)?(\S+?):(\d+):\d+:(.*)$", said):
-            if path == self.path and self.first <= int(line) <= self.last and "error" in text:
+            if not OPEN.search(text):
+                continue
+            if path == self.path and self.first <= int(line) <= self.last:
                 return True
             in_proof = path.startswith("proofs/") and self.name in path.split("/")
-            if in_proof and "error" in text and not NAME_ALONE.search(text):
+            if in_proof and not NAME_ALONE.search(text):
                 return True
         return False
 
