@@ -92,7 +92,7 @@ first_escape name k small at =
     let next : drop k name ≡ get_or name k 0 ∷ drop (k + 1) name = drop_more name k 0 here.0 in
     let bytes : AreBytes (get_or name k 0 ∷ drop (k + 1) name) = rw next at (All-drop (λ x. x < 256) k name small) in
     let later : escape (name_spelling (drop k name)) ≡ (92 ∷ get_or name k 0 ∷ []) ++ escape (name_spelling (drop (k + 1) name)) =
-        rw next (first_byte (get_or name k 0) (drop (k + 1) name) true (All-head (λ x. x < 256) _ _ bytes) here.1) in
+    rw next (first_byte (get_or name k 0) (drop (k + 1) name) true (All-head (λ x. x < 256) _ _ bytes) here.1) in
     let rest : take (length name - (k + 1)) (drop (k + 1) name) ≡ drop (k + 1) name = grind (arith, common_steps) in
     rw rest (split_at name k small at ∙ ap (λ l. name_spelling (take k name) ++ l) later)
 

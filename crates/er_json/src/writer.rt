@@ -88,11 +88,7 @@ fn put_report<K: Sink>(
 }
 
 /// Puts the groups into the buffer.
-fn put_groups<K: Sink>(
-    sink: &mut K,
-    buffer: &mut Buffer,
-    groups: &Groups,
-) -> Result<(), Failed>
+fn put_groups<K: Sink>(sink: &mut K, buffer: &mut Buffer, groups: &Groups) -> Result<(), Failed>
     requires { length groups.now.sizes ≡ length groups.now.representatives }
     ensures whole { OnOk result (HoldsRest (K.got sink.old) (buffer.old ++ group_items groups.now)
         (K.got sink.new) buffer.new) }
