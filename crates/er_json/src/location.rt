@@ -33,7 +33,8 @@ fn put_located<K: Sink>(sink: &mut K, word: &str, number: u32, name: &Name) -> R
     put_name(sink, name.bytes())
 }
 
-/// Writes the spelling of some bytes of a name, with a backslash before each quote and each backslash.
+/// Writes the spelling of some bytes of a name, with a backslash before each quote and each
+/// backslash.
 #[tactic(auto, using(crate::proofs::LetterLemmas::escapes))]
 fn put_name<K: Sink>(sink: &mut K, name: &[u8]) -> Result<(), Failed>
     requires bytes { All (λ b. b < 256) name.now }

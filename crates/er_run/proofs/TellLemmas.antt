@@ -1,5 +1,5 @@
 -- From what was put to how the run ends.
-use Rattle.std.proofs.Common.{◌≡◌, ◌≢◌, ℕ, ◌≤◌, ◌∙◌, List, [], ◌∷◌, Option, Result, Ok, Err, refl, sym, subst, length, inl, inr, ◌⊎◌, arith}
+use Rattle.std.proofs.Common.{◌≡◌, ◌≢◌, ℕ, ◌≤◌, ◌∙◌, List, [], ◌∷◌, Option, Result, Ok, Err, refl, sym, subst, length, inl, inr, arith}
 use Rattle.std.specs.Prelude.{OnOk, OnErr}
 use Rattle.er_outside.specs.Ends.{Gets, GetsPart, Rose}
 use Rattle.er_text.specs.declared.causes.Cause.{Cause}
@@ -11,7 +11,6 @@ use Rattle.er_run.specs.declared.outcome.Outcome.TheVariants.{Clean, Races, Refu
 use Rattle.er_words.specs.declared.commands.Command.{Command}
 use Rattle.er_run.specs.Answer.{outcome_for, outcome_of}
 use Rattle.er_run.specs.Races.{races}
-use Rattle.er_run.specs.Report.{text_for}
 use Rattle.er_run.specs.Promise.{IsAnswer}
 use Rattle.er_run.specs.Accepted.{AreListed, EndsAs, ReportsOf, RefusedAs}
 use Rattle.er_run.proofs.AnswerLemmas.{ends_so}
