@@ -146,10 +146,6 @@ step_bound o t u i f g a b d = scan_bound o t u i f (i + 1) g a b (omega arith) 
 pub room_left : (o t i f : ℕ) → o < 2 ^ 61 + 2 ^ 31 → t ≤ o + 2 * (i * f) → i ≤ 2 ^ 15 → f ≤ 2 ^ 15 → t + 2 * f < 2 ^ 62
 room_left o t i f a b c d = let m : i * f ≤ 32768 * 32768 = mul-le i f 32768 32768 (omega arith) (omega arith) in omega arith
 
-pub longer_if : (b : Bool) (found : List Class) (x : Class) → length found ≤ length (if b then found ++ x ∷ [] else found)
-longer_if true found x = omega (arith, length-append found (x ∷ []))
-longer_if false found x = omega arith
-
 pub same_read : (xs : List Class) (i : ℕ) (d e : Class) → i < length xs → get_or xs i d ≡ get_or xs i e
 same_read [] i d e h = absurd (omega arith)
 same_read (x ∷ xs) zero d e h = refl
