@@ -203,7 +203,7 @@ any_mapped joined first second (g ∷ gs) = by (joined first g.first) (any_mappe
   where
     by : (b : Bool) → list_any (λ i. joined i second) (seconds_from joined first gs) ≡ list_any (λ g. covers joined g (record { first = first; second = second })) gs
         → list_any (λ i. joined i second) (map (λ (m : Class). m.second) (if b then g ∷ filter (λ (m : Class). joined first m.first) gs else filter (λ (m : Class). joined first m.first) gs))
-            ≡ ((b && joined g.second second) || list_any (λ g. covers joined g (record { first = first; second = second })) gs)
+        ≡ ((b && joined g.second second) || list_any (λ g. covers joined g (record { first = first; second = second })) gs)
     by true e = ap (λ (b : Bool). joined g.second second || b) e
     by false e = e
 

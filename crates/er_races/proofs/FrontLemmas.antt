@@ -213,7 +213,7 @@ but_last_kept P q (x ∷ y ∷ ys) all = by (q x) (filter q (y ∷ ys)) (but_las
 
 pub front_is : (accesses : List Access) (rows : List ℕ) (j : ℕ) → IsFront accesses rows j
     → filter (λ i. candidate accesses i j) rows
-        ≡ take (front_len (actions_of accesses (partners (access_at accesses j).mode rows (writes_among accesses rows))) (action_of accesses j)) (partners (access_at accesses j).mode rows (writes_among accesses rows))
+    ≡ take (front_len (actions_of accesses (partners (access_at accesses j).mode rows (writes_among accesses rows))) (action_of accesses j)) (partners (access_at accesses j).mode rows (writes_among accesses rows))
 front_is accesses rows j front =
     narrow rows front.earlier front.here
     ∙ (by (is_write (access_at accesses j).mode) front.lesser)
@@ -385,8 +385,8 @@ front_asked accesses rows j columns access numbers actions count front are of nu
     let cands : List ℕ = filter (λ i. candidate accesses i j) rows in
     let numbers_in : numbers ≡ column = numbers_are ∙ (ap (λ (x : Access). partners x.mode rows columns.writes.items) of ∙ ap (λ (l : List ℕ). partners (access_at accesses j).mode rows l) are.writes) in
     let actions_in : actions ≡ actions_of accesses column =
-        actions_are ∙ (ap (λ (x : Access). partners x.mode columns.actions.items columns.write_actions.items) of ∙ (ap (λ (l : List ℕ). partners (access_at accesses j).mode l columns.write_actions.items) are.actions
-        ∙ (ap (λ (l : List ℕ). partners (access_at accesses j).mode (actions_of accesses rows) l) are.write_actions ∙ either (is_write (access_at accesses j).mode)))) in
+    actions_are ∙ (ap (λ (x : Access). partners x.mode columns.actions.items columns.write_actions.items) of ∙ (ap (λ (l : List ℕ). partners (access_at accesses j).mode l columns.write_actions.items) are.actions
+    ∙ (ap (λ (l : List ℕ). partners (access_at accesses j).mode (actions_of accesses rows) l) are.write_actions ∙ either (is_write (access_at accesses j).mode)))) in
     let count_is : count ≡ front_len (actions_of accesses column) (action_of accesses j) = len ∙ (ap (λ (l : List ℕ). front_len l access.action) actions_in ∙ ap (λ (x : Access). front_len (actions_of accesses column) x.action) of) in
     let front_all : take count column ≡ cands = ap (λ (n : ℕ). take n column) count_is ∙ sym (front_is accesses rows j front) in
     record {

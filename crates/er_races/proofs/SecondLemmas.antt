@@ -151,7 +151,7 @@ pub fits : (accesses : List Access) (t : ℕ → ℕ → Bool) → IsNarrow acce
 fits accesses t narrow k n rows e h =
     let all = ap length (all_is accesses t narrow k (length rows) rows e (omega arith)) in
     let up : length (up_to t rows n) ≤ length (up_to t rows (n + (length rows - n))) =
-        climb (λ m. length (up_to t rows m)) (length rows) (λ m within. let c = next_count accesses t narrow rows m (rows_rise accesses k rows e) within in omega (arith, c)) (length rows - n) n (omega (arith, h)) in
+    climb (λ m. length (up_to t rows m)) (length rows) (λ m within. let c = next_count accesses t narrow rows m (rows_rise accesses k rows e) within in omega (arith, c)) (length rows - n) n (omega (arith, h)) in
     let whole : n + (length rows - n) ≡ length rows = omega (arith, h) in
     let last = ap (λ (m : ℕ). length (up_to t rows m)) whole in
     omega (arith, all, up, last)
