@@ -13,7 +13,7 @@ use Rattle.er_access.specs.Kept.{is_write, same_mode, pairs_of, most_accesses}
 use Rattle.er_access.specs.Numbers.{numbered_from, numbered, rows_of}
 use Rattle.er_access.specs.ByNumber.{repeats_by_number, with_numbered, is_candidate_by_number, candidates_by_number}
 use Rattle.er_access.specs.Place.{Seen, nothing, tally_of, is_last, others, counted, partners, noted, actions_at, tally, seen_at}
-use Rattle.er_access.specs.Table.{IsRising, IsHeld}
+use Rattle.er_access.specs.Table.{AreInOrder, IsRising, IsHeld}
 
 all_push : {X : Type 0} (P : X → Type 0) (xs : List X) (x : X) → AllByRecursion P xs → P x → AllByRecursion P (xs ++ x ∷ [])
 all_push P [] x all h = (h, tt)
@@ -246,6 +246,14 @@ rises_still xs x up le none k m = subst IsRising (sym (actions_push xs x k m)) (
         rising_push (actions_at xs k m) x.action (up k m) (actions_below xs k m x.action le) (subst Q of (subst P at (sym (repeats_any x xs) ∙ none)))
     by false e = up k m
 
+-- one access more, which is of no lesser action and repeats none
+ordered_push : (xs : List Access) (x : Access) → AreInOrder xs → AllByRecursion (λ (y : Access). y.action ≤ x.action) xs → list_any (repeats_by_number x) xs ≡ false → AreInOrder (xs ++ x ∷ [])
+ordered_push [] x ordered le none = (tt, tt)
+ordered_push (y ∷ xs) x ordered le none = (
+  all_push (λ (z : Access). (y.action ≤ z.action) × (repeats_by_number z y ≡ false)) xs x ordered.0 (le.0, or_left (repeats_by_number x y) (list_any (repeats_by_number x) xs) none),
+  ordered_push xs x ordered.1 le.1 (or_right (repeats_by_number x y) (list_any (repeats_by_number x) xs) none),
+)
+
 -- how large the counts are
 
 pub actions_short : (xs : List Access) (k : ℕ) → length (actions_at xs k R) + length (actions_at xs k W) ≤ length xs
@@ -271,6 +279,7 @@ held_push places xs pairs x d held within room le none =
           subst K (sym (length-set places x.location p)) (all_push (λ (y : Access). y.location < length places) xs x held.known within);
       seen = λ k e h. seen_at_k k e (let n = length-set places x.location p in omega (arith, h, n));
       rising = rises_still xs x held.rising le none;
+      ordered = ordered_push xs x held.ordered le none;
       counted = omega (arith, held.counted, candidates_push xs x, counted_now);
     }
   where
@@ -390,6 +399,7 @@ held_open places xs pairs held = record {
   known = all_more (λ (x : Access). x.location < length places) (λ (x : Access). x.location < length (places ++ nothing ∷ [])) xs (λ x h. let n = length-append places (nothing ∷ []) in omega (arith, n, h)) held.known;
   seen = λ k d h. seen_at_k k d (let n = length-append places (nothing ∷ []) in omega (arith, n, h));
   rising = held.rising;
+  ordered = held.ordered;
   counted = held.counted;
 }
   where

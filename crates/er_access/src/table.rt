@@ -4,7 +4,7 @@ ghost use Rattle.std.specs.Prelude.{All, ◌≡◌, ◌<◌, ◌≤◌, Err, [],
 ghost use Rattle.std.specs.List.{list_any};
 ghost use Rattle.er_access.specs.Kept.{IsFull, access_of, candidates_of, most_accesses, is_new, same_loc, with_access};
 ghost use Rattle.er_access.specs.Numbers.{IsKeptAt, access_at, accesses_of, locations_of, number_of, rows_of};
-ghost use Rattle.er_access.specs.Table.{AreDistinct, IsRising};
+ghost use Rattle.er_access.specs.Table.{AreDistinct, AreInOrder, IsRising};
 
 use crate::add::{add_known, add_new};
 use crate::place::Place;
@@ -156,11 +156,12 @@ impl Table {
         &self.keys.as_slice()[k as usize]
     }
 
-    /// The numbers of the accesses of a location, ascending.
+    /// The numbers of the accesses of a location, ascending. No later access is of a lesser action, and none repeats another.
     pub fn rows(&self, k: u32) -> &[u32]
         requires { k < length (locations_of self.now) }
         ensures rows { result.now ≡ rows_of (accesses_of self.now) k }
         ensures ascending { IsRising result.now }
+        ensures ordered { AreInOrder (accesses_of self.now) }
     {
         self.places[k as usize].rows()
     }

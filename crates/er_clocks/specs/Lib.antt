@@ -1,3 +1,4 @@
+pub mod Asked
 pub mod Shared
 pub mod Clock
 pub mod Rows

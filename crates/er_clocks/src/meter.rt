@@ -39,10 +39,10 @@ impl Meter {
         self.count += other.count;
     }
 
-    pub(crate) fn rise(&mut self)
-        requires { self.old + 1 < 2 ^ 62 }
-        ensures { self.new ≡ self.old + 1 }
+    pub(crate) fn rise(&mut self, more: u64)
+        requires { self.old + more < 2 ^ 62 }
+        ensures { self.new ≡ self.old + more }
     {
-        self.count += 1;
+        self.count += more;
     }
 }

@@ -1,12 +1,13 @@
 -- Which classes cover which.
 use Rattle.std.proofs.Common.{◌≡◌, ℕ, zero, suc, ◌<◌, ◌≤◌, Bool, true, false, List, [], ◌∷◌, ◌++◌, length, refl, sym, ap, ◌∙◌, arith, subst, inl, inr, length-append}
-use Rattle.std.specs.Prelude.{◌==◌, ◌||◌, ◌&&◌, ◌⊎◌, ◌+◌, not, cond, if◌then◌else◌}
+use Rattle.std.specs.Prelude.{◌==◌, ◌||◌, ◌&&◌, ◌⊎◌, ◌+◌, ◌-◌, ◌*◌, nat_lt, not, cond, if◌then◌else◌}
 use Rattle.std.specs.List.{list_any, AllByRecursion, filter}
 use Rattle.std.proofs.lemmas.Bool.Decides.{nat_tests}
+use Rattle.std.proofs.lemmas.Nat.{mul-le}
 use Rattle.er_cover.specs.declared.class.Class.{Class}
 use Rattle.er_cover.specs.Classes.{is_among, same}
 use Rattle.er_cover.specs.Groups.{covers, is_maximal, maximal_of, name_of}
-use Rattle.er_cover.specs.Passes.{raised_width, IsKnown}
+use Rattle.er_cover.specs.Passes.{rank, IsKnown}
 
 -- what is asked of paths
 pub record AreOrders (joined : ℕ → ℕ → Bool) : Type 0 where
@@ -54,9 +55,28 @@ same_refl x = grind (arith, nat_tests)
 pub same_sym : (x y : Class) → same x y ≡ same y x
 same_sym x y = grind (arith, nat_tests)
 
--- a class that is covered by another is wider
-pub covered_is_wider : (actions : ℕ) (joined : ℕ → ℕ → Bool) (x y : Class) → AreOrders joined → IsKnown actions x → covers joined x y ≡ true → same x y ≡ false → raised_width actions x < raised_width actions y
-covered_is_wider actions joined x y o p h n = let a = both (joined y.first x.first) (joined x.second y.second) h in let u : y.first ≤ x.first = o.up y.first x.first a.0 in let v : x.second ≤ y.second = o.up x.second y.second a.1 in grind (arith, nat_tests)
+more_times : (i f : ℕ) → (i + 1) * f ≡ i * f + f
+more_times i f = grind arith
+
+-- a class that is covered by another is of a greater rank
+pub covered_is_later : (actions : ℕ) (joined : ℕ → ℕ → Bool) (x y : Class) → AreOrders joined → IsKnown actions x → covers joined x y ≡ true → same x y ≡ false → rank actions x < rank actions y
+covered_is_later actions joined x y o p h n =
+    let a = both (joined y.first x.first) (joined x.second y.second) h in
+    by x.first y.first x.second y.second (o.up y.first x.first a.0) (o.up x.second y.second a.1) p.0 p.1 n
+  where
+    by : (xf yf xs ys : ℕ) → yf ≤ xf → xs ≤ ys → xf < actions → xs < actions → ((xf == yf) && (xs == ys)) ≡ false → (actions - xf) * actions + xs < (actions - yf) * actions + ys
+    by xf yf xs ys u v f s n = elim (decide (nat_lt yf xf)) [
+      | inl t ↦
+          let less : yf < xf = grind (arith, nat_tests) in
+          let m : (actions - xf + 1) * actions ≤ (actions - yf) * actions = mul-le (actions - xf + 1) actions (actions - yf) actions (omega arith) (omega arith) in
+          let e : (actions - xf + 1) * actions ≡ (actions - xf) * actions + actions = more_times (actions - xf) actions in
+          omega arith
+      | inr t ↦
+          let same_first : xf ≡ yf = grind (arith, nat_tests) in
+          let less : xs < ys = grind (arith, nat_tests) in
+          let e : (actions - xf) * actions ≡ (actions - yf) * actions = ap (λ (m : ℕ). (actions - m) * actions) same_first in
+          omega arith
+    ]
 
 pub covers_through : (joined : ℕ → ℕ → Bool) (x y z : Class) → AreOrders joined → covers joined x y ≡ true → covers joined y z ≡ true → covers joined x z ≡ true
 covers_through joined x y z o h k = let a = both (joined y.first x.first) (joined x.second y.second) h in let b = both (joined z.first y.first) (joined y.second z.second) k in and_true _ _ (o.through z.first y.first x.first b.0 a.0) (o.through x.second y.second z.second a.1 b.1)
@@ -103,21 +123,21 @@ pair_of actions (y ∷ ys) x a h = elim (or_cases (same y x) (is_among x ys) h) 
   | inr n ↦ pair_of actions ys x a.1 n
 ]
 
--- a class that another covers is covered by a maximal one, which is narrower
-pub top_above : (actions : ℕ) (joined : ℕ → ℕ → Bool) (xs : List Class) (x y : Class) (fuel : ℕ) → AreOrders joined → AllByRecursion (IsKnown actions) xs → raised_width actions y < fuel → raised_width actions y < raised_width actions x → is_among y xs ≡ true → covers joined y x ≡ true
-    → (g : Class) × (is_among g xs ≡ true) × (is_maximal joined xs g ≡ true) × (covers joined g x ≡ true) × (raised_width actions g < raised_width actions x)
+-- a class that another covers is covered by a maximal one, which is of a lesser rank
+pub top_above : (actions : ℕ) (joined : ℕ → ℕ → Bool) (xs : List Class) (x y : Class) (fuel : ℕ) → AreOrders joined → AllByRecursion (IsKnown actions) xs → rank actions y < fuel → rank actions y < rank actions x → is_among y xs ≡ true → covers joined y x ≡ true
+    → (g : Class) × (is_among g xs ≡ true) × (is_maximal joined xs g ≡ true) × (covers joined g x ≡ true) × (rank actions g < rank actions x)
 top_above actions joined xs x y zero o p l w m c = absurd (omega arith)
 top_above actions joined xs x y (suc fuel) o p l w m c = elim (decide (is_maximal joined xs y)) [
   | inl t ↦ (y, m, t, c, w)
   | inr n ↦
       let z = not_top joined xs y n in
-      let narrow : raised_width actions z.0 < raised_width actions y = covered_is_wider actions joined z.0 y o (pair_of actions xs z.0 p z.1) z.3 z.2 in
+      let narrow : rank actions z.0 < rank actions y = covered_is_later actions joined z.0 y o (pair_of actions xs z.0 p z.1) z.3 z.2 in
       top_above actions joined xs x z.0 fuel o p (omega arith) (omega arith) z.1 (covers_through joined z.0 y x o z.3 c)
 ]
 
 -- the pass: among the maximal ones of those that were passed, one covers x exactly where x is not maximal
 pub pass_decides : (actions : ℕ) (joined : ℕ → ℕ → Bool) (xs done : List Class) (x : Class) → AreOrders joined → AllByRecursion (IsKnown actions) xs
-    → ((y : Class) → is_among y xs ≡ true → raised_width actions y < raised_width actions x → is_among y done ≡ true)
+    → ((y : Class) → is_among y xs ≡ true → rank actions y < rank actions x → is_among y done ≡ true)
     → ((y : Class) → is_among y done ≡ true → (is_among y xs ≡ true) × (same y x ≡ false))
     → list_any (λ g. covers joined g x) (filter (λ y. is_maximal joined xs y) done) ≡ not (is_maximal joined xs x)
 pass_decides actions joined xs done x o p narrow apart = same_bool (list_any (λ g. covers joined g x) (filter (λ y. is_maximal joined xs y) done)) (not (is_maximal joined xs x))
@@ -129,8 +149,8 @@ pass_decides actions joined xs done x o p narrow apart = same_bool (list_any (λ
       | inr n ↦ not_false _ n
     ])
     (λ h. let z = not_top joined xs x (not_true _ h) in
-    let less : raised_width actions z.0 < raised_width actions x = covered_is_wider actions joined z.0 x o (pair_of actions xs z.0 p z.1) z.3 z.2 in
-    let g = top_above actions joined xs x z.0 (suc (raised_width actions z.0)) o p (omega arith) less z.1 z.3 in
+    let less : rank actions z.0 < rank actions x = covered_is_later actions joined z.0 x o (pair_of actions xs z.0 p z.1) z.3 z.2 in
+    let g = top_above actions joined xs x z.0 (suc (rank actions z.0)) o p (omega arith) less z.1 z.3 in
     passes (λ g. covers joined g x) (filter (λ y. is_maximal joined xs y) done) g.0 (member_filter (λ y. is_maximal joined xs y) done g.0 ∙ and_true _ _ (narrow g.0 g.1 g.4) g.2) g.3)
 
 -- the first that covers x, class by class
@@ -154,8 +174,8 @@ each_covered actions joined xs x o p a b m = elim (decide (is_maximal joined xs 
   | inl t ↦ passes (λ g. covers joined g x) (maximal_of joined xs) x (member_filter (λ y. is_maximal joined xs y) xs x ∙ and_true _ _ m t) (and_true _ _ a b)
   | inr n ↦
       let z = not_top joined xs x n in
-      let less : raised_width actions z.0 < raised_width actions x = covered_is_wider actions joined z.0 x o (pair_of actions xs z.0 p z.1) z.3 z.2 in
-      let g = top_above actions joined xs x z.0 (suc (raised_width actions z.0)) o p (omega arith) less z.1 z.3 in
+      let less : rank actions z.0 < rank actions x = covered_is_later actions joined z.0 x o (pair_of actions xs z.0 p z.1) z.3 z.2 in
+      let g = top_above actions joined xs x z.0 (suc (rank actions z.0)) o p (omega arith) less z.1 z.3 in
       passes (λ g. covers joined g x) (maximal_of joined xs) g.0 (member_filter (λ y. is_maximal joined xs y) xs g.0 ∙ and_true _ _ g.1 g.2) g.3
 ]
 

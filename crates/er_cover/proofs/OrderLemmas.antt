@@ -10,7 +10,7 @@ use Rattle.std.proofs.lemmas.List.Sums.{sum_by-cons}
 use Rattle.er_cover.specs.declared.class.Class.{Class}
 use Rattle.er_cover.specs.Classes.{is_among, same, each_once}
 use Rattle.er_cover.specs.Groups.{covers, is_maximal, maximal_of}
-use Rattle.er_cover.specs.Passes.{raised_width, AreRising, AreDistinct}
+use Rattle.er_cover.specs.Passes.{rank, AreRising, AreDistinct}
 use Rattle.er_cover.proofs.CoverLemmas.{same_sym, decide, same_is, same_refl, member_filter}
 
 pub top_any_order : (joined : ℕ → ℕ → Bool) (xs ys : List Class) (x : Class) → IsPermutation xs ys → is_maximal joined xs x ≡ is_maximal joined ys x
@@ -24,7 +24,7 @@ pub filter_alike : (t r : Class → Bool) (xs : List Class) → AllByRecursion (
 filter_alike t r [] a = refl
 filter_alike t r (x ∷ xs) a = rw a.0 (ap (λ (zs : List Class). if r x then x ∷ zs else zs) (filter_alike t r xs a.1))
 
--- found by rising raised_width, the maximal ones are put in the order of the classes
+-- found by rising rank, the maximal ones are put in the order of the classes
 pub in_order : (joined : ℕ → ℕ → Bool) (xs ys : List Class) → IsPermutation xs ys → filter (λ x. is_among x (maximal_of joined ys)) xs ≡ maximal_of joined xs
 in_order joined xs ys p = filter_alike (λ x. is_among x (maximal_of joined ys)) (λ x. is_maximal joined xs x) xs (each_member (λ x. is_among x (maximal_of joined ys) ≡ is_maximal joined xs x) xs (λ x h.
     member_filter (λ y. is_maximal joined ys y) ys x ∙ ap (λ (b : Bool). b && is_maximal joined ys x) (sym (list_any-IsPermutation (λ m. same m x) xs ys p) ∙ h) ∙ sym (top_any_order joined xs ys x p)))
@@ -51,9 +51,9 @@ as_many joined xs ys p = ap (λ (zs : List Class). length zs) (filter_alike (λ 
     ∙ count_filter (λ y. is_maximal joined xs y) ys ∙ sum_by-IsPermutation (one_if (λ y. is_maximal joined xs y)) xs ys p ∙ sym (count_filter (λ y. is_maximal joined xs y) xs)
 
 -- what a sort says
-pub rising_sorted : (actions : ℕ) (xs : List Class) → IsNonDecreasingBy (λ x. raised_width actions x) xs → AreRising actions xs
+pub rising_sorted : (actions : ℕ) (xs : List Class) → IsNonDecreasingBy (λ x. rank actions x) xs → AreRising actions xs
 rising_sorted actions [] h = tt
-rising_sorted actions (x ∷ xs) h = (recursion_from_All (λ y. raised_width actions x ≤ raised_width actions y) xs (λ k d l. h 0 (suc k) d (omega arith) (omega arith)), rising_sorted actions xs (λ i j d a b. h (suc i) (suc j) d (omega arith) (omega arith)))
+rising_sorted actions (x ∷ xs) h = (recursion_from_All (λ y. rank actions x ≤ rank actions y) xs (λ k d l. h 0 (suc k) d (omega arith) (omega arith)), rising_sorted actions xs (λ i j d a b. h (suc i) (suc j) d (omega arith) (omega arith)))
 
 -- no two alike, said by counts, which an order does not change
 counts : (x : Class) (xs : List Class) → AllByRecursion (λ y. same x y ≡ false) xs → sum_by (one_if (λ y. same x y)) xs ≡ 0

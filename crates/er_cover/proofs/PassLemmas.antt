@@ -1,17 +1,16 @@
--- The pass by rising width.
+-- The pass by rising rank.
 use Rattle.std.proofs.Common.{◌≡◌, ℕ, zero, suc, ◌+◌, ◌*◌, ◌<◌, ◌≤◌, Bool, true, false, List, [], ◌∷◌, ◌++◌, length, get_or, take, drop, refl, sym, ap, ◌∙◌, arith, subst, inl, inr, length-append, All, ◌^◌}
-use Rattle.std.specs.Prelude.{◌||◌, ◌&&◌, ◌==◌, ◌⊎◌, not, if◌then◌else◌}
+use Rattle.std.specs.Prelude.{◌||◌, ◌&&◌, ◌==◌, ◌⊎◌, not, map, Option, Some, None, if◌then◌else◌}
 use Rattle.std.specs.List.{list_any, AllByRecursion, filter}
 use Rattle.std.proofs.lemmas.Grind.{common_steps}
 use Rattle.std.proofs.lemmas.Bool.Decides.{nat_tests}
 use Rattle.std.proofs.lemmas.List.Elements.{recursion_from_All, All-from_recursion}
 use Rattle.std.proofs.lemmas.Nat.{mul-le}
-use Rattle.std.proofs.lemmas.List.Folds.{list_any-append}
 use Rattle.er_paths.specs.Paths.{joins}
 use Rattle.er_cover.specs.declared.class.Class.{Class}
 use Rattle.er_cover.specs.Classes.{is_among, same}
 use Rattle.er_cover.specs.Groups.{covers, is_maximal, maximal_of, name_of}
-use Rattle.er_cover.specs.Passes.{raised_width, is_marked, AreRising, AreDistinct, IsKnown, Keeps, Marks}
+use Rattle.er_cover.specs.Passes.{rank, seconds_from, AreRising, AreDistinct, IsKnown, Keeps}
 use Rattle.er_cover.proofs.CoverLemmas.{AreOrders, name_cons, decide, or_cases, same_is, same_refl, pass_decides, filter_append, fewer_before}
 
 -- one step of the search
@@ -57,16 +56,16 @@ member_at [] i x h e = absurd (omega arith)
 member_at (z ∷ zs) zero x h e = let M : Class → Type 0 = λ m. is_among m (z ∷ zs) ≡ true in subst M (sym e) (let s = same_refl z in grind (arith))
 member_at (z ∷ zs) (suc i) x h e = let m : is_among x zs ≡ true = member_at zs i x (omega arith) e in grind (arith)
 
--- what is narrower than the next was passed
-pub narrow_before : (actions : ℕ) (xs : List Class) (i : ℕ) (x y : Class) → i < length xs → x ≡ get_or xs i x → AreRising actions xs → is_among y xs ≡ true → raised_width actions y < raised_width actions x → is_among y (take i xs) ≡ true
-narrow_before actions [] i x y h e a m w = absurd (omega arith)
-narrow_before actions (z ∷ zs) zero x y h e a m w = elim (member_cases y z zs m) [
-  | inl s ↦ let t : raised_width actions x ≡ raised_width actions y = ap (λ (p : Class). raised_width actions p) (e ∙ s) in absurd (omega arith)
-  | inr n ↦ let t : raised_width actions x ≡ raised_width actions z = ap (λ (p : Class). raised_width actions p) e in let l : raised_width actions z ≤ raised_width actions y = all_at (λ p. raised_width actions z ≤ raised_width actions p) zs y a.0 n in absurd (omega arith)
+-- what is of a lesser rank than the next was passed
+pub lesser_before : (actions : ℕ) (xs : List Class) (i : ℕ) (x y : Class) → i < length xs → x ≡ get_or xs i x → AreRising actions xs → is_among y xs ≡ true → rank actions y < rank actions x → is_among y (take i xs) ≡ true
+lesser_before actions [] i x y h e a m w = absurd (omega arith)
+lesser_before actions (z ∷ zs) zero x y h e a m w = elim (member_cases y z zs m) [
+  | inl s ↦ let t : rank actions x ≡ rank actions y = ap (λ (p : Class). rank actions p) (e ∙ s) in absurd (omega arith)
+  | inr n ↦ let t : rank actions x ≡ rank actions z = ap (λ (p : Class). rank actions p) e in let l : rank actions z ≤ rank actions y = all_at (λ p. rank actions z ≤ rank actions p) zs y a.0 n in absurd (omega arith)
 ]
-narrow_before actions (z ∷ zs) (suc i) x y h e a m w = elim (member_cases y z zs m) [
+lesser_before actions (z ∷ zs) (suc i) x y h e a m w = elim (member_cases y z zs m) [
   | inl s ↦ let M : Class → Type 0 = λ p. is_among p (z ∷ take i zs) ≡ true in subst M s (let r = same_refl z in grind (arith))
-  | inr n ↦ let k : is_among y (take i zs) ≡ true = narrow_before actions zs i x y (omega arith) e a.1 n w in grind (arith)
+  | inr n ↦ let k : is_among y (take i zs) ≡ true = lesser_before actions zs i x y (omega arith) e a.1 n w in grind (arith)
 ]
 
 -- and what was passed is another
@@ -86,7 +85,7 @@ pub pass_step : (actions : ℕ) (joined : ℕ → ℕ → Bool) (xs found : List
     → filter (λ y. is_maximal joined xs y) (take (i + 1) xs) ≡ (if name_of joined found x == length found then found ++ x ∷ [] else found)
 pass_step actions joined xs found i x o p up apart h e f =
     let t : Class → Bool = λ y. is_maximal joined xs y in
-    let decides : list_any (λ g. covers joined g x) (filter t (take i xs)) ≡ not (is_maximal joined xs x) = pass_decides actions joined xs (take i xs) x o p (λ y m w. narrow_before actions xs i x y h e up m w) (λ y m. apart_before xs i x y h e apart m) in
+    let decides : list_any (λ g. covers joined g x) (filter t (take i xs)) ≡ not (is_maximal joined xs x) = pass_decides actions joined xs (take i xs) x o p (λ y m w. lesser_before actions xs i x y h e up m w) (λ y m. apart_before xs i x y h e apart m) in
     let same : (name_of joined found x == length found) ≡ is_maximal joined xs x = none_covers joined found x ∙ ap (λ (gs : List Class). not (list_any (λ g. covers joined g x) gs)) f ∙ ap not decides ∙ twice (is_maximal joined xs x) in
     ap (λ (ys : List Class). filter t ys) (taken xs i x h e) ∙ filter_append t (take i xs) (x ∷ []) ∙ ap (λ (ys : List Class). ys ++ filter t (x ∷ [])) (sym f) ∙ last found x (is_maximal joined xs x) ∙ ap (λ (b : Bool). if b then found ++ x ∷ [] else found) (sym same)
   where
@@ -147,10 +146,6 @@ step_bound o t u i f g a b d = scan_bound o t u i f (i + 1) g a b (omega arith) 
 pub room_left : (o t i f : ℕ) → o < 2 ^ 61 + 2 ^ 31 → t ≤ o + 2 * (i * f) → i ≤ 2 ^ 15 → f ≤ 2 ^ 15 → t + 2 * f < 2 ^ 62
 room_left o t i f a b c d = let m : i * f ≤ 32768 * 32768 = mul-le i f 32768 32768 (omega arith) (omega arith) in omega arith
 
-pub longer_if : (b : Bool) (found : List Class) (x : Class) → length found ≤ length (if b then found ++ x ∷ [] else found)
-longer_if true found x = omega (arith, length-append found (x ∷ []))
-longer_if false found x = omega arith
-
 pub same_read : (xs : List Class) (i : ℕ) (d e : Class) → i < length xs → get_or xs i d ≡ get_or xs i e
 same_read [] i d e h = absurd (omega arith)
 same_read (x ∷ xs) zero d e h = refl
@@ -167,19 +162,13 @@ pub found_small : (joined : ℕ → ℕ → Bool) (xs found : List Class) (i : �
 found_small joined xs found i f = let a : length found ≤ length (maximal_of joined xs) = found_few joined xs found i f in let b : length (maximal_of joined xs) ≤ length xs = filter_le (λ y. is_maximal joined xs y) xs in omega arith
 
 -- the loop's step
-abbrev IsMarked : (ℕ → ℕ → Bool) → List Class → ℕ → List Class → List Bool → Type 0
-IsMarked joined xs i found covered = (j : ℕ) (y : Class) → i ≤ j → j < length xs → y ≡ get_or xs j y → is_marked covered j ≡ list_any (λ g. covers joined g y) found
-
-pub step_kept : (actions : ℕ) (joined : ℕ → ℕ → Bool) (xs found new : List Class) (covered : List Bool) (i : ℕ) → AreOrders joined → AllByRecursion (IsKnown actions) xs → AreRising actions xs → AreDistinct xs → i < length xs
-    → found ≡ filter (λ y. is_maximal joined xs y) (take i xs) → IsMarked joined xs i found covered → Keeps xs i covered found new → new ≡ filter (λ y. is_maximal joined xs y) (take (i + 1) xs)
-step_kept actions joined xs found new covered i o p up apart h f m k =
-    let d : Class = record { first = 0; second = 0 } in
+pub step_kept : (actions : ℕ) (joined : ℕ → ℕ → Bool) (xs found new : List Class) (i : ℕ) (d : Class) → AreOrders joined → AllByRecursion (IsKnown actions) xs → AreRising actions xs → AreDistinct xs → i < length xs
+    → found ≡ filter (λ y. is_maximal joined xs y) (take i xs) → Keeps joined (get_or xs i d) found new → new ≡ filter (λ y. is_maximal joined xs y) (take (i + 1) xs)
+step_kept actions joined xs found new i d o p up apart h f k =
     let x : Class = get_or xs i d in
     let here : x ≡ get_or xs i x = same_read xs i d x h in
-    let b : Bool = list_any (λ g. covers joined g x) found in
-    k x here
-    ∙ ap (λ (c : Bool). if c then found else found ++ x ∷ []) (m i x (omega arith) h here)
-    ∙ turned b (found ++ x ∷ []) found
+    k
+    ∙ turned (list_any (λ g. covers joined g x) found) (found ++ x ∷ []) found
     ∙ ap (λ (c : Bool). if c then found ++ x ∷ [] else found) (sym (none_covers joined found x))
     ∙ sym (pass_step actions joined xs found i x o p up apart h here f)
   where
@@ -187,57 +176,73 @@ step_kept actions joined xs found new covered i o p up apart h f m k =
     turned true more same = refl
     turned false more same = refl
 
-pub step_marked : (links : List (List ℕ)) (xs found new : List Class) (covered marked : List Bool) (i : ℕ) → i < length xs → IsMarked (joins links) xs i found covered → Keeps xs i covered found new → Marks links xs i covered marked → IsMarked (joins links) xs (i + 1) new marked
-step_marked links xs found new covered marked i h m k s j y a b e =
-    let d : Class = record { first = 0; second = 0 } in
-    let x : Class = get_or xs i d in
-    let here : x ≡ get_or xs i x = same_read xs i d x h in
-    s x j y here (omega arith) b e
-    ∙ ap (λ (c : Bool). c || (not (is_marked covered i) && covers (joins links) x y)) (m j y (omega arith) b e)
-    ∙ either (is_marked covered i) found x
-    ∙ ap (λ (gs : List Class). list_any (λ g. covers (joins links) g y) gs) (sym (k x here))
-  where
-    either : (c : Bool) (found : List Class) (x : Class) → (list_any (λ g. covers (joins links) g y) found || (not c && covers (joins links) x y)) ≡ list_any (λ g. covers (joins links) g y) (if c then found else found ++ x ∷ [])
-    either true found x = or_none (list_any (λ g. covers (joins links) g y) found)
-      where
-        or_none : (b : Bool) → (b || false) ≡ b
-        or_none true = refl
-        or_none false = refl
-    either false found x = sym (list_any-append (λ g. covers (joins links) g y) found (x ∷ []) ∙ ap (λ (b : Bool). list_any (λ g. covers (joins links) g y) found || b) (or_none (covers (joins links) x y)))
-      where
-        or_none : (b : Bool) → (b || false) ≡ b
-        or_none true = refl
-        or_none false = refl
-
-pub step_cost : (xs found new : List Class) (covered : List Bool) (i o t u : ℕ) → i < length xs → t ≤ o + 2 * (length found * length xs) → u ≤ t + 2 * length xs → (is_marked covered i ≡ true → u ≡ t) → Keeps xs i covered found new → u ≤ o + 2 * (length new * length xs)
-step_cost xs found new covered i o t u h a b free k =
-    let d : Class = record { first = 0; second = 0 } in
-    let x : Class = get_or xs i d in
-    let here : x ≡ get_or xs i x = same_read xs i d x h in
-    let L : List Class → Type 0 = λ ys. u ≤ o + 2 * (length ys * length xs) in
-    subst L (sym (k x here)) (by (is_marked covered i) refl)
-  where
-    more : (f n : ℕ) → (f + 1) * n ≡ f * n + n
-    more f n = grind arith
-
-    longer : (ys : List Class) (x : Class) → length (ys ++ x ∷ []) ≡ length ys + 1
-    longer ys x = omega (arith, length-append ys (x ∷ []))
-
-    by : (c : Bool) → is_marked covered i ≡ c → u ≤ o + 2 * (length (if c then found else found ++ get_or xs i (record { first = 0; second = 0 }) ∷ []) * length xs)
-    by true e = let s : u ≡ t = free e in omega arith
-    by false e =
-        let l = longer found (get_or xs i (record { first = 0; second = 0 })) in
-        let m : length (found ++ get_or xs i (record { first = 0; second = 0 }) ∷ []) * length xs ≡ length found * length xs + length xs = ap (λ (n : ℕ). n * length xs) l ∙ more (length found) (length xs) in
-        omega arith
-
--- where memory ran out, no more was compared
-pub stopped : (joined : ℕ → ℕ → Bool) (xs found : List Class) (i o t u : ℕ) → found ≡ filter (λ y. is_maximal joined xs y) (take i xs) → t ≤ o + 2 * (length found * length xs) → u ≡ t → u ≤ o + 2 * (length xs * length (maximal_of joined xs))
-stopped joined xs found i o t u f a e =
-    let m : length found * length xs ≤ length (maximal_of joined xs) * length xs = mul-le (length found) (length xs) (length (maximal_of joined xs)) (length xs) (found_few joined xs found i f) (omega arith) in
-    let c : length (maximal_of joined xs) * length xs ≡ length xs * length (maximal_of joined xs) = grind arith in
+-- where memory ran out, no more than one more class was compared
+pub step_cost : (joined : ℕ → ℕ → Bool) (xs found : List Class) (i o t u : ℕ) → found ≡ filter (λ y. is_maximal joined xs y) (take i xs) → t ≤ o + 2 * (i * length (maximal_of joined xs)) → u ≤ t + 2 * length found
+    → u ≤ o + 2 * ((i + 1) * length (maximal_of joined xs))
+step_cost joined xs found i o t u f a b =
+    let few = found_few joined xs found i f in
+    let e : (i + 1) * length (maximal_of joined xs) ≡ i * length (maximal_of joined xs) + length (maximal_of joined xs) = more_times i (length (maximal_of joined xs)) in
     omega arith
 
-pub room_kept : (joined : ℕ → ℕ → Bool) (xs found : List Class) (i o t : ℕ) → found ≡ filter (λ y. is_maximal joined xs y) (take i xs) → length xs ≤ 32768 → o < 2 ^ 61 → t ≤ o + 2 * (length found * length xs) → t + 2 * length xs < 2 ^ 62
-room_kept joined xs found i o t f few r a =
+pub whole_cost : (o u i n g : ℕ) → u ≤ o + 2 * (i * g) → i ≤ n → u ≤ o + 2 * (n * g)
+whole_cost o u i n g a h = let m : i * g ≤ n * g = mul-le i g n g h (omega arith) in omega arith
+
+pub room_kept : (joined : ℕ → ℕ → Bool) (xs found : List Class) (i o t : ℕ) → found ≡ filter (λ y. is_maximal joined xs y) (take i xs) → i < length xs → length xs ≤ 32768 → o < 2 ^ 61 → t ≤ o + 2 * (i * length (maximal_of joined xs)) → t + 2 * length found < 2 ^ 62
+room_kept joined xs found i o t f within few r a =
     let l : length found ≤ length xs = found_small joined xs found i f in
-    room_left o t (length found) (length xs) (omega arith) a (omega arith) (omega arith)
+    let g : length (maximal_of joined xs) ≤ length xs = filter_le (λ y. is_maximal joined xs y) xs in
+    let s : length found ≤ length (maximal_of joined xs) = found_few joined xs found i f in
+    let m : t + 2 * length (maximal_of joined xs) < 2 ^ 62 = room_left o t i (length (maximal_of joined xs)) (omega arith) a (omega arith) (omega arith) in
+    omega arith
+
+-- the second actions to which a first action leads
+
+any_mapped : (joined : ℕ → ℕ → Bool) (first second : ℕ) (gs : List Class) → list_any (λ i. joined i second) (seconds_from joined first gs) ≡ list_any (λ g. covers joined g (record { first = first; second = second })) gs
+any_mapped joined first second [] = refl
+any_mapped joined first second (g ∷ gs) = by (joined first g.first) (any_mapped joined first second gs)
+  where
+    by : (b : Bool) → list_any (λ i. joined i second) (seconds_from joined first gs) ≡ list_any (λ g. covers joined g (record { first = first; second = second })) gs
+        → list_any (λ i. joined i second) (map (λ (m : Class). m.second) (if b then g ∷ filter (λ (m : Class). joined first m.first) gs else filter (λ (m : Class). joined first m.first) gs))
+        ≡ ((b && joined g.second second) || list_any (λ g. covers joined g (record { first = first; second = second })) gs)
+    by true e = ap (λ (b : Bool). joined g.second second || b) e
+    by false e = e
+
+pub any_covers : (joined : ℕ → ℕ → Bool) (x : Class) (gs : List Class) → list_any (λ i. joined i x.second) (seconds_from joined x.first gs) ≡ list_any (λ g. covers joined g x) gs
+any_covers joined x gs = any_mapped joined x.first x.second gs
+
+pub seconds_more : (joined : ℕ → ℕ → Bool) (first : ℕ) (gs : List Class) (g : Class) → joined first g.first ≡ true → seconds_from joined first gs ++ g.second ∷ [] ≡ seconds_from joined first (gs ++ g ∷ [])
+seconds_more joined first gs g leads =
+    sym (ap (map (λ (m : Class). m.second)) (filter_append (λ (m : Class). joined first m.first) gs (g ∷ []) ∙ ap (λ (b : Bool). filter (λ (m : Class). joined first m.first) gs ++ (if b then g ∷ [] else [])) leads)
+    ∙ mapped (filter (λ (m : Class). joined first m.first) gs) g)
+  where
+    mapped : (xs : List Class) (x : Class) → map (λ (m : Class). m.second) (xs ++ x ∷ []) ≡ map (λ (m : Class). m.second) xs ++ x.second ∷ []
+    mapped [] x = refl
+    mapped (y ∷ ys) x = ap (λ (l : List ℕ). y.second ∷ l) (mapped ys x)
+
+pub seconds_few : (joined : ℕ → ℕ → Bool) (first : ℕ) (gs : List Class) → length (seconds_from joined first gs) ≤ length gs
+seconds_few joined first [] = omega arith
+seconds_few joined first (g ∷ gs) = by (joined first g.first) (seconds_few joined first gs)
+  where
+    by : (b : Bool) → length (seconds_from joined first gs) ≤ length gs → length (map (λ (m : Class). m.second) (if b then g ∷ filter (λ (m : Class). joined first m.first) gs else filter (λ (m : Class). joined first m.first) gs)) ≤ suc (length gs)
+    by true h = omega (arith, h)
+    by false h = omega (arith, h)
+
+pub seconds_known : (n : ℕ) (joined : ℕ → ℕ → Bool) (first : ℕ) (gs : List Class) (seconds : List ℕ) → All (IsKnown n) gs → seconds ≡ seconds_from joined first gs → All (λ i. i < n) seconds
+seconds_known n joined first gs seconds known e =
+    let K : Class → Type 0 = λ x. (x.first < n) × (x.second < n) in
+    subst (λ (l : List ℕ). All (λ i. i < n) l) (sym e) (All-from_recursion (λ i. i < n) (seconds_from joined first gs) (each gs (recursion_from_All K gs known)))
+  where
+    each : (xs : List Class) → AllByRecursion (λ (x : Class). (x.first < n) × (x.second < n)) xs → AllByRecursion (λ i. i < n) (seconds_from joined first xs)
+    each [] all = tt
+    each (x ∷ xs) all = by (joined first x.first) (each xs all.1)
+      where
+        by : (b : Bool) → AllByRecursion (λ i. i < n) (seconds_from joined first xs) → AllByRecursion (λ i. i < n) (map (λ (m : Class). m.second) (if b then x ∷ filter (λ (m : Class). joined first m.first) xs else filter (λ (m : Class). joined first m.first) xs))
+        by true rest = (all.0.1, rest)
+        by false rest = rest
+
+pub one_some : (a b : ℕ) → Some a ≡ Some b → a ≡ b
+one_some a b e = ap or_none e
+  where
+    or_none : Option ℕ → ℕ
+    or_none None = 0
+    or_none (Some n) = n

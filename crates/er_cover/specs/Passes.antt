@@ -1,12 +1,13 @@
 -- What the passes over the classes keep.
-use Rattle.std.specs.Prelude.{◌≡◌, ℕ, ◌+◌, ◌-◌, ◌*◌, ◌^◌, ◌<◌, ◌≤◌, ◌++◌, ◌||◌, ◌&&◌, not, Bool, true, false, List, [], ◌∷◌, map, filter, length, if◌then◌else◌, slice_index, slice_index_or}
-use Rattle.std.specs.List.{AllByRecursion, position_or_len}
+use Rattle.std.specs.Prelude.{◌≡◌, ℕ, ◌+◌, ◌-◌, ◌*◌, ◌^◌, ◌<◌, ◌≤◌, ◌++◌, ◌||◌, ◌&&◌, not, Bool, true, false, List, [], ◌∷◌, map, filter, length, if◌then◌else◌, slice_index, Some}
+use Rattle.std.specs.List.{AllByRecursion, list_any, position_or_len}
 use Rattle.er_paths.specs.Paths.{joins}
 use Rattle.er_access.specs.declared.access.Access.{Access}
 use Rattle.er_access.specs.Numbers.{access_at}
 use Rattle.er_races.specs.declared.race.Race.{Race}
 use Rattle.er_races.specs.Races.{most_races}
 use Rattle.er_cover.specs.declared.class.Class.{Class}
+use Rattle.er_cover.specs.declared.maximal.Leading.{Leading}
 use Rattle.er_cover.specs.Classes.{same, is_among, each_once}
 use Rattle.er_cover.specs.Groups.{covers, maximal_of, most_classes, name_of, representative, size_of}
 
@@ -25,17 +26,17 @@ classes_by_number accesses races = map (class_by_number accesses) races
 abbrev pub IsKnown : ℕ → Class → Type 0
 IsKnown actions x = (x.first < actions) × (x.second < actions)
 
--- the difference of the two actions, raised by the number of all actions, so that it is never below zero
-abbrev pub raised_width : ℕ → Class → ℕ
-raised_width actions x = x.second + (actions - x.first)
+-- the place among all pairs of actions, where the first falls and, for one first, the second rises
+abbrev pub rank : ℕ → Class → ℕ
+rank actions x = (actions - x.first) * actions + x.second
 
-abbrev pub IsNoWider : ℕ → Class → Class → Type 0
-IsNoWider actions x y = raised_width actions x ≤ raised_width actions y
+abbrev pub IsNoLater : ℕ → Class → Class → Type 0
+IsNoLater actions x y = rank actions x ≤ rank actions y
 
--- no class is wider than a later one
+-- no class has a greater rank than a later one
 abbrev pub AreRising : ℕ → List Class → Type 0
 AreRising actions [] = Unit {0}
-AreRising actions (x ∷ later) = AllByRecursion (IsNoWider actions x) later × AreRising actions later
+AreRising actions (x ∷ later) = AllByRecursion (IsNoLater actions x) later × AreRising actions later
 
 -- no class is there twice
 abbrev pub AreDistinct : List Class → Type 0
@@ -50,23 +51,17 @@ with_new x classes = if is_among x classes then classes else classes ++ x ∷ []
 abbrev pub Adds : List Class → Class → ℕ → List ℕ → List ℕ → Type 0
 Adds classes x race old new = new ≡ (if is_among x classes then old else old ++ race ∷ [])
 
--- class number j is marked as covered
-abbrev pub is_marked : List Bool → ℕ → Bool
-is_marked covered j = slice_index_or covered j false
+-- x goes last, where none of these covers it
+abbrev pub Keeps : (ℕ → ℕ → Bool) → Class → List Class → List Class → Type 0
+Keeps joined x old new = new ≡ (if list_any (λ g. covers joined g x) old then old else old ++ x ∷ [])
 
--- class number i goes last, where it is not marked as covered
-abbrev pub Keeps : List Class → ℕ → List Bool → List Class → List Class → Type 0
-Keeps classes i covered old new = (x : Class) → x ≡ slice_index_or classes i x → new ≡ (if is_marked covered i then old else old ++ x ∷ [])
+-- the second actions of the classes to whose first action a path leads
+abbrev pub seconds_from : (ℕ → ℕ → Bool) → ℕ → List Class → List ℕ
+seconds_from joined first classes = map (λ (g : Class). g.second) (filter (λ (g : Class). joined first g.first) classes)
 
--- from a number on, marked are those that were, and those that the group covers
-abbrev pub MarksFrom : List (List ℕ) → Class → List Class → ℕ → List Bool → List Bool → Type 0
-MarksFrom links group classes from old new = (j : ℕ) (y : Class) → from ≤ j → j < length classes → y ≡ slice_index_or classes j y
-    → is_marked new j ≡ (is_marked old j || covers (joins links) group y)
-
--- the same behind class number i, with this class as the group, where it is not marked
-abbrev pub Marks : List (List ℕ) → List Class → ℕ → List Bool → List Bool → Type 0
-Marks links classes i old new = (x : Class) (j : ℕ) (y : Class) → x ≡ slice_index_or classes i x → i < j → j < length classes → y ≡ slice_index_or classes j y
-    → is_marked new j ≡ (is_marked old j || (not (is_marked old i) && covers (joins links) x y))
+-- these are what stands there, where it was found for a first action
+abbrev pub IsLeading : (ℕ → ℕ → Bool) → List Class → Leading → Type 0
+IsLeading joined classes leading = (first : ℕ) → leading.first ≡ Some first → leading.seconds.items ≡ seconds_from joined first classes
 
 -- x goes last, where it is one of these
 abbrev pub Chooses : List Class → Class → List Class → List Class → Type 0

@@ -19,11 +19,12 @@ pub struct Class {
 }
 
 impl Class {
-    /// How far its actions are apart, raised by the number of all actions.
-    pub(crate) fn raised_width(&self, actions: u32) -> u64
-        ensures { result ≡ spec.raised_width actions self.now }
+    /// Its place among all pairs of actions, where the first falls and, for one first, the second rises.
+    pub(crate) fn rank(&self, actions: u32) -> u64
+        ensures { result ≡ spec.rank actions self.now }
     {
-        u64::from(self.second) + u64::from(actions.saturating_sub(self.first))
+        let before = u64::from(actions.saturating_sub(self.first));
+        before * u64::from(actions) + u64::from(self.second)
     }
 }
 

@@ -1,11 +1,13 @@
-//! The maximal classes, by one pass over the classes by rising width: whatever covers a class is narrower.
+//! The maximal classes, by one pass over the classes by falling first action and, of one first action, by rising second:
+//! whatever covers a class stands before it.
 
-ghost use Rattle.std.specs.Prelude.{◌≡◌, ◌+◌, ◌*◌, ◌<◌, ◌≤◌, ◌^◌, ◌||◌, false, length, All, IfOk, OnOk, OnErr, IsTrue, slice_index_or, replicate};
+ghost use Rattle.std.specs.Prelude.{◌≡◌, ◌+◌, ◌*◌, ◌<◌, ◌≤◌, ◌^◌, [], length, All, Some, IfOk, OnOk};
+ghost use Rattle.std.specs.List.{list_any};
 ghost use Rattle.std.specs.List.Sorted.{IsPermutation};
 ghost use Rattle.er_paths.specs.Paths.{joins};
 ghost use Rattle.er_cover.specs.Groups as spec;
-ghost use Rattle.er_cover.specs.Passes.{AreDistinct, AreRising, Chooses, IsKnown, Keeps, Marks, MarksFrom};
-ghost use Rattle.er_cover.specs.Passes.{chosen_of, maximal_tests};
+ghost use Rattle.er_cover.specs.Passes.{AreDistinct, AreRising, Chooses, IsKnown, IsLeading, Keeps};
+ghost use Rattle.er_cover.specs.Passes.{chosen_of, maximal_tests, seconds_from};
 
 use crate::Class;
 use crate::classes::set_of;
@@ -29,7 +31,7 @@ pub(crate) fn maximal_of(
     ensures bound { tests.new ≤ tests.old + maximal_tests (joins clocks.now) classes.now }
     ensures rises { tests.old ≤ tests.new }
 {
-    let sorted = by_width(alloc, classes, clocks.len())?;
+    let sorted = by_rank(alloc, classes, clocks.len())?;
     let found = pass(alloc, sorted.as_slice(), clocks, tests)?;
     let found_set = set_of(alloc, found.as_slice())?;
     let kept = chosen(alloc, classes, &found_set)?;
@@ -37,8 +39,8 @@ pub(crate) fn maximal_of(
     Ok(groups)
 }
 
-/// The classes by rising width, and of one width in their order.
-fn by_width(alloc: Global, classes: &[Class], actions: u32) -> Result<Vec<Class>, NoMemory>
+/// The classes by rising rank.
+fn by_rank(alloc: Global, classes: &[Class], actions: u32) -> Result<Vec<Class>, NoMemory>
     ensures len { IfOk result (λ sorted. length sorted.items ≡ length classes.now) }
     ensures same { IfOk result (λ sorted. IsPermutation classes.now sorted.items) }
     ensures rising { IfOk result (λ sorted. AreRising actions sorted.items) }
@@ -46,13 +48,13 @@ fn by_width(alloc: Global, classes: &[Class], actions: u32) -> Result<Vec<Class>
     let Ok(mut sorted) = Vec::from_slice(alloc, classes) else {
         return Err(NoMemory);
     };
-    let Ok(()) = sorted.sort_by_key(|class| class.raised_width(actions)) else {
+    let Ok(()) = sorted.sort_by_key(|class| class.rank(actions)) else {
         return Err(NoMemory);
     };
     Ok(sorted)
 }
 
-/// The maximal ones of classes that stand by rising width: each strikes out the wider ones that it covers.
+/// The maximal ones of classes that stand by rising rank: those that none found before them covers.
 fn pass(
     alloc: Global,
     classes: &[Class],
@@ -68,110 +70,121 @@ fn pass(
     ensures bound { tests.new ≤ tests.old + maximal_tests (joins clocks.now) classes.now }
     ensures rises { tests.old ≤ tests.new }
 {
-    let Ok(mut covered) = vec![in alloc; false; classes.len()] else {
-        return Err(NoMemory);
-    };
-    let found = find(alloc, classes, covered.as_mut_slice(), clocks, tests)?;
-    Ok(found)
-}
-
-/// The same, with a mark for each class.
-fn find(
-    alloc: Global,
-    classes: &[Class],
-    covered: &mut [bool],
-    clocks: &Clocks,
-    tests: &mut Meter,
-) -> Result<Vec<Class>, NoMemory>
-    requires known { All (IsKnown (length clocks.now)) classes.now }
-    requires rising { AreRising (length clocks.now) classes.now }
-    requires distinct { AreDistinct classes.now }
-    requires unmarked { covered.old ≡ replicate (length classes.now) false }
-    requires few { length classes.now ≤ spec.most_classes }
-    requires room { tests.old < 2 ^ 61 }
-    ensures maximal { IfOk result (λ v. v.items ≡ spec.maximal_of (joins clocks.now) classes.now) }
-    ensures bound { tests.new ≤ tests.old + maximal_tests (joins clocks.now) classes.now }
-    ensures rises { tests.old ≤ tests.new }
-{
     let mut found = Vec::new(alloc);
-    for i in 0..classes.len() {
-        consider(&mut found, covered, i, classes, clocks, tests)?;
+    let mut leading = Leading {
+        first: None,
+        seconds: Vec::new(alloc),
+    };
+    for class in classes {
+        consider(&mut found, &mut leading, class, clocks, tests)?;
     }
     Ok(found)
 }
 
-/// Keeps class number i where it is not covered, and marks the later ones that it covers.
+/// The second actions of those found classes to whose first action a path leads from one first action.
+#[derive(Drop)]
+pub(crate) struct Leading {
+    pub(crate) first: Option<u32>,
+    pub(crate) seconds: Vec<u32>,
+}
+
+/// Keeps the class where none that was found covers it.
 fn consider(
     found: &mut Vec<Class>,
-    covered: &mut [bool],
-    i: usize,
-    classes: &[Class],
-    clocks: &Clocks,
-    tests: &mut Meter,
-) -> Result<(), NoMemory>
-    requires known { All (IsKnown (length clocks.now)) classes.now }
-    requires within { i < length classes.now }
-    requires long { length covered.old ≡ length classes.now }
-    requires room { tests.old + 2 * length classes.now < 2 ^ 62 }
-    ensures kept { OnOk result (Keeps classes.now i covered.old found.old.items found.new.items) }
-    ensures marked { OnOk result (Marks clocks.now classes.now i covered.old covered.new) }
-    ensures bound { tests.new ≤ tests.old + 2 * length classes.now }
-    ensures rises { tests.old ≤ tests.new }
-    ensures free { IsTrue (slice_index_or covered.old i false) → tests.new ≡ tests.old }
-    ensures none { OnErr result (tests.new ≡ tests.old) }
-{
-    if covered[i] {
-        return Ok(());
-    }
-    let Ok(()) = found.push(classes[i]) else {
-        return Err(NoMemory);
-    };
-    mark(covered, &classes[i], i + 1, classes, clocks, tests);
-    Ok(())
-}
-
-/// Marks the classes from a number on that the group covers.
-fn mark(
-    covered: &mut [bool],
-    group: &Class,
-    from: usize,
-    classes: &[Class],
-    clocks: &Clocks,
-    tests: &mut Meter,
-)
-    requires group { IsKnown (length clocks.now) group.now }
-    requires known { All (IsKnown (length clocks.now)) classes.now }
-    requires within { from ≤ length classes.now }
-    requires long { length covered.old ≡ length classes.now }
-    requires room { tests.old + 2 * length classes.now < 2 ^ 62 }
-    ensures marked { MarksFrom clocks.now group.now classes.now from covered.old covered.new }
-    ensures bound { tests.new ≤ tests.old + 2 * length classes.now }
-    ensures rises { tests.old ≤ tests.new }
-{
-    for j in from..classes.len() {
-        covered[j] = is_covered(covered[j], group, &classes[j], clocks, tests);
-    }
-}
-
-/// Whether the class was covered before, or the group covers it.
-fn is_covered(
-    before: bool,
-    group: &Class,
+    leading: &mut Leading,
     class: &Class,
     clocks: &Clocks,
     tests: &mut Meter,
-) -> bool
-    requires group { IsKnown (length clocks.now) group.now }
+) -> Result<(), NoMemory>
+    requires known { All (IsKnown (length clocks.now)) found.old.items }
     requires class { IsKnown (length clocks.now) class.now }
-    requires room { tests.old + 2 < 2 ^ 62 }
-    ensures covered { result ≡ (before || spec.covers (joins clocks.now) group.now class.now) }
-    ensures bound { tests.new ≤ tests.old + 2 }
+    requires leading { IsLeading (joins clocks.now) found.old.items leading.old }
+    requires room { tests.old + 2 * length found.old.items < 2 ^ 62 }
+    ensures kept { OnOk result (Keeps (joins clocks.now) class.now found.old.items found.new.items) }
+    ensures leading { OnOk result (IsLeading (joins clocks.now) found.new.items leading.new) }
+    ensures bound { tests.new ≤ tests.old + 2 * length found.old.items }
     ensures rises { tests.old ≤ tests.new }
 {
-    if before {
-        return true;
+    lead(leading, found.as_slice(), class.first, clocks, tests)?;
+    if any_joins(leading.seconds.as_slice(), class.second, clocks, tests) {
+        return Ok(());
     }
-    covers(group, class, clocks, tests)
+    let Ok(()) = found.push(*class) else {
+        return Err(NoMemory);
+    };
+    let Ok(()) = leading.seconds.push(class.second) else {
+        return Err(NoMemory);
+    };
+    Ok(())
+}
+
+/// Finds the second actions for this first action, unless they stand there.
+fn lead(
+    leading: &mut Leading,
+    found: &[Class],
+    first: u32,
+    clocks: &Clocks,
+    tests: &mut Meter,
+) -> Result<(), NoMemory>
+    requires known { All (IsKnown (length clocks.now)) found.now }
+    requires first { first < length clocks.now }
+    requires leading { IsLeading (joins clocks.now) found.now leading.old }
+    requires room { tests.old + length found.now < 2 ^ 62 }
+    ensures first { OnOk result (leading.new.first ≡ Some first) }
+    ensures seconds { OnOk result (leading.new.seconds.items ≡ seconds_from (joins clocks.now) first found.now) }
+    ensures bound { tests.new ≤ tests.old + length found.now }
+    ensures rises { tests.old ≤ tests.new }
+{
+    if leading.first == Some(first) {
+        return Ok(());
+    }
+    leading.seconds.clear();
+    gather(&mut leading.seconds, found, first, clocks, tests)?;
+    leading.first = Some(first);
+    Ok(())
+}
+
+/// Adds the second actions of those classes to whose first action a path leads.
+fn gather(
+    seconds: &mut Vec<u32>,
+    found: &[Class],
+    first: u32,
+    clocks: &Clocks,
+    tests: &mut Meter,
+) -> Result<(), NoMemory>
+    requires known { All (IsKnown (length clocks.now)) found.now }
+    requires first { first < length clocks.now }
+    requires none { seconds.old.items ≡ [] }
+    requires room { tests.old + length found.now < 2 ^ 62 }
+    ensures seconds { OnOk result (seconds.new.items ≡ seconds_from (joins clocks.now) first found.now) }
+    ensures bound { tests.new ≤ tests.old + length found.now }
+    ensures rises { tests.old ≤ tests.new }
+{
+    for group in found {
+        if clocks.before(first, group.first, tests) {
+            let Ok(()) = seconds.push(group.second) else {
+                return Err(NoMemory);
+            };
+        }
+    }
+    Ok(())
+}
+
+/// Whether a path leads from one of these actions to j.
+fn any_joins(firsts: &[u32], j: u32, clocks: &Clocks, tests: &mut Meter) -> bool
+    requires firsts { All (λ i. i < length clocks.now) firsts.now }
+    requires second { j < length clocks.now }
+    requires room { tests.old + length firsts.now < 2 ^ 62 }
+    ensures any { result ≡ list_any (λ i. joins clocks.now i j) firsts.now }
+    ensures bound { tests.new ≤ tests.old + length firsts.now }
+    ensures rises { tests.old ≤ tests.new }
+{
+    for i in firsts {
+        if clocks.before(*i, j, tests) {
+            return true;
+        }
+    }
+    false
 }
 
 /// Whether the one class covers the other.

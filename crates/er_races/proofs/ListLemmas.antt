@@ -18,47 +18,9 @@ use Rattle.er_access.proofs.LocatedLemmas.{filter_map, filter_same}
 use Rattle.er_races.specs.declared.race.Race.{Race}
 use Rattle.er_races.specs.Races.{races_by}
 use Rattle.er_races.specs.Pairs.{with_each, each, all_pairs}
-use Rattle.er_races.specs.Listing.{is_race_by_number, candidate, race, at_location, own_at, part, leaves, writes_among, partners_of}
+use Rattle.er_races.specs.Listing.{is_race_by_number, candidate, race, at_location, own_at, part, leaves}
 use Rattle.er_races.proofs.RaceLemmas.{as_many_races, races_by_number}
 use Rattle.er_races.proofs.PairLemmas.{filter_within, filter_all, filter_none, all_of, all_more, all_filtered, all_kept, all_each, range_below, each_kept, range_rises, rising_kept, IsRising, numbered_is, passing_is, passing_count, one_more, two_parts}
-
--- one access with each of a list
-
-filter_step : (t : ℕ → Bool) (xs : List ℕ) (i : ℕ) → i < length xs → filter t (drop i xs) ≡ cond (t (get_or xs i 0)) (get_or xs i 0 ∷ filter t (drop (i + 1) xs)) (filter t (drop (i + 1) xs))
-filter_step t xs i h = ap (filter t) (drop_more xs i 0 h)
-
-pub from_step : (t : ℕ → Bool) (first : ℕ) (others : List ℕ) (i : ℕ) (found new whole : List Race) → i < length others
-    → new ≡ cond (t (get_or others i 0)) (found ++ record { first = first; second = get_or others i 0 } ∷ []) found
-    → found ++ with_each first (filter t (drop i others)) ≡ whole → new ++ with_each first (filter t (drop (i + 1) others)) ≡ whole
-from_step t first others i found new whole h e before =
-    by (t (get_or others i 0)) (get_or others i 0) (filter t (drop (i + 1) others)) e (ap (λ l. found ++ with_each first l) (sym (filter_step t others i h)) ∙ before)
-  where
-    by : (b : Bool) (j : ℕ) (l : List ℕ) → new ≡ cond b (found ++ record { first = first; second = j } ∷ []) found → found ++ with_each first (cond b (j ∷ l) l) ≡ whole → new ++ with_each first l ≡ whole
-    by true j l e rest = ap (λ f. f ++ with_each first l) e ∙ (append_assoc found (record { first = first; second = j } ∷ []) (with_each first l) ∙ rest)
-    by false j l e rest = ap (λ f. f ++ with_each first l) e ∙ rest
-
-length_cond : (b : Bool) (j : ℕ) (l : List ℕ) → length (cond b (j ∷ l) l) ≡ cond b 1 0 + length l
-length_cond true j l = omega arith
-length_cond false j l = omega arith
-
-filter_count : (t : ℕ → Bool) (xs : List ℕ) (i : ℕ) → i < length xs → length (filter t (drop i xs)) ≡ cond (t (get_or xs i 0)) 1 0 + length (filter t (drop (i + 1) xs))
-filter_count t xs i h = ap length (filter_step t xs i h) ∙ length_cond (t (get_or xs i 0)) (get_or xs i 0) (filter t (drop (i + 1) xs))
-
-pub count_step : (t : ℕ → Bool) (xs : List ℕ) (i meter new whole : ℕ) → i < length xs → new ≡ meter + cond (t (get_or xs i 0)) 1 0 → meter + length (filter t (drop i xs)) ≡ whole → new + length (filter t (drop (i + 1) xs)) ≡ whole
-count_step t xs i meter new whole h e before = omega (arith, filter_count t xs i h, e, before)
-
--- the lists that make equal wholes have equal lengths together
-lengths : (first : ℕ) (found old : List Race) (left all : List ℕ) → found ++ with_each first left ≡ old ++ with_each first all → length found + length left ≡ length old + length all
-lengths first found old left all e =
-    let c = ap length e in
-    omega (arith, c, length-append found (with_each first left), length-append old (with_each first all), length-map {B = Race} left (λ j. record { first = first; second = j }), length-map {B = Race} all (λ j. record { first = first; second = j }))
-
-pub from_many : (t : ℕ → Bool) (first : ℕ) (others : List ℕ) (i most : ℕ) (found old : List Race) → i < length others → t (get_or others i 0) ≡ true → length found ≡ most
-    → found ++ with_each first (filter t (drop i others)) ≡ old ++ with_each first (filter t others) → most < length old + length (filter t others)
-from_many t first others i most found old h e full before =
-    let count : Bool → ℕ = λ b. cond b 1 0 in
-    let one = ap count e in
-    omega (arith, lengths first found old (filter t (drop i others)) (filter t others) before, filter_count t others i h, one, full)
 
 -- the accesses of one location
 
@@ -80,65 +42,21 @@ rows_within accesses k =
     let P : List ℕ → Type 0 = λ l. AllByRecursion (λ n. n < length accesses) l in
     subst P (sym (rows_is accesses k)) (all_kept (λ n. n < length accesses) (λ i. (access_at accesses i).location == k) (range_with_len 0 (length accesses)) (range_below 0 (length accesses) (length accesses) (omega arith)))
 
+pub kept_count : (kept : List Kept) → length (accesses_of kept) ≡ length kept
+kept_count kept = length-map kept (by_number (locations_of kept))
+
 pub rows_known : (kept : List Kept) (k : ℕ) (rows : List ℕ) → rows ≡ rows_of (accesses_of kept) k → All (λ n. n < length kept) rows
 rows_known kept k rows e =
     let P : List ℕ → Type 0 = λ l. All (λ n. n < length kept) l in
     let Q : ℕ → Type 0 = λ m. All (λ n. n < m) (rows_of (accesses_of kept) k) in
     subst P (sym e) (subst Q (length-map kept (by_number (locations_of kept))) (All-from_recursion (λ n. n < length (accesses_of kept)) (rows_of (accesses_of kept) k) (rows_within (accesses_of kept) k)))
 
--- the partners have what all later rows have
-pub partners_all : (P : ℕ → Type 0) (accesses : List Access) (i : ℕ) (later others : List ℕ) → AllByRecursion P later → others ≡ partners_of accesses i later (writes_among accesses later) → All P others
-partners_all P accesses i later others all e =
-    let Q : List ℕ → Type 0 = λ l. All P l in
-    subst Q (sym e) (by (is_write (access_at accesses i).mode))
-  where
-    by : (b : Bool) → All P (cond b later (writes_among accesses later))
-    by true = All-from_recursion P later all
-    by false = All-from_recursion P (writes_among accesses later) (all_kept P (λ n. is_write (access_at accesses n).mode) later all)
-
-all_dropped : (P : ℕ → Type 0) (n : ℕ) (xs : List ℕ) → AllByRecursion P xs → AllByRecursion P (drop n xs)
-all_dropped P zero xs all = all
-all_dropped P (suc n) [] all = tt
-all_dropped P (suc n) (x ∷ xs) all = all_dropped P n xs all.1
-
-pub partners_known : (kept : List Kept) (k n i : ℕ) (rows others : List ℕ) → rows ≡ rows_of (accesses_of kept) k → others ≡ partners_of (accesses_of kept) i (drop n rows) (writes_among (accesses_of kept) (drop n rows))
-    → All (λ m. m < length kept) others
-partners_known kept k n i rows others e f =
-    partners_all (λ m. m < length kept) (accesses_of kept) i (drop n rows) others (all_dropped (λ m. m < length kept) n rows (recursion_from_All (λ m. m < length kept) rows (rows_known kept k rows e))) f
-
--- the rows behind one are greater
+-- the rows rise
 
 pub rows_rise : (accesses : List Access) (k : ℕ) (rows : List ℕ) → rows ≡ rows_of accesses k → IsRising rows
 rows_rise accesses k rows e =
     let P : List ℕ → Type 0 = λ l. IsRising l in
     subst P (sym (e ∙ rows_is accesses k)) (rising_kept (λ i. (access_at accesses i).location == k) (range_with_len 0 (length accesses)) (range_rises 0 (length accesses)))
-
-rising_after : (rows : List ℕ) (n : ℕ) → IsRising rows → n < length rows → AllByRecursion (λ j. get_or rows n 0 < j) (drop (suc n) rows)
-rising_after [] n up h = absurd (omega (arith, h))
-rising_after (x ∷ xs) zero up h = up.0
-rising_after (x ∷ xs) (suc n) up h = rising_after xs n up.1 (omega (arith, h))
-
-pub partners_later : (accesses : List Access) (k n : ℕ) (rows others : List ℕ) → rows ≡ rows_of accesses k → n < length rows → others ≡ partners_of accesses (get_or rows n 0) (drop (n + 1) rows) (writes_among accesses (drop (n + 1) rows))
-    → All (λ m. get_or rows n 0 < m) others
-partners_later accesses k n rows others e h f =
-    let more : suc n ≡ n + 1 = omega arith in
-    let P : ℕ → Type 0 = λ m. AllByRecursion (λ j. get_or rows n 0 < j) (drop m rows) in
-    partners_all (λ m. get_or rows n 0 < m) accesses (get_or rows n 0) (drop (n + 1) rows) others (subst P more (rising_after rows n (rows_rise accesses k rows e) h)) f
-
-filter_skip : (q : ℕ → Bool) (x : ℕ) (xs : List ℕ) → (q x ≡ true → x < x) → filter q xs ≡ filter q (x ∷ xs)
-filter_skip q x xs never = by (q x) refl
-  where
-    by : (b : Bool) → q x ≡ b → filter q xs ≡ filter q (x ∷ xs)
-    by true e = absurd (let h = never e in omega (arith, h))
-    by false e = sym (ap (λ c. cond c (x ∷ filter q xs) (filter q xs)) e)
-
--- a test that only later rows pass
-later_only : (q : ℕ → Bool) (rows : List ℕ) (n : ℕ) → IsRising rows → n < length rows → ((j : ℕ) → q j ≡ true → get_or rows n 0 < j) → filter q (drop (suc n) rows) ≡ filter q rows
-later_only q [] n up h later = absurd (omega (arith, h))
-later_only q (x ∷ xs) zero up h later = filter_skip q x xs (later x)
-later_only q (x ∷ xs) (suc n) up h later =
-    let below = All-from_recursion (λ y. x < y) xs up.0 n 0 (omega (arith, h)) in
-    later_only q xs n up.1 (omega (arith, h)) later ∙ filter_skip q x xs (λ e. let over = later x e in omega (arith, over, below))
 
 -- all actions are known
 pub actions_known : (most : ℕ) (kept : List Kept) → All (λ (x : Kept). x.action < most) kept → All (λ (x : Access). x.action < most) (accesses_of kept)
@@ -175,96 +93,19 @@ one_location a b k e h = swap a.location b.location k (and_left (a.location == b
     swap : (x y z : ℕ) → (x == y) ≡ true → (x == z) ≡ true → (y == z) ≡ true
     swap x y z e h = grind (arith, nat_tests)
 
-pub one_writes : (a b : Access) → is_candidate_by_number a b ≡ true → is_write a.mode ≡ false → is_write b.mode ≡ true
-one_writes a b e h = by (is_write a.mode) (is_write b.mode) h (and_right (not (a.action == b.action)) (is_write a.mode || is_write b.mode) (and_right (a.location == b.location) (not (a.action == b.action) && (is_write a.mode || is_write b.mode)) e))
-  where
-    by : (x y : Bool) → x ≡ false → (x || y) ≡ true → y ≡ true
-    by true y h e = let no : true ≡ false = h in cc
-    by false y h e = e
+pub all_rows_at : (accesses : List Access) (k : ℕ) (rows : List ℕ) → rows ≡ rows_of accesses k → AllByRecursion (λ n. ((access_at accesses n).location == k) ≡ true) rows
+all_rows_at accesses k rows e =
+    let P : List ℕ → Type 0 = λ l. AllByRecursion (λ n. ((access_at accesses n).location == k) ≡ true) l in
+    subst P (sym (e ∙ rows_is accesses k)) (all_filtered (λ n. ((access_at accesses n).location == k) ≡ true) (λ n. (access_at accesses n).location == k) (range_with_len 0 (length accesses)) (λ n h. h))
 
 pub rows_at : (accesses : List Access) (k : ℕ) (rows : List ℕ) (i : ℕ) → rows ≡ rows_of accesses k → i < length rows → ((access_at accesses (get_or rows i 0)).location == k) ≡ true
-rows_at accesses k rows i e h =
-    let P : List ℕ → Type 0 = λ l. AllByRecursion (λ n. ((access_at accesses n).location == k) ≡ true) l in
-    All-from_recursion (λ n. ((access_at accesses n).location == k) ≡ true) rows (subst P (sym (e ∙ rows_is accesses k)) (all_filtered (λ n. ((access_at accesses n).location == k) ≡ true) (λ n. (access_at accesses n).location == k) (range_with_len 0 (length accesses)) (λ n h. h))) i 0 h
-
--- nothing is missed among the partners
-pub partners_suffice : (accesses : List Access) (t : ℕ → ℕ → Bool) → IsNarrow accesses t → (k n : ℕ) (rows others : List ℕ) → rows ≡ rows_of accesses k → n < length rows
-    → others ≡ partners_of accesses (get_or rows n 0) (drop (n + 1) rows) (writes_among accesses (drop (n + 1) rows))
-    → filter (t (get_or rows n 0)) others ≡ filter (t (get_or rows n 0)) (range_with_len 0 (length accesses))
-partners_suffice accesses t narrow k n rows others e h f =
-    ap (filter (t i)) f ∙ (by (is_write (access_at accesses i).mode) refl ∙ (later ∙ in_rows))
-  where
-    i : ℕ
-    i = get_or rows n 0
-
-    is_less : (a b : ℕ) → nat_lt a b ≡ true → a < b
-    is_less a b less = grind (arith, nat_tests)
-
-    in_rows : filter (t i) rows ≡ filter (t i) (range_with_len 0 (length accesses))
-    in_rows = ap (filter (t i)) (e ∙ rows_is accesses k) ∙ filter_within (t i) (λ j. (access_at accesses j).location == k) (range_with_len 0 (length accesses)) (λ j passed. one_location (access_at accesses i) (access_at accesses j) k (narrow i j passed).1 (rows_at accesses k rows n e h))
-
-    later : filter (t i) (drop (n + 1) rows) ≡ filter (t i) rows
-    later =
-        let more : n + 1 ≡ suc n = omega arith in
-        ap (λ m. filter (t i) (drop m rows)) more ∙ later_only (t i) rows n (rows_rise accesses k rows e) h (λ j passed. is_less i j (narrow i j passed).0)
-
-    by : (b : Bool) → is_write (access_at accesses i).mode ≡ b → filter (t i) (cond b (drop (n + 1) rows) (writes_among accesses (drop (n + 1) rows))) ≡ filter (t i) (drop (n + 1) rows)
-    by true w = refl
-    by false w = filter_within (t i) (λ j. is_write (access_at accesses j).mode) (drop (n + 1) rows) (λ j passed. one_writes (access_at accesses i) (access_at accesses j) (narrow i j passed).1 w)
-
--- the writes behind an access
-
-pub some_writes : (accesses : List Access) (rows writes : List ℕ) (n : ℕ) → n < length rows → writes ≡ writes_among accesses (drop n rows) → is_write (access_at accesses (get_or rows n 0)).mode ≡ true → 0 < length writes
-some_writes accesses rows writes n h e w =
-    let left : List ℕ = writes_among accesses (drop (n + 1) rows) in
-    let all : Bool → ℕ = λ b. length (cond b (get_or rows n 0 ∷ left) left) in
-    let count = ap length (e ∙ filter_step (λ j. is_write (access_at accesses j).mode) rows n h) ∙ ap all w in
-    omega (arith, count)
-
-pub fewer_writes : (accesses : List Access) (rows writes new : List ℕ) (n : ℕ) → n < length rows → writes ≡ writes_among accesses (drop n rows) → new ≡ cond (is_write (access_at accesses (get_or rows n 0)).mode) (drop 1 writes) writes
-    → new ≡ writes_among accesses (drop (n + 1) rows)
-fewer_writes accesses rows writes new n h e f =
-    by (is_write (access_at accesses (get_or rows n 0)).mode) (get_or rows n 0) (writes_among accesses (drop (n + 1) rows)) (e ∙ filter_step (λ j. is_write (access_at accesses j).mode) rows n h) f
-  where
-    by : (b : Bool) (j : ℕ) (l : List ℕ) → writes ≡ cond b (j ∷ l) l → new ≡ cond b (drop 1 writes) writes → new ≡ l
-    by true j l e f = f ∙ ap (drop 1) e
-    by false j l e f = f ∙ e
+rows_at accesses k rows i e h = All-from_recursion (λ n. ((access_at accesses n).location == k) ≡ true) rows (all_rows_at accesses k rows e) i 0 h
 
 -- the pairs at one location are those of its rows
 pub location_is : (accesses : List Access) (t : ℕ → ℕ → Bool) (k : ℕ) (rows : List ℕ) → rows ≡ rows_of accesses k → each (λ i. filter (t i) (range_with_len 0 (length accesses))) rows ≡ at_location t accesses k
 location_is accesses t k rows e =
     ap (each (λ i. filter (t i) (range_with_len 0 (length accesses)))) (e ∙ rows_is accesses k)
     ∙ each_kept (λ i. filter (t i) (range_with_len 0 (length accesses))) (λ i. (access_at accesses i).location == k) (range_with_len 0 (length accesses))
-
-each_step : (f : ℕ → List ℕ) (rows : List ℕ) (i : ℕ) → i < length rows → each f (drop i rows) ≡ with_each (get_or rows i 0) (f (get_or rows i 0)) ++ each f (drop (i + 1) rows)
-each_step f rows i h = ap (each f) (drop_more rows i 0 h)
-
-each_count : (f : ℕ → List ℕ) (rows : List ℕ) (i : ℕ) → i < length rows → length (each f (drop i rows)) ≡ length (f (get_or rows i 0)) + length (each f (drop (i + 1) rows))
-each_count f rows i h =
-    let c = ap length (each_step f rows i h) in
-    omega (arith, c, length-append (with_each (get_or rows i 0) (f (get_or rows i 0))) (each f (drop (i + 1) rows)), length-map {B = Race} (f (get_or rows i 0)) (λ j. record { first = get_or rows i 0; second = j }))
-
-pub rows_step : (f : ℕ → List ℕ) (rows : List ℕ) (i : ℕ) (found new whole : List Race) (seconds : List ℕ) → i < length rows → seconds ≡ f (get_or rows i 0)
-    → new ≡ found ++ with_each (get_or rows i 0) seconds → found ++ each f (drop i rows) ≡ whole → new ++ each f (drop (i + 1) rows) ≡ whole
-rows_step f rows i found new whole seconds h s e before =
-    ap (λ l. l ++ each f (drop (i + 1) rows)) (e ∙ ap (λ l. found ++ with_each (get_or rows i 0) l) s)
-    ∙ (append_assoc found (with_each (get_or rows i 0) (f (get_or rows i 0))) (each f (drop (i + 1) rows))
-    ∙ (ap (λ l. found ++ l) (sym (each_step f rows i h)) ∙ before))
-
-pub rows_counted : (f : ℕ → List ℕ) (rows : List ℕ) (i meter new whole : ℕ) (seconds : List ℕ) → i < length rows → seconds ≡ f (get_or rows i 0)
-    → new ≡ meter + length seconds → meter + length (each f (drop i rows)) ≡ whole → new + length (each f (drop (i + 1) rows)) ≡ whole
-rows_counted f rows i meter new whole seconds h s e before = let c = ap length s in omega (arith, c, each_count f rows i h, e, before)
-
--- no more than what is left
-pub rows_left : (f : ℕ → List ℕ) (rows : List ℕ) (i meter whole : ℕ) (seconds : List ℕ) → i < length rows → seconds ≡ f (get_or rows i 0) → meter + length (each f (drop i rows)) ≡ whole → meter + length seconds ≤ whole
-rows_left f rows i meter whole seconds h s before = let c = ap length s in omega (arith, c, each_count f rows i h, before)
-
-pub rows_found : (f : ℕ → List ℕ) (rows : List ℕ) (i : ℕ) (found old : List Race) (seconds : List ℕ) → i < length rows → seconds ≡ f (get_or rows i 0) → found ++ each f (drop i rows) ≡ old ++ each f rows
-    → length found + length seconds ≤ length old + length (each f rows)
-rows_found f rows i found old seconds h s before =
-    let c = ap length s in
-    let d = ap length before in
-    omega (arith, c, d, each_count f rows i h, length-append found (each f (drop i rows)), length-append old (each f rows))
 
 -- all locations that are asked for
 
@@ -339,12 +180,6 @@ parts_joined a b c accesses t either not_both = two_parts (λ (r : Race). a (acc
 pub parts_counted : (a b c : ℕ → Bool) (accesses : List Access) (t : ℕ → ℕ → Bool) → ((k : ℕ) → c k ≡ (a k || b k)) → ((k : ℕ) → (a k && b k) ≡ false) → length (part a t accesses) + length (part b t accesses) ≡ length (part c t accesses)
 parts_counted a b c accesses t either not_both = sym (length_permutation (part a t accesses ++ part b t accesses) (part c t accesses) (parts_joined a b c accesses t either not_both) ∙ length-append (part a t accesses) (part b t accesses))
 
-pub rows_done : (f : ℕ → List ℕ) (rows : List ℕ) (i : ℕ) (found whole : List Race) → length rows ≤ i → found ++ each f (drop i rows) ≡ whole → found ≡ whole
-rows_done f rows i found whole h before = sym (append-nil found) ∙ (ap (λ l. found ++ each f l) (sym (drop_all i rows h)) ∙ before)
-
-pub rows_counted_all : (f : ℕ → List ℕ) (rows : List ℕ) (i meter whole : ℕ) → length rows ≤ i → meter + length (each f (drop i rows)) ≡ whole → meter ≡ whole
-rows_counted_all f rows i meter whole h before = let none = ap (λ l. length (each f l)) (drop_all i rows h) in omega (arith, none, before)
-
 pub start_listed : (own : ℕ → Bool) (accesses : List Access) (t : ℕ → ℕ → Bool) (found : List Race) → found ≡ [] → IsPermutation found (before own accesses t 0)
 start_listed own accesses t found e =
     let P : List Race → Type 0 = λ l. IsPermutation l (before own accesses t 0) in
@@ -354,11 +189,10 @@ start_listed own accesses t found e =
 pub start_counted : (own : ℕ → Bool) (accesses : List Access) (t : ℕ → ℕ → Bool) (meter : ℕ) → meter ≡ meter + length (before own accesses t 0)
 start_counted own accesses t meter = let none = ap length (before_none own accesses t) in omega (arith, none)
 
-pub more_listed : (own : ℕ → Bool) (accesses : List Access) (t : ℕ → ℕ → Bool) (k : ℕ) (found new : List Race) → IsPermutation found (before own accesses t k) → new ≡ found ++ own_at own t accesses k → IsPermutation new (before own accesses t (k + 1))
-more_listed own accesses t k found new same e =
-    let P : List Race → Type 0 = λ l. IsPermutation l (before own accesses t (k + 1)) in
+pub more_listed : (own : ℕ → Bool) (accesses : List Access) (t : ℕ → ℕ → Bool) (k : ℕ) (found new : List Race) → IsPermutation found (before own accesses t k) → IsPermutation new (found ++ own_at own t accesses k) → IsPermutation new (before own accesses t (k + 1))
+more_listed own accesses t k found new same more =
     let here = own_at own t accesses k in
-    subst P (sym e) (IsPermutation-trans (found ++ here) (before own accesses t k ++ here) (before own accesses t (k + 1)) (IsPermutation-append_left here found (before own accesses t k) same) (before_more own accesses t k))
+    IsPermutation-trans new (found ++ here) (before own accesses t (k + 1)) more (IsPermutation-trans (found ++ here) (before own accesses t k ++ here) (before own accesses t (k + 1)) (IsPermutation-append_left here found (before own accesses t k) same) (before_more own accesses t k))
 
 pub more_counted : (own : ℕ → Bool) (accesses : List Access) (t : ℕ → ℕ → Bool) (k start meter new : ℕ) → meter ≡ start + length (before own accesses t k) → new ≡ meter + length (own_at own t accesses k) → new ≡ start + length (before own accesses t (k + 1))
 more_counted own accesses t k start meter new e f = omega (arith, e, f, before_count own accesses t k)

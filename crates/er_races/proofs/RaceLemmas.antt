@@ -56,7 +56,7 @@ races_by_number joined kept =
 
 -- the numbers are those of the races
 
-filter_filter : {X : Type 0} (p q : X → Bool) (xs : List X) → filter q (filter p xs) ≡ filter (λ x. p x && q x) xs
+pub filter_filter : {X : Type 0} (p q : X → Bool) (xs : List X) → filter q (filter p xs) ≡ filter (λ x. p x && q x) xs
 filter_filter p q [] = refl
 filter_filter p q (x ∷ xs) = by (p x) (filter_filter p q xs)
   where

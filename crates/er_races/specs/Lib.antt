@@ -1,3 +1,4 @@
+pub mod Fronts
 pub mod Listing
 pub mod Pairs
 pub mod Races

@@ -34,6 +34,3 @@ leaves shards shard k = (k % shards) == shard
 
 abbrev pub writes_among : List Access → List ℕ → List ℕ
 writes_among accesses rows = filter (λ n. is_write (access_at accesses n).mode) rows
-
-abbrev pub partners_of : List Access → ℕ → List ℕ → List ℕ → List ℕ
-partners_of accesses first rows writes = cond (is_write (access_at accesses first).mode) rows writes

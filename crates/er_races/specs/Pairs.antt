@@ -9,6 +9,10 @@ use Rattle.er_races.specs.declared.race.Race.{Race}
 abbrev pub with_each : ℕ → List ℕ → List Race
 with_each i js = map (λ j. record { first = i; second = j }) js
 
+-- each of these numbers with one second
+abbrev pub with_second : List ℕ → ℕ → List Race
+with_second is j = map (λ i. record { first = i; second = j }) is
+
 -- each of these numbers with the seconds that are its own
 abbrev pub each : (ℕ → List ℕ) → List ℕ → List Race
 each seconds [] = []

@@ -1,9 +1,11 @@
 //! The races among the accesses of a table.
 #![tactic(auto)]
 
+mod columns;
 mod fault;
 pub mod laws;
 mod lister;
+mod location;
 mod race;
 pub mod sharing;
 
