@@ -1,6 +1,7 @@
 -- What one record more does to the kept accesses. Lists of records stand newest first.
-use Rattle.std.proofs.Common.{◌≡◌, ℕ, ◌+◌, ◌<◌, ◌≤◌, Bool, true, false, List, [], ◌∷◌, ◌++◌, All, AllByRecursion, map, length, Option, Some, None, get_or, option_map, refl, sym, ap, subst, ◌∙◌, arith, zero, suc, length-append}
+use Rattle.std.proofs.Common.{◌≡◌, ℕ, ◌+◌, ◌<◌, ◌≤◌, Bool, true, false, List, [], ◌∷◌, ◌++◌, All, map, length, Option, Some, None, get_or, option_map, refl, sym, ap, subst, ◌∙◌, arith, zero, suc, length-append}
 use Rattle.std.specs.Prelude.{if◌then◌else◌}
+use Rattle.std.specs.List.{AllByRecursion}
 use Rattle.std.specs.List.Sorted.{IsStrictlyIncreasing}
 use Rattle.std.proofs.lemmas.List.Elements.{All-push, recursion_from_All}
 use Rattle.std.proofs.lemmas.Grind.{common_steps}
@@ -82,8 +83,8 @@ rising_with (l ∷ lines) n rising below = (all_push (λ m. l < m) lines n risin
     all_push P [] m all here = (here, tt)
     all_push P (x ∷ ms) m all here = (all.0, all_push P ms m all.1 here)
 
-lines_of : List Kept → List ℕ
-lines_of = map (λ (x : Kept). x.line)
+abbrev lines_of : List Kept → List ℕ
+lines_of accesses = map (λ (x : Kept). x.line) accesses
 
 lines_below : (accesses : List Kept) (n : ℕ) → All (λ (x : Kept). x.line < n) accesses → AllByRecursion (λ l. l < n) (lines_of accesses)
 lines_below accesses n all = by accesses (recursion_from_All (λ (x : Kept). x.line < n) accesses all)

@@ -78,7 +78,7 @@ not_past None true e = absurd (cc)
 not_past (Some c) b e = absurd (cc)
 
 up_to : (most n : ℕ) → nat_lt most n ≡ false → n ≤ most
-up_to most n no = grind (arith, nat_tests)
+up_to most n e = grind (arith, nat_tests)
 
 kept_within : (table : List (ℕ × Rule)) (h : List Record) → legality.IsLegal table h → length (kept h) ≤ most_accesses
 kept_within table [] legal = omega arith
