@@ -3,8 +3,8 @@ use Rattle.std.specs.Prelude.{◌≡◌, ℕ, ◌<◌, true, false, List, length
 use Rattle.er_trace.specs.declared.record.Record.{Record}
 use Rattle.er_history.specs.History.{told}
 use Rattle.er_graph.specs.declared.graph.Graph.{Graph}
-use Rattle.er_graph.specs.declared.fault.GraphFault.{GraphFault}
-use Rattle.er_graph.specs.declared.fault.GraphFault.TheVariants.{Refused, NoMemory}
+use Rattle.er_trace.specs.declared.fault.FeedFault.{FeedFault}
+use Rattle.er_trace.specs.declared.fault.FeedFault.TheVariants.{Refused, NoMemory}
 use Rattle.er_graph.specs.Accepted.{Accepted, records, cause_now, IsTold, AreTimed}
 
 -- Its page and its lines are those of the accepted records. This outlives want of memory.
@@ -28,6 +28,6 @@ pub record HasBegun (graph : Graph) (action : ℕ) : Type 0 where
   pub begun : action < length (told (records accepted)).actions
 
 -- What a fault says. A refusal has the line that was handed in and the first cause against the record, and changes nothing; after want of memory the graph is marked, and its page and lines are as they were.
-abbrev pub IsFault : GraphFault → ℕ → Record → Graph → Graph → Type 0
+abbrev pub IsFault : FeedFault → ℕ → Record → Graph → Graph → Type 0
 IsFault (Refused l c) line x old new = (l ≡ line) × (new ≡ old) × ((accepted : List Accepted) → IsListed old accepted → cause_now old.version accepted x ≡ Some c)
 IsFault NoMemory line x old new = HasFailed new × ((accepted : List Accepted) → IsListed old accepted → IsListed new accepted)

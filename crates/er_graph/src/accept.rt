@@ -7,7 +7,6 @@ ghost use Rattle.er_page.specs.Page.{IsPage};
 ghost use Rattle.er_graph.specs.Accepted.{Accepted, records, lines_of, cause_now, AreTimed, IsNext};
 ghost use Rattle.er_graph.specs.Graph.{IsListed, IsGraph, HasBegun, HasFailed, IsFault};
 
-use crate::fault::GraphFault;
 use crate::graph::Graph;
 use crate::grow::grow;
 use crate::order::is_late;
@@ -15,6 +14,7 @@ use er_clocks::Clocks;
 use er_outside::NoMemory;
 use er_page::page::Page;
 use er_text::Cause;
+use er_trace::fault::FeedFault;
 use er_trace::record::Record;
 use er_trace::version::Version;
 use std::alloc::Global;
@@ -37,21 +37,21 @@ impl Graph {
     /// Accepts the next record, which stands in this line, or answers the first cause against it.
     ///
     /// The version has the record. Naming and nesting are asked first, then order, then room. After `NoMemory` every later call answers `NoMemory`.
-    pub fn accept(&mut self, line: u32, rec: &Record) -> Result<(), GraphFault>
+    pub fn accept(&mut self, line: u32, rec: &Record) -> Result<(), FeedFault>
         requires of_version { has_record self.old.version rec.now ≡ true }
         ensures accepted { OnOk result ((accepted : List Accepted) → IsGraph self.old accepted → (cause_now self.old.version accepted rec.now ≡ None) × IsGraph self.new (record { line = line; read = rec.now } ∷ accepted)) }
         ensures refused { IfErr result (λ fault. IsFault fault line rec.now self.old self.new) }
-        ensures failed { HasFailed self.old → result ≡ Err (GraphFault.NoMemory) }
+        ensures failed { HasFailed self.old → result ≡ Err (FeedFault.NoMemory) }
         ensures version { self.new.version ≡ self.old.version }
     {
         if self.has_failed {
-            return Err(GraphFault::NoMemory);
+            return Err(FeedFault::NoMemory);
         }
         if let Err(cause) = self.check(rec) {
-            return Err(GraphFault::Refused { line, cause });
+            return Err(FeedFault::Refused { line, cause });
         }
         let Ok(()) = self.take(line, rec) else {
-            return Err(GraphFault::NoMemory);
+            return Err(FeedFault::NoMemory);
         };
         Ok(())
     }

@@ -2,10 +2,8 @@
 #![tactic(auto)]
 
 mod accept;
-pub mod fault;
 pub mod graph;
 mod grow;
 mod order;
 
-pub use fault::GraphFault;
 pub use graph::Graph;

@@ -4,10 +4,10 @@ ghost use Rattle.std.specs.Prelude.{◌≡◌, false, OnOk};
 
 use er_clocks::{Clocks, Meter, Paths};
 use er_explain::{explain, write_steps};
-use er_graph::{Graph, GraphFault};
+use er_graph::Graph;
 use er_outside::{MemorySink, NoMemory};
 use er_schedule::{check_schedule, make_schedules};
-use er_trace::fault::LineFault;
+use er_trace::fault::{FeedFault, LineFault};
 use er_trace::parse::parse_record;
 use er_trace::version::Version;
 use std::alloc::Global;
@@ -199,8 +199,8 @@ fn hand(graph: &mut Graph, alloc: Global, line: u32, text: &str) -> Result<bool,
     let rec = parse_record(alloc, graph.version(), text.as_bytes())?;
     match graph.accept(line, &rec) {
         Ok(()) => Ok(true),
-        Err(GraphFault::Refused { .. }) => Ok(false),
-        Err(GraphFault::NoMemory) => Err(LineFault::NoMemory),
+        Err(FeedFault::Refused { .. }) => Ok(false),
+        Err(FeedFault::NoMemory) => Err(LineFault::NoMemory),
     }
 }
 

@@ -7,12 +7,12 @@ ghost use Rattle.std.specs.Prelude.{◌≡◌, true, false, OnOk};
 ghost use Rattle.er_trace.specs.Versions.{has_record};
 
 use er_clocks::{Meter, Paths};
-use er_graph::{Graph, GraphFault};
+use er_graph::Graph;
 use er_outside::NoMemory;
 use er_rules_parse as parse;
 use er_rules_script as script;
 use er_text::Cause;
-use er_trace::fault::LineFault;
+use er_trace::fault::{FeedFault, LineFault};
 use er_trace::parse::parse_record;
 use er_trace::record::Record;
 use er_trace::version::Version;
@@ -108,8 +108,8 @@ fn hand_record(
 {
     match graph.accept(line, rec) {
         Ok(()) => Ok(None),
-        Err(GraphFault::Refused { line, cause }) => Ok(Some((line, cause))),
-        Err(GraphFault::NoMemory) => Err(LineFault::NoMemory),
+        Err(FeedFault::Refused { line, cause }) => Ok(Some((line, cause))),
+        Err(FeedFault::NoMemory) => Err(LineFault::NoMemory),
     }
 }
 

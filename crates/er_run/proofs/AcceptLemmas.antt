@@ -2,7 +2,6 @@
 use Rattle.std.proofs.Common.{◌≡◌, ℕ, ◌+◌, ◌<◌, ◌≤◌, List, [], ◌∷◌, ◌++◌, length, take, refl, sym, ap, ◌∙◌, subst, arith, reverse, Option, Some, None, zero, suc, append_assoc, append-nil, slice_get}
 use Rattle.std.proofs.lemmas.Option.{slice_get_within}
 use Rattle.er_run.specs.declared.input.LineRefusal.{LineRefusal}
-use Rattle.er_graph.specs.declared.fault.GraphFault.TheVariants as graph_faults
 use Rattle.er_run.specs.Session.{IsFaultOf}
 use Rattle.er_trace.specs.declared.fault.FeedFault.{FeedFault}
 use Rattle.er_trace.specs.declared.fault.FeedFault.TheVariants as faults
@@ -123,10 +122,14 @@ pub few_read : (f : Format) (v : Version) (bytes : List ℕ) (records : List Rec
 few_read f v bytes records None reading = omega (arith, reading.few)
 few_read f v bytes records (Some refused) reading = few_before reading.0 records reading.1.few reading.3
 
-pub refused_judged : (f : Format) (asked : Command) (v : Version) (bytes : List ℕ) (records : List Record) (refused : Option LineRefusal) (line : ℕ) (c : Cause) → IsReading f v bytes records refused → IsFaultOf v records (graph_faults.Refused line c) → FirstIllegal f asked bytes line c
+pub refused_judged : (f : Format) (asked : Command) (v : Version) (bytes : List ℕ) (records : List Record) (refused : Option LineRefusal) (line : ℕ) (c : Cause) → IsReading f v bytes records refused → IsFaultOf v records (faults.Refused line c) → FirstIllegal f asked bytes line c
 refused_judged f asked v bytes records refused line c reading judged =
     let first : FirstIllegal f asked bytes (judged.0 + 2) c = illegal_read f asked v bytes records refused judged.0 judged.3.0 c reading judged.3.1 judged.2 judged.3.2 in
     (subst (λ n. FirstIllegal f asked bytes n c) (sym judged.1) first)
+
+pub refusal_judged : (f : Format) (asked : Command) (v : Version) (bytes : List ℕ) (records : List Record) (refused : Option LineRefusal) (fault : FeedFault) → IsReading f v bytes records refused → IsFaultOf v records fault → IsRefusal f asked bytes fault
+refusal_judged f asked v bytes records refused (faults.Refused line c) reading judged = refused_judged f asked v bytes records refused line c reading judged
+refusal_judged f asked v bytes records refused faults.NoMemory reading judged = tt
 
 -- the lines before a place are legal, where its records are, and they are within the limits if the `end` line stands before it
 legal_at : (asked : Command) (v : Version) (place : Place) (records : List Record) → IsOf v place → records ≡ records_before place → IsLegal (rules v) (reverse records) → (length records + 2 < line_number place → end_cause_for asked v (reverse records) ≡ None) → IsLegalBefore asked place

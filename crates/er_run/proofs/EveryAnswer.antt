@@ -9,7 +9,7 @@ use Rattle.er_trace.specs.declared.version.Version.{Version}
 use Rattle.er_run.specs.Legal.{IsLegal, end_cause_for}
 use Rattle.er_run.specs.Legal as legality
 use Rattle.er_history.specs.Rules.{rules}
-use Rattle.er_graph.specs.declared.fault.GraphFault.TheVariants as graph_faults
+use Rattle.er_trace.specs.declared.fault.FeedFault.TheVariants as faults
 use Rattle.er_run.specs.declared.input.LineRefusal.{LineRefusal}
 use Rattle.er_run.specs.declared.outcome.Outcome.{Outcome}
 use Rattle.er_run.specs.declared.outcome.Outcome.TheVariants.{Refused}
@@ -60,7 +60,7 @@ reverse_twice : (h : List Record) → reverse (reverse h) ≡ h
 reverse_twice h = grind (arith, common_steps)
 
 -- as a judgement of the records, oldest first
-fault_of : (v : Version) (records : List Record) → (first : Faulty v (reverse records)) → IsFaultOf v records (graph_faults.Refused (length first.older + 2) first.cause)
+fault_of : (v : Version) (records : List Record) → (first : Faulty v (reverse records)) → IsFaultOf v records (faults.Refused (length first.older + 2) first.cause)
 fault_of v records first =
     let back : records ≡ reverse first.older ++ first.read ∷ reverse first.newer =
     sym (reverse_twice records) ∙ (ap reverse first.is ∙ (reverse-append first.newer (first.read ∷ first.older) ∙ (ap (λ l. l ++ reverse first.newer) (reverse-append (first.read ∷ []) first.older) ∙ append_assoc (reverse first.older) (first.read ∷ []) (reverse first.newer)))) in

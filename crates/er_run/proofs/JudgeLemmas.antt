@@ -9,8 +9,8 @@ use Rattle.er_trace.specs.declared.record.Record.{Record}
 use Rattle.er_history.specs.Rules.{Rule, rules}
 use Rattle.er_run.specs.Legal.{IsLegal}
 use Rattle.er_run.specs.Legal as legality
-use Rattle.er_graph.specs.declared.fault.GraphFault.{GraphFault}
-use Rattle.er_graph.specs.declared.fault.GraphFault.TheVariants.{Refused, NoMemory}
+use Rattle.er_trace.specs.declared.fault.FeedFault.{FeedFault}
+use Rattle.er_trace.specs.declared.fault.FeedFault.TheVariants.{Refused, NoMemory}
 use Rattle.er_run.specs.declared.session.Session.{Session}
 use Rattle.er_run.specs.Session.{IsSessionOf, IsFaultAfter, IsFaultOf}
 
@@ -48,7 +48,7 @@ fault_by table earlier records at line x why below e legal number refused =
     let there : slice_get (earlier ++ records) (length earlier + at) ≡ Some x = slice_get_read (earlier ++ records) (length (earlier ++ records)) (length earlier + at) x refl (omega (arith, length-append earlier records)) (e ∙ sym (get_or-append-add earlier records at x)) in
     (length earlier + at, omega (arith, number, taken_count earlier records at below), subst (λ l. IsLegal table (reverse l)) front legal, (x, there, subst (λ l. legality.cause table (reverse l) x ≡ Some why) front refused))
 
-pub fault_at : (s : Session) (earlier records : List Record) (at : ℕ) (x : Record) (fault : GraphFault) → at < length records → x ≡ get_or records at x → IsSessionOf s (reverse (earlier ++ take at records))
+pub fault_at : (s : Session) (earlier records : List Record) (at : ℕ) (x : Record) (fault : FeedFault) → at < length records → x ≡ get_or records at x → IsSessionOf s (reverse (earlier ++ take at records))
     → IsFaultAfter s.graph.version (reverse (earlier ++ take at records)) x fault → IsFaultOf s.graph.version (earlier ++ records) fault
 fault_at s earlier records at x (Refused line why) below e stands after = fault_by (rules s.graph.version) earlier records at line x why below e stands.legal after.0 after.1
 fault_at s earlier records at x NoMemory below e stands after = tt

@@ -37,10 +37,10 @@ use Rattle.er_run.specs.declared.findings.Judged.{Judged}
 use Rattle.er_run.specs.Accepted.{IsAccepted, IsEndFault, IsJudged, IsReportable, IsVerdict}
 use Rattle.er_run.specs.declared.outcome.Outcome.TheVariants as outcomes
 use Rattle.er_run.specs.Promise.{piece_bytes, IsFinal, IsJustRefused, IsDecided}
-use Rattle.er_run.specs.Session.{IsSessionOf, IsBegun, begun}
+use Rattle.er_run.specs.Session.{IsSessionOf, IsFaultOf, IsBegun, begun}
 use Rattle.er_outside.specs.Ends.{Gives, IsSpent}
 use Rattle.er_outside.proofs.Puts.{gives_again, gives_nothing_back}
-use Rattle.er_run.specs.Reading.{IsAt, IsBy, IsOpen, IsRead, IsReadTo, IsAcceptedInput, IsRefusedInput, IsReading, IsEnd, GoesOn, Ends, IsRefusedBehind, IsRecordFault, IsFinalFault, fault_of}
+use Rattle.er_run.specs.Reading.{IsAt, IsBy, IsOpen, IsRead, IsReadTo, IsAcceptedInput, IsRefusedInput, IsReading, IsEnd, GoesOn, Ends, IsRefusedBehind, IsFinalFault, fault_of}
 use Rattle.er_run.proofs.AcceptLemmas.{few_before, few_read, illegal_before, legal_read, refused_line, refused_end, refused_fault, IsOf, place_of}
 
 -- a record is refused for no missing end
@@ -222,13 +222,13 @@ room_by f mark kept fault bytes records fresh count fed is =
     let few = few_fed f mark kept fault bytes (records ++ fed.0) fed.1 in
     omega (arith, few, is, ap length fed.2, length-append records fed.0, length-reverse records)
 
-final_record : (f : Format) (v : Version) (mark : Mark) (kept : List ℕ) (fault : Option FeedFault) (bytes : List ℕ) (records : List Record) (why : FeedFault) → IsBy f v bytes → Stands f mark kept fault bytes records → IsRecordFault v records why → IsFinalFault f bytes why
+final_record : (f : Format) (v : Version) (mark : Mark) (kept : List ℕ) (fault : Option FeedFault) (bytes : List ℕ) (records : List Record) (why : FeedFault) → IsBy f v bytes → Stands f mark kept fault bytes records → IsFaultOf v records why → IsFinalFault f bytes why
 final_record f v mark kept fault bytes records (faults.Refused n c) by stands (at, is, legal, (x, there, why)) =
     (λ asked. subst (λ k. FirstIllegal f asked bytes k c) (sym is) (illegal_before f asked v bytes stands.place stands.before stands.rest records (place_of f v bytes stands.place stands.before stands.rest stands.are stands.begins by) stands.are stands.few stands.begins stands.records_are at x c there legal why), record_cause v (reverse (take at records)) x c why)
 final_record f v mark kept fault bytes records faults.NoMemory by stands why = tt
 
-pub final_by : (f : Format) (v : Version) (mark : Mark) (kept : List ℕ) (fault : Option FeedFault) (bytes : List ℕ) (records fresh : List Record) (why : FeedFault) → IsFed f mark kept fault bytes records [] fresh → IsBy f v bytes → IsRecordFault v (records ++ fresh) why → IsFinalFault f bytes why
-final_by f v mark kept fault bytes records fresh why fed by refused = final_record f v mark kept fault bytes (records ++ fed.0) why by fed.1 (subst (λ l. IsRecordFault v (records ++ l) why) fed.2 refused)
+pub final_by : (f : Format) (v : Version) (mark : Mark) (kept : List ℕ) (fault : Option FeedFault) (bytes : List ℕ) (records fresh : List Record) (why : FeedFault) → IsFed f mark kept fault bytes records [] fresh → IsBy f v bytes → IsFaultOf v (records ++ fresh) why → IsFinalFault f bytes why
+final_by f v mark kept fault bytes records fresh why fed by refused = final_record f v mark kept fault bytes (records ++ fed.0) why by fed.1 (subst (λ l. IsFaultOf v (records ++ l) why) fed.2 refused)
 
 -- what came of a piece
 

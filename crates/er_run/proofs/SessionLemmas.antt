@@ -18,8 +18,8 @@ use Rattle.er_page.specs.Page.{IsPage}
 use Rattle.er_graph.specs.declared.graph.Graph.{Graph}
 use Rattle.er_graph.specs.Accepted.{Accepted, records, cause_now}
 use Rattle.er_graph.specs.Graph.{IsGraph, IsListed, IsFault}
-use Rattle.er_graph.specs.declared.fault.GraphFault.{GraphFault}
-use Rattle.er_graph.specs.declared.fault.GraphFault.TheVariants.{Refused, NoMemory}
+use Rattle.er_trace.specs.declared.fault.FeedFault.{FeedFault}
+use Rattle.er_trace.specs.declared.fault.FeedFault.TheVariants.{Refused, NoMemory}
 use Rattle.er_access.specs.Kept.{Kept, most_accesses}
 use Rattle.er_run.specs.declared.session.Session.{Session}
 use Rattle.er_run.specs.Legal as legality
@@ -106,7 +106,7 @@ first_cause : (table : List (ℕ × Rule)) (h : List Record) (x : Record) (c : C
 first_cause table h x c e = by_cause (sound.cause table h x) (if legality.is_past_room h x then Some TooManyAccesses else None) c e
 
 -- a record is refused with its line, for the first cause against it
-pub fault_after : (old : Session) (new : Graph) (h : List Record) (x : Record) (line : ℕ) (fault : GraphFault) → IsSessionOf old h → line ≡ old.records + 2 → IsFault fault line x old.graph new → IsFaultAfter old.graph.version h x fault
+pub fault_after : (old : Session) (new : Graph) (h : List Record) (x : Record) (line : ℕ) (fault : FeedFault) → IsSessionOf old h → line ≡ old.records + 2 → IsFault fault line x old.graph new → IsFaultAfter old.graph.version h x fault
 fault_after old new h x line (Refused l c) stands e is =
     (omega (arith, is.0, e, stands.count), first_cause (rules old.graph.version) h x c (ap (λ k. sound.cause (rules old.graph.version) k x) (sym (records_with_lines h)) ∙ is.2 (with_lines h) stands.graph.listed))
 fault_after old new h x line NoMemory stands e is = tt

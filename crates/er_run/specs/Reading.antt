@@ -15,12 +15,11 @@ use Rattle.er_words.specs.declared.commands.Command.{Command}
 use Rattle.er_run.specs.declared.input.LineRefusal.{LineRefusal}
 use Rattle.er_run.specs.declared.session.Session.{Session}
 use Rattle.er_run.specs.Answer.{FirstIllegal}
-use Rattle.er_graph.specs.declared.fault.GraphFault.TheVariants as graph_faults
 use Rattle.er_run.specs.declared.findings.Judged.{Judged}
 use Rattle.er_run.specs.Accepted.{IsAccepted}
 use Rattle.er_run.specs.declared.outcome.Outcome.TheVariants.{Refused}
 use Rattle.er_run.specs.Promise.{piece_bytes, IsFinal, IsDecided}
-use Rattle.er_run.specs.Session.{IsSessionOf, IsFaultOf}
+use Rattle.er_run.specs.Session.{IsSessionOf}
 
 -- the first line gives no other version
 abbrev pub IsBy : Format → Version → List ℕ → Type 0
@@ -51,11 +50,6 @@ GoesOn f mark kept fault session bytes records = (more : List Record) × IsAt f 
 abbrev pub fault_of : Option LineRefusal → Option FeedFault
 fault_of None = None
 fault_of (Some refused) = Some (faults.Refused refused.line refused.cause)
-
--- The fault is the first illegal record, with its line; or memory ran out. (`IsFaultOf`, of a feed's fault.)
-abbrev pub IsRecordFault : Version → List Record → FeedFault → Type 0
-IsRecordFault v records (faults.Refused n c) = IsFaultOf v records (graph_faults.Refused n c)
-IsRecordFault v records faults.NoMemory = Unit {0}
 
 -- a line of the bytes is refused, whatever is asked, which no further byte changes; or memory ran out
 abbrev pub IsFinalFault : Format → List ℕ → FeedFault → Type 0

@@ -11,8 +11,8 @@ use Rattle.er_page.specs.declared.page.Page.{Page}
 use Rattle.er_page.specs.Page.{IsPage}
 use Rattle.er_graph.specs.Accepted.{Accepted}
 use Rattle.er_graph.specs.Graph.{IsGraph}
-use Rattle.er_graph.specs.declared.fault.GraphFault.{GraphFault}
-use Rattle.er_graph.specs.declared.fault.GraphFault.TheVariants.{Refused, NoMemory}
+use Rattle.er_trace.specs.declared.fault.FeedFault.{FeedFault}
+use Rattle.er_trace.specs.declared.fault.FeedFault.TheVariants.{Refused, NoMemory}
 use Rattle.er_access.specs.Kept.{Kept, most_accesses}
 use Rattle.er_run.specs.declared.session.Session.{Session}
 use Rattle.er_run.specs.Legal.{IsLegal}
@@ -52,12 +52,12 @@ pub record IsReady (session : Session) (given : Option Version) : Type 0 where
   pub begins : IsBegun session.graph.version given list
 
 -- A record after the list is refused for the first cause against it, with its line; or memory ran out.
-abbrev pub IsFaultAfter : Version → List Record → Record → GraphFault → Type 0
+abbrev pub IsFaultAfter : Version → List Record → Record → FeedFault → Type 0
 IsFaultAfter v h x (Refused line cause) = (line ≡ length h + 2) × (legality.cause (rules v) h x ≡ Some cause)
 IsFaultAfter v h x NoMemory = Unit {0}
 
 -- The record of the line is the first that has a cause after those before it, which is the one answered; or memory ran out.
-abbrev pub IsFaultOf : Version → List Record → GraphFault → Type 0
+abbrev pub IsFaultOf : Version → List Record → FeedFault → Type 0
 IsFaultOf v records (Refused line cause) = (at : ℕ) × (line ≡ at + 2) × IsLegal (rules v) (reverse (take at records)) × ((x : Record) × (slice_get records at ≡ Some x) × (legality.cause (rules v) (reverse (take at records)) x ≡ Some cause))
 IsFaultOf v records NoMemory = Unit {0}
 

@@ -20,7 +20,6 @@ use crate::input::{InputFault, LineRefusal, read};
 use crate::session::{Session, judge};
 use er_clocks::Meter;
 use er_gen::Generator;
-use er_graph::GraphFault;
 use er_lines::format::Lines;
 use er_outside::{Failed, NoMemory, Source};
 use er_shard::Gate;
@@ -207,8 +206,7 @@ pub(crate) fn accept_generated<R: Threads + Sync, G: Gate + Sync>(
     };
     match judge(alloc, records.as_slice()) {
         Ok(session) => judge_end(rt, alloc, asked, session, compares, tests, gate),
-        Err(GraphFault::Refused { line, cause }) => Err(FeedFault::Refused { line, cause }),
-        Err(GraphFault::NoMemory) => Err(FeedFault::NoMemory),
+        Err(fault) => Err(fault),
     }
 }
 

@@ -8,11 +8,10 @@ ghost use Rattle.er_trace.specs.Versions.{has_record};
 ghost use Rattle.er_lines.specs.Lines.{IsTraceOf};
 ghost use Rattle.er_lines.specs.Feed.{Stands};
 ghost use Rattle.er_trace.specs.declared.version.Version.{Version};
-ghost use Rattle.er_run.specs.Session.{IsSessionOf, IsReady, IsBegun, begun};
-ghost use Rattle.er_run.specs.Reading.{IsAt, IsBy, IsSomewhere, IsOpen, IsRead, IsReadTo, IsReading, GoesOn, Advances, Ends, IsRefusedBehind, IsFinalFault, IsRecordFault, fault_of};
+ghost use Rattle.er_run.specs.Session.{IsSessionOf, IsReady, IsFaultOf, IsBegun, begun};
+ghost use Rattle.er_run.specs.Reading.{IsAt, IsBy, IsSomewhere, IsOpen, IsRead, IsReadTo, IsReading, GoesOn, Advances, Ends, IsRefusedBehind, IsFinalFault, fault_of};
 
 use crate::session::Session;
-use er_graph::GraphFault;
 use er_lines::feed::LineFeed;
 use er_lines::format::Lines;
 use er_outside::Source;
@@ -218,14 +217,10 @@ fn judge_all(
     ensures refused { IfErr result (λ fault. (earlier : List Record)
         → IsSessionOf session.old (reverse earlier)
         → IsBegun session.old.graph.version given (reverse earlier)
-        → IsRecordFault (begun session.old.graph.version given) (earlier ++ records.now) fault) }
+        → IsFaultOf (begun session.old.graph.version given) (earlier ++ records.now) fault) }
 {
     let Ok(()) = session.begin(alloc, given) else {
         return Err(FeedFault::NoMemory);
     };
-    match session.take_all(records) {
-        Ok(()) => Ok(()),
-        Err(GraphFault::Refused { line, cause }) => Err(FeedFault::Refused { line, cause }),
-        Err(GraphFault::NoMemory) => Err(FeedFault::NoMemory),
-    }
+    session.take_all(records)
 }

@@ -9,10 +9,11 @@ ghost use Rattle.er_page.specs.Page.{IsPage};
 ghost use Rattle.er_run.specs.Session.{IsSessionOf, IsSession, IsFaultAfter, IsFaultOf, IsBegun, begun, AreEarlier, AreKept, IsPastRoom, kept_with};
 
 use er_access::{AddFault, Table};
-use er_graph::{Graph, GraphFault};
+use er_graph::Graph;
 use er_outside::NoMemory;
 use er_page::page::Page;
 use er_text::Cause;
+use er_trace::fault::FeedFault;
 use er_trace::record::{Loc, Mode, Record};
 use er_trace::version::Version;
 use std::alloc::Global;
@@ -35,7 +36,7 @@ impl Drop for Session {
 }
 
 /// What the records of a trace in version 1 come to, or the first that is refused.
-pub(crate) fn judge(alloc: Global, records: &[Record]) -> Result<Session, GraphFault>
+pub(crate) fn judge(alloc: Global, records: &[Record]) -> Result<Session, FeedFault>
     requires room { length records.now ≤ most_lines }
     requires of_version { list_all (has_record Version.One) records.now ≡ true }
     ensures stands { IfOk result (λ session. IsSessionOf session (reverse records.now)) }
@@ -43,7 +44,7 @@ pub(crate) fn judge(alloc: Global, records: &[Record]) -> Result<Session, GraphF
     ensures refused { IfErr result (λ fault. IsFaultOf Version.One records.now fault) }
 {
     let Ok(mut session) = Session::new(alloc, Version::One) else {
-        return Err(GraphFault::NoMemory);
+        return Err(FeedFault::NoMemory);
     };
     match session.take_all(records) {
         Ok(()) => Ok(session),
@@ -91,7 +92,7 @@ impl Session {
 
     /// Takes the records one after the other, to the first that is refused. They are of its version. After
     /// an error it stands for no list.
-    pub(crate) fn take_all(&mut self, records: &[Record]) -> Result<(), GraphFault>
+    pub(crate) fn take_all(&mut self, records: &[Record]) -> Result<(), FeedFault>
         requires some { IsSession self.old }
         requires room { self.old.records + length records.now ≤ most_lines }
         requires of_version { list_all (has_record self.old.graph.version) records.now ≡ true }
@@ -112,7 +113,7 @@ impl Session {
 
     /// Takes the next record, or answers why it is not accepted. The limit on accesses is asked last. After
     /// an error it stands for no list: the graph may have taken the record.
-    pub(crate) fn take(&mut self, rec: &Record) -> Result<(), GraphFault>
+    pub(crate) fn take(&mut self, rec: &Record) -> Result<(), FeedFault>
         requires some { IsSession self.old }
         requires room { self.old.records < most_lines }
         requires of_version { has_record self.old.graph.version rec.now ≡ true }
@@ -132,11 +133,11 @@ impl Session {
         };
         match keep_access(&mut self.kept, self.graph.page(), line, *mode, loc) {
             Ok(()) => Ok(()),
-            Err(AddFault::Full) => Err(GraphFault::Refused {
+            Err(AddFault::Full) => Err(FeedFault::Refused {
                 line,
                 cause: Cause::TooManyAccesses,
             }),
-            Err(AddFault::NoMemory) => Err(GraphFault::NoMemory),
+            Err(AddFault::NoMemory) => Err(FeedFault::NoMemory),
         }
     }
 }

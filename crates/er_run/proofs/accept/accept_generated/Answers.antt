@@ -5,7 +5,7 @@ use Rattle.er_lines.specs.Text.{text as text_lines}
 use Rattle.er_gen.specs.Generated.{generated}
 use Rattle.er_run.specs.Session.{IsSessionOf}
 use Rattle.er_run.specs.Reading.{IsReading}
-use Rattle.er_run.proofs.AcceptLemmas.{refused_judged}
+use Rattle.er_run.proofs.AcceptLemmas.{refusal_judged}
 use Rattle.er_run.proofs.GeneratedLemmas.{few_generated, generated_read}
 use Rattle.er_run.proofs.ReadingLemmas.{reportable, verdict_by}
 use Rattle.er_run.proofs.VersionLemmas.{generated_of_version}
@@ -23,10 +23,10 @@ returns-in-Ok-judge-clause-verdict g c =
     let read : IsReading text_lines c.in-Ok-judge.session.graph.version (text One (generated c.args.number)) (generated c.args.number) None = rw c.in-Ok-judge.ensures.version (generated_read c.args.number c.requires.most) in
     verdict_by text_lines c.args.asked.command (text One (generated c.args.number)) (generated c.args.number) c.in-Ok-judge.session c.judge_end.result stands read c.judge_end.ensures.version c.judge_end.ensures.accepted c.judge_end.ensures.refused
 
-pub returns-in-Err-Refused-clause-verdict : goal.returns-in-Err-Refused-clause-verdict
-returns-in-Err-Refused-clause-verdict g c =
-    let judged = rw (c.in-Err-Refused.field-0-is, c.as_slice.ensures.value, c.in-Ok.ensures) at c.in-Err-Refused.ensures.refused in
-    rw (c.in-Err-Refused.line-is, c.in-Err-Refused.cause-is) (refused_judged text_lines c.args.asked.command One (text One (generated c.args.number)) (generated c.args.number) None c.in-Err-Refused.line c.in-Err-Refused.cause (generated_read c.args.number c.requires.most) judged)
+pub returns-clause-verdict : goal.returns-clause-verdict
+returns-clause-verdict g c =
+    let judged = rw (c.as_slice.ensures.value, c.in-Ok.ensures) at c.in-Err.ensures.refused in
+    refusal_judged text_lines c.args.asked.command One (text One (generated c.args.number)) (generated c.args.number) None c.in-Err.fault (generated_read c.args.number c.requires.most) judged
 
 pub judge_end-requires-clause-some : goal.judge_end-requires-clause-some
 judge_end-requires-clause-some g c κs within =
