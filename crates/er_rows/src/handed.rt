@@ -1,4 +1,4 @@
-//! How many numbers each crate of rules hands for each record of the realistic load.
+//! How many numbers each crate of rules hands for each record of a load.
 
 ghost use Rattle.std.specs.Prelude.{◌≡◌, false};
 ghost use Rattle.er_page.specs.Page.{IsSomePage};
@@ -12,6 +12,7 @@ use er_rules_load as load;
 use er_rules_parse as parse;
 use er_rules_request as request;
 use er_rules_script as script;
+use er_rules_task as task;
 use er_rules_timer as timer;
 use er_trace::fault::LineFault;
 use er_trace::parse::parse_record;
@@ -22,61 +23,173 @@ use std::alloc::Global;
 use std::mem::forget;
 use std::process::Abort;
 
-/// The records of the realistic load, the most numbers that may be handed for each, and how many are: of parsing, scripts, loads, timers, requests and dispatches.
-pub(crate) static NUMBERS: [(&str, [usize; 6], [usize; 6]); 53] = [
-    ("parse 0 1 plain", [2, 1, 0, 0, 0, 0], [0, 0, 0, 0, 0, 0]),
-    ("parse 0 2 sync", [2, 1, 0, 0, 0, 0], [1, 0, 0, 0, 0, 0]),
-    ("exec 2", [0, 4, 0, 0, 0, 0], [0, 1, 0, 0, 0, 0]),
-    ("w var 0 app", [0, 0, 0, 0, 0, 0], [0, 0, 0, 0, 0, 0]),
-    ("parse 0 3 defer", [2, 1, 0, 0, 0, 0], [1, 1, 0, 0, 0, 0]),
-    ("parse 0 4 async", [2, 1, 0, 0, 0, 0], [1, 1, 0, 0, 0, 0]),
-    ("parse 0 5 frame 1", [2, 1, 0, 0, 0, 0], [1, 1, 0, 0, 0, 0]),
-    ("parse 0 6 frame 2", [2, 1, 0, 0, 0, 0], [1, 1, 0, 0, 0, 0]),
-    ("parse 1 7 plain", [2, 1, 0, 0, 0, 0], [1, 0, 0, 0, 0, 0]),
-    ("exec 4", [0, 4, 0, 0, 0, 0], [0, 1, 0, 0, 0, 0]),
-    ("r var 0 app", [0, 0, 0, 0, 0, 0], [0, 0, 0, 0, 0, 0]),
-    ("w var 0 count", [0, 0, 0, 0, 0, 0], [0, 0, 0, 0, 0, 0]),
-    ("parse 2 8 inline", [2, 1, 0, 0, 0, 0], [1, 0, 0, 0, 0, 0]),
-    ("exec 8", [0, 4, 0, 0, 0, 0], [0, 1, 0, 0, 0, 0]),
-    ("w var 2 ready", [0, 0, 0, 0, 0, 0], [0, 0, 0, 0, 0, 0]),
-    ("parse 0 9 plain", [2, 1, 0, 0, 0, 0], [1, 1, 0, 0, 0, 0]),
-    ("w elem 0 buy", [0, 0, 0, 0, 0, 0], [0, 0, 0, 0, 0, 0]),
-    ("exec 3", [0, 4, 0, 0, 0, 0], [0, 3, 0, 0, 0, 0]),
-    ("r elem 0 buy", [0, 0, 0, 0, 0, 0], [0, 0, 0, 0, 0, 0]),
-    ("on 1", [0, 0, 0, 0, 0, 0], [0, 0, 0, 0, 0, 0]),
-    ("w slot 9 click", [0, 0, 0, 0, 0, 0], [0, 0, 0, 0, 0, 0]),
-    ("send 1", [0, 0, 0, 0, 0, 0], [0, 0, 0, 0, 0, 0]),
-    ("on 2", [0, 0, 0, 0, 0, 0], [0, 0, 0, 0, 0, 0]),
-    ("every 1 50", [0, 0, 0, 0, 0, 0], [0, 0, 0, 0, 0, 0]),
-    ("dcl 1 0", [0, 0, 3, 0, 0, 1], [0, 0, 3, 0, 0, 0]),
-    ("close 1", [0, 0, 0, 0, 0, 1], [0, 0, 0, 0, 0, 1]),
-    ("dcl 2 1", [0, 0, 3, 0, 0, 1], [0, 0, 1, 0, 0, 1]),
-    ("close 2", [0, 0, 0, 0, 0, 1], [0, 0, 0, 0, 0, 1]),
-    ("load 3 1", [0, 0, 4, 0, 0, 1], [0, 0, 2, 0, 0, 1]),
-    ("close 3", [0, 0, 0, 0, 0, 1], [0, 0, 0, 0, 0, 1]),
-    ("eload 4 5", [0, 0, 3, 0, 0, 0], [0, 0, 2, 0, 0, 0]),
-    ("close 4", [0, 0, 0, 0, 0, 1], [0, 0, 0, 0, 0, 1]),
-    ("dcl 5 2", [0, 0, 3, 0, 0, 1], [0, 0, 2, 0, 0, 1]),
-    ("close 5", [0, 0, 0, 0, 0, 1], [0, 0, 0, 0, 0, 1]),
-    ("load 6 2", [0, 0, 4, 0, 0, 1], [0, 0, 3, 0, 0, 1]),
-    ("close 6", [0, 0, 0, 0, 0, 1], [0, 0, 0, 0, 0, 1]),
-    ("eload 7 6", [0, 0, 3, 0, 0, 0], [0, 0, 2, 0, 0, 0]),
-    ("close 7", [0, 0, 0, 0, 0, 1], [0, 0, 0, 0, 0, 1]),
-    ("tick 1", [0, 0, 0, 2, 0, 0], [0, 0, 0, 1, 0, 0]),
-    ("r var 0 count", [0, 0, 0, 0, 0, 0], [0, 0, 0, 0, 0, 0]),
-    ("reply 8 1", [0, 0, 0, 0, 2, 0], [0, 0, 0, 0, 1, 0]),
-    ("run 8 0 2", [0, 0, 0, 0, 0, 2], [0, 0, 0, 0, 0, 2]),
-    ("w var 0 count", [0, 0, 0, 0, 0, 0], [0, 0, 0, 0, 0, 0]),
-    ("close 8", [0, 0, 0, 0, 0, 1], [0, 0, 0, 0, 0, 1]),
-    ("load 9 0", [0, 0, 7, 0, 0, 1], [0, 0, 7, 0, 0, 0]),
-    ("close 9", [0, 0, 0, 0, 0, 1], [0, 0, 0, 0, 0, 1]),
-    ("fire 10 9 click", [0, 0, 0, 0, 0, 2], [0, 0, 0, 0, 0, 1]),
-    ("r slot 9 click", [0, 0, 0, 0, 0, 0], [0, 0, 0, 0, 0, 0]),
-    ("run 10 0 1", [0, 0, 0, 0, 0, 2], [0, 0, 0, 0, 0, 2]),
-    ("r var 0 count", [0, 0, 0, 0, 0, 0], [0, 0, 0, 0, 0, 0]),
-    ("close 10", [0, 0, 0, 0, 0, 1], [0, 0, 0, 0, 0, 1]),
-    ("tick 1", [0, 0, 0, 2, 0, 0], [0, 0, 0, 2, 0, 0]),
-    ("r var 0 count", [0, 0, 0, 0, 0, 0], [0, 0, 0, 0, 0, 0]),
+/// How many numbers each group hands: of parsing, scripts, loads, timers, requests, dispatches and tasks.
+pub(crate) type Numbers = [usize; 7];
+
+/// The records of the realistic load, the most numbers that may be handed for each, and how many are.
+pub(crate) static NUMBERS: [(&str, Numbers, Numbers); 53] = [
+    (
+        "parse 0 1 plain",
+        [2, 1, 0, 0, 0, 0, 0],
+        [0, 0, 0, 0, 0, 0, 0],
+    ),
+    (
+        "parse 0 2 sync",
+        [2, 1, 0, 0, 0, 0, 0],
+        [1, 0, 0, 0, 0, 0, 0],
+    ),
+    ("exec 2", [0, 4, 0, 0, 0, 0, 0], [0, 1, 0, 0, 0, 0, 0]),
+    ("w var 0 app", [0, 0, 0, 0, 0, 0, 0], [0, 0, 0, 0, 0, 0, 0]),
+    (
+        "parse 0 3 defer",
+        [2, 1, 0, 0, 0, 0, 0],
+        [1, 1, 0, 0, 0, 0, 0],
+    ),
+    (
+        "parse 0 4 async",
+        [2, 1, 0, 0, 0, 0, 0],
+        [1, 1, 0, 0, 0, 0, 0],
+    ),
+    (
+        "parse 0 5 frame 1",
+        [2, 1, 0, 0, 0, 0, 0],
+        [1, 1, 0, 0, 0, 0, 0],
+    ),
+    (
+        "parse 0 6 frame 2",
+        [2, 1, 0, 0, 0, 0, 0],
+        [1, 1, 0, 0, 0, 0, 0],
+    ),
+    (
+        "parse 1 7 plain",
+        [2, 1, 0, 0, 0, 0, 0],
+        [1, 0, 0, 0, 0, 0, 0],
+    ),
+    ("exec 4", [0, 4, 0, 0, 0, 0, 0], [0, 1, 0, 0, 0, 0, 0]),
+    ("r var 0 app", [0, 0, 0, 0, 0, 0, 0], [0, 0, 0, 0, 0, 0, 0]),
+    (
+        "w var 0 count",
+        [0, 0, 0, 0, 0, 0, 0],
+        [0, 0, 0, 0, 0, 0, 0],
+    ),
+    (
+        "parse 2 8 inline",
+        [2, 1, 0, 0, 0, 0, 0],
+        [1, 0, 0, 0, 0, 0, 0],
+    ),
+    ("exec 8", [0, 4, 0, 0, 0, 0, 0], [0, 1, 0, 0, 0, 0, 0]),
+    (
+        "w var 2 ready",
+        [0, 0, 0, 0, 0, 0, 0],
+        [0, 0, 0, 0, 0, 0, 0],
+    ),
+    (
+        "parse 0 9 plain",
+        [2, 1, 0, 0, 0, 0, 0],
+        [1, 1, 0, 0, 0, 0, 0],
+    ),
+    ("w elem 0 buy", [0, 0, 0, 0, 0, 0, 0], [0, 0, 0, 0, 0, 0, 0]),
+    ("exec 3", [0, 4, 0, 0, 0, 0, 0], [0, 3, 0, 0, 0, 0, 0]),
+    ("r elem 0 buy", [0, 0, 0, 0, 0, 0, 0], [0, 0, 0, 0, 0, 0, 0]),
+    ("on 1", [0, 0, 0, 0, 0, 0, 0], [0, 0, 0, 0, 0, 0, 0]),
+    (
+        "w slot 9 click",
+        [0, 0, 0, 0, 0, 0, 0],
+        [0, 0, 0, 0, 0, 0, 0],
+    ),
+    ("send 1", [0, 0, 0, 0, 0, 0, 0], [0, 0, 0, 0, 0, 0, 0]),
+    ("on 2", [0, 0, 0, 0, 0, 0, 0], [0, 0, 0, 0, 0, 0, 0]),
+    ("every 1 50", [0, 0, 0, 0, 0, 0, 0], [0, 0, 0, 0, 0, 0, 0]),
+    ("dcl 1 0", [0, 0, 3, 0, 0, 1, 0], [0, 0, 3, 0, 0, 0, 0]),
+    ("close 1", [0, 0, 0, 0, 0, 1, 0], [0, 0, 0, 0, 0, 1, 0]),
+    ("dcl 2 1", [0, 0, 3, 0, 0, 1, 0], [0, 0, 1, 0, 0, 1, 0]),
+    ("close 2", [0, 0, 0, 0, 0, 1, 0], [0, 0, 0, 0, 0, 1, 0]),
+    ("load 3 1", [0, 0, 4, 0, 0, 1, 0], [0, 0, 2, 0, 0, 1, 0]),
+    ("close 3", [0, 0, 0, 0, 0, 1, 0], [0, 0, 0, 0, 0, 1, 0]),
+    ("eload 4 5", [0, 0, 3, 0, 0, 0, 0], [0, 0, 2, 0, 0, 0, 0]),
+    ("close 4", [0, 0, 0, 0, 0, 1, 0], [0, 0, 0, 0, 0, 1, 0]),
+    ("dcl 5 2", [0, 0, 3, 0, 0, 1, 0], [0, 0, 2, 0, 0, 1, 0]),
+    ("close 5", [0, 0, 0, 0, 0, 1, 0], [0, 0, 0, 0, 0, 1, 0]),
+    ("load 6 2", [0, 0, 4, 0, 0, 1, 0], [0, 0, 3, 0, 0, 1, 0]),
+    ("close 6", [0, 0, 0, 0, 0, 1, 0], [0, 0, 0, 0, 0, 1, 0]),
+    ("eload 7 6", [0, 0, 3, 0, 0, 0, 0], [0, 0, 2, 0, 0, 0, 0]),
+    ("close 7", [0, 0, 0, 0, 0, 1, 0], [0, 0, 0, 0, 0, 1, 0]),
+    ("tick 1", [0, 0, 0, 2, 0, 0, 0], [0, 0, 0, 1, 0, 0, 0]),
+    (
+        "r var 0 count",
+        [0, 0, 0, 0, 0, 0, 0],
+        [0, 0, 0, 0, 0, 0, 0],
+    ),
+    ("reply 8 1", [0, 0, 0, 0, 2, 0, 0], [0, 0, 0, 0, 1, 0, 0]),
+    ("run 8 0 2", [0, 0, 0, 0, 0, 2, 0], [0, 0, 0, 0, 0, 2, 0]),
+    (
+        "w var 0 count",
+        [0, 0, 0, 0, 0, 0, 0],
+        [0, 0, 0, 0, 0, 0, 0],
+    ),
+    ("close 8", [0, 0, 0, 0, 0, 1, 0], [0, 0, 0, 0, 0, 1, 0]),
+    ("load 9 0", [0, 0, 7, 0, 0, 1, 0], [0, 0, 7, 0, 0, 0, 0]),
+    ("close 9", [0, 0, 0, 0, 0, 1, 0], [0, 0, 0, 0, 0, 1, 0]),
+    (
+        "fire 10 9 click",
+        [0, 0, 0, 0, 0, 2, 0],
+        [0, 0, 0, 0, 0, 1, 0],
+    ),
+    (
+        "r slot 9 click",
+        [0, 0, 0, 0, 0, 0, 0],
+        [0, 0, 0, 0, 0, 0, 0],
+    ),
+    ("run 10 0 1", [0, 0, 0, 0, 0, 2, 0], [0, 0, 0, 0, 0, 2, 0]),
+    (
+        "r var 0 count",
+        [0, 0, 0, 0, 0, 0, 0],
+        [0, 0, 0, 0, 0, 0, 0],
+    ),
+    ("close 10", [0, 0, 0, 0, 0, 1, 0], [0, 0, 0, 0, 0, 1, 0]),
+    ("tick 1", [0, 0, 0, 2, 0, 0, 0], [0, 0, 0, 2, 0, 0, 0]),
+    (
+        "r var 0 count",
+        [0, 0, 0, 0, 0, 0, 0],
+        [0, 0, 0, 0, 0, 0, 0],
+    ),
+];
+
+/// The same of a load of tasks.
+static OF_TASKS: [(&str, Numbers, Numbers); 25] = [
+    (
+        "parse 0 1 plain",
+        [2, 1, 0, 0, 0, 0, 0],
+        [0, 0, 0, 0, 0, 0, 0],
+    ), // 0
+    ("post 1", [0, 0, 0, 0, 0, 0, 0], [0, 0, 0, 0, 0, 0, 0]),
+    ("post 2", [0, 0, 0, 0, 0, 0, 0], [0, 0, 0, 0, 0, 0, 0]),
+    ("ask 1", [0, 0, 0, 0, 0, 0, 0], [0, 0, 0, 0, 0, 0, 0]),
+    ("ask 2", [0, 0, 0, 0, 0, 0, 0], [0, 0, 0, 0, 0, 0, 0]),
+    ("queue 1", [0, 0, 0, 0, 0, 0, 0], [0, 0, 0, 0, 0, 0, 0]),
+    ("queue 2", [0, 0, 0, 0, 0, 0, 0], [0, 0, 0, 0, 0, 0, 0]),
+    ("set 1 0", [0, 0, 0, 0, 0, 0, 0], [0, 0, 0, 0, 0, 0, 0]),
+    ("every 1 5", [0, 0, 0, 0, 0, 0, 0], [0, 0, 0, 0, 0, 0, 0]),
+    ("on 7", [0, 0, 0, 0, 0, 0, 0], [0, 0, 0, 0, 0, 0, 0]),
+    ("job 1", [0, 0, 0, 0, 0, 0, 1], [0, 0, 0, 0, 0, 0, 1]), // 1
+    ("queue 3", [0, 0, 0, 0, 0, 0, 0], [0, 0, 0, 0, 0, 0, 0]),
+    ("job 2", [0, 0, 0, 0, 0, 0, 2], [0, 0, 0, 0, 0, 0, 2]), // 2
+    ("message 2", [0, 0, 0, 0, 0, 0, 3], [0, 0, 0, 0, 0, 0, 2]), // 3
+    ("message 1", [0, 0, 0, 0, 0, 0, 3], [0, 0, 0, 0, 0, 0, 2]), // 4
+    ("anim 1", [0, 0, 0, 0, 0, 0, 3], [0, 0, 0, 0, 0, 0, 2]), // 5
+    ("anim 2", [0, 0, 0, 0, 0, 0, 4], [0, 0, 0, 0, 0, 0, 3]), // 6
+    ("timer 1", [0, 0, 0, 1, 0, 0, 2], [0, 0, 0, 1, 0, 0, 1]), // 7
+    ("tick 1", [0, 0, 0, 2, 0, 0, 2], [0, 0, 0, 1, 0, 0, 1]), // 8
+    (
+        "fire 1 1 click",
+        [0, 0, 0, 0, 0, 2, 0],
+        [0, 0, 0, 0, 0, 1, 0],
+    ), // 9
+    ("run 1 0 7", [0, 0, 0, 0, 0, 2, 0], [0, 0, 0, 0, 0, 2, 0]), // 10
+    ("queue 4", [0, 0, 0, 0, 0, 0, 0], [0, 0, 0, 0, 0, 0, 0]),
+    ("job 4", [0, 0, 0, 0, 0, 0, 3], [0, 0, 0, 0, 0, 0, 2]), // 11
+    ("job 3", [0, 0, 0, 0, 0, 0, 3], [0, 0, 0, 0, 0, 0, 2]), // 12
+    ("close 1", [0, 0, 0, 0, 0, 1, 2], [0, 0, 0, 0, 0, 1, 2]), // 13
 ];
 
 /// How many numbers the rules of parsing hand for the record.
@@ -135,8 +248,22 @@ fn timers(graph: &Graph, rec: &Record, alloc: Global) -> Result<usize, NoMemory>
     done.and(Ok(out.len()))
 }
 
-/// How many numbers the six groups hand for the record.
-fn handed(graph: &Graph, rec: &Record, alloc: Global) -> Result<[usize; 6], NoMemory>
+/// How many numbers the rules of tasks hand, which are of version 3 alone.
+fn tasks(graph: &Graph, rec: &Record, alloc: Global) -> Result<usize, NoMemory>
+    requires whole { graph.now.has_failed ≡ false }
+{
+    let mut out = SmallVec::new(alloc);
+    let done = match graph.version() {
+        Version::One | Version::Two => Ok(()),
+        Version::Three => {
+            task::predecessors::predecessors(graph.page(), graph.clocks(), rec, &mut out)
+        }
+    };
+    done.and(Ok(out.len()))
+}
+
+/// How many numbers the seven groups hand for the record.
+fn handed(graph: &Graph, rec: &Record, alloc: Global) -> Result<Numbers, NoMemory>
     requires whole { graph.now.has_failed ≡ false }
 {
     let page = graph.page();
@@ -147,11 +274,12 @@ fn handed(graph: &Graph, rec: &Record, alloc: Global) -> Result<[usize; 6], NoMe
         timers(graph, rec, alloc)?,
         replies(page, rec, alloc)?,
         dispatches(page, rec, alloc)?,
+        tasks(graph, rec, alloc)?,
     ])
 }
 
-/// How many numbers the six groups hand for the next line.
-fn handed_next(graph: &Graph, alloc: Global, text: &str) -> Result<[usize; 6], LineFault>
+/// How many numbers the seven groups hand for the next line.
+fn handed_next(graph: &Graph, alloc: Global, text: &str) -> Result<Numbers, LineFault>
     requires whole { graph.now.has_failed ≡ false }
 {
     let rec = parse_record(alloc, graph.version(), text.as_bytes())?;
@@ -161,11 +289,16 @@ fn handed_next(graph: &Graph, alloc: Global, text: &str) -> Result<[usize; 6], L
 }
 
 /// How many numbers were handed in all, where each record gets no more than it may.
-fn add_up(rt: &impl Abort, graph: &mut Graph, alloc: Global) -> Result<usize, LineFault>
+fn add_up(
+    rt: &impl Abort,
+    graph: &mut Graph,
+    alloc: Global,
+    load: &[(&str, Numbers, Numbers)],
+) -> Result<usize, LineFault>
     requires whole { graph.old.has_failed ≡ false }
 {
     let mut sum: usize = 0;
-    for (text, most, due) in &NUMBERS {
+    for (text, most, due) in load {
         let counts = handed_next(graph, alloc, text)?;
         assert!(rt; counts == *due, "{text}");
         for (count, most) in counts.iter().zip(most.iter()) {
@@ -179,9 +312,14 @@ fn add_up(rt: &impl Abort, graph: &mut Graph, alloc: Global) -> Result<usize, Li
 }
 
 /// How many numbers were handed in all, and how many links there are.
-fn sum_and_links(rt: &impl Abort, alloc: Global) -> Result<(usize, u64), LineFault> {
-    let mut graph = Graph::new(alloc, Version::One)?;
-    let sum = add_up(rt, &mut graph, alloc);
+fn sum_and_links(
+    rt: &impl Abort,
+    alloc: Global,
+    version: Version,
+    load: &[(&str, Numbers, Numbers)],
+) -> Result<(usize, u64), LineFault> {
+    let mut graph = Graph::new(alloc, version)?;
+    let sum = add_up(rt, &mut graph, alloc, load);
     let links = graph.clocks().link_count();
     let_go(graph);
     Ok((sum?, links))
@@ -190,5 +328,13 @@ fn sum_and_links(rt: &impl Abort, alloc: Global) -> Result<(usize, u64), LineFau
 /// Each link was handed, no number beyond the most, and just those that are due.
 #[test]
 fn realistic_load(rt: HostRuntime) {
-    assert!(rt; sum_and_links(&rt, rt.alloc()) == Ok((64, 40)));
+    let counts = sum_and_links(&rt, rt.alloc(), Version::One, &NUMBERS);
+    assert!(rt; counts == Ok((64, 40)));
+}
+
+/// The same of tasks.
+#[test]
+fn load_of_tasks(rt: HostRuntime) {
+    let counts = sum_and_links(&rt, rt.alloc(), Version::Three, &OF_TASKS);
+    assert!(rt; counts == Ok((26, 15)));
 }
