@@ -6,7 +6,7 @@ use Rattle.er_history_rows.specs.Realistic.{RealisticPage}
 use Rattle.er_history_rows.specs.Nested.{SuspendedScript, CutShort, InAHandler, InAClose, InCallbacks}
 use Rattle.er_history_rows.specs.Late.{StepAfterDeferredScript, StepAfterDcl, StepAfterLoad, BlockingAfterStep, BlockingAfterDeferred, DeferredExchanged, ScriptAfterDcl, ScriptAfterLoad, ScriptAfterItsLoad, DclAfterLoad, HandlerAfterGreaterGroup}
 use Rattle.er_history_rows.specs.Timers.{FirstTimers, SecondTimers, ThirdTimers, FourthTimers}
-use Rattle.er_history_rows.specs.Tasks.{FirstTasks, SecondTasks, ThirdTasks}
+use Rattle.er_history_rows.specs.Tasks.{JobsOfTwoPieces, FirstTasks, SecondTasks, ThirdTasks}
 use Rattle.er_history_rows.specs.Random.{FirstPage, SecondPage, ThirdPage, FourthPage, FifthPage, SixthPage, SeventhPage, EighthPage, NinthPage, TenthPage, EleventhPage, TwelfthPage}
 
 pub realistic_page : RealisticPage
@@ -167,6 +167,9 @@ third_timers = record { edges = refl; legal = refl }
 
 pub fourth_timers : FourthTimers
 fourth_timers = record { edges = refl; legal = refl }
+
+pub jobs_of_two_pieces : JobsOfTwoPieces
+jobs_of_two_pieces = record { edges = refl; legal = refl }
 
 pub first_tasks : FirstTasks
 first_tasks = record { edges = refl; legal = refl }

@@ -1,10 +1,34 @@
--- What the definitions say, in version 3, of pages that were drawn at random and have many messages, animation callbacks and jobs. Behind each line stands the action that it begins.
+-- What the definitions say of messages, animation callbacks and jobs, in version 3. Behind each line stands the action that it begins.
 use Rattle.std.specs.Prelude.{List, [], ◌∷◌, codes}
 use Rattle.er_trace.specs.declared.record.Record.{Record}
-use Rattle.er_trace.specs.declared.record.Record.TheVariants.{Parse, Exec, Timer, Load, Fire, Wfire, Reply, Inline, Run, Close, Back, On, Set, Every, Send, Post, Ask, Queue, Message, Anim, Job}
+use Rattle.er_trace.specs.declared.record.Record.TheVariants.{Parse, Exec, Timer, Tick, Load, Fire, Wfire, Reply, Inline, Run, Close, Back, On, Set, Every, Send, Post, Ask, Queue, Message, Anim, Job}
 use Rattle.er_trace.specs.declared.record.Kind.TheVariants as kinds
 use Rattle.er_trace.specs.declared.version.Version.TheVariants.{Three}
 use Rattle.er_history.specs.Rows.{IsRowOf}
+
+-- A script queues a job before an inline dispatch, and another when it goes on. Both come before all that the script declared.
+abbrev pub JobsOfTwoPieces : Type 0
+JobsOfTwoPieces = IsRowOf Three (
+    (Parse 0 1 kinds.Inline, []) ∷  -- 0
+    (Exec 1, 0 ∷ []) ∷  -- 1
+    (Set 1 0, []) ∷
+    (Every 1 5, []) ∷
+    (Ask 1, []) ∷
+    (Queue 1, []) ∷
+    (Inline 1 1 (codes "a"), 1 ∷ 0 ∷ []) ∷  -- 2
+    (Close 1, 2 ∷ []) ∷  -- 3
+    (Back 1, 3 ∷ 1 ∷ 0 ∷ []) ∷  -- 4
+    (Post 1, []) ∷
+    (Queue 2, []) ∷
+    (Job 2, 4 ∷ 1 ∷ []) ∷  -- 5
+    (Job 1, 4 ∷ 1 ∷ []) ∷  -- 6
+    (Timer 1, 6 ∷ 5 ∷ 4 ∷ 1 ∷ []) ∷  -- 7
+    (Tick 1, 6 ∷ 5 ∷ 4 ∷ 1 ∷ []) ∷  -- 8
+    (Anim 1, 6 ∷ 5 ∷ 4 ∷ 1 ∷ []) ∷  -- 9
+    (Message 1, 6 ∷ 5 ∷ 4 ∷ 1 ∷ []) ∷  -- 10
+    [])
+
+-- Pages that were drawn at random, with many such tasks.
 
 abbrev pub FirstTasks : Type 0
 FirstTasks = IsRowOf Three (

@@ -10,7 +10,7 @@ ghost use Rattle.er_history_rows.specs.Nested.{SuspendedScript, CutShort, InAHan
 ghost use Rattle.er_history_rows.specs.Random.{FirstPage, SecondPage, ThirdPage, FourthPage, FifthPage, SixthPage, SeventhPage, EighthPage, NinthPage, TenthPage, EleventhPage, TwelfthPage};
 ghost use Rattle.er_history_rows.specs.Realistic.{RealisticPage};
 ghost use Rattle.er_history_rows.specs.Timers.{FirstTimers, SecondTimers, ThirdTimers, FourthTimers};
-ghost use Rattle.er_history_rows.specs.Tasks.{FirstTasks, SecondTasks, ThirdTasks};
+ghost use Rattle.er_history_rows.specs.Tasks.{JobsOfTwoPieces, FirstTasks, SecondTasks, ThirdTasks};
 
 /// The edges of a page as it is met.
 #[tactic(auto, using(crate::proofs::Computed::realistic_page))]
@@ -128,6 +128,12 @@ pub fn random_timers()
     ensures second_timers { SecondTimers }
     ensures third_timers { ThirdTimers }
     ensures fourth_timers { FourthTimers }
+{}
+
+/// Which jobs rule 30 counts.
+#[tactic(auto, using(crate::proofs::Computed::jobs_of_two_pieces))]
+pub fn jobs_before_callbacks()
+    ensures { JobsOfTwoPieces }
 {}
 
 /// The edges of random pages with many messages, animation callbacks and jobs, in version 3.

@@ -1,4 +1,4 @@
-//! How many numbers each crate of rules hands for each record of the realistic load.
+//! How many numbers each crate of rules hands for each record of a load.
 
 ghost use Rattle.std.specs.Prelude.{◌≡◌, false};
 ghost use Rattle.er_page.specs.Page.{IsSomePage};
@@ -12,6 +12,7 @@ use er_rules_load as load;
 use er_rules_parse as parse;
 use er_rules_request as request;
 use er_rules_script as script;
+use er_rules_task as task;
 use er_rules_timer as timer;
 use er_trace::fault::LineFault;
 use er_trace::parse::parse_record;
@@ -79,6 +80,35 @@ pub(crate) static NUMBERS: [(&str, [usize; 6], [usize; 6]); 53] = [
     ("r var 0 count", [0, 0, 0, 0, 0, 0], [0, 0, 0, 0, 0, 0]),
 ];
 
+/// Records of version 3, the most numbers that the rules of tasks may hand for each, and how many they do.
+static OF_TASKS: [(&str, usize, usize); 25] = [
+    ("parse 0 1 plain", 0, 0), // 0
+    ("post 1", 0, 0),
+    ("post 2", 0, 0),
+    ("ask 1", 0, 0),
+    ("ask 2", 0, 0),
+    ("queue 1", 0, 0),
+    ("queue 2", 0, 0),
+    ("set 1 0", 0, 0),
+    ("every 1 5", 0, 0),
+    ("on 7", 0, 0),
+    ("job 1", 1, 1), // 1
+    ("queue 3", 0, 0),
+    ("job 2", 2, 2), // 2
+    ("message 2", 3, 2), // 3
+    ("message 1", 3, 2), // 4
+    ("anim 1", 3, 2), // 5
+    ("anim 2", 4, 3), // 6
+    ("timer 1", 2, 1), // 7
+    ("tick 1", 2, 1), // 8
+    ("fire 1 1 click", 0, 0), // 9
+    ("run 1 0 7", 0, 0), // 10
+    ("queue 4", 0, 0),
+    ("job 4", 3, 2), // 11
+    ("job 3", 3, 2), // 12
+    ("close 1", 2, 2), // 13
+];
+
 /// How many numbers the rules of parsing hand for the record.
 fn steps(page: &Page, rec: &Record, alloc: Global) -> Result<usize, NoMemory>
     requires some { ∥ IsSomePage page.now ∥₁ }
@@ -135,7 +165,21 @@ fn timers(graph: &Graph, rec: &Record, alloc: Global) -> Result<usize, NoMemory>
     done.and(Ok(out.len()))
 }
 
-/// How many numbers the six groups hand for the record.
+/// How many numbers the rules of tasks hand, which are of version 3 alone.
+fn tasks(graph: &Graph, rec: &Record, alloc: Global) -> Result<usize, NoMemory>
+    requires whole { graph.now.has_failed ≡ false }
+{
+    let mut out = SmallVec::new(alloc);
+    let done = match graph.version() {
+        Version::One | Version::Two => Ok(()),
+        Version::Three => {
+            task::predecessors::predecessors(graph.page(), graph.clocks(), rec, &mut out)
+        }
+    };
+    done.and(Ok(out.len()))
+}
+
+/// How many numbers the other six groups hand for the record.
 fn handed(graph: &Graph, rec: &Record, alloc: Global) -> Result<[usize; 6], NoMemory>
     requires whole { graph.now.has_failed ≡ false }
 {
@@ -150,7 +194,7 @@ fn handed(graph: &Graph, rec: &Record, alloc: Global) -> Result<[usize; 6], NoMe
     ])
 }
 
-/// How many numbers the six groups hand for the next line.
+/// How many numbers they hand for the next line.
 fn handed_next(graph: &Graph, alloc: Global, text: &str) -> Result<[usize; 6], LineFault>
     requires whole { graph.now.has_failed ≡ false }
 {
@@ -178,6 +222,39 @@ fn add_up(rt: &impl Abort, graph: &mut Graph, alloc: Global) -> Result<usize, Li
     Ok(sum)
 }
 
+/// How many numbers the rules of tasks hand for the next line.
+fn tasks_next(graph: &Graph, alloc: Global, text: &str) -> Result<usize, LineFault>
+    requires whole { graph.now.has_failed ≡ false }
+{
+    let rec = parse_record(alloc, graph.version(), text.as_bytes())?;
+    let count = tasks(graph, &rec, alloc);
+    forget(rec);
+    Ok(count?)
+}
+
+/// Goes through the records of tasks, where each gets no more than it may.
+fn go_through_tasks(rt: &impl Abort, graph: &mut Graph, alloc: Global) -> Result<(), LineFault>
+    requires whole { graph.old.has_failed ≡ false }
+{
+    for (text, most, due) in &OF_TASKS {
+        let count = tasks_next(graph, alloc, text)?;
+        assert!(rt; (count == *due) & (count <= *most), "{text}");
+        let refused = hand(graph, alloc, 2, text)?;
+        assert!(rt; refused.is_none(), "{text}");
+    }
+    Ok(())
+}
+
+/// How many links there are behind them.
+fn links_of_tasks(rt: &impl Abort, alloc: Global) -> Result<u64, LineFault> {
+    let mut graph = Graph::new(alloc, Version::Three)?;
+    let done = go_through_tasks(rt, &mut graph, alloc);
+    let links = graph.clocks().link_count();
+    let_go(graph);
+    done?;
+    Ok(links)
+}
+
 /// How many numbers were handed in all, and how many links there are.
 fn sum_and_links(rt: &impl Abort, alloc: Global) -> Result<(usize, u64), LineFault> {
     let mut graph = Graph::new(alloc, Version::One)?;
@@ -191,4 +268,9 @@ fn sum_and_links(rt: &impl Abort, alloc: Global) -> Result<(usize, u64), LineFau
 #[test]
 fn realistic_load(rt: HostRuntime) {
     assert!(rt; sum_and_links(&rt, rt.alloc()) == Ok((64, 40)));
+}
+
+#[test]
+fn load_of_tasks(rt: HostRuntime) {
+    assert!(rt; links_of_tasks(&rt, rt.alloc()) == Ok(15));
 }

@@ -3,8 +3,8 @@
 use crate::row::{Refusal, Row};
 use crate::through::{Call, Written, call_of, through};
 use crate::{
-    coverage, dispatches, first_path, loads, naming, orders, pieces, requests, rows, scripts, tasks,
-    timers,
+    coverage, dispatches, first_path, loads, naming, orders, pieces, requests, rows, scripts,
+    tasks, timers,
 };
 use std::alloc::{AllocError, Global};
 use std::process::Abort;
