@@ -5,7 +5,7 @@ use Rattle.er_trace.specs.declared.record.Kind.{Kind}
 use Rattle.er_trace.specs.declared.record.Kind.TheVariants as kinds
 use Rattle.er_trace.specs.declared.version.Version.{Version}
 use Rattle.er_trace.specs.declared.version.Version.TheVariants.{One, Two, Three}
-use Rattle.er_history.specs.History.{Form, Kinded, Framing, Element, Task, Delivery, DclOf, LoadOf, EloadOf, FireAt, InlineAt, WindowFire, ReplyOf, What, ParseStep, ScriptRun, TimeoutRun, TickRun, BeginOf, HandlerOf, CloseOf, MessageRun, AnimRun, JobRun, Event}
+use Rattle.er_history.specs.History.{Form, Kinded, Framing, Element, Timeout, Task, Delivery, DclOf, LoadOf, EloadOf, FireAt, InlineAt, WindowFire, ReplyOf, What, ParseStep, ScriptRun, TimeoutRun, TickRun, BeginOf, HandlerOf, CloseOf, MessageRun, AnimRun, JobRun, Event}
 
 -- A rule between two events. It is told which earlier actions a path joins. It says nothing of lists in which naming refuses a record.
 abbrev pub Rule : Type 0
@@ -122,7 +122,8 @@ abbrev pub blocking_script_before_later_step : Rule
 blocking_script_before_later_step joined u v = go u.what v.what
   where
     go : What → What → Bool
-    go (ScriptRun e made) (ParseStep d m) = of_made (λ x. is_blocking x && ((x.doc == d) && nat_lt x.piece v.number)) made
+    go (ScriptRun e made) (ParseStep d m) =
+        of_made (λ x. is_blocking x && ((x.doc == d) && nat_lt x.piece v.number)) made
     go _ _ = false
 
 -- 5. A parse step before the run of a deferred script of its document. HTML Standard, "The end".
@@ -138,15 +139,20 @@ abbrev pub blocking_before_deferred_script : Rule
 blocking_before_deferred_script joined u v = go u.what v.what
   where
     go : What → What → Bool
-    go (ScriptRun e made) (ScriptRun f made2) = both_made (λ x y. is_blocking x && (is_deferred y && (x.doc == y.doc))) made made2
+    go (ScriptRun e made) (ScriptRun f made2) =
+        both_made (λ x y. is_blocking x && (is_deferred y && (x.doc == y.doc))) made made2
     go _ _ = false
 
 -- 7. The run of a deferred script before the run of a deferred script of its document that was parsed later. HTML Standard, "The end".
 abbrev pub deferred_scripts_as_parsed : Rule
 deferred_scripts_as_parsed joined u v = go u.what v.what
   where
+    before : Element → Element → Bool
+    before x y =
+        is_deferred x && (is_deferred y && ((x.doc == y.doc) && nat_lt x.piece y.piece))
+
     go : What → What → Bool
-    go (ScriptRun e made) (ScriptRun f made2) = both_made (λ x y. is_deferred x && (is_deferred y && ((x.doc == y.doc) && nat_lt x.piece y.piece))) made made2
+    go (ScriptRun e made) (ScriptRun f made2) = both_made before made made2
     go _ _ = false
 
 -- 8. A parse step, or the run of a blocking or deferred script, before the begin of DOMContentLoaded of its document. HTML Standard, "The end".
@@ -191,12 +197,16 @@ parsed_before_load joined u v = go v.what
     go (BeginOf q) = of q.delivers
     go _ = false
 
+-- load of the document waits for it: it is static, of this document, and not plain
+abbrev pub counts_for_load : ℕ → Element → Bool
+counts_for_load d e = e.is_static && (not (is_plain e) && (e.doc == d))
+
 -- 11. The close of the first load event of a static element that is not plain before the begin of load of its document (recorded). This project's own.
 abbrev pub static_loads_before_load : Rule
 static_loads_before_load joined u v = recorded u v && go u.what v.what
   where
     of : Delivery → Delivery → Bool
-    of (EloadOf x made) (LoadOf d m) = of_made (λ e. e.is_static && (not (is_plain e) && (e.doc == d))) made
+    of (EloadOf x made) (LoadOf d m) = of_made (counts_for_load d) made
     of _ _ = false
 
     go : What → What → Bool
@@ -286,16 +296,22 @@ set_before_timer joined u v = go v.what
 abbrev pub timers_of_one_event_in_order : Rule
 timers_of_one_event_in_order joined u v = recorded u v && go u.what v.what
   where
+    before : Timeout → Timeout → Bool
+    before x y = (x.maker == y.maker) && (nat_lt x.place y.place && nat_le x.delay y.delay)
+
     go : What → What → Bool
-    go (TimeoutRun s made) (TimeoutRun t made2) = both_made (λ x y. (x.maker == y.maker) && (nat_lt x.place y.place && nat_le x.delay y.delay)) made made2
+    go (TimeoutRun s made) (TimeoutRun t made2) = both_made before made made2
     go _ _ = false
 
 -- 19, in versions 2 and 3. The callback of a timeout before that of another that was set later with no lesser delay, in a piece to which a path leads from the piece that set the first (recorded). HTML Standard, "Timers"; that delays alone are compared is this project's own.
 abbrev pub timers_of_joined_pieces_in_order : Rule
 timers_of_joined_pieces_in_order joined u v = recorded u v && go u.what v.what
   where
+    before : Timeout → Timeout → Bool
+    before x y = nat_lt x.place y.place && (nat_le x.delay y.delay && joined x.piece y.piece)
+
     go : What → What → Bool
-    go (TimeoutRun s made) (TimeoutRun t made2) = both_made (λ x y. nat_lt x.place y.place && (nat_le x.delay y.delay && joined x.piece y.piece)) made made2
+    go (TimeoutRun s made) (TimeoutRun t made2) = both_made before made made2
     go _ _ = false
 
 -- rule 19 of a version
@@ -338,7 +354,8 @@ replies_in_order joined u v = go v.what
 
 -- two tasks of one kind, the first declared in an earlier record, and in a piece from which a path leads to the other's
 abbrev pub declared_in_order : (ℕ → ℕ → Bool) → Option Task → Option Task → Bool
-declared_in_order joined made made2 = both_made (λ (x : Task) (y : Task). nat_lt x.place y.place && joined x.piece y.piece) made made2
+declared_in_order joined made made2 =
+    both_made (λ (x : Task) (y : Task). nat_lt x.place y.place && joined x.piece y.piece) made made2
 
 -- 24. The event that posted a message before the event of the message. This project's own.
 abbrev pub post_before_message : Rule
@@ -413,31 +430,68 @@ jobs_before_close joined u v = recorded u v && go u.what v.what
 
 -- Each rule between events with its number, in the groups of the crates that ask it. Rule 19 alone differs by version. Rules 22 and 23 speak of pieces (Edges).
 abbrev pub parse_rules : List (ℕ × Rule)
-parse_rules = (1, parse_steps_in_order) ∷ (2, document_before_its_steps) ∷ []
+parse_rules =
+    (1, parse_steps_in_order)
+    ∷ (2, document_before_its_steps)
+    ∷ []
 
 abbrev pub script_rules : List (ℕ × Rule)
-script_rules = (3, script_made_before_run) ∷ (4, blocking_script_before_later_step) ∷ (5, step_before_deferred_script) ∷ (6, blocking_before_deferred_script) ∷ (7, deferred_scripts_as_parsed) ∷ []
+script_rules =
+    (3, script_made_before_run)
+    ∷ (4, blocking_script_before_later_step)
+    ∷ (5, step_before_deferred_script)
+    ∷ (6, blocking_before_deferred_script)
+    ∷ (7, deferred_scripts_as_parsed)
+    ∷ []
 
 abbrev pub load_rules : List (ℕ × Rule)
-load_rules = (8, parsed_before_dcl) ∷ (9, dcl_before_load) ∷ (10, parsed_before_load) ∷ (11, static_loads_before_load) ∷ (12, element_before_its_load) ∷ (13, inner_load_before_frame_load) ∷ []
+load_rules =
+    (8, parsed_before_dcl)
+    ∷ (9, dcl_before_load)
+    ∷ (10, parsed_before_load)
+    ∷ (11, static_loads_before_load)
+    ∷ (12, element_before_its_load)
+    ∷ (13, inner_load_before_frame_load)
+    ∷ []
 
 abbrev pub dispatch_rules : List (ℕ × Rule)
-dispatch_rules = (14, target_before_dispatch) ∷ (15, registered_before_run) ∷ (16, dispatch_in_order) ∷ (17, dispatches_of_one_type_in_order) ∷ []
+dispatch_rules =
+    (14, target_before_dispatch)
+    ∷ (15, registered_before_run)
+    ∷ (16, dispatch_in_order)
+    ∷ (17, dispatches_of_one_type_in_order)
+    ∷ []
 
 abbrev pub timer_rules : Version → List (ℕ × Rule)
-timer_rules v = (18, set_before_timer) ∷ (19, timers_in_order v) ∷ (20, ticks_in_order) ∷ []
+timer_rules v =
+    (18, set_before_timer)
+    ∷ (19, timers_in_order v)
+    ∷ (20, ticks_in_order)
+    ∷ []
 
 abbrev pub request_rules : List (ℕ × Rule)
 request_rules = (21, replies_in_order) ∷ []
 
 -- These are in the table of each version: they lead from events or to events that records of version 3 alone begin.
 abbrev pub task_rules : List (ℕ × Rule)
-task_rules = (24, post_before_message) ∷ (25, messages_in_order) ∷ (26, ask_before_anim) ∷ (27, anims_in_order) ∷ (28, queue_before_job) ∷ (29, jobs_in_order) ∷ (30, jobs_before_callbacks) ∷ (31, jobs_before_close) ∷ []
+task_rules =
+    (24, post_before_message)
+    ∷ (25, messages_in_order)
+    ∷ (26, ask_before_anim)
+    ∷ (27, anims_in_order)
+    ∷ (28, queue_before_job)
+    ∷ (29, jobs_in_order)
+    ∷ (30, jobs_before_callbacks)
+    ∷ (31, jobs_before_close)
+    ∷ []
 
 -- All rules between events of a version, in the order of their numbers.
 abbrev pub rules : Version → List (ℕ × Rule)
-rules v = parse_rules ++ script_rules ++ load_rules ++ dispatch_rules ++ timer_rules v ++ request_rules ++ task_rules
+rules v =
+    parse_rules ++ script_rules ++ load_rules ++ dispatch_rules
+    ++ timer_rules v ++ request_rules ++ task_rules
 
 -- one of the rules of a table holds between two events
 abbrev pub any_holds : List (ℕ × Rule) → (ℕ → ℕ → Bool) → Event → Event → Bool
-any_holds table joined u v = not (u.number == v.number) && list_any (λ (r : ℕ × Rule). r.1 joined u v) table
+any_holds table joined u v =
+    not (u.number == v.number) && list_any (λ (r : ℕ × Rule). r.1 joined u v) table
