@@ -10,7 +10,8 @@ of i j = record { first = i; second = j }
 
 -- These races name these groups, which have these representatives and sizes.
 abbrev pub Gives : List (List ℕ) → List Class → List ℕ → List ℕ → List ℕ → Type 0
-Gives lists by_race names representatives sizes = grouping_by (joins lists) by_race ≡ record { names = names; representatives = representatives; sizes = sizes }
+Gives lists by_race names representatives sizes = grouping_by (joins lists) by_race
+    ≡ record { names = names; representatives = representatives; sizes = sizes }
 
 abbrev pub NoRace : Type 0
 NoRace = Gives ([] ∷ []) [] [] [] []

@@ -29,7 +29,8 @@ pub fn explain(alloc: Global, graph: &Graph, from: u32, to: u32) -> Result<Optio
     requires first { ∥ HasBegun graph.now from ∥₁ }
     requires second { ∥ HasBegun graph.now to ∥₁ }
     requires whole { HasFailed graph.now → ⊥ }
-    ensures { IfOk result (λ found. (accepted : List Accepted) → IsGraph graph.now accepted → found ≡ spec.explanation (rules graph.now.version) (records accepted) from to) }
+    ensures { IfOk result (λ found. (accepted : List Accepted) → IsGraph graph.now accepted
+        → found ≡ spec.explanation (rules graph.now.version) (records accepted) from to) }
 {
     let clocks = graph.clocks();
     if !clocks.joined(from, to) {

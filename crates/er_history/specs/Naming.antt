@@ -130,20 +130,20 @@ again h (Close p) = false
 again h (Back p) = false
 again h (Access m l) = false
 
+abbrev pub is_script_kind : Kind → Bool
+is_script_kind kinds.Plain = false
+is_script_kind kinds.Image = false
+is_script_kind kinds.Inline = true
+is_script_kind kinds.Sync = true
+is_script_kind kinds.Async = true
+is_script_kind kinds.Defer = true
+
 abbrev pub is_script : Option Element → Bool
 is_script None = false
 is_script (Some e) = of e.form
   where
-    kind : Kind → Bool
-    kind kinds.Plain = false
-    kind kinds.Image = false
-    kind kinds.Inline = true
-    kind kinds.Sync = true
-    kind kinds.Async = true
-    kind kinds.Defer = true
-
     of : Form → Bool
-    of (Kinded k) = kind k
+    of (Kinded k) = is_script_kind k
     of (Framing f) = false
 
 -- it runs an element that is no script

@@ -21,10 +21,13 @@ abbrev pub records_of : Next → List Record
 records_of n = n.1 ∷ reverse n.0
 
 -- In each the record is handed as many pieces as it says, which is the most that is allowed, and no record has a cause.
-pub record AllFullOf (v : Version) (handed : List Record → Record → List ℕ) (most : List Record → Record → ℕ) (rows : List Next) : Type 0 where
-  pub given : map (λ (n : Next). length (handed (reverse n.0) n.1)) rows ≡ map (λ (n : Next). n.2) rows
+pub record AllFullOf (v : Version) (handed : List Record → Record → List ℕ)
+    (most : List Record → Record → ℕ) (rows : List Next) : Type 0 where
+  pub given : map (λ (n : Next). length (handed (reverse n.0) n.1)) rows
+      ≡ map (λ (n : Next). n.2) rows
   pub allowed : map (λ (n : Next). most (reverse n.0) n.1) rows ≡ map (λ (n : Next). n.2) rows
-  pub legal : map (λ (n : Next). causes_in v (records_of n)) rows ≡ map (λ (n : Next). map (λ (x : Record). None) (records_of n)) rows
+  pub legal : map (λ (n : Next). causes_in v (records_of n)) rows
+      ≡ map (λ (n : Next). map (λ (x : Record). None) (records_of n)) rows
 
 abbrev pub AllFull : (History → Record → List ℕ) → (List Record → Record → ℕ) → List Next → Type 0
 AllFull handed most rows = AllFullOf One (λ h x. handed (told h) x) most rows
@@ -65,7 +68,8 @@ LegalEload = (length (load_handed (told (reverse (ParseFrame 0 1 1 ∷ Load 1 1 
     × (length (load_handed (told (reverse (Parse 0 1 kinds.Async ∷ Exec 1 ∷ []))) (Eload 1 1)) ≡ 2)
 
 abbrev pub AllFullTimers : Version → List Next → Type 0
-AllFullTimers v rows = AllFullOf v (λ h x. timer_handed v (path (rules v) h) (told h) x) (most_timer v) rows
+AllFullTimers v rows =
+    AllFullOf v (λ h x. timer_handed v (path (rules v) h) (told h) x) (most_timer v) rows
 
 -- A timeout behind two that were set in the same event, and a tick behind one.
 abbrev pub FullTimer : Type 0

@@ -13,7 +13,8 @@ use Rattle.er_history.specs.Sound.{out_of_order}
 pub record Judges (before late ordered : List Record) : Type 0 where
   pub named : map (naming (reverse before)) (late ++ ordered) ≡ map (λ x. None) (late ++ ordered)
   pub late_ones : map (out_of_order (tables.rules One) (reverse before)) late ≡ map (λ x. true) late
-  pub in_order : map (out_of_order (tables.rules One) (reverse before)) ordered ≡ map (λ x. false) ordered
+  pub in_order : map (out_of_order (tables.rules One) (reverse before)) ordered
+      ≡ map (λ x. false) ordered
 
 -- Rule 5: a parse step after a deferred script of its document has run.
 abbrev pub StepAfterDeferredScript : Type 0

@@ -44,7 +44,8 @@ race_value ((a, b), g) = object (member (codes "actions") (two a.action b.action
 
 -- the place of a group's representative, and its size
 abbrev pub group_value : ℕ × ℕ → Data
-group_value (k, size) = object (member (codes "race") (whole (k + 1)) (member (codes "size") (whole size) no_members))
+group_value (k, size) =
+    object (member (codes "race") (whole (k + 1)) (member (codes "size") (whole size) no_members))
 
 -- the report of these races, groups and counts
 abbrev pub value_of : List (Kept × Kept) → Grouping → Counts → Data

@@ -22,7 +22,8 @@ EscapedName = report ((1 ∷ []) ∷ (1 ∷ []) ∷ (0 ∷ []) ∷ [] ∷ []) (a
     ≡ line (codes "{\"accesses\":2,\"actions\":4,\"chains\":2,\"groups\":[{\"race\":1,\"size\":1}],\"links\":3,\"pairs\":1,\"races\":[{\"actions\":[2,3],\"group\":1,\"lines\":[7,9],\"location\":\"var 0 \\\"\\\\%20\",\"modes\":\"ww\"}],\"version\":1}")
 
 abbrev pub Refused : Type 0
-Refused = refusal 4 OutOfOrder ≡ line (codes "{\"refused\":{\"cause\":\"out-of-order\",\"line\":4}}")
+Refused =
+    refusal 4 OutOfOrder ≡ line (codes "{\"refused\":{\"cause\":\"out-of-order\",\"line\":4}}")
 
 abbrev pub WorkedLines : Type 0
 WorkedLines = NothingAtAll × TwoTimeouts × EscapedName × Refused

@@ -12,6 +12,7 @@ use Rattle.er_history.specs.Sound.{out_of_order}
 use Rattle.er_history.specs.Handed.{HasGroup, AreHanded}
 use Rattle.er_pieces.specs.HandedPieces.{parse_handed, script_handed, load_handed, timer_handed, request_handed, task_handed, dispatch_handed}
 use Rattle.er_pieces.specs.Enough.{IsSteady, NestedFacts}
+use Rattle.er_pieces.specs.PiecesHanded.{IsPieceSource}
 
 -- the pieces of the group are sources and enough, after a list to which naming and order have nothing against
 abbrev pub Hands : List (ℕ × Rule) → List (ℕ × Rule) → (History → Record → List ℕ) → Type 0
@@ -32,7 +33,8 @@ HandsLoad = (table : List (ℕ × Rule)) → NestedFacts table
     → Hands table load_rules load_handed
 
 abbrev pub HandsTimer : Type 0
-HandsTimer = (v : Version) (table : List (ℕ × Rule)) → HasGroup table (timer_rules v) → NestedFacts table
+HandsTimer = (v : Version) (table : List (ℕ × Rule)) → HasGroup table (timer_rules v)
+    → NestedFacts table
     → (h : List Record) (x : Record)
     → IsSteady table h → naming h x ≡ None → out_of_order table h x ≡ false
     → AreHanded (timer_rules v) (path table h) (told h) x (timer_handed v (path table h) (told h) x)
@@ -49,12 +51,12 @@ HandsTask = (table : List (ℕ × Rule)) → NestedFacts table
 
 -- For dispatches, each is the source of an edge by a rule of the group, or by one of the two on pieces.
 abbrev pub DispatchHandsSources : Type 0
-DispatchHandsSources = (table : List (ℕ × Rule)) (h : List Record) (x : Record) (joined : ℕ → ℕ → Bool)
+DispatchHandsSources =
+    (table : List (ℕ × Rule)) (h : List Record) (x : Record) (joined : ℕ → ℕ → Bool)
     → IsSteady table h → naming h x ≡ None
     → (k : ℕ) → is_among k (dispatch_handed (told h) x) ≡ true
     → (i : Action) × Among i (told h).actions × (i.number ≡ k)
-    × ((is_ruled dispatch_rules joined i (action_begun (told h) x)
-    || (around_inline i (action_begun (told h) x) || of_one_event i (action_begun (told h) x))) ≡ true)
+    × IsPieceSource dispatch_rules joined (told h) x i
 
 -- and a record that begins no action has none
 abbrev pub DispatchHandsNothing : Type 0

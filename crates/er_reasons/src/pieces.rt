@@ -38,7 +38,8 @@ fn given(holds: bool, number: u32) -> Option<u32>
 /// Whether the piece was suspended by the inline dispatch that the record begins, or is one of its close, and the record its `back`.
 fn is_around_inline(i: u32, u: &Event<'_>, j: u32, begin: &Record) -> bool
     requires { i < j }
-    ensures { (h : List Record) (x : Record) (e : history.Event) → result ≡ around_inline (piece i x (event_shown h u.now)) (piece j begin.now e) }
+    ensures { (h : List Record) (x : Record) (e : history.Event)
+        → result ≡ around_inline (piece i x (event_shown h u.now)) (piece j begin.now e) }
 {
     match begin {
         Record::Inline { .. } => i + 1 == j,

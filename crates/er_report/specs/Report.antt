@@ -26,7 +26,8 @@ cover_line k g = item_line (Word (codes "cover") ∷ Number k ∷ Number (g + 1)
 
 -- `group G K SIZE`, for the representative at place k
 abbrev pub group_line : ℕ → ℕ × ℕ → List ℕ
-group_line g (k, size) = item_line (Word (codes "group") ∷ Number g ∷ Number (k + 1) ∷ Number size ∷ [])
+group_line g (k, size) =
+    item_line (Word (codes "group") ∷ Number g ∷ Number (k + 1) ∷ Number size ∷ [])
 
 abbrev pub race_lines : List (Kept × Kept) → List ℕ
 race_lines races = lines_from race_line 1 races
@@ -43,12 +44,15 @@ opening_line = count_line (codes "report") 1
 
 -- the lines behind those of the groups
 abbrev pub closing_lines : Counts → List ℕ
-closing_lines c = count_line (codes "actions") c.actions ++ count_line (codes "accesses") c.accesses ++ count_line (codes "pairs") c.pairs ++ count_line (codes "races") c.races
-    ++ count_line (codes "groups") c.groups ++ count_line (codes "chains") c.chains ++ count_line (codes "links") c.links ++ line (codes "end")
+closing_lines c = count_line (codes "actions") c.actions ++ count_line (codes "accesses") c.accesses
+    ++ count_line (codes "pairs") c.pairs ++ count_line (codes "races") c.races
+    ++ count_line (codes "groups") c.groups ++ count_line (codes "chains") c.chains
+    ++ count_line (codes "links") c.links ++ line (codes "end")
 
 -- the report of these races, groups and counts
 abbrev pub report_of : List (Kept × Kept) → Grouping → Counts → List ℕ
-report_of races groups c = opening_line ++ race_lines races ++ cover_lines groups ++ group_lines groups ++ closing_lines c
+report_of races groups c =
+    opening_line ++ race_lines races ++ cover_lines groups ++ group_lines groups ++ closing_lines c
 
 -- the counts of actions with these predecessors, and of the kept accesses
 abbrev pub counts : List (List ℕ) → List Kept → Counts

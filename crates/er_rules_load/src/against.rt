@@ -61,14 +61,16 @@ fn is_step_late(page: &Page, doc: u32) -> bool
 
 /// Whether the run of the script comes too late: in its document, or behind its own load event (rule 12).
 fn is_run_late(page: &Page, element: u32) -> bool
-    ensures { (h : List Record) → IsPage page.now h → result ≡ says.is_run_late h element (element_made h element) }
+    ensures { (h : List Record) → IsPage page.now h
+        → result ≡ says.is_run_late h element (element_made h element) }
 {
     is_late_in_document(page, element) || page.eload_of(element).is_some()
 }
 
 /// Whether it comes too late in its document.
 fn is_late_in_document(page: &Page, element: u32) -> bool
-    ensures { (h : List Record) → IsPage page.now h → result ≡ of_made (says.is_script_late h) (element_made h element) }
+    ensures { (h : List Record) → IsPage page.now h
+        → result ≡ of_made (says.is_script_late h) (element_made h element) }
 {
     let Some(doc) = page.document_of(element) else {
         return false;
@@ -79,7 +81,8 @@ fn is_late_in_document(page: &Page, element: u32) -> bool
 
 /// Whether it is a blocking or a deferred script: a parse step made it, and it is of the kind `inline`, `sync` or `defer`.
 fn runs_before_dcl(page: &Page, element: u32) -> bool
-    ensures { (h : List Record) → IsPage page.now h → result ≡ of_made says.runs_before_dcl (element_made h element) }
+    ensures { (h : List Record) → IsPage page.now h
+        → result ≡ of_made says.runs_before_dcl (element_made h element) }
 {
     page.is_static(element)
         && matches!(

@@ -2,7 +2,7 @@
 use Rattle.std.specs.Prelude.{ℕ, Bool, ◌&&◌, nat_lt, if◌then◌else◌, List, [], Option, Some, None}
 use Rattle.er_history.specs.History.{Element, History}
 use Rattle.er_history.specs.Rules.{of_made, both_made, is_blocking, is_deferred}
-use Rattle.er_pieces.specs.HandedPieces.{parsed_handed}
+use Rattle.er_pieces.specs.HandedPieces.{dcl_handed}
 
 -- it was made, and is a blocking or a deferred script
 
@@ -27,4 +27,4 @@ before_deferred t made = by (deferred_document made)
   where
     by : Option ℕ → List ℕ
     by None = []
-    by (Some d) = parsed_handed t d
+    by (Some d) = dcl_handed t d

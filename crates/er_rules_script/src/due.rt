@@ -82,7 +82,8 @@ fn hand_before_deferred(
 
 /// The document of a deferred script.
 fn document_if_deferred(page: &Page, element: u32) -> Option<u32>
-    ensures { (h : List Record) → IsPage page.now h → result ≡ deferred_document (element_made h element) }
+    ensures { (h : List Record) → IsPage page.now h
+        → result ≡ deferred_document (element_made h element) }
 {
     if is_deferred(page, element) {
         page.document_of(element)

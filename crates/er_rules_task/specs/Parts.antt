@@ -32,7 +32,9 @@ jobs_due queuer h u = is_job_of queuer u
 -- before a task that is no job
 
 abbrev pub callback_due : TaskKind → ℕ → List Record → Event → Bool
-callback_due kind number h u = task_due kind number h u || jobs_due (maker_of (task_made kind h number)) h u
+callback_due kind number h u =
+    task_due kind number h u || jobs_due (maker_of (task_made kind h number)) h u
 
 abbrev pub callback_count : TaskKind → ℕ → List Record → ℕ
-callback_count kind number h = task_count kind number h + queued_count h (maker_of (task_made kind h number))
+callback_count kind number h =
+    task_count kind number h + queued_count h (maker_of (task_made kind h number))

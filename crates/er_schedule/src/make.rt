@@ -19,8 +19,10 @@ pub fn make_schedules(alloc: Global, clocks: &Clocks, i: u32, j: u32) -> Result<
     requires earlier { i < j }
     requires begun { j < length clocks.now }
     requires apart { joins clocks.now i j ≡ false }
-    ensures orders { IfOk result (λ s. Tells clocks.now (λ lists. s ≡ orders_of (joins lists) (length lists) i j)) }
-    ensures lawful { IfOk result (λ s. Tells clocks.now (λ lists. GoForward lists → AreLawful lists s)) }
+    ensures orders { IfOk result
+        (λ s. Tells clocks.now (λ lists. s ≡ orders_of (joins lists) (length lists) i j)) }
+    ensures lawful { IfOk result
+        (λ s. Tells clocks.now (λ lists. GoForward lists → AreLawful lists s)) }
 {
     let others = others_of(alloc, clocks, i, j)?;
     let first = around(alloc, &others.before, i, j, &others.after)?;

@@ -65,7 +65,8 @@ number_of (Some n) = n
 -- the steps up to a source, and the link from there
 abbrev pub then_link : (ℕ → Option ℕ) → (ℕ → List Step) → ℕ → Option ℕ → List Step
 then_link rule before j None = []
-then_link rule before j (Some k) = before k ++ record { source = k; target = j; rule = number_of (rule k) } ∷ []
+then_link rule before j (Some k) =
+    before k ++ record { source = k; target = j; rule = number_of (rule k) } ∷ []
 
 -- The steps from i to j: those from i to the least source, and the link from there. So many at most.
 abbrev pub steps_within : (ℕ → ℕ → Option ℕ) → List (List ℕ) → ℕ → ℕ → ℕ → List Step

@@ -34,12 +34,14 @@ abbrev pub task_rank : Task → ℕ
 task_rank x = x.rank
 
 -- under each number stands what the first record that declares it says
-pub record TasksDeclared (kind : TaskKind) (found : ℕ → Option Task) (h : List Record) : Type 0 where
+pub record TasksDeclared (kind : TaskKind) (found : ℕ → Option Task)
+    (h : List Record) : Type 0 where
   pub made : (k : ℕ) → option_map declared_of (found k) ≡ option_map declared (task_made kind h k)
   pub known : (k : ℕ) → is_some (found k) ≡ list_any (declares_task kind k) h
 
 -- the pair is the task that the record declares where this action runs, but for its place
-pub record TaskGiven (kind : TaskKind) (pair : Option (ℕ × Task)) (x : Record) (a : Action) : Type 0 where
+pub record TaskGiven (kind : TaskKind) (pair : Option (ℕ × Task)) (x : Record)
+    (a : Action) : Type 0 where
   pub placed : (k place : ℕ)
       → option_map (λ (t : history.Task). t.place) (makes_task (declares_task kind k) (entry_of x place a))
       ≡ option_map (λ (t : Task). place) (noted_in k pair)
@@ -63,7 +65,8 @@ pub record TaskTableIs (kind : TaskKind) (table : TaskTable) (h : List Record) :
 
 -- the record declares the one number and begins the event of the other, if there are such
 abbrev pub IsNoted : TaskKind → Record → Option ℕ → Option ℕ → Type 0
-IsNoted kind x posted begun = ((k : ℕ) → is_number k posted ≡ declares_task kind k x) × (begun ≡ task_started kind x)
+IsNoted kind x posted begun =
+    ((k : ℕ) → is_number k posted ≡ declares_task kind k x) × (begun ≡ task_started kind x)
 
 -- each of them has room for one number more
 abbrev pub HaveRoom : TaskTable → Type 0
@@ -88,7 +91,8 @@ pub record QueuedAre (queued : Queued) (h : List Record) : Type 0 where
 
 -- the event that queued the job whose event the record begins
 abbrev pub queuer_of : (ℕ → Option Task) → Record → Option ℕ
-queuer_of found x = option_map (λ (p : ℕ × Task). p.1.maker) (with_task found (task_started OfJob x))
+queuer_of found x =
+    option_map (λ (p : ℕ × Task). p.1.maker) (with_task found (task_started OfJob x))
 
 -- what is said of a job, where this event queued it
 abbrev pub under : {X : Type 0} → ℕ → Task → X → List X
