@@ -114,7 +114,8 @@ impl Graph {
 
     /// Takes a record that `check` accepts. The graph is marked as failed first, so that it stays so where memory runs out.
     fn take(&mut self, line: u32, rec: &Record) -> Result<(), NoMemory>
-        requires next { ∥ IsNext self.old.version self.old.page self.old.clocks self.old.lines.items rec.now ∥₁ }
+        requires next { ∥ IsNext self.old.version self.old.page self.old.clocks
+            self.old.lines.items rec.now ∥₁ }
         requires of_version { has_record self.old.version rec.now ≡ true }
         ensures taken { OnOk result ((accepted : List Accepted) → IsGraph self.old accepted
             → cause_now self.old.version accepted rec.now ≡ None

@@ -24,7 +24,11 @@ pub(crate) fn grow(
 ) -> Result<(), NoMemory>
     requires next { ∥ IsNext version page.old clocks.old lines.old.items rec.now ∥₁ }
     requires of_version { has_record version rec.now ≡ true }
-    ensures told { OnOk result ((accepted : List Accepted) → IsTold version page.old lines.old.items accepted → cause_now version accepted rec.now ≡ None → IsTold version page.new lines.new.items (record { line = line; read = rec.now } ∷ accepted)) }
+    ensures told { OnOk result ((accepted : List Accepted)
+        → IsTold version page.old lines.old.items accepted
+        → cause_now version accepted rec.now ≡ None
+        → IsTold version page.new lines.new.items
+            (record { line = line; read = rec.now } ∷ accepted)) }
     ensures timed { OnOk result ((accepted : List Accepted)
         → IsTold version page.old lines.old.items accepted → AreTimed version clocks.old accepted
         → cause_now version accepted rec.now ≡ None
@@ -51,7 +55,11 @@ fn begin(
     requires next { ∥ IsNext version page.old clocks.old lines.old.items rec.now ∥₁ }
     requires of_version { has_record version rec.now ≡ true }
     requires begins { history.begins rec.now ≡ true }
-    ensures told { OnOk result ((accepted : List Accepted) → IsTold version page.old lines.old.items accepted → cause_now version accepted rec.now ≡ None → IsTold version page.new lines.new.items (record { line = line; read = rec.now } ∷ accepted)) }
+    ensures told { OnOk result ((accepted : List Accepted)
+        → IsTold version page.old lines.old.items accepted
+        → cause_now version accepted rec.now ≡ None
+        → IsTold version page.new lines.new.items
+            (record { line = line; read = rec.now } ∷ accepted)) }
     ensures timed { OnOk result ((accepted : List Accepted)
         → IsTold version page.old lines.old.items accepted → AreTimed version clocks.old accepted
         → cause_now version accepted rec.now ≡ None

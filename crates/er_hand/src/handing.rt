@@ -42,10 +42,10 @@ pub fn hand_latest(
     out: &mut SmallVec<u32, 8>,
 ) -> Result<(), NoMemory>
     requires events { ∥ HasEvents page.now (listed event) ∥₁ }
-    ensures whole { OnOk result
-        (GrewFor page.now (λ (t : History). latest_of event t.actions) out.old.items out.new.items) }
-    ensures part { OnErr result
-        (GrewInPartFor page.now (λ (t : History). latest_of event t.actions) out.old.items out.new.items) }
+    ensures whole { OnOk result (GrewFor page.now
+        (λ (t : History). latest_of event t.actions) out.old.items out.new.items) }
+    ensures part { OnErr result (GrewInPartFor page.now
+        (λ (t : History). latest_of event t.actions) out.old.items out.new.items) }
 {
     match event {
         Some(event) => hand(page.latest_piece(event), out),
@@ -56,10 +56,12 @@ pub fn hand_latest(
 /// Hands the latest pieces of the events, from the last of them to the first.
 pub fn hand_each(page: &Page, events: &[u32], out: &mut SmallVec<u32, 8>) -> Result<(), NoMemory>
     requires events { ∥ HasEvents page.now events.now ∥₁ }
-    ensures whole { OnOk result
-        (GrewFor page.now (λ (t : History). latest_of_all (reverse events.now) t.actions) out.old.items out.new.items) }
-    ensures part { OnErr result
-        (GrewInPartFor page.now (λ (t : History). latest_of_all (reverse events.now) t.actions) out.old.items out.new.items) }
+    ensures whole { OnOk result (GrewFor page.now
+        (λ (t : History). latest_of_all (reverse events.now) t.actions)
+        out.old.items out.new.items) }
+    ensures part { OnErr result (GrewInPartFor page.now
+        (λ (t : History). latest_of_all (reverse events.now) t.actions)
+        out.old.items out.new.items) }
 {
     let count = events.len();
     for back in 0..count {

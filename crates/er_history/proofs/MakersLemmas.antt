@@ -3,8 +3,7 @@ use Rattle.std.proofs.Common.{◌≡◌, ℕ, ◌<◌, ◌≤◌, Bool, true, fa
 use Rattle.std.specs.Prelude.{◌==◌, if◌then◌else◌}
 use Rattle.er_trace.specs.declared.record.Record.{Record}
 use Rattle.er_trace.specs.declared.record.Record.TheVariants.{Parse, ParseFrame, New, NewFrame, Set}
-use Rattle.er_history.specs.History.{Element, Kinded, Framing, Timeout, Task, Action, Entry, told, or_else, first_to, makes_element, makes_timeout, makes_task, maker_by, element_maker, running}
-use Rattle.er_trace.specs.Kinds.{kind_of}
+use Rattle.er_history.specs.History.{Element, Kinded, Framing, Timeout, Task, Action, Entry, told, or_else, first_to, makes_element, makes_timeout, makes_task, maker_by, element_maker, kind_of, running}
 use Rattle.er_history.proofs.HistoryLemmas.{BeginsBefore, told_before, actions_grow}
 
 -- the action of an entry, and its event, began before the n-th action

@@ -3,17 +3,18 @@ use Rattle.std.proofs.Common.{◌≡◌, ℕ, ◌<◌, Bool, true, false, List, 
 use Rattle.std.specs.Prelude.{◌-◌, ◌==◌, ◌||◌, ◌&&◌, not, nat_lt, nat_le, if◌then◌else◌}
 use Rattle.std.specs.List.{list_any}
 use Rattle.std.proofs.lemmas.Bool.Decides.{nat_tests}
+use Rattle.er_text.specs.declared.causes.Cause.{Cause}
 use Rattle.er_text.specs.declared.causes.Cause.TheVariants.{OutOfOrder}
 use Rattle.er_trace.specs.declared.record.Record.{Record}
 use Rattle.er_trace.specs.declared.record.Record.TheVariants.{Back}
 use Rattle.er_trace.specs.declared.version.Version.{Version}
 use Rattle.er_trace.specs.declared.version.Version.TheVariants.{One, Two, Three}
-use Rattle.er_history.specs.History.{Task, What, TimeoutRun, MessageRun, AnimRun, JobRun, Unnamed, Dispatch, Event, Action, History, told, begins, find_open, action_at, what_begun, event_resumed, event_begun, action_begun, or_else}
+use Rattle.er_history.specs.History.{Timeout, Task, What, TimeoutRun, MessageRun, AnimRun, JobRun, Unnamed, Dispatch, Event, Action, History, told, begins, find_open, action_at, what_begun, event_resumed, event_begun, action_begun, or_else}
 use Rattle.er_history.specs.Rules.{Rule, any_holds, parse_rules, script_rules, load_rules, dispatch_rules, timer_rules, request_rules, task_rules, rules, set_before_timer, timers_of_joined_pieces_in_order, ticks_in_order, declared_in_order, post_before_message, messages_in_order, ask_before_anim, anims_in_order, queue_before_job, jobs_in_order, jobs_before_callbacks, jobs_before_close}
-use Rattle.er_history.specs.Edges.{path, up_to}
+use Rattle.er_history.specs.Edges.{path, up_to, is_ruled}
 use Rattle.er_history.specs.Laws.{Among}
 use Rattle.er_history.specs.Naming.{naming, room}
-use Rattle.er_history.specs.Sound.{leads_back, out_of_order}
+use Rattle.er_history.specs.Sound.{leads_back, out_of_order, cause, IsSound}
 use Rattle.er_history.specs.Versions.{CausesAreShared, SoundListsAreShared, SetBeforeCallback, PathsBeforeSuffice}
 use Rattle.er_history.proofs.HistoryLemmas.{action_at_among}
 use Rattle.er_history.proofs.FactsLemmas.{all_keep, begun_keeps}

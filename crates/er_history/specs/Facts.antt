@@ -1,7 +1,7 @@
 -- What events keep, against what the whole list says. Lists stand newest first.
 use Rattle.std.specs.Prelude.{◌≡◌, List, Option, Some}
 use Rattle.er_trace.specs.declared.record.Record.{Record}
-use Rattle.er_history.specs.History.{Action, Entry, Delivery, DclOf, LoadOf, EloadOf, FireAt, InlineAt, WindowFire, ReplyOf, What, ParseStep, ScriptRun, TimeoutRun, TickRun, BeginOf, HandlerOf, CloseOf, MessageRun, AnimRun, JobRun, Unnamed, told, first_to, makes_task, posts_message, asks_for_anim, queues_job, makes_element, makes_timeout, maker_by, element_maker, declares_document, declares_handler, declares_interval, declares_request}
+use Rattle.er_history.specs.History.{Action, Entry, Delivery, DclOf, LoadOf, EloadOf, FireAt, InlineAt, WindowFire, ReplyOf, What, ParseStep, ScriptRun, TimeoutRun, TickRun, BeginOf, HandlerOf, CloseOf, MessageRun, AnimRun, JobRun, Unnamed, Element, Timeout, Task, told, first_to, makes_task, posts_message, asks_for_anim, queues_job, makes_element, makes_timeout, maker_by, element_maker, declares_document, declares_handler, declares_interval, declares_request}
 use Rattle.er_history.specs.Laws.{Among}
 use Rattle.er_history.specs.Naming.{IsNamed}
 
@@ -47,22 +47,23 @@ DeliveryIs entries (InlineAt e n m) = m ≡ element_maker entries e
 DeliveryIs entries (WindowFire d n m) = m ≡ maker_by (declares_document d) entries
 DeliveryIs entries (ReplyOf r m) = m ≡ maker_by (declares_request r) entries
 
--- a look-up gives what was kept, and there is something
-abbrev pub IsFound : {A : Type 0} → Option A → Option A → Type 0
-IsFound {A} made found = (made ≡ found) × (x : A) × (made ≡ Some x)
-
 abbrev pub WhatIs : List Entry → What → Type 0
 WhatIs entries (ParseStep d m) = m ≡ maker_by (declares_document d) entries
-WhatIs entries (ScriptRun e made) = IsFound made (first_to (makes_element e) entries)
-WhatIs entries (TimeoutRun t made) = IsFound made (first_to (makes_timeout t) entries)
+WhatIs entries (ScriptRun e made) =
+    (made ≡ first_to (makes_element e) entries) × (x : Element) × (made ≡ Some x)
+WhatIs entries (TimeoutRun t made) =
+    (made ≡ first_to (makes_timeout t) entries) × (x : Timeout) × (made ≡ Some x)
 WhatIs entries (TickRun i m) = m ≡ maker_by (declares_interval i) entries
 WhatIs entries (BeginOf d) = DeliveryIs entries d.delivers
 WhatIs entries (HandlerOf d g x m) =
     DeliveryIs entries d.delivers × (m ≡ maker_by (declares_handler x) entries)
 WhatIs entries (CloseOf d) = DeliveryIs entries d.delivers
-WhatIs entries (MessageRun m made) = IsFound made (first_to (makes_task (posts_message m)) entries)
-WhatIs entries (AnimRun a made) = IsFound made (first_to (makes_task (asks_for_anim a)) entries)
-WhatIs entries (JobRun j made within) = IsFound made (first_to (makes_task (queues_job j)) entries)
+WhatIs entries (MessageRun m made) =
+    (made ≡ first_to (makes_task (posts_message m)) entries) × (x : Task) × (made ≡ Some x)
+WhatIs entries (AnimRun a made) =
+    (made ≡ first_to (makes_task (asks_for_anim a)) entries) × (x : Task) × (made ≡ Some x)
+WhatIs entries (JobRun j made within) =
+    (made ≡ first_to (makes_task (queues_job j)) entries) × (x : Task) × (made ≡ Some x)
 WhatIs entries Unnamed = ⊥
 
 -- Where naming refuses no record, each maker, element and timeout that an event kept is what a look-up in the whole list gives.

@@ -3,7 +3,9 @@ use Rattle.std.specs.Prelude.{ℕ, ◌-◌, Bool, true, false, ◌==◌, if◌th
 use Rattle.er_trace.specs.declared.record.Record.{Record}
 use Rattle.er_trace.specs.declared.record.Record.TheVariants.{Parse, ParseFrame, Exec, Timer, Tick, Dcl, Load, Eload, Fire, Wfire, Reply, Inline, Run, Close, Back, New, NewFrame, On, Set, Every, Send, Access, Post, Ask, Queue, Message, Anim, Job}
 use Rattle.er_trace.specs.declared.record.Kind.{Kind}
-use Rattle.er_trace.specs.Kinds.{kind_of}
+use Rattle.er_trace.specs.declared.record.Kind.TheVariants as kinds
+use Rattle.er_trace.specs.declared.record.NewKind.{NewKind}
+use Rattle.er_trace.specs.declared.record.NewKind.TheVariants as new_kinds
 
 -- An element: its document, its form, whether a parse step made it, and the event and the piece that made it.
 pub data Form : Type 0 where
@@ -134,23 +136,29 @@ abbrev pub first_to : {A B : Type 0} → (A → Option B) → List A → Option 
 first_to f [] = None
 first_to f (x ∷ xs) = or_else (first_to f xs) (f x)
 
+-- the kind that a script gives a new element
+abbrev pub kind_of : NewKind → Kind
+kind_of new_kinds.Plain = kinds.Plain
+kind_of new_kinds.Async = kinds.Async
+kind_of new_kinds.Image = kinds.Image
+
 -- The maker of a number is the event of the action that runs when the record that declares it has been read.
 
 -- the element that an entry makes under this number
 abbrev pub makes_element : ℕ → Entry → Option Element
 makes_element number entry = by entry.action entry.read
   where
-    element : ℕ → Form → Bool → Action → Element
-    element d form static a = record {
-      doc = d;
-      form = form;
-      is_static = static;
-      maker = a.event.number;
-      piece = a.number;
-    }
-
     made : ℕ → ℕ → Form → Bool → Action → Option Element
-    made d e form static a = if e == number then Some (element d form static a) else None
+    made d e form static a =
+        if e == number
+        then Some (record {
+          doc = d;
+          form = form;
+          is_static = static;
+          maker = a.event.number;
+          piece = a.number;
+        })
+        else None
 
     by : Option Action → Record → Option Element
     by (Some a) (Parse d e k) = made d e (Kinded k) true a
@@ -163,16 +171,16 @@ makes_element number entry = by entry.action entry.read
 abbrev pub makes_timeout : ℕ → Entry → Option Timeout
 makes_timeout number entry = by entry.action entry.read
   where
-    timeout : ℕ → Action → Timeout
-    timeout n a = record {
-      delay = n;
-      place = entry.place;
-      maker = a.event.number;
-      piece = a.number;
-    }
-
     by : Option Action → Record → Option Timeout
-    by (Some a) (Set t n) = if t == number then Some (timeout n a) else None
+    by (Some a) (Set t n) =
+        if t == number
+        then Some (record {
+          delay = n;
+          place = entry.place;
+          maker = a.event.number;
+          piece = a.number;
+        })
+        else None
     by _ _ = None
 
 abbrev pub declares_document : ℕ → Record → Bool
@@ -233,10 +241,6 @@ abbrev pub find_open : ℕ → List Open → Option Dispatch
 find_open p [] = None
 find_open p (o ∷ below) = if o.dispatch.number == p then Some o.dispatch else find_open p below
 
--- the numbers of the dispatches on a stack
-abbrev pub numbers_on : List Open → List ℕ
-numbers_on stack = map (λ (o : Open). o.dispatch.number) stack
-
 abbrev pub action_at : ℕ → List Action → Option Action
 action_at k [] = None
 action_at k (a ∷ older) = if a.number == k then Some a else action_at k older
@@ -284,7 +288,9 @@ what_begun h x = by x
     by (Close p) = close (find_open p h.stack)
     by (Message m) = MessageRun m (first_to (makes_task (posts_message m)) h.entries)
     by (Anim a) = AnimRun a (first_to (makes_task (asks_for_anim a)) h.entries)
-    by (Job j) = JobRun j (first_to (makes_task (queues_job j)) h.entries) (numbers_on h.stack)
+    by (Job j) =
+        JobRun j (first_to (makes_task (queues_job j)) h.entries)
+          (map (λ (o : Open). o.dispatch.number) h.stack)
     by x = begin (dispatch_begun h.entries (length h.actions) x)
 
 -- the event that goes on where inline dispatch p is finished: that of the piece just before its begin
@@ -336,8 +342,8 @@ actions_after h x = if begins x then action_begun h x ∷ h.actions else h.actio
 -- one record more
 abbrev pub after : History → Record → History
 after h x = record {
-  entries =
-      record { read = x; place = length h.entries; action = running (actions_after h x) } ∷ h.entries;
+  entries = record { read = x; place = length h.entries; action = running (actions_after h x) }
+      ∷ h.entries;
   actions = actions_after h x;
   stack = stack_after h.stack (dispatch_begun h.entries (length h.actions) x) x;
 }

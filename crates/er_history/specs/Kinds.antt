@@ -1,10 +1,10 @@
 -- Tests of events: what the handed pieces are pieces of.
-use Rattle.std.specs.Prelude.{ℕ, Bool, true, false, ◌==◌, ◌&&◌, List, None}
+use Rattle.std.specs.Prelude.{ℕ, Bool, true, false, not, ◌==◌, ◌&&◌}
 use Rattle.std.specs.List.{list_any}
 use Rattle.er_trace.specs.declared.record.Kind.{Kind}
 use Rattle.er_trace.specs.declared.record.Kind.TheVariants as kinds
-use Rattle.er_history.specs.History.{Element, Delivery, LoadOf, EloadOf, FireAt, WindowFire, ReplyOf, What, ParseStep, ScriptRun, TickRun, BeginOf, HandlerOf, CloseOf, JobRun, Event}
-use Rattle.er_history.specs.Rules.{of_made, has_kind, counts_for_load, same_target}
+use Rattle.er_history.specs.History.{Element, Delivery, LoadOf, EloadOf, ReplyOf, What, ParseStep, ScriptRun, TickRun, BeginOf, HandlerOf, CloseOf, JobRun, Event}
+use Rattle.er_history.specs.Rules.{of_made, has_kind, is_plain}
 
 -- a parse step of the document
 abbrev pub is_step_of : ℕ → Event → Bool
@@ -54,14 +54,6 @@ closes test e = by e.what
     by (CloseOf p) = test p.delivers
     by _ = false
 
--- the close of a dispatch of this type at the element
-abbrev pub is_element_close : ℕ → List ℕ → Event → Bool
-is_element_close e n = closes (λ y. same_target y (FireAt e n None))
-
--- the same at the window of the document
-abbrev pub is_window_close : ℕ → List ℕ → Event → Bool
-is_window_close d n = closes (λ y. same_target y (WindowFire d n None))
-
 abbrev pub is_load_of : ℕ → Delivery → Bool
 is_load_of d (LoadOf c m) = c == d
 is_load_of d _ = false
@@ -72,7 +64,8 @@ is_reply_of r _ = false
 
 -- the first load event of a static element of the document that is not plain
 abbrev pub is_static_load_of : ℕ → Delivery → Bool
-is_static_load_of d (EloadOf x made) = of_made (counts_for_load d) made
+is_static_load_of d (EloadOf x made) =
+    of_made (λ e. e.is_static && (not (is_plain e) && (e.doc == d))) made
 is_static_load_of d _ = false
 
 -- the begin of this dispatch

@@ -27,17 +27,12 @@ abbrev pub latest_of : Option ℕ → List Action → List ℕ
 latest_of None actions = []
 latest_of (Some u) actions = latest_piece u actions
 
--- it is the first piece of an event that passes
-abbrev pub begins_event : (Event → Bool) → Action → Bool
-begins_event test a = (a.number == a.event.number) && test a.event
-
 -- the latest piece of each event that passes and has its first piece among the second list
 abbrev pub latest_among : (Event → Bool) → List Action → List Action → List ℕ
 latest_among test all [] = []
-latest_among test all (a ∷ older) =
-    if begins_event test a
-    then latest_piece a.event.number all ++ latest_among test all older
-    else latest_among test all older
+latest_among test all (a ∷ older) = if (a.number == a.event.number)
+    && test a.event then latest_piece a.event.number all
+    ++ latest_among test all older else latest_among test all older
 
 -- the latest piece of each event that passes
 abbrev pub latest_of_each : (Event → Bool) → List Action → List ℕ
@@ -46,10 +41,8 @@ latest_of_each test actions = latest_among test actions actions
 -- the events that pass, newest first: each has its number where its first piece stands
 abbrev pub events_of_each : (Event → Bool) → List Action → List ℕ
 events_of_each test [] = []
-events_of_each test (a ∷ older) =
-    if begins_event test a
-    then a.event.number ∷ events_of_each test older
-    else events_of_each test older
+events_of_each test (a ∷ older) = if (a.number == a.event.number)
+    && test a.event then a.event.number ∷ events_of_each test older else events_of_each test older
 
 -- the greatest group that passes of the handlers of the dispatch that ran
 

@@ -1,5 +1,5 @@
 -- What holds of the actions of a list of records, of the edges between them, and of paths. Lists stand newest first.
-use Rattle.std.specs.Prelude.{◌≡◌, ◌↔◌, ◌⊎◌, ℕ, ◌<◌, ◌≤◌, Bool, true, List, [], ◌∷◌, ◌++◌, length}
+use Rattle.std.specs.Prelude.{◌≡◌, ◌↔◌, ◌⊎◌, ℕ, ◌<◌, ◌≤◌, true, List, [], ◌∷◌, ◌++◌, length}
 use Rattle.er_trace.specs.declared.record.Record.{Record}
 use Rattle.er_paths.specs.Paths.{is_among, list_of, Leads}
 use Rattle.er_paths.specs.Laws.{GoForward}
@@ -24,10 +24,8 @@ IsNumbered (a ∷ older) = (a.number ≡ length older) × IsNumbered older
 -- from a these actions lead to b, each by an edge
 abbrev pub LeadsByEdges : List (ℕ × Rule) → List Record → Action → List Action → Action → Type 0
 LeadsByEdges table h a [] b = a ≡ b
-LeadsByEdges table h a (c ∷ steps) b =
-    Among c (told h).actions
-    × (edge table (path table h) a c ≡ true)
-    × LeadsByEdges table h c steps b
+LeadsByEdges table h a (c ∷ steps) b = Among c (told h).actions
+    × (edge table (path table h) a c ≡ true) × LeadsByEdges table h c steps b
 
 -- The actions are numbered in the order in which they begin.
 abbrev pub ActionsAreNumbered : Type 0
@@ -57,20 +55,17 @@ abbrev pub EdgesGoForward : Type 0
 EdgesGoForward = (table : List (ℕ × Rule)) (h : List Record)
     → GoForward (edges table (told h).actions)
 
--- i is in the list of j
-abbrev pub is_listed : List (ℕ × Rule) → List Record → ℕ → ℕ → Bool
-is_listed table h i j = is_among i (list_of (edges table (told h).actions) j)
-
 -- The list of b has a exactly where an edge leads from a to b.
 abbrev pub EdgesAreEdges : Type 0
 EdgesAreEdges = (table : List (ℕ × Rule)) (h : List Record) (a b : Action)
     → Among a (told h).actions → Among b (told h).actions
-    → is_listed table h a.number b.number ≡ edge table (path table h) a b
+    → is_among a.number (list_of (edges table (told h).actions) b.number)
+    ≡ edge table (path table h) a b
 
 -- The lists have numbers of actions alone, and only actions have a list with something in it.
 abbrev pub EdgesJoinActions : Type 0
 EdgesJoinActions = (table : List (ℕ × Rule)) (h : List Record) (i j : ℕ)
-    → is_listed table h i j ≡ true
+    → is_among i (list_of (edges table (told h).actions) j) ≡ true
     → HasNumber (told h).actions i × HasNumber (told h).actions j
 
 -- There is a path exactly where a list of steps leads from i to j, each by an edge.
@@ -95,5 +90,5 @@ EdgesStay = (table : List (ℕ × Rule)) (more h : List Record)
 
 -- Later records change no path among the earlier actions.
 abbrev pub PathsStay : Type 0
-PathsStay = (table : List (ℕ × Rule)) (more h : List Record) (i j : ℕ)
-    → j < length (told h).actions → path table (more ++ h) i j ≡ path table h i j
+PathsStay = (table : List (ℕ × Rule)) (more h : List Record) (i j : ℕ) → j < length (told h).actions
+    → path table (more ++ h) i j ≡ path table h i j

@@ -5,7 +5,7 @@ use Rattle.er_trace.specs.declared.record.Kind.{Kind}
 use Rattle.er_trace.specs.declared.record.Kind.TheVariants as kinds
 use Rattle.er_trace.specs.declared.version.Version.{Version}
 use Rattle.er_trace.specs.declared.version.Version.TheVariants.{One, Two, Three}
-use Rattle.er_history.specs.History.{Form, Kinded, Framing, Element, Timeout, Task, Delivery, DclOf, LoadOf, EloadOf, FireAt, InlineAt, WindowFire, ReplyOf, What, ParseStep, ScriptRun, TimeoutRun, TickRun, BeginOf, HandlerOf, CloseOf, MessageRun, AnimRun, JobRun, Event}
+use Rattle.er_history.specs.History.{Form, Kinded, Framing, Element, Task, Delivery, DclOf, LoadOf, EloadOf, FireAt, InlineAt, WindowFire, ReplyOf, What, ParseStep, ScriptRun, TimeoutRun, TickRun, BeginOf, HandlerOf, CloseOf, MessageRun, AnimRun, JobRun, Event}
 
 -- A rule between two events. It is told which earlier actions a path joins. It says nothing of lists in which naming refuses a record.
 abbrev pub Rule : Type 0
@@ -147,12 +147,11 @@ blocking_before_deferred_script joined u v = go u.what v.what
 abbrev pub deferred_scripts_as_parsed : Rule
 deferred_scripts_as_parsed joined u v = go u.what v.what
   where
-    before : Element → Element → Bool
-    before x y =
-        is_deferred x && (is_deferred y && ((x.doc == y.doc) && nat_lt x.piece y.piece))
-
     go : What → What → Bool
-    go (ScriptRun e made) (ScriptRun f made2) = both_made before made made2
+    go (ScriptRun e made) (ScriptRun f made2) =
+        both_made (λ x y.
+          is_deferred x && (is_deferred y && ((x.doc == y.doc) && nat_lt x.piece y.piece)))
+          made made2
     go _ _ = false
 
 -- 8. A parse step, or the run of a blocking or deferred script, before the begin of DOMContentLoaded of its document. HTML Standard, "The end".
@@ -197,16 +196,13 @@ parsed_before_load joined u v = go v.what
     go (BeginOf q) = of q.delivers
     go _ = false
 
--- load of the document waits for it: it is static, of this document, and not plain
-abbrev pub counts_for_load : ℕ → Element → Bool
-counts_for_load d e = e.is_static && (not (is_plain e) && (e.doc == d))
-
 -- 11. The close of the first load event of a static element that is not plain before the begin of load of its document (recorded). This project's own.
 abbrev pub static_loads_before_load : Rule
 static_loads_before_load joined u v = recorded u v && go u.what v.what
   where
     of : Delivery → Delivery → Bool
-    of (EloadOf x made) (LoadOf d m) = of_made (counts_for_load d) made
+    of (EloadOf x made) (LoadOf d m) =
+        of_made (λ e. e.is_static && (not (is_plain e) && (e.doc == d))) made
     of _ _ = false
 
     go : What → What → Bool
@@ -296,22 +292,22 @@ set_before_timer joined u v = go v.what
 abbrev pub timers_of_one_event_in_order : Rule
 timers_of_one_event_in_order joined u v = recorded u v && go u.what v.what
   where
-    before : Timeout → Timeout → Bool
-    before x y = (x.maker == y.maker) && (nat_lt x.place y.place && nat_le x.delay y.delay)
-
     go : What → What → Bool
-    go (TimeoutRun s made) (TimeoutRun t made2) = both_made before made made2
+    go (TimeoutRun s made) (TimeoutRun t made2) =
+        both_made (λ x y.
+          (x.maker == y.maker) && (nat_lt x.place y.place && nat_le x.delay y.delay))
+          made made2
     go _ _ = false
 
 -- 19, in versions 2 and 3. The callback of a timeout before that of another that was set later with no lesser delay, in a piece to which a path leads from the piece that set the first (recorded). HTML Standard, "Timers"; that delays alone are compared is this project's own.
 abbrev pub timers_of_joined_pieces_in_order : Rule
 timers_of_joined_pieces_in_order joined u v = recorded u v && go u.what v.what
   where
-    before : Timeout → Timeout → Bool
-    before x y = nat_lt x.place y.place && (nat_le x.delay y.delay && joined x.piece y.piece)
-
     go : What → What → Bool
-    go (TimeoutRun s made) (TimeoutRun t made2) = both_made before made made2
+    go (TimeoutRun s made) (TimeoutRun t made2) =
+        both_made (λ x y.
+          nat_lt x.place y.place && (nat_le x.delay y.delay && joined x.piece y.piece))
+          made made2
     go _ _ = false
 
 -- rule 19 of a version
@@ -463,11 +459,7 @@ dispatch_rules =
     ∷ []
 
 abbrev pub timer_rules : Version → List (ℕ × Rule)
-timer_rules v =
-    (18, set_before_timer)
-    ∷ (19, timers_in_order v)
-    ∷ (20, ticks_in_order)
-    ∷ []
+timer_rules v = (18, set_before_timer) ∷ (19, timers_in_order v) ∷ (20, ticks_in_order) ∷ []
 
 abbrev pub request_rules : List (ℕ × Rule)
 request_rules = (21, replies_in_order) ∷ []
@@ -487,9 +479,8 @@ task_rules =
 
 -- All rules between events of a version, in the order of their numbers.
 abbrev pub rules : Version → List (ℕ × Rule)
-rules v =
-    parse_rules ++ script_rules ++ load_rules ++ dispatch_rules
-    ++ timer_rules v ++ request_rules ++ task_rules
+rules v = parse_rules ++ script_rules ++ load_rules ++ dispatch_rules ++ timer_rules v
+    ++ request_rules ++ task_rules
 
 -- one of the rules of a table holds between two events
 abbrev pub any_holds : List (ℕ × Rule) → (ℕ → ℕ → Bool) → Event → Event → Bool

@@ -13,8 +13,7 @@ use Rattle.er_history.specs.Naming.{naming, room, IsNamed}
 -- One of the rules holds from the event that the record begins to one that has begun. `back` begins no event.
 abbrev pub leads_back : List (ℕ × Rule) → (ℕ → ℕ → Bool) → History → Record → Bool
 leads_back rules joined h (Back p) = false
-leads_back rules joined h x =
-    begins x
+leads_back rules joined h x = begins x
     && list_any (λ (i : Action). any_holds rules joined (event_begun h x) i.event) h.actions
 
 abbrev pub out_of_order : List (ℕ × Rule) → List Record → Record → Bool

@@ -1,9 +1,9 @@
 -- Which dispatches are not finished. Lists stand newest first.
-use Rattle.std.specs.Prelude.{◌≡◌, ℕ, Bool, false, not, ◌==◌, if◌then◌else◌, List, [], ◌∷◌, filter, Option, Some, None}
+use Rattle.std.specs.Prelude.{◌≡◌, ℕ, Bool, false, not, ◌==◌, if◌then◌else◌, List, [], ◌∷◌, map, filter, Option, Some, None}
 use Rattle.std.specs.List.{list_any}
 use Rattle.er_trace.specs.declared.record.Record.{Record}
 use Rattle.er_trace.specs.declared.record.Record.TheVariants.{Dcl, Load, Eload, Fire, Wfire, Reply, Inline, Close, Back}
-use Rattle.er_history.specs.History.{told, numbers_on}
+use Rattle.er_history.specs.History.{Open, told}
 use Rattle.er_history.specs.Naming.{IsNamed}
 
 -- the number of the dispatch that a record begins
@@ -46,4 +46,5 @@ is_finished h p =
 -- Where naming refuses no record, the stack has the numbers of the dispatches that have begun and are not finished, the newest on top.
 abbrev pub StackIsUnfinished : Type 0
 StackIsUnfinished = (h : List Record) → IsNamed h
-    → numbers_on (told h).stack ≡ filter (λ p. not (is_finished h p)) (dispatches_begun h)
+    → map (λ (o : Open). o.dispatch.number) (told h).stack
+    ≡ filter (λ p. not (is_finished h p)) (dispatches_begun h)

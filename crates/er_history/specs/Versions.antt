@@ -19,8 +19,8 @@ SoundListsAreShared = (v w : Version) (h : List Record) → IsSound (rules v) h 
 
 -- The piece that set a timeout comes before the event of its callback.
 abbrev pub SetBeforeCallback : Type 0
-SetBeforeCallback = (h : List Record) (a : Action) (t : ℕ) (x : Timeout)
-    → Among a (told h).actions → a.event.what ≡ TimeoutRun t (Some x) → x.piece < a.event.number
+SetBeforeCallback = (h : List Record) (a : Action) (t : ℕ) (x : Timeout) → Among a (told h).actions
+    → a.event.what ≡ TimeoutRun t (Some x) → x.piece < a.event.number
 
 -- So a rule that is told of the paths among the actions before the later event holds exactly where it does by all paths.
 abbrev pub PathsBeforeSuffice : Type 0

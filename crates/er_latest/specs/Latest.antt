@@ -1,10 +1,10 @@
 -- What the tables stand for: what came last among a list of actions. Lists of actions stand newest first.
 use Rattle.std.specs.Prelude.{◌≡◌, ℕ, ◌==◌, Bool, List, Option, None, nat_eq, reverse}
 use Rattle.indexmap.specs.IndexMap.{get}
-use Rattle.er_history.specs.History.{Event, Action}
-use Rattle.er_history.specs.Rules.{is_blocking, is_deferred}
+use Rattle.er_history.specs.History.{Event, Action, FireAt, WindowFire}
+use Rattle.er_history.specs.Rules.{is_blocking, is_deferred, same_target}
 use Rattle.er_history.specs.Latest.{newest_by, events_of_each, greatest_group}
-use Rattle.er_history.specs.Kinds.{is_step_of, is_run_of, is_static_async, is_tick_of, closes, is_element_close, is_window_close, is_reply_of, is_static_load_of, is_handler_of}
+use Rattle.er_history.specs.Kinds.{is_step_of, is_run_of, is_static_async, is_tick_of, closes, is_reply_of, is_static_load_of, is_handler_of}
 use Rattle.er_history.specs.LookUps.{event_in, piece_in, script_in}
 use Rattle.er_latest.specs.declared.latest.Latest.{Latest}
 use Rattle.er_latest.specs.declared.role.Role.{Role}
@@ -27,31 +27,34 @@ events_in_order test actions = reverse (events_of_each test actions)
 -- the close of a dispatch of this type at the element, or at the window of the document
 
 abbrev pub closes_at_element : ℕ → List ℕ → List Action → Option ℕ
-closes_at_element e n actions = piece_in (newest_by (is_element_close e n) actions)
+closes_at_element e n actions =
+    piece_in (newest_by (closes (λ y. same_target y (FireAt e n None))) actions)
 
 abbrev pub closes_at_window : ℕ → List ℕ → List Action → Option ℕ
-closes_at_window d n actions = piece_in (newest_by (is_window_close d n) actions)
+closes_at_window d n actions =
+    piece_in (newest_by (closes (λ y. same_target y (WindowFire d n None))) actions)
 
 -- each table has what the list of actions says
 pub record LatestAre (latest : Latest) (actions : List Action) : Type 0 where
-  pub steps : (d : ℕ) → get nat_eq latest.steps d ≡ last_event (is_step_of d) actions
+  pub steps : (d : ℕ) → get nat_eq latest.steps d ≡ event_in (newest_by (is_step_of d) actions)
   pub blocking : (d : ℕ)
-      → get nat_eq latest.blocking d ≡ last_event (is_run_of is_blocking d) actions
+      → get nat_eq latest.blocking d ≡ event_in (newest_by (is_run_of is_blocking d) actions)
   pub deferred : (d : ℕ)
-      → get nat_eq latest.deferred d ≡ last_event (is_run_of is_deferred d) actions
+      → get nat_eq latest.deferred d ≡ event_in (newest_by (is_run_of is_deferred d) actions)
   pub scripts : (d : ℕ)
-      → get nat_eq latest.scripts d ≡ last_script (is_run_of is_deferred d) actions
-  pub ticks : (i : ℕ) → get nat_eq latest.ticks i ≡ last_event (is_tick_of i) actions
-  pub replies : (r : ℕ) → get nat_eq latest.replies r ≡ last_event (closes (is_reply_of r)) actions
+      → get nat_eq latest.scripts d ≡ script_in (newest_by (is_run_of is_deferred d) actions)
+  pub ticks : (i : ℕ) → get nat_eq latest.ticks i ≡ event_in (newest_by (is_tick_of i) actions)
+  pub replies : (r : ℕ)
+      → get nat_eq latest.replies r ≡ event_in (newest_by (closes (is_reply_of r)) actions)
   pub asyncs : (d : ℕ)
       → items_of (get nat_eq latest.asyncs d)
-      ≡ events_in_order (is_run_of is_static_async d) actions
+      ≡ reverse (events_of_each (is_run_of is_static_async d) actions)
   pub statics : (d : ℕ)
       → items_of (get nat_eq latest.statics d)
-      ≡ events_in_order (closes (is_static_load_of d)) actions
+      ≡ reverse (events_of_each (closes (is_static_load_of d)) actions)
   pub runs : (p : ℕ × ℕ)
       → items_of (get pair_eq latest.runs p)
-      ≡ events_in_order (is_handler_of p.0 (λ k. k == p.1)) actions
+      ≡ reverse (events_of_each (is_handler_of p.0 (λ k. k == p.1)) actions)
   pub groups : (p : ℕ) (test : ℕ → Bool)
       → greatest_in test (items_of (get nat_eq latest.groups p)) ≡ greatest_group p test actions
   pub ordered : (p : ℕ) → IsRising (items_of (get nat_eq latest.groups p))

@@ -76,7 +76,7 @@ impl Latest {
 impl Latest {
     /// The greatest group that has run.
     pub fn last_group(&self, dispatch: u32) -> Option<u32>
-        ensures { Answers self.now (greatest_group dispatch (λ k. true)) result }
+        ensures { Answers self.now (λ actions. greatest_group dispatch (λ k. true) actions) result }
     {
         groups::greatest(lists::of(&self.groups, dispatch))
     }
@@ -90,21 +90,22 @@ impl Latest {
 
     /// The events of the handlers of the group that have run, oldest first.
     pub fn runs_in(&self, dispatch: u32, group: u32) -> &[u32]
-        ensures { Answers self.now (events_in_order (is_handler_of dispatch (λ k. k == group))) result.now }
+        ensures { Answers self.now
+            (events_in_order (is_handler_of dispatch (λ k. k == group))) result.now }
     {
         lists::of(&self.runs, (dispatch, group))
     }
 
     /// The latest piece of a close of a dispatch of this type at the element, begun by `fire` or `inline`.
     pub fn last_element_close(&self, element: u32, name: &Name) -> Option<u32>
-        ensures { Answers self.now (closes_at_element element name.now) result }
+        ensures { Answers self.now (λ actions. closes_at_element element name.now actions) result }
     {
         named::of(&self.elements, name, element)
     }
 
     /// The latest piece of a close of a dispatch of this type at the window of the document, begun by `wfire`.
     pub fn last_window_close(&self, doc: u32, name: &Name) -> Option<u32>
-        ensures { Answers self.now (closes_at_window doc name.now) result }
+        ensures { Answers self.now (λ actions. closes_at_window doc name.now actions) result }
     {
         named::of(&self.windows, name, doc)
     }

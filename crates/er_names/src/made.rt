@@ -9,7 +9,7 @@ ghost use Rattle.er_names.specs.Names.{ElementsAre, TimeoutsAre, ElementGiven, S
 
 use crate::names::{Element, Form, Timeout};
 use er_firsts::firsts::{Now, note_pair};
-use er_trace::record::{Kind, Record};
+use er_trace::record::{Kind, NewKind, Record};
 use indexmap::IndexMap;
 
 /// Notes the element that the record makes.
@@ -52,7 +52,7 @@ fn element_in(rec: &Record, now: Now) -> Option<(u32, Element)>
         Record::New { doc, element, kind } => {
             Some((
                 *element,
-                made(*doc, Form::Kinded(Kind::from(*kind)), false, now),
+                made(*doc, Form::Kinded(kind_of(*kind)), false, now),
             ))
         }
         Record::NewFrame {
@@ -99,5 +99,16 @@ fn made(doc: u32, form: Form, is_static: bool, now: Now) -> Element
         is_static,
         maker: now.event,
         piece: now.action,
+    }
+}
+
+/// The kind that a script gives a new element.
+fn kind_of(kind: NewKind) -> Kind
+    ensures { result ≡ history.kind_of kind }
+{
+    match kind {
+        NewKind::Plain => Kind::Plain,
+        NewKind::Async => Kind::Async,
+        NewKind::Image => Kind::Image,
     }
 }

@@ -49,7 +49,10 @@ impl Pieces {
         requires place { 0 < spare self.old.latest }
         ensures list { self.new.list.items
             ≡ self.old.list.items ++ record { begin = begin; start = start } ∷ [] }
-        ensures latest { (u : ℕ) → get nat_eq self.new.latest u ≡ (if start.event == u then Some (length self.old.list.items) else get nat_eq self.old.latest u) }
+        ensures latest { (u : ℕ) → get nat_eq self.new.latest u
+            ≡ (if start.event == u
+                then Some (length self.old.list.items)
+                else get nat_eq self.old.latest u) }
     {
         let action = self.list.len() as u32;
         let Ok(_) = self.latest.insert(start.event, action) else {

@@ -4,8 +4,7 @@ use Rattle.std.specs.Prelude.{◌==◌, ◌&&◌, if◌then◌else◌}
 use Rattle.std.proofs.lemmas.Bool.{eqb-true, eq-eqb}
 use Rattle.er_trace.specs.declared.record.Record.{Record}
 use Rattle.er_trace.specs.declared.record.Record.TheVariants.{Parse, ParseFrame, New, NewFrame}
-use Rattle.er_trace.specs.Kinds.{kind_of}
-use Rattle.er_history.specs.History.{Element, Kinded, Framing, What, ScriptRun, Action, told, running, actions_after, action_begun, or_else, first_to, makes_element}
+use Rattle.er_history.specs.History.{Element, Kinded, Framing, kind_of, What, ScriptRun, Action, told, running, actions_after, action_begun, or_else, first_to, makes_element}
 use Rattle.er_history.specs.Rules.{of_made}
 use Rattle.er_history.specs.Laws.{Among}
 use Rattle.er_history.specs.Facts.{WhatIs}

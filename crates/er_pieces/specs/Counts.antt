@@ -1,5 +1,5 @@
 -- The most pieces that each group of rules hands for a record. Lists of records stand newest first.
-use Rattle.std.specs.Prelude.{Bool, ℕ, ◌+◌, ◌≤◌, List, length, max, Option, Some, None}
+use Rattle.std.specs.Prelude.{ℕ, ◌+◌, ◌≤◌, List, length, max, Option, Some, None}
 use Rattle.er_trace.specs.declared.record.Record.{Record}
 use Rattle.er_trace.specs.declared.record.Record.TheVariants.{Parse, ParseFrame, Exec, Timer, Tick, Dcl, Load, Eload, Fire, Wfire, Reply, Inline, Run, Close, Back}
 use Rattle.er_trace.specs.declared.version.Version.{Version}
@@ -22,11 +22,10 @@ static_close_count h d = length (static_closes h d)
 abbrev pub fired_count : Version → List Record → ℕ → ℕ
 fired_count v h t = by (event_begun (told h) (Timer t))
   where
-    leads : Event → Event → Bool
-    leads e u = timers_in_order v (up_to e.number (path (rules v) h)) u e
-
     by : Event → ℕ
-    by e = length (events_of_each (leads e) (told h).actions)
+    by e = length
+        (events_of_each (λ (u : Event). timers_in_order v (up_to e.number (path (rules v) h)) u e)
+          (told h).actions)
 
 -- the handlers of the dispatch that ran in the group, where there is one
 abbrev pub run_count : List Record → ℕ → Option ℕ → ℕ

@@ -3,11 +3,11 @@ use Rattle.std.specs.Prelude.{ℕ, Bool, true, false, ◌==◌, nat_lt, if◌the
 use Rattle.er_trace.specs.declared.record.Record.{Record}
 use Rattle.er_trace.specs.declared.record.Record.TheVariants.{Parse, ParseFrame, Exec, Timer, Tick, Dcl, Load, Eload, Fire, Wfire, Reply, Inline, Run, Close, Back, Message, Anim, Job}
 use Rattle.er_trace.specs.declared.version.Version.{Version}
-use Rattle.er_history.specs.History.{Form, Kinded, Framing, Element, Timeout, Event, Action, History, first_to, makes_element, makes_timeout, maker_by, element_maker, declares_document, declares_handler, declares_interval, declares_request, event_begun, running}
-use Rattle.er_history.specs.Rules.{is_blocking, is_deferred, is_dcl_of, Rule, any_holds, task_rules, timers_in_order}
+use Rattle.er_history.specs.History.{Form, Kinded, Framing, Element, Timeout, FireAt, WindowFire, Event, Action, History, first_to, makes_element, makes_timeout, maker_by, element_maker, declares_document, declares_handler, declares_interval, declares_request, event_begun, running}
+use Rattle.er_history.specs.Rules.{is_blocking, is_deferred, is_dcl_of, same_target, Rule, any_holds, task_rules, timers_in_order}
 use Rattle.er_history.specs.Edges.{up_to}
 use Rattle.er_history.specs.Latest.{newest, number_of, latest_piece, latest_of, latest_of_each, greatest_group}
-use Rattle.er_history.specs.Kinds.{is_step_of, is_run_of, is_static_async, runs_element, is_tick_of, closes, is_element_close, is_window_close, is_load_of, is_reply_of, is_static_load_of, is_begin_of, is_handler_of}
+use Rattle.er_history.specs.Kinds.{is_step_of, is_run_of, is_static_async, runs_element, is_tick_of, closes, is_load_of, is_reply_of, is_static_load_of, is_begin_of, is_handler_of}
 
 -- the latest parse step of the document, and the latest piece of the event that declared it
 abbrev pub step_handed : History → ℕ → List ℕ
@@ -118,14 +118,14 @@ group_handed p test actions = runs_or_begin p actions (greatest_group p test act
 abbrev pub dispatch_handed : History → Record → List ℕ
 dispatch_handed h (Fire p e n) =
     latest_of (element_maker h.entries e) h.actions
-    ++ newest (is_element_close e n) h.actions
+    ++ newest (closes (λ y. same_target y (FireAt e n None))) h.actions
 dispatch_handed h (Inline p e n) =
     latest_of (element_maker h.entries e) h.actions
-    ++ newest (is_element_close e n) h.actions
+    ++ newest (closes (λ y. same_target y (FireAt e n None))) h.actions
     ++ number_of (running h.actions)
 dispatch_handed h (Wfire p d n) =
     latest_of (maker_by (declares_document d) h.entries) h.actions
-    ++ newest (is_window_close d n) h.actions
+    ++ newest (closes (λ y. same_target y (WindowFire d n None))) h.actions
 dispatch_handed h (Dcl p d) = latest_of (maker_by (declares_document d) h.entries) h.actions
 dispatch_handed h (Load p d) = latest_of (maker_by (declares_document d) h.entries) h.actions
 dispatch_handed h (Run p g x) =

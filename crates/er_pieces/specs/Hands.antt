@@ -12,7 +12,6 @@ use Rattle.er_history.specs.Sound.{out_of_order}
 use Rattle.er_history.specs.Handed.{HasGroup, AreHanded}
 use Rattle.er_pieces.specs.HandedPieces.{parse_handed, script_handed, load_handed, timer_handed, request_handed, task_handed, dispatch_handed}
 use Rattle.er_pieces.specs.Enough.{IsSteady, NestedFacts}
-use Rattle.er_pieces.specs.PiecesHanded.{IsPieceSource}
 
 -- the pieces of the group are sources and enough, after a list to which naming and order have nothing against
 abbrev pub Hands : List (ℕ × Rule) → List (ℕ × Rule) → (History → Record → List ℕ) → Type 0
@@ -56,7 +55,9 @@ DispatchHandsSources =
     → IsSteady table h → naming h x ≡ None
     → (k : ℕ) → is_among k (dispatch_handed (told h) x) ≡ true
     → (i : Action) × Among i (told h).actions × (i.number ≡ k)
-    × IsPieceSource dispatch_rules joined (told h) x i
+    × ((is_ruled dispatch_rules joined i (action_begun (told h) x)
+    || (around_inline i (action_begun (told h) x)
+    || of_one_event i (action_begun (told h) x))) ≡ true)
 
 -- and a record that begins no action has none
 abbrev pub DispatchHandsNothing : Type 0

@@ -13,19 +13,17 @@ use Rattle.er_pieces.specs.Contract.{ComesNext}
 abbrev pub is_led : List (ℕ × Rule) → (ℕ → ℕ → Bool) → Action → Action → Bool
 is_led table joined i j = is_ruled table joined i j || (around_inline i j || of_one_event i j)
 
--- an action has an edge to the action that the record begins
-abbrev pub IsPieceSource : List (ℕ × Rule) → (ℕ → ℕ → Bool) → History → Record → Action → Type 0
-IsPieceSource table joined h x i = is_led table joined i (action_begun h x) ≡ true
-
--- each of these is the number of such an action
+-- each of these has an edge to the action that the record begins
 abbrev pub ArePieceSources : List (ℕ × Rule) → (ℕ → ℕ → Bool) → History → Record → List ℕ → Type 0
 ArePieceSources table joined h x handed = (k : ℕ) → is_among k handed ≡ true
-    → (i : Action) × Among i h.actions × (i.number ≡ k) × IsPieceSource table joined h x i
+    → (i : Action) × Among i h.actions × (i.number ≡ k)
+    × (is_led table joined i (action_begun h x) ≡ true)
 
--- each source has a path to one of them, for a piece that `back` begins too
+-- the source of each such edge has a path to one of them, for a piece that `back` begins too
 abbrev pub AreEnoughPieces : List (ℕ × Rule) → (ℕ → ℕ → Bool) → History → Record → List ℕ → Type 0
 AreEnoughPieces table joined h x handed = begins x ≡ true → (i : Action) → Among i h.actions
-    → IsPieceSource table joined h x i → list_any (λ k. joined i.number k) handed ≡ true
+    → is_led table joined i (action_begun h x) ≡ true
+    → list_any (λ k. joined i.number k) handed ≡ true
 
 -- sources, and enough of them; a record that begins no action has none
 pub record ArePiecesHanded (table : List (ℕ × Rule)) (joined : ℕ → ℕ → Bool) (h : History)

@@ -121,7 +121,10 @@ fn inner_load_before_frame_load(u: &Event<'_>, v: &Event<'_>) -> bool
 
 /// Whether it is a parse step of the document, or the run of a blocking or deferred script of it.
 fn is_parsed_before_dcl(what: What<'_>, doc: u32) -> bool
-    ensures { (h : List Record) → result ≡ rules.step_or_script (λ e. rules.is_blocking e || rules.is_deferred e) doc (what_shown h what.entry) }
+    ensures { (h : List Record)
+        → result
+        ≡ rules.step_or_script (λ e. rules.is_blocking e || rules.is_deferred e) doc
+            (what_shown h what.entry) }
 {
     match what {
         What::ParseStep { doc: parsed, .. } => parsed == doc,

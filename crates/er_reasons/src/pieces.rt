@@ -21,7 +21,10 @@ pub(crate) fn piece_rule(
     begin: &Record,
 ) -> Option<u32>
     requires { i < j }
-    ensures { (h : List Record) (x : Record) → result ≡ rule_of_pieces (piece i x (event_shown h u.now)) (piece j begin.now (event_shown h v.now)) }
+    ensures { (h : List Record) (x : Record)
+        → result
+        ≡ rule_of_pieces (piece i x (event_shown h u.now))
+            (piece j begin.now (event_shown h v.now)) }
 {
     lesser(
         given(is_around_inline(i, u, j, begin), 22),

@@ -5,6 +5,7 @@ ghost use Rattle.er_trace.specs.declared.record.Record.{Record};
 ghost use Rattle.er_history.specs.Rules as rules;
 ghost use Rattle.er_names.specs.Names.{element_of};
 ghost use Rattle.er_reasons.specs.Shown.{holds, least};
+ghost use Rattle.er_reasons.specs.Words.{blocks_deferred, blocks_step, deferred_before};
 
 use crate::elements::{is_blocking, is_deferred, is_maker};
 use crate::event::{Event, What};
@@ -92,7 +93,7 @@ fn deferred_scripts_as_parsed(u: &Event<'_>, v: &Event<'_>) -> bool
 
 /// Whether it is a blocking script of the document that was parsed before this step.
 fn blocks(made: Option<Element>, doc: u32, step: u32) -> bool
-    ensures { result ≡ rules.of_made (λ x. rules.is_blocking x && ((x.doc == doc) && nat_lt x.piece step)) (option_map element_of made) }
+    ensures { result ≡ rules.of_made (blocks_step doc step) (option_map element_of made) }
 {
     match made {
         Some(x) => is_blocking(&x) & ((x.doc == doc) & (x.piece < step)),
@@ -113,7 +114,9 @@ fn is_deferred_in(made: Option<Element>, doc: u32) -> bool
 
 /// Whether the one is a blocking script, the other a deferred script of its document.
 fn is_blocking_before(made: Option<Element>, later: Option<Element>) -> bool
-    ensures { result ≡ rules.both_made (λ x y. rules.is_blocking x && (rules.is_deferred y && (x.doc == y.doc))) (option_map element_of made) (option_map element_of later) }
+    ensures { result
+        ≡ rules.both_made blocks_deferred
+            (option_map element_of made) (option_map element_of later) }
 {
     let Some(x) = made else {
         return false;
@@ -126,7 +129,9 @@ fn is_blocking_before(made: Option<Element>, later: Option<Element>) -> bool
 
 /// Whether both are deferred scripts of one document, the one parsed before the other.
 fn is_deferred_before(made: Option<Element>, later: Option<Element>) -> bool
-    ensures { result ≡ rules.both_made (λ x y. rules.is_deferred x && (rules.is_deferred y && ((x.doc == y.doc) && nat_lt x.piece y.piece))) (option_map element_of made) (option_map element_of later) }
+    ensures { result
+        ≡ rules.both_made deferred_before
+            (option_map element_of made) (option_map element_of later) }
 {
     let Some(x) = made else {
         return false;

@@ -189,7 +189,8 @@ fn is_it(found: Option<u32>, number: u32) -> bool
 
 /// Whether this event declared the task, which the page has.
 fn is_declarer(page: &Page, task: Option<Task>, event: u32) -> bool
-    ensures { (kind : TaskKind) (number : ℕ) (h : List Record) → IsPage page.now h → task ≡ task_at kind page.now.tasks number
+    ensures { (kind : TaskKind) (number : ℕ) (h : List Record) → IsPage page.now h
+        → task ≡ task_at kind page.now.tasks number
         → result ≡ is_declarer (task_made kind h number) event }
 {
     match task {
@@ -206,9 +207,12 @@ fn in_order(
     second: Option<Task>,
     before: u32,
 ) -> bool
-    ensures { (kind : TaskKind) (m n : ℕ) (h : List Record) (lists : List (List ℕ)) → IsPage page.now h → StandsFor clocks.now lists
+    ensures { (kind : TaskKind) (m n : ℕ) (h : List Record) (lists : List (List ℕ))
+        → IsPage page.now h → StandsFor clocks.now lists
         → first ≡ task_at kind page.now.tasks m → second ≡ task_at kind page.now.tasks n
-        → result ≡ rules.declared_in_order (up_to before (joins lists)) (task_made kind h m) (task_made kind h n) }
+        → result
+        ≡ rules.declared_in_order (up_to before (joins lists))
+            (task_made kind h m) (task_made kind h n) }
 {
     let Some(earlier) = first else {
         return false;

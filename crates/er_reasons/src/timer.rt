@@ -94,7 +94,9 @@ fn timers_of_joined_pieces_in_order(
 ) -> bool
     ensures { (h : List Record) (lists : List (List ℕ)) → IsPage page.now h
         → StandsFor clocks.now lists
-        → result ≡ holds rules.timers_of_joined_pieces_in_order (up_to v.now.number (joins lists)) h u.now v.now }
+        → result
+        ≡ holds rules.timers_of_joined_pieces_in_order (up_to v.now.number (joins lists))
+            h u.now v.now }
 {
     let first = recorded(u, v);
     match u.what {
@@ -160,7 +162,9 @@ fn fires_in_order(page: &Page, timeout: u32, later: u32) -> bool
 fn fires_behind(page: &Page, clocks: &Clocks, timeout: u32, later: u32, before: u32) -> bool
     ensures { (h : List Record) (lists : List (List ℕ)) → IsPage page.now h
         → StandsFor clocks.now lists
-        → result ≡ fires_behind (up_to before (joins lists)) (timeout_made h timeout) (timeout_made h later) }
+        → result
+        ≡ fires_behind (up_to before (joins lists))
+            (timeout_made h timeout) (timeout_made h later) }
 {
     let Some(piece) = page.setting_piece(timeout) else {
         return false;

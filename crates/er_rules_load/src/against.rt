@@ -19,7 +19,8 @@ use er_trace::record::{Kind, Record};
 ///
 /// Rules 11 and 13 never do: they go by the order of the records. Nor does rule 12 from the event that made an element, which has begun.
 pub fn against(page: &Page, rec: &Record) -> bool
-    ensures { (table : List (ℕ × Rule)) (h : List Record) → IsPage page.now h → HasGroup table load_rules → IsSound table h → naming h rec.now ≡ None
+    ensures { (table : List (ℕ × Rule)) (h : List Record) → IsPage page.now h
+        → HasGroup table load_rules → IsSound table h → naming h rec.now ≡ None
         → result ≡ leads_back load_rules (path table h) (told h) rec.now }
 {
     is_late(page, rec)

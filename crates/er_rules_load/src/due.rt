@@ -24,8 +24,8 @@ pub(crate) fn hand_due(
     requires some { ∥ IsSomePage page.now ∥₁ }
     ensures whole { OnOk result
         (GrewFor page.now (λ (t : History). load_handed t rec.now) out.old.items out.new.items) }
-    ensures part { OnErr result
-        (GrewInPartFor page.now (λ (t : History). load_handed t rec.now) out.old.items out.new.items) }
+    ensures part { OnErr result (GrewInPartFor page.now
+        (λ (t : History). load_handed t rec.now) out.old.items out.new.items) }
 {
     match rec {
         Record::Dcl { doc, .. } => hand_parsed(page, *doc, out),

@@ -20,7 +20,8 @@ use er_trace::record::Record;
 ///
 /// Rule 3 never does: the event that made a script has begun.
 pub fn against(page: &Page, rec: &Record) -> bool
-    ensures { (table : List (ℕ × Rule)) (h : List Record) → IsPage page.now h → HasGroup table script_rules → IsSound table h → naming h rec.now ≡ None
+    ensures { (table : List (ℕ × Rule)) (h : List Record) → IsPage page.now h
+        → HasGroup table script_rules → IsSound table h → naming h rec.now ≡ None
         → result ≡ leads_back script_rules (path table h) (told h) rec.now }
 {
     is_late(page, rec)

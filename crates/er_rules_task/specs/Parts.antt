@@ -20,7 +20,9 @@ abbrev pub task_due : TaskKind → ℕ → List Record → Event → Bool
 task_due kind number h u = comes_before (path (rules Three) h) kind (task_made kind h number) u
 
 abbrev pub earlier_tasks : TaskKind → ℕ → List Record → ℕ
-earlier_tasks kind number h = length (events_of_each (is_earlier (path (rules Three) h) kind (task_made kind h number)) (told h).actions)
+earlier_tasks kind number h = length
+    (events_of_each (is_earlier (path (rules Three) h) kind (task_made kind h number))
+      (told h).actions)
 
 abbrev pub task_count : TaskKind → ℕ → List Record → ℕ
 task_count kind number h = 1 + earlier_tasks kind number h
