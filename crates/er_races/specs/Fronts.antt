@@ -46,4 +46,5 @@ pub record IsFront (accesses : List Access) (rows : List ℕ) (j : ℕ) : Type 0
 abbrev pub unjoined : (ℕ → Bool) → List ℕ → List ℕ → List ℕ
 unjoined joined [] actions = []
 unjoined joined (n ∷ numbers) [] = []
-unjoined joined (n ∷ numbers) (a ∷ actions) = cond (joined a) (unjoined joined numbers actions) (n ∷ unjoined joined numbers actions)
+unjoined joined (n ∷ numbers) (a ∷ actions) =
+    cond (joined a) (unjoined joined numbers actions) (n ∷ unjoined joined numbers actions)
