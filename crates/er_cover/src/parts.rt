@@ -48,7 +48,8 @@ impl Model for Classes {
 
     ghost view = { λ c. classing c.by_race.items c.groups.keys };
 
-    ghost invariant = { λ c. IsClassing c.by_race.items c.distinct.set.keys c.distinct.firsts.items c.groups.keys };
+    ghost invariant = { λ c.
+        IsClassing c.by_race.items c.distinct.set.keys c.distinct.firsts.items c.groups.keys };
 }
 
 impl Classes {
@@ -95,7 +96,9 @@ pub fn make_classes(
     ensures few { OnOk result (length (classes_over (joins clocks.now) table.now) ≤ most_classes) }
     ensures many { result ≡ Err CoverFault.TooManyClasses
         → most_classes < length (classes_over (joins clocks.now) table.now) }
-    ensures bound { tests.new ≤ tests.old + 2 * (length (classes_over (joins clocks.now) table.now) * length (groups_of (joins clocks.now) table.now)) }
+    ensures bound { tests.new
+        ≤ tests.old + 2 * (length (classes_over (joins clocks.now) table.now)
+        * length (groups_of (joins clocks.now) table.now)) }
     ensures rises { tests.old ≤ tests.new }
 {
     let by_race = classes_by_race(alloc, races, table)?;

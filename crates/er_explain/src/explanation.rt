@@ -55,8 +55,11 @@ fn go_back(
     requires some { ∥ AreSome clocks.now ∥₁ }
     requires begun { ∥ pages.HasBegun page.now to ∥₁ }
     requires none { found.old.items ≡ [] }
-    ensures steps { OnOk result ((h : List Record) → IsTimed version page.now clocks.now h → path (rules version) h from to ≡ true
-        → reverse (all_shown found.new.items) ≡ spec.steps (spec.rule_of (rules version) h) (edges (rules version) (told h).actions) from to) }
+    ensures steps { OnOk result ((h : List Record) → IsTimed version page.now clocks.now h
+        → path (rules version) h from to ≡ true
+        → reverse (all_shown found.new.items)
+        ≡ spec.steps (spec.rule_of (rules version) h) (edges (rules version) (told h).actions)
+            from to) }
     ensures few { OnOk result (length found.new.items ≤ to) }
 {
     let mut at = to;
@@ -82,7 +85,11 @@ fn note(
     requires earlier { source < at }
     requires begun { ∥ pages.HasBegun page.now at ∥₁ }
     ensures noted { OnOk result ((h : List Record) → IsTimed version page.now clocks.now h
-        → all_shown found.new.items ≡ all_shown found.old.items ++ record { source = source; target = at; rule = spec.number_of (spec.rule_of (rules version) h source at) } ∷ []) }
+        → all_shown found.new.items
+        ≡ all_shown found.old.items ++ record {
+            source = source;
+            target = at;
+            rule = spec.number_of (spec.rule_of (rules version) h source at) } ∷ []) }
     ensures one { OnOk result (length found.new.items ≡ length found.old.items + 1) }
 {
     let rule = number_of(reason(page, clocks, version, source, at));

@@ -26,7 +26,11 @@ abbrev pub race_items : List (Kept × Kept) → Grouping → List ℕ
 race_items races groups = lines_from race_item 1 (zip races groups.names)
 
 unfoldable pub before_groups : Counts → List ℕ
-before_groups c = codes "{\"accesses\":" ++ (decimal c.accesses ++ (codes ",\"actions\":" ++ (decimal c.actions ++ (codes ",\"chains\":" ++ (decimal c.chains ++ codes ",\"groups\":[")))))
+before_groups c =
+    codes "{\"accesses\":" ++ (decimal c.accesses
+    ++ (codes ",\"actions\":" ++ (decimal c.actions
+    ++ (codes ",\"chains\":" ++ (decimal c.chains
+    ++ codes ",\"groups\":[")))))
 
 unfoldable pub before_races : Counts → List ℕ
 before_races c = codes "],\"links\":"

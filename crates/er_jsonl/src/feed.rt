@@ -54,7 +54,8 @@ impl Lines for JsonLines {
         _version: Version,
         piece: &'a [u8],
     ) -> Option<(Record, &'a [u8])>
-        ensures { IfSome result (λ pair. IsFront most_line_bytes Spells piece.now pair.0 pair.1.now) }
+        ensures { IfSome result
+            (λ pair. IsFront most_line_bytes Spells piece.now pair.0 pair.1.now) }
     {
         plain_json_line(alloc, piece)
     }

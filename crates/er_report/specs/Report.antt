@@ -18,7 +18,10 @@ use Rattle.er_report.specs.declared.counts.Counts.{Counts}
 
 -- `race K LINE LINE MODES ACTION ACTION LOC`
 abbrev pub race_line : ℕ → Kept × Kept → List ℕ
-race_line k (a, b) = item_line (Word (codes "race") ∷ Number k ∷ Number a.line ∷ Number b.line ∷ Word (mode_word a.mode ++ mode_word b.mode) ∷ Number a.action ∷ Number b.action ∷ loc_items a.loc)
+race_line k (a, b) = item_line (
+    Word (codes "race") ∷ Number k ∷ Number a.line ∷ Number b.line
+    ∷ Word (mode_word a.mode ++ mode_word b.mode) ∷ Number a.action ∷ Number b.action
+    ∷ loc_items a.loc)
 
 -- `cover K G`, for the group at place g
 abbrev pub cover_line : ℕ → ℕ → List ℕ
@@ -68,7 +71,9 @@ counts lists accesses = record {
 
 -- the report of actions with these predecessors, and of the kept accesses
 abbrev pub report : List (List ℕ) → List Kept → List ℕ
-report lists accesses = report_of (races_by (joins lists) accesses) (grouping_of (joins lists) accesses) (counts lists accesses)
+report lists accesses =
+    report_of (races_by (joins lists) accesses) (grouping_of (joins lists) accesses)
+      (counts lists accesses)
 
 -- `generated N`, then what a report says of these groups and counts
 abbrev pub summary_of : ℕ → Grouping → Counts → List ℕ

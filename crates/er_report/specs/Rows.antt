@@ -16,7 +16,12 @@ NothingAtAll = report [] []
 
 -- two timeouts that race set one each; the race of these two covers the race of the first and the last action
 abbrev pub LaterRepresentative : Type 0
-LaterRepresentative = report ((4 ∷ []) ∷ (1 ∷ []) ∷ (2 ∷ []) ∷ (1 ∷ []) ∷ (0 ∷ []) ∷ [] ∷ []) (access_of 7 2 W (Var 0 (codes "x")) ∷ access_of 10 3 W (Var 0 (codes "f")) ∷ access_of 12 4 R (Var 0 (codes "f")) ∷ access_of 15 5 R (Var 0 (codes "x")) ∷ [])
+LaterRepresentative = report ((4 ∷ []) ∷ (1 ∷ []) ∷ (2 ∷ []) ∷ (1 ∷ []) ∷ (0 ∷ []) ∷ [] ∷ [])
+    (access_of 7 2 W (Var 0 (codes "x"))
+    ∷ access_of 10 3 W (Var 0 (codes "f"))
+    ∷ access_of 12 4 R (Var 0 (codes "f"))
+    ∷ access_of 15 5 R (Var 0 (codes "x"))
+    ∷ [])
     ≡ line (codes "report 1") ++ line (codes "race 1 7 15 wr 2 5 var 0 x")
     ++ line (codes "race 2 10 12 wr 3 4 var 0 f") ++ line (codes "cover 1 1")
     ++ line (codes "cover 2 1") ++ line (codes "group 1 2 2")

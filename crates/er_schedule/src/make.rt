@@ -38,8 +38,10 @@ struct Others {
 }
 
 fn others_of(alloc: Global, clocks: &Clocks, i: u32, j: u32) -> Result<Others, NoMemory>
-    ensures before { IfOk result (λ o. Tells clocks.now (λ lists. o.before.items ≡ others_before (joins lists) (length lists) i j)) }
-    ensures after { IfOk result (λ o. Tells clocks.now (λ lists. o.after.items ≡ others_after (joins lists) (length lists) i j)) }
+    ensures before { IfOk result (λ o. Tells clocks.now (λ lists.
+        o.before.items ≡ others_before (joins lists) (length lists) i j)) }
+    ensures after { IfOk result (λ o. Tells clocks.now (λ lists.
+        o.after.items ≡ others_after (joins lists) (length lists) i j)) }
 {
     let mut before = Vec::new(alloc);
     let mut after = Vec::new(alloc);
@@ -58,8 +60,14 @@ fn place(
     before: &mut Vec<u32>,
     after: &mut Vec<u32>,
 ) -> Result<(), NoMemory>
-    ensures before { OnOk result (Tells clocks.now (λ lists. before.new.items ≡ (if comes_before (joins lists) i j k then before.old.items ++ k ∷ [] else before.old.items))) }
-    ensures after { OnOk result (Tells clocks.now (λ lists. after.new.items ≡ (if comes_after (joins lists) i j k then after.old.items ++ k ∷ [] else after.old.items))) }
+    ensures before { OnOk result (Tells clocks.now (λ lists. before.new.items
+        ≡ (if comes_before (joins lists) i j k
+            then before.old.items ++ k ∷ []
+            else before.old.items))) }
+    ensures after { OnOk result (Tells clocks.now (λ lists. after.new.items
+        ≡ (if comes_after (joins lists) i j k
+            then after.old.items ++ k ∷ []
+            else after.old.items))) }
 {
     if k == i || k == j {
         return Ok(());

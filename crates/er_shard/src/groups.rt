@@ -94,7 +94,8 @@ fn name_between<R: Threads + Sync, G: Gate + Sync>(
                 × All (IsKnown (length clocks.now)) classes.now.by_race
                 × (length (once_of classes.now) ≤ most_classes)
                 × (length classes.now.groups ≤ most_classes) }
-            ensures { IsNamed shards from middle (joins clocks.entry.now) classes.entry.now result.names result.meter }
+            ensures { IsNamed shards from middle (joins clocks.entry.now) classes.entry.now
+                result.names result.meter }
         { name_between(rt, alloc, classes, clocks, shards, from, middle, gate) },
         || -> Names
             requires { IsSync R.row × (middle < to) × (to ≤ shards)
@@ -102,7 +103,8 @@ fn name_between<R: Threads + Sync, G: Gate + Sync>(
                 × All (IsKnown (length clocks.now)) classes.now.by_race
                 × (length (once_of classes.now) ≤ most_classes)
                 × (length classes.now.groups ≤ most_classes) }
-            ensures { IsNamed shards middle to (joins clocks.entry.now) classes.entry.now result.names result.meter }
+            ensures { IsNamed shards middle to (joins clocks.entry.now) classes.entry.now
+                result.names result.meter }
         { name_between(rt, alloc, classes, clocks, shards, middle, to, gate) },
     );
     together(left, right)
@@ -120,7 +122,8 @@ fn name_one<G: Gate>(
     requires within { shard < shards }
     requires over { IsOver (joins clocks.now) classes.now }
     requires known { All (IsKnown (length clocks.now)) classes.now.by_race }
-    ensures { IsNamed shards shard (shard + 1) (joins clocks.now) classes.now result.names result.meter }
+    ensures { IsNamed shards shard (shard + 1) (joins clocks.now) classes.now
+        result.names result.meter }
 {
     gate.enter(shard);
     let count = classes.count();

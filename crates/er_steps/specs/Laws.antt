@@ -35,4 +35,5 @@ LeadsByLinks rule lists i (s ∷ more) j = (s.source ≡ i) × (is_link lists i 
 abbrev pub StepsFollowLinks : Type 0
 StepsFollowLinks = (table : List (ℕ × Rule)) (h : List Record) (i j : ℕ)
     → joins (edges table (told h).actions) i j ≡ true
-    → LeadsByLinks (rule_of table h) (edges table (told h).actions) i (steps (rule_of table h) (edges table (told h).actions) i j) j
+    → LeadsByLinks (rule_of table h) (edges table (told h).actions) i
+        (steps (rule_of table h) (edges table (told h).actions) i j) j

@@ -32,7 +32,8 @@ by_paths = Timer 3 ∷ Timer 2 ∷ Set 3 10 ∷ Timer 1 ∷ Set 2 10 ∷ Set 1 0
 abbrev pub WorkedSteps : Type 0
 WorkedSteps =
     (explanation (rules One) in_order 0 3 ≡ Some (step 0 1 3 ∷ step 1 2 18 ∷ step 2 3 19 ∷ []))
-    × (explanation (rules One) with_inline 1 5 ≡ Some (step 1 2 14 ∷ step 2 3 16 ∷ step 3 4 16 ∷ step 4 5 22 ∷ []))
+    × (explanation (rules One) with_inline 1 5
+    ≡ Some (step 1 2 14 ∷ step 2 3 16 ∷ step 3 4 16 ∷ step 4 5 22 ∷ []))
     × (explanation (rules One) apart 2 3 ≡ None)
     × (explanation (rules One) apart 3 3 ≡ Some [])
     × (explanation (rules One) by_paths 3 4 ≡ None)
