@@ -31,6 +31,7 @@ pub record HasBegun (graph : Graph) (action : ℕ) : Type 0 where
 abbrev pub IsFault : GraphFault → ℕ → Record → Graph → Graph → Type 0
 IsFault (Refused l c) line x old new =
     (l ≡ line) × (new ≡ old)
-    × ((accepted : List Accepted) → IsListed old accepted → cause_now old.version accepted x ≡ Some c)
+    × ((accepted : List Accepted) → IsListed old accepted
+    → cause_now old.version accepted x ≡ Some c)
 IsFault NoMemory line x old new =
     HasFailed new × ((accepted : List Accepted) → IsListed old accepted → IsListed new accepted)
