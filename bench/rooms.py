@@ -20,6 +20,8 @@ SOURCES = ("src", "specs", "proofs")
 MEMORY = 2_000_000_000
 # the most jobs that one check gains from
 MOST_JOBS = 4
+# Bytes of source tell the time of a proof roughly: a crate with nearly as many behind it as the longest chain may hold up the end as well.
+NEARLY = 0.9
 # rt, which sums up a crate's sources anew for each way down crates.txt that leads to it: at the upper crates a minute a call. Nothing in a room changes, so once is enough.
 # What the check of an edit says is put beside the edit, with .said behind its name.
 STAMPED_ONCE = """
@@ -211,8 +213,8 @@ def build_all(names, tell):
                 share = min(MOST_JOBS, max(1, idle // (len(ready) - at)))
                 idle -= share
                 left.remove(name)
-                # the crate with most behind it, which holds up the end, takes all that it gains from also of processors that others use
-                jobs = MOST_JOBS if behind[name] == longest else share
+                # a crate that may hold up the end takes all that it gains from, also of processors that others use
+                jobs = MOST_JOBS if behind[name] >= NEARLY * longest else share
                 running[pool.submit(build, name, lines, below, jobs)] = name, share
             for it in wait(running, timeout=1, return_when=FIRST_COMPLETED).done:
                 name, _ = running.pop(it)

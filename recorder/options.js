@@ -9,7 +9,7 @@ URL is a web address, a file or a folder. Options:
   --seed N          (1)
   --slow MS         each file is held back by up to this long, the same in each run
   --time SECONDS    at most this long (30)
-  --version 1|2     the version of the format (2)
+  --version 1|2|3   the version of the format (3)
   --root DIR        the folder that is served, where URL is a file (the file's own folder)
   --raw             nothing is recorded: the page's own errors and times, to compare with`;
 

@@ -9,7 +9,7 @@ const MOST_ACTIONS = 32768;
 const MOST_RECORDS = 2097150;
 /** How many accesses. */
 const MOST_ACCESSES = 1048576;
-const NEWEST_VERSION = 2;
+const NEWEST_VERSION = 3;
 /** Numbers of intervals that stand for timeouts of other windows, and for runs of modules that nobody asked for. */
 const FIRST_FOREIGN_TIMEOUT = 3000000000;
 const FIRST_LONE_MODULE = 3500000000;

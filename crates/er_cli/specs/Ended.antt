@@ -6,7 +6,7 @@ use Rattle.er_words.specs.Words.{Asks}
 use Rattle.er_run.specs.declared.outcome.Outcome.{Outcome}
 use Rattle.er_run.specs.declared.outcome.Outcome.TheVariants.{Usage, NoMemory}
 use Rattle.er_run.specs.Answer.{format_of}
-use Rattle.er_run.specs.Promise.{IsAnswer, IsAnswered}
+use Rattle.er_run.specs.Promise.{IsAnswer, IsAnswered, seen}
 use Rattle.er_run.specs.Status.{status_of}
 
 -- The status is that of an outcome to which `run` may come for all of these words, over ends that tell nothing, by so many comparisons and tests.
@@ -17,4 +17,4 @@ pub record EndsWith (words : List (List ℕ)) (status : ℕ) : Type 0 where
   pub is : status ≡ status_of outcome
   pub usage : outcome ≡ Usage → (asked : Asked) → Asks words asked → ⊥
   pub refused : ((asked : Asked) → Asks words asked → ⊥) → (outcome ≡ Usage) ⊎ (outcome ≡ NoMemory)
-  pub answered : (asked : Asked) → Asks words asked → IsAnswer outcome → IsAnswered (format_of asked.command) asked.command untold untold untold untold 0 compared 0 tested outcome
+  pub answered : (asked : Asked) → Asks words asked → IsAnswer outcome → IsAnswered (format_of asked.command) asked.command (seen untold untold 0 0) (seen untold untold compared tested) outcome

@@ -6,7 +6,7 @@ use Rattle.er_trace.specs.declared.record.Record.TheVariants.{Parse, Timer, Exec
 use Rattle.er_trace.specs.declared.record.Kind.TheVariants as kinds
 use Rattle.er_trace.specs.Spelling.{spelling}
 use Rattle.er_lines.proofs.TextLaws.{behind_from, short_spelling}
-use Rattle.er_run.specs.Answer.{OfRecord}
+use Rattle.er_run.proofs.IllegalLines.{of_record}
 use Rattle.er_trace.specs.declared.version.Version.TheVariants.{One}
 use Rattle.er_rows.specs.Rows.{Causes, Orders, UnknownTimeout, NotAScript, RunTooLate, step}
 
@@ -19,7 +19,7 @@ orders_of_records = record { step_after_deferred = refl; step_after_async = refl
 
 pub unknown_timeout : UnknownTimeout
 unfolding digits item_line
-unknown_timeout asked = OfRecord One (step 1 ∷ []) refl (refl, tt) (record {
+unknown_timeout asked = of_record _ asked _ _ _ One (step 1 ∷ []) refl (refl, tt) (record {
   before = _;
   are = behind_from One _ (((tt, (omega arith, (omega arith, (tt, tt)))), refl), tt);
   few = omega arith;
@@ -34,7 +34,7 @@ unknown_timeout asked = OfRecord One (step 1 ∷ []) refl (refl, tt) (record {
 
 pub not_a_script : NotAScript
 unfolding digits item_line
-not_a_script asked = OfRecord One (step 1 ∷ []) refl (refl, tt) (record {
+not_a_script asked = of_record _ asked _ _ _ One (step 1 ∷ []) refl (refl, tt) (record {
   before = _;
   are = behind_from One _ (((tt, (omega arith, (omega arith, (tt, tt)))), refl), tt);
   few = omega arith;
@@ -49,7 +49,7 @@ not_a_script asked = OfRecord One (step 1 ∷ []) refl (refl, tt) (record {
 
 pub run_too_late : RunTooLate
 unfolding digits item_line
-run_too_late asked = OfRecord One (Parse 0 1 kinds.Sync ∷ step 2 ∷ []) refl (refl, (refl, tt)) (record {
+run_too_late asked = of_record _ asked _ _ _ One (Parse 0 1 kinds.Sync ∷ step 2 ∷ []) refl (refl, (refl, tt)) (record {
   before = _;
   are = behind_from One _ (((tt, (omega arith, (omega arith, (tt, tt)))), refl), (((tt, (omega arith, (omega arith, (tt, tt)))), refl), tt));
   few = omega arith;

@@ -20,7 +20,8 @@ use Rattle.er_run.specs.Legal.{IsLegal, end_cause_for}
 use Rattle.er_run.specs.Legal as legality
 use Rattle.er_words.specs.declared.commands.Command.{Command}
 use Rattle.er_history.specs.Rules.{rules}
-use Rattle.er_run.specs.Answer.{IsLegalTrace, IsLegalBefore, FirstIllegal, OfLine, OfRecord, OfEnd}
+use Rattle.er_run.specs.Answer.{IsLegalTrace, IsLegalBefore, FirstIllegal}
+use Rattle.er_run.proofs.IllegalLines.{of_line, of_record, of_end}
 
 -- a list around one of its members
 pub record Around {X : Type 0} (xs : List X) (at : ℕ) (x : X) : Type 0 where
@@ -70,7 +71,7 @@ illegal_record f asked v bytes front more records at x c spelled are few found l
     let a : LinesAround f v are.later r.earlier x r.later = lines_around f v are.later r.earlier x r.later there in
     let within : length r.earlier + 2 ≤ most_lines = omega (arith, r.count, slice_get_within records at x found) in
     let front_is : front ≡ (line are.first ++ a.before) ++ (line a.l ++ a.rest) = (are.begins ∙ ap (λ b. line are.first ++ b) a.begins) ∙ sym (append_assoc (line are.first) a.before (line a.l ++ a.rest)) in
-    OfRecord v r.earlier (omega (arith, r.count)) (subst (λ h. IsLegal (rules v) (reverse h)) r.taken legal) (record {
+    of_record f asked bytes (at + 2) c v r.earlier (omega (arith, r.count)) (subst (λ h. IsLegal (rules v) (reverse h)) r.taken legal) (record {
       before = line are.first ++ a.before;
       are = record { first = are.first; short = are.short; header = are.header; later = a.before; begins = refl; lines = a.are };
       few = within;
@@ -139,7 +140,7 @@ pub refused_line : (f : Format) (asked : Command) (v : Version) (bytes : List �
     → (length records + 2 < line.line → end_cause_for asked v (reverse records) ≡ None) → FirstIllegal f asked bytes line.line line.cause
 refused_line f asked v bytes records refused line reading is legal within =
     let read : IsReading f v bytes records (Some line) = subst (IsReading f v bytes records) is reading in
-    (OfLine read.0 read.2 (legal_at asked v read.0 records (place_of f v bytes read.0 read.1.before read.1.rest read.1.are read.1.begins read.4) read.3 legal (λ behind. within (omega (arith, behind, read.2)))) read.1)
+    (of_line f asked bytes line.line line.cause read.0 read.2 (legal_at asked v read.0 records (place_of f v bytes read.0 read.1.before read.1.rest read.1.are read.1.begins read.4) read.3 legal (λ behind. within (omega (arith, behind, read.2)))) read.1)
 
 -- no line up to the one behind the records is refused
 abbrev pub IsRead : List Record → Option LineRefusal → Type 0
@@ -151,7 +152,7 @@ ended_at : (f : Format) (asked : Command) (v : Version) (bytes : List ℕ) (plac
 ended_at f asked v bytes Start records why c of h same behind legal cause = absurd (omega arith)
 ended_at f asked v bytes (After w earlier) records why c of h same behind legal cause = absurd (omega (arith, ap length same))
 ended_at f asked v bytes (Ended w earlier) records why c of h same behind legal cause =
-    OfEnd w earlier (omega (arith, ap length same)) (subst (λ u. IsLegal (rules u) (reverse earlier)) of (subst (λ rs. IsLegal (rules v) (reverse rs)) same legal)) (record {
+    of_end f asked bytes (length records + 2) c w earlier (omega (arith, ap length same)) (subst (λ u. IsLegal (rules u) (reverse earlier)) of (subst (λ rs. IsLegal (rules v) (reverse rs)) same legal)) (record {
       before = h.are.front;
       are = h.are.behind;
       few = omega (arith, h.few);
@@ -166,7 +167,7 @@ ended_at f asked v bytes (Ended w earlier) records why c of h same behind legal 
 ended : (f : Format) (asked : Command) (v : Version) (bytes : List ℕ) (records : List Record) (refused : Option LineRefusal) (c : Cause) → IsReading f v bytes records refused → IsRead records refused → IsLegal (rules v) (reverse records) → end_cause_for asked v (reverse records) ≡ Some c
     → FirstIllegal f asked bytes (length records + 2) c
 ended f asked v bytes records None c reading read legal cause =
-    OfEnd v records refl legal (record {
+    of_end f asked bytes (length records + 2) c v records refl legal (record {
       before = reading.whole.front;
       are = reading.whole.behind;
       few = reading.few;

@@ -1,7 +1,9 @@
 -- What one record more does to the kept accesses. Lists of records stand newest first.
-use Rattle.std.proofs.Common.{◌≡◌, ℕ, ◌+◌, ◌<◌, ◌≤◌, Bool, true, false, List, [], ◌∷◌, ◌++◌, All, length, Option, Some, None, get_or, option_map, refl, sym, ap, subst, ◌∙◌, arith}
+use Rattle.std.proofs.Common.{◌≡◌, ℕ, ◌+◌, ◌<◌, ◌≤◌, Bool, true, false, List, [], ◌∷◌, ◌++◌, All, map, length, Option, Some, None, get_or, option_map, refl, sym, ap, subst, ◌∙◌, arith, zero, suc, length-append}
 use Rattle.std.specs.Prelude.{if◌then◌else◌}
-use Rattle.std.proofs.lemmas.List.Elements.{All-push}
+use Rattle.std.specs.List.{AllByRecursion}
+use Rattle.std.specs.List.Sorted.{IsStrictlyIncreasing}
+use Rattle.std.proofs.lemmas.List.Elements.{All-push, recursion_from_All}
 use Rattle.std.proofs.lemmas.Grind.{common_steps}
 use Rattle.er_trace.specs.declared.record.Record.{Record}
 use Rattle.er_trace.specs.declared.record.Record.TheVariants.{Access}
@@ -13,13 +15,15 @@ use Rattle.er_history.specs.Laws.{IsNumbered}
 use Rattle.er_history.proofs.HistoryLemmas.{actions_are_numbered, actions_grow, entries_length}
 use Rattle.er_page.specs.declared.page.Page.{Page}
 use Rattle.er_page.specs.Page.{IsPage}
+use Rattle.er_access.specs.Table.{IsRising}
 use Rattle.er_access.specs.Kept.{Kept, access_of, repeats_any, with_access, IsFull}
-use Rattle.er_run.specs.Races.{kept, accesses_of, without_repeats}
+use Rattle.er_run.specs.Laws.{KeptInOrder}
+use Rattle.er_run.specs.Races.{kept, access_in, without_repeats}
 use Rattle.er_run.specs.Session.{is_access, AreEarlier, AreKept, IsPastRoom, kept_with}
 
 -- a record that is no access
 
-pub accesses_nothing : (o : Option Action) (x : Record) (place : ℕ) → is_access x ≡ false → accesses_of (record { read = x; place = place; action = o }) ≡ []
+pub accesses_nothing : (o : Option Action) (x : Record) (place : ℕ) → is_access x ≡ false → access_in (record { read = x; place = place; action = o }) ≡ []
 accesses_nothing None x place e = refl
 accesses_nothing (Some a) (Access m l) place e = cc
 accesses_nothing (Some a) x place e = refl
@@ -43,7 +47,7 @@ all_with P x old here all = step (repeats_any x old)
 -- their actions have begun, and they stand in the lines of the records
 
 access_begun : (actions : List Action) (m : Mode) (l : Loc) (place : ℕ) (old : List Kept) → IsNumbered actions → All (λ (y : Kept). y.action < length actions) old
-    → All (λ (y : Kept). y.action < length actions) (without_repeats (accesses_of (record { read = Access m l; place = place; action = running actions })) old)
+    → All (λ (y : Kept). y.action < length actions) (without_repeats (access_in (record { read = Access m l; place = place; action = running actions })) old)
 access_begun [] m l place old n all = all
 access_begun (a ∷ older) m l place old n all = all_with (λ (y : Kept). y.action < length (a ∷ older)) (access_of (place + 2) a.number m l) old (omega (arith, n.0)) all
 
@@ -55,7 +59,7 @@ kept_begun [] = λ k d below. absurd (omega arith)
 kept_begun (Access m l ∷ h) = access_begun (told h).actions m l (length (told h).entries) (kept h) (actions_are_numbered h) (kept_begun h)
 kept_begun (x ∷ h) = more_begun (kept h) (kept (x ∷ h)) (length (told h).actions) (length (told (x ∷ h)).actions) (actions_grow (told h) x) (sym (same_kept h x refl)) (kept_begun h)
 
-access_after : (o : Option Action) (x : Record) (place n : ℕ) (old : List Kept) → place + 2 < n → All (λ (y : Kept). y.line < n) old → All (λ (y : Kept). y.line < n) (without_repeats (accesses_of (record { read = x; place = place; action = o })) old)
+access_after : (o : Option Action) (x : Record) (place n : ℕ) (old : List Kept) → place + 2 < n → All (λ (y : Kept). y.line < n) old → All (λ (y : Kept). y.line < n) (without_repeats (access_in (record { read = x; place = place; action = o })) old)
 access_after None x place n old below all = all
 access_after (Some a) (Access m l) place n old below all = all_with (λ (y : Kept). y.line < n) (access_of (place + 2) a.number m l) old below all
 access_after (Some a) x place n old below all = all
@@ -68,6 +72,76 @@ kept_lines [] = λ k d below. absurd (omega arith)
 kept_lines (x ∷ h) =
     access_after (running (actions_after (told h) x)) x (length (told h).entries) (length (x ∷ h) + 2) (kept h) (omega (arith, entries_length h))
     (later_lines (kept h) (length h + 2) (length (x ∷ h) + 2) (omega arith) (kept_lines h))
+
+-- they stand in the order of their lines
+
+rising_with : (lines : List ℕ) (n : ℕ) → IsRising lines → AllByRecursion (λ l. l < n) lines → IsRising (lines ++ n ∷ [])
+rising_with [] n rising below = (tt, tt)
+rising_with (l ∷ lines) n rising below = (all_push (λ m. l < m) lines n rising.0 below.0, rising_with lines n rising.1 below.1)
+  where
+    all_push : (P : ℕ → Type 0) (ms : List ℕ) (m : ℕ) → AllByRecursion P ms → P m → AllByRecursion P (ms ++ m ∷ [])
+    all_push P [] m all here = (here, tt)
+    all_push P (x ∷ ms) m all here = (all.0, all_push P ms m all.1 here)
+
+abbrev lines_of : List Kept → List ℕ
+lines_of accesses = map (λ (x : Kept). x.line) accesses
+
+lines_below : (accesses : List Kept) (n : ℕ) → All (λ (x : Kept). x.line < n) accesses → AllByRecursion (λ l. l < n) (lines_of accesses)
+lines_below accesses n all = by accesses (recursion_from_All (λ (x : Kept). x.line < n) accesses all)
+  where
+    by : (xs : List Kept) → AllByRecursion (λ (x : Kept). x.line < n) xs → AllByRecursion (λ l. l < n) (lines_of xs)
+    by [] none = tt
+    by (x ∷ xs) each = (each.0, by xs each.1)
+
+lines_with : (old : List Kept) (x : Kept) → lines_of (old ++ x ∷ []) ≡ lines_of old ++ x.line ∷ []
+lines_with [] x = refl
+lines_with (y ∷ old) x = ap (λ l. y.line ∷ l) (lines_with old x)
+
+rising_one : (x : Kept) (old : List Kept) → IsRising (lines_of old) → All (λ (y : Kept). y.line < x.line) old → IsRising (lines_of (with_access x old))
+rising_one x old rising below = by (repeats_any x old)
+  where
+    by : (b : Bool) → IsRising (lines_of (if b then old else old ++ x ∷ []))
+    by true = rising
+    by false = subst IsRising (sym (lines_with old x)) (rising_with (lines_of old) x.line rising (lines_below old x.line below))
+
+rising_after : (o : Option Action) (x : Record) (place : ℕ) (old : List Kept) → IsRising (lines_of old) → All (λ (y : Kept). y.line < place + 2) old → IsRising (lines_of (without_repeats (access_in (record { read = x; place = place; action = o })) old))
+rising_after None x place old rising below = rising
+rising_after (Some a) (Access m l) place old rising below = rising_one (access_of (place + 2) a.number m l) old rising below
+rising_after (Some a) x place old rising below = rising
+
+kept_rise : (h : List Record) → IsRising (lines_of (kept h))
+kept_rise [] = tt
+kept_rise (x ∷ h) =
+    rising_after (running (actions_after (told h) x)) x (length (told h).entries) (kept h) (kept_rise h)
+    (later_lines (kept h) (length h + 2) (length (told h).entries + 2) (omega (arith, entries_length h)) (kept_lines h))
+
+rising_increases : (lines : List ℕ) → IsRising lines → IsStrictlyIncreasing lines
+rising_increases [] rising i within = absurd (omega arith)
+rising_increases (k ∷ []) rising i within = absurd (omega arith)
+rising_increases (k ∷ l ∷ lines) rising zero within = rising.0.0
+rising_increases (k ∷ l ∷ lines) rising (suc i) within =
+    let next : suc (i + 1) ≡ suc i + 1 = omega arith in
+    subst (λ n. get_or (l ∷ lines) i 0 < get_or (k ∷ l ∷ lines) n 0) next (rising_increases (l ∷ lines) rising.1 i (omega arith))
+
+pub kept_in_order : KeptInOrder
+kept_in_order h = rising_increases (lines_of (kept h)) (kept_rise h)
+
+-- one record more keeps one access more at most
+
+one_more : (x : Kept) (old : List Kept) → length (with_access x old) ≤ length old + 1
+one_more x old = by (repeats_any x old)
+  where
+    by : (b : Bool) → length (if b then old else old ++ x ∷ []) ≤ length old + 1
+    by true = omega arith
+    by false = omega (arith, length-append old (x ∷ []))
+
+grow_by : (o : Option Action) (x : Record) (place : ℕ) (old : List Kept) → length (without_repeats (access_in (record { read = x; place = place; action = o })) old) ≤ length old + 1
+grow_by None x place old = omega arith
+grow_by (Some a) (Access m l) place old = one_more (access_of (place + 2) a.number m l) old
+grow_by (Some a) x place old = omega arith
+
+pub kept_grow : (h : List Record) (x : Record) → length (kept (x ∷ h)) ≤ length (kept h) + 1
+kept_grow h x = grow_by (running (actions_after (told h) x)) x (length (told h).entries) (kept h)
 
 -- an access of the running action
 
@@ -82,7 +156,7 @@ up_to_running page line accesses r o runs k d below =
     let under = o.actions k d below in
     omega arith
 
-nothing_by : (o : Option Action) (place : ℕ) (m : Mode) (l : Loc) (old : List Kept) → None ≡ option_map (λ (a : Action). a.number) o → without_repeats (accesses_of (record { read = Access m l; place = place; action = o })) old ≡ old
+nothing_by : (o : Option Action) (place : ℕ) (m : Mode) (l : Loc) (old : List Kept) → None ≡ option_map (λ (a : Action). a.number) o → without_repeats (access_in (record { read = Access m l; place = place; action = o })) old ≡ old
 nothing_by None place m l old e = refl
 nothing_by (Some a) place m l old e = absurd (cc)
 
@@ -93,7 +167,7 @@ nothing_runs h place m l old e =
     record { same = sym same; room = λ more. absurd (omega (arith, ap length same)) }
 
 with_running_by : (o : Option Action) (line r place : ℕ) (m : Mode) (l : Loc) (old : List Kept) → Some r ≡ option_map (λ (a : Action). a.number) o → line ≡ place + 2
-    → without_repeats (accesses_of (record { read = Access m l; place = place; action = o })) old ≡ with_access (access_of line r m l) old
+    → without_repeats (access_in (record { read = Access m l; place = place; action = o })) old ≡ with_access (access_of line r m l) old
 with_running_by None line r place m l old e at = absurd (cc)
 with_running_by (Some a) line r place m l old e at =
     let same : a.number ≡ r = cc in

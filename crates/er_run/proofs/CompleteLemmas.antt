@@ -10,18 +10,21 @@ use Rattle.er_lines.proofs.StopLaws.{longer as longer_refusal}
 use Rattle.er_words.specs.declared.commands.Command.{Command}
 use Rattle.er_run.specs.declared.outcome.Outcome.{Outcome}
 use Rattle.er_run.specs.declared.outcome.Outcome.TheVariants.{Clean, Races, Usage, Refused, ReadFault, WriteFault, NoMemory}
-use Rattle.er_run.specs.Answer.{Answers, FirstIllegal, OfLine, OfRecord, OfEnd}
-use Rattle.er_run.specs.Promise.{IsAnswer, IsSilent, IsGiven, IsFinal, IsDecided}
-use Rattle.er_run.proofs.OneAnswer.{not_refused, refused_once}
+use Rattle.er_run.specs.Answer.{Answers, FirstIllegal}
+use Rattle.er_run.proofs.IllegalLines.{of_line, of_record, of_end, Kinds, ByLine, ByRecord, ByEnd, kinds}
+use Rattle.er_outside.specs.Ends.{IsSpent}
+use Rattle.er_run.specs.Report.{refusal_for}
+use Rattle.er_run.specs.Promise.{IsAnswer, IsSilent, IsGiven, IsDecided}
+use Rattle.er_run.proofs.OneAnswer.{answer_once}
 
 begins_more : (bytes more before there rest : List ℕ) → bytes ≡ before ++ (there ++ rest) → bytes ++ more ≡ before ++ (there ++ (rest ++ more))
 begins_more bytes more before there rest is = (ap (λ b. b ++ more) is ∙ append_assoc before (there ++ rest) more) ∙ ap (λ b. before ++ b) (append_assoc there rest more)
 
 -- a refusal other than for a missing end is that of every longer input
 
-pub longer : (f : Format) (asked : Command) (bytes more : List ℕ) (n : ℕ) (c : Cause) → FirstIllegal f asked bytes n c → c ≢ NoEnd → FirstIllegal f asked (bytes ++ more) n c
-longer f asked bytes more n c (OfLine place number legal h) other = OfLine place number legal (longer_refusal f bytes more place c h other)
-longer f asked bytes more n c (OfRecord v earlier number legal h) other = OfRecord v earlier number legal (record {
+longer_by : (f : Format) (asked : Command) (bytes more : List ℕ) (n : ℕ) (c : Cause) → Kinds f asked bytes n c → c ≢ NoEnd → FirstIllegal f asked (bytes ++ more) n c
+longer_by f asked bytes more n c (ByLine place number legal h) other = of_line f asked (bytes ++ more) n c place number legal (longer_refusal f bytes more place c h other)
+longer_by f asked bytes more n c (ByRecord v earlier number legal h) other = of_record f asked (bytes ++ more) n c v earlier number legal (record {
   before = h.before;
   are = h.are;
   few = h.few;
@@ -33,7 +36,7 @@ longer f asked bytes more n c (OfRecord v earlier number legal h) other = OfReco
   begins = begins_more bytes more h.before (line h.l) h.rest h.begins;
   cause = h.cause;
 })
-longer f asked bytes more n c (OfEnd v earlier number legal h) other = OfEnd v earlier number legal (record {
+longer_by f asked bytes more n c (ByEnd v earlier number legal h) other = of_end f asked (bytes ++ more) n c v earlier number legal (record {
   before = h.before;
   are = h.are;
   few = h.few;
@@ -45,26 +48,43 @@ longer f asked bytes more n c (OfEnd v earlier number legal h) other = OfEnd v e
   cause = h.cause;
 })
 
+pub longer : (f : Format) (asked : Command) (bytes more : List ℕ) (n : ℕ) (c : Cause) → FirstIllegal f asked bytes n c → c ≢ NoEnd → FirstIllegal f asked (bytes ++ more) n c
+longer f asked bytes more n c h other = longer_by f asked bytes more n c (kinds f asked bytes n c h) other
+
+-- where nothing is left, each outcome is decided
+pub spent_decided : (f : Format) (asked : Command) (taken : List ℕ) (left : Option (List ℕ)) (outcome : Outcome) → IsSpent left → IsDecided f asked taken left outcome
+spent_decided f asked taken left Clean spent = spent
+spent_decided f asked taken left Races spent = spent
+spent_decided f asked taken left (Refused n c) spent = inl spent
+spent_decided f asked taken left Usage spent = spent
+spent_decided f asked taken left ReadFault spent = spent
+spent_decided f asked taken left WriteFault spent = spent
+spent_decided f asked taken left NoMemory spent = spent
+
+-- bytes that are refused answer that refusal, which is decided
+pub refused_decided : (f : Format) → IsFormat f → (asked : Command) (taken : List ℕ) (left : Option (List ℕ)) (n : ℕ) (c : Cause) (outcome : Outcome) (due : List ℕ) → IsDecided f asked taken left (Refused n c) → FirstIllegal f asked taken n c → Answers f asked taken outcome due → IsDecided f asked taken left outcome
+refused_decided f good asked taken left n c outcome due decided refused a =
+    let same : outcome ≡ Refused n c = (answer_once f good asked taken outcome (Refused n c) due (refusal_for asked n c) a (refused, refl)).0 in
+    subst (IsDecided f asked taken left) (sym same) decided
+
 -- so what was taken answers as all that was there
 
-answers_final : (f : Format) → IsFormat f → (asked : Command) (taken rest : List ℕ) (outcome : Outcome) (due : List ℕ) → IsFinal f asked taken → Answers f asked taken outcome due → Answers f asked (taken ++ rest) outcome due
-answers_final f good asked taken rest Clean due final a = absurd (not_refused f good asked a.0 taken a.1 final.0 final.1 a.2 final.2)
-answers_final f good asked taken rest Races due final a = absurd (not_refused f good asked a.0 taken a.1 final.0 final.1 a.2 final.2)
-answers_final f good asked taken rest (Refused n c) due final a =
-    let same : c ≡ final.1 = (refused_once f good asked taken n final.0 c final.1 a.0 final.2).1 in
-    (longer f asked taken rest n c a.0 (λ is. final.3 (sym same ∙ is)), a.1)
-answers_final f good asked taken rest Usage due final a = a
-answers_final f good asked taken rest ReadFault due final a = a
-answers_final f good asked taken rest WriteFault due final a = a
-answers_final f good asked taken rest NoMemory due final a = a
+all_or_more : (f : Format) (asked : Command) (taken rest : List ℕ) (outcome : Outcome) (due : List ℕ) → IsDecided f asked taken (Some rest) outcome → Answers f asked taken outcome due → (rest ≡ []) ⊎ Answers f asked (taken ++ rest) outcome due
+all_or_more f asked taken rest Clean due decided a = inl decided
+all_or_more f asked taken rest Races due decided a = inl decided
+all_or_more f asked taken rest (Refused n c) due decided a = ⊎_elim inl (λ just. inr (longer f asked taken rest n c a.0 just.other, a.1)) decided
+all_or_more f asked taken rest Usage due decided a = inl decided
+all_or_more f asked taken rest ReadFault due decided a = inl decided
+all_or_more f asked taken rest WriteFault due decided a = inl decided
+all_or_more f asked taken rest NoMemory due decided a = inl decided
 
-answers_all : (f : Format) → IsFormat f → (asked : Command) (bytes taken : List ℕ) (left : Option (List ℕ)) (outcome : Outcome) (due : List ℕ) → Some bytes ≡ option_map (λ rest. taken ++ rest) left → IsDecided f asked taken left → Answers f asked taken outcome due
+answers_all : (f : Format) (asked : Command) (bytes taken : List ℕ) (left : Option (List ℕ)) (outcome : Outcome) (due : List ℕ) → Some bytes ≡ option_map (λ rest. taken ++ rest) left → IsDecided f asked taken left outcome → Answers f asked taken outcome due
     → Answers f asked bytes outcome due
-answers_all f good asked bytes taken None outcome due held decided a = absurd (cc)
-answers_all f good asked bytes taken (Some rest) outcome due held decided a =
+answers_all f asked bytes taken None outcome due held decided a = absurd (cc)
+answers_all f asked bytes taken (Some rest) outcome due held decided a =
     let same : bytes ≡ taken ++ rest = cc in
     let is_all : rest ≡ [] → bytes ≡ taken = λ none. grind (arith, common_steps) in
-    ⊎_elim (λ spent. subst (λ bs. Answers f asked bs outcome due) (sym (is_all spent)) a) (λ just. subst (λ bs. Answers f asked bs outcome due) (sym same) (answers_final f good asked taken rest outcome due just.refused a)) decided
+    ⊎_elim (λ none. subst (λ bs. Answers f asked bs outcome due) (sym (is_all none)) a) (λ more. subst (λ bs. Answers f asked bs outcome due) (sym same) more) (all_or_more f asked taken rest outcome due decided a)
 
 -- an outcome that no fault explains is an answer, or want of memory
 pub answered_or_none : (f : Format) (asked : Command) (bytes : List ℕ) (got_old got_new : Option (List ℕ)) (outcome : Outcome) → (IsAnswer outcome → IsGiven f asked bytes outcome got_old got_new) → (outcome ≡ WriteFault → ⊥) → outcome ≢ Usage
@@ -88,9 +108,9 @@ only_memory WriteFault silent no_usage no_read = absurd silent
 only_memory NoMemory silent no_usage no_read = refl
 
 -- and the answer is that of all bytes, where those that were taken are all, or too many
-pub complete : (f : Format) → IsFormat f → (asked : Command) (bytes taken : List ℕ) (left got_old got_new : Option (List ℕ)) (outcome : Outcome) → Some bytes ≡ option_map (λ rest. taken ++ rest) left → IsDecided f asked taken left
+pub complete : (f : Format) (asked : Command) (bytes taken : List ℕ) (left got_old got_new : Option (List ℕ)) (outcome : Outcome) → Some bytes ≡ option_map (λ rest. taken ++ rest) left → ((due : List ℕ) → Answers f asked taken outcome due → IsDecided f asked taken left outcome)
     → (IsAnswer outcome → IsGiven f asked taken outcome got_old got_new) → (outcome ≡ WriteFault → ⊥) → outcome ≢ Usage → outcome ≢ ReadFault → (outcome ≡ NoMemory) ⊎ ((due : List ℕ) × Answers f asked bytes outcome due)
-complete f good asked bytes taken left got_old got_new outcome held decided given no_write no_usage no_read = elim (answered_or_none f asked taken got_old got_new outcome given no_write no_usage no_read) [
+complete f asked bytes taken left got_old got_new outcome held decided given no_write no_usage no_read = elim (answered_or_none f asked taken got_old got_new outcome given no_write no_usage no_read) [
   | inl none ↦ inl none
-  | inr answer ↦ inr (answer.0, answers_all f good asked bytes taken left outcome answer.0 held decided answer.1)
+  | inr answer ↦ inr (answer.0, answers_all f asked bytes taken left outcome answer.0 held (decided answer.0 answer.1) answer.1)
 ]

@@ -12,7 +12,8 @@ use Rattle.er_lines.proofs.LinesBefore.{line_of_no_end}
 use Rattle.er_history.specs.Rules.{rules}
 use Rattle.er_words.specs.declared.commands.Command.{Command}
 use Rattle.er_run.specs.Legal.{IsLegal}
-use Rattle.er_run.specs.Answer.{IsLegalBefore, FirstIllegal, OfLine}
+use Rattle.er_run.specs.Answer.{IsLegalBefore, FirstIllegal}
+use Rattle.er_run.proofs.IllegalLines.{of_line}
 use Rattle.er_run.proofs.OneAnswer.{legal_older}
 
 -- the lines before a place within legal records are legal
@@ -27,4 +28,4 @@ legal_within asked v records (Ended w front) within legal = absurd within
 pub cut_trace : (f : Format) (asked : Command) (v : Version) (records : List Record) (bytes more : List ℕ) → IsTrace f v (bytes ++ more) records → IsLegal (rules v) (reverse records) → 0 < length more → FirstIllegal f asked bytes (count_of_lf bytes + 1) NoEnd
 cut_trace f asked v records bytes more is legal some =
     let cut = place_of_cut f v records bytes more is some in
-    OfLine cut.0 (sym (line_of_no_end f bytes cut.0 cut.1)) (legal_within asked v records cut.0 cut.2 legal) cut.1
+    of_line f asked bytes (count_of_lf bytes + 1) NoEnd cut.0 (sym (line_of_no_end f bytes cut.0 cut.1)) (legal_within asked v records cut.0 cut.2 legal) cut.1

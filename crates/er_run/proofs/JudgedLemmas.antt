@@ -50,8 +50,8 @@ use Rattle.er_run.specs.Legal.{listing_cause, end_cause, schedule_cause, explain
 use Rattle.er_run.specs.Races.{kept, candidates, races, classes}
 use Rattle.er_json.specs.Json as lines
 use Rattle.er_run.specs.Report.{report, json_report, summary, schedule}
-use Rattle.er_run.specs.Session.{StandsFor}
-use Rattle.er_run.specs.Session.{numbered as numbered_records}
+use Rattle.er_run.specs.Session.{IsSessionOf}
+use Rattle.er_run.specs.Session.{with_lines}
 use Rattle.er_run.specs.Accepted.{AreListed, AreGrouped, AreOrdersOf, IsListing, IsFound, IsJudged, IsOrdered}
 use Rattle.er_run.proofs.AccessLemmas.{kept_begun}
 use Rattle.er_run.proofs.OrderLemmas.{IsRaceAt, Rises, kept_rises, race_at}
@@ -62,11 +62,11 @@ abbrev pub AreClocks : Graph → List (List ℕ) → Type 0
 AreClocks graph links = (accepted : List Accepted) → IsGraph graph accepted → AreTimed graph.version links accepted
 
 -- the clocks of a session stand for the edges of its records
-clocks_stand : (s : Session) (links : List (List ℕ)) (h : List Record) → AreClocks s.graph links → StandsFor s h → clocks.StandsFor links (edges (rules s.graph.version) (told h).actions)
-clocks_stand s links h timed stands = subst (λ l. clocks.StandsFor links (edges (rules s.graph.version) (told l).actions)) (sessions.records_numbered h) (timed (numbered_records h) stands.graph)
+clocks_stand : (s : Session) (links : List (List ℕ)) (h : List Record) → AreClocks s.graph links → IsSessionOf s h → clocks.StandsFor links (edges (rules s.graph.version) (told h).actions)
+clocks_stand s links h timed stands = subst (λ l. clocks.StandsFor links (edges (rules s.graph.version) (told l).actions)) (sessions.records_with_lines h) (timed (with_lines h) stands.graph)
 
 -- the actions of the kept accesses are among those of the clocks
-pub begun : (s : Session) (links : List (List ℕ)) (h : List Record) → AreClocks s.graph links → StandsFor s h → All (λ (x : Kept). x.action < length links) s.kept
+pub begun : (s : Session) (links : List (List ℕ)) (h : List Record) → AreClocks s.graph links → IsSessionOf s h → All (λ (x : Kept). x.action < length links) s.kept
 begun s links h timed stands =
     let e : length links ≡ length (told h).actions = (clocks_tell_paths links (edges (rules s.graph.version) (told h).actions) (clocks_stand s links h timed stands)).0 ∙ edges_length (rules s.graph.version) (told h).actions in
     λ k d below.
@@ -76,13 +76,13 @@ begun s links h timed stands =
 
 -- the clocks tell the paths, so what is listed over them are the races
 
-paths_told : (s : Session) (links : List (List ℕ)) (h : List Record) → AreClocks s.graph links → StandsFor s h → joins links ≡ path (rules s.graph.version) h
+paths_told : (s : Session) (links : List (List ℕ)) (h : List Record) → AreClocks s.graph links → IsSessionOf s h → joins links ≡ path (rules s.graph.version) h
 paths_told s links h timed stands = fun_ext (λ i. fun_ext (λ j. (clocks_tell_paths links (edges (rules s.graph.version) (told h).actions) (clocks_stand s links h timed stands)).1 i j))
 
-races_told : (s : Session) (links : List (List ℕ)) (h : List Record) → AreClocks s.graph links → StandsFor s h → races_by (joins links) s.kept ≡ races s.graph.version h
+races_told : (s : Session) (links : List (List ℕ)) (h : List Record) → AreClocks s.graph links → IsSessionOf s h → races_by (joins links) s.kept ≡ races s.graph.version h
 races_told s links h timed stands = ap (λ joined. races_by joined s.kept) (paths_told s links h timed stands) ∙ ap (races_by (path (rules s.graph.version) h)) stands.accesses
 
-numbers_told : (s : Session) (links : List (List ℕ)) (h : List Record) → AreClocks s.graph links → StandsFor s h → races_of (joins links) s.kept ≡ races_of (path (rules s.graph.version) h) (kept h)
+numbers_told : (s : Session) (links : List (List ℕ)) (h : List Record) → AreClocks s.graph links → IsSessionOf s h → races_of (joins links) s.kept ≡ races_of (path (rules s.graph.version) h) (kept h)
 numbers_told s links h timed stands = ap (λ joined. races_of joined s.kept) (paths_told s links h timed stands) ∙ ap (races_of (path (rules s.graph.version) h)) stands.accesses
 
 -- the limits at the end
@@ -116,18 +116,18 @@ not_caused k n c few = let under : nat_lt k n ≡ false = grind (arith, nat_test
 listing_within : (v : Version) (h : List Record) (found : List Race) (last : Option Cause) → AreListed v found h → listing_cause v h last ≡ last
 listing_within v h found last l = within_both (length (candidates h)) (length (races v h)) most_pairs most_races last l.few_pairs l.few_races
 
-pairs_of_session : (s : Session) (h : List Record) → StandsFor s h → length (candidates_of s.kept) ≡ length (candidates h)
+pairs_of_session : (s : Session) (h : List Record) → IsSessionOf s h → length (candidates_of s.kept) ≡ length (candidates h)
 pairs_of_session s h stands = ap (λ ks. length (candidates_of ks)) stands.accesses
 
-pub over_pairs : (s : Session) (h : List Record) (n : ℕ) (last : Option Cause) → StandsFor s h → n ≡ length (candidates_of s.kept) → most_pairs < n → listing_cause s.graph.version h last ≡ Some TooManyPairs
+pub over_pairs : (s : Session) (h : List Record) (n : ℕ) (last : Option Cause) → IsSessionOf s h → n ≡ length (candidates_of s.kept) → most_pairs < n → listing_cause s.graph.version h last ≡ Some TooManyPairs
 over_pairs s h n last stands count more = many_pairs (length (candidates h)) (length (races s.graph.version h)) most_pairs most_races last (omega (arith, pairs_of_session s h stands))
 
-pub over_races : (s : Session) (links : List (List ℕ)) (h : List Record) (n : ℕ) (last : Option Cause) → AreClocks s.graph links → StandsFor s h → n ≡ length (candidates_of s.kept) → n ≤ most_pairs → most_races < length (races_by (joins links) s.kept)
+pub over_races : (s : Session) (links : List (List ℕ)) (h : List Record) (n : ℕ) (last : Option Cause) → AreClocks s.graph links → IsSessionOf s h → n ≡ length (candidates_of s.kept) → n ≤ most_pairs → most_races < length (races_by (joins links) s.kept)
     → listing_cause s.graph.version h last ≡ Some TooManyRaces
 over_races s links h n last timed stands count few more =
     many_races (length (candidates h)) (length (races s.graph.version h)) most_pairs most_races last (omega (arith, pairs_of_session s h stands)) (omega (arith, ap length (races_told s links h timed stands)))
 
-pub listed : (s : Session) (links : List (List ℕ)) (h : List Record) (found : List Race) (n : ℕ) → AreClocks s.graph links → StandsFor s h → n ≡ length (candidates_of s.kept) → n ≤ most_pairs → found ≡ races_of (joins links) s.kept
+pub listed : (s : Session) (links : List (List ℕ)) (h : List Record) (found : List Race) (n : ℕ) → AreClocks s.graph links → IsSessionOf s h → n ≡ length (candidates_of s.kept) → n ≤ most_pairs → found ≡ races_of (joins links) s.kept
     → length (races_by (joins links) s.kept) ≤ most_races → AreListed s.graph.version found h
 listed s links h found n timed stands count few is less = record {
   few_pairs = omega (arith, pairs_of_session s h stands);
@@ -135,7 +135,7 @@ listed s links h found n timed stands count few is less = record {
   are_races = is ∙ numbers_told s links h timed stands;
 }
 
-pub compared : (s : Session) (h : List Record) (old new : ℕ) → StandsFor s h → new ≡ old + length (candidates_of s.kept) → new ≡ old + length (candidates h)
+pub compared : (s : Session) (h : List Record) (old new : ℕ) → IsSessionOf s h → new ≡ old + length (candidates_of s.kept) → new ≡ old + length (candidates h)
 compared s h old new stands is = omega (arith, pairs_of_session s h stands)
 
 -- the groups
@@ -158,31 +158,31 @@ few_found v found h l =
     omega (arith, few, as_many (kept h) found (races v h) (are_pairs v found h l))
 
 -- they are those over the clocks
-pub found_by_clocks : (s : Session) (links : List (List ℕ)) (h : List Record) (found : List Race) → AreClocks s.graph links → StandsFor s h → AreListed s.graph.version found h → found ≡ races_of (joins links) s.kept
+pub found_by_clocks : (s : Session) (links : List (List ℕ)) (h : List Record) (found : List Race) → AreClocks s.graph links → IsSessionOf s h → AreListed s.graph.version found h → found ≡ races_of (joins links) s.kept
 found_by_clocks s links h found timed stands l = l.are_races ∙ sym (numbers_told s links h timed stands)
 
 -- what holds of the edges and of the kept accesses of the session holds of those of the list
-by_kept : (s : Session) (links : List (List ℕ)) (h : List Record) (has : List (List ℕ) → List Kept → Type 0) → AreClocks s.graph links → StandsFor s h
+by_kept : (s : Session) (links : List (List ℕ)) (h : List Record) (has : List (List ℕ) → List Kept → Type 0) → AreClocks s.graph links → IsSessionOf s h
     → clocks.Tells links (λ lists. has lists s.kept) → has (edges (rules s.graph.version) (told h).actions) (kept h)
 by_kept s links h has timed stands tells = subst (has (edges (rules s.graph.version) (told h).actions)) stands.accesses (tells (edges (rules s.graph.version) (told h).actions) (clocks_stand s links h timed stands))
 
 -- what holds by the paths of the clocks and of the kept accesses of the session holds by those of the list
-by_paths : (s : Session) (links : List (List ℕ)) (h : List Record) (has : (ℕ → ℕ → Bool) → List Kept → Type 0) → AreClocks s.graph links → StandsFor s h
+by_paths : (s : Session) (links : List (List ℕ)) (h : List Record) (has : (ℕ → ℕ → Bool) → List Kept → Type 0) → AreClocks s.graph links → IsSessionOf s h
     → has (joins links) s.kept → has (path (rules s.graph.version) h) (kept h)
 by_paths s links h has timed stands is =
     subst (has (path (rules s.graph.version) h)) stands.accesses (subst (λ joined. has joined s.kept) (paths_told s links h timed stands) is)
 
-pub grouped : (s : Session) (links : List (List ℕ)) (h : List Record) (found : Grouping) → AreClocks s.graph links → StandsFor s h
+pub grouped : (s : Session) (links : List (List ℕ)) (h : List Record) (found : Grouping) → AreClocks s.graph links → IsSessionOf s h
     → found ≡ grouping_of (joins links) s.kept → length (classes_of (joins links) s.kept) ≤ most_classes → AreGrouped s.graph.version found h
 grouped s links h found timed stands are few = record {
   few_classes = by_paths s links h (λ joined accesses. length (classes_of joined accesses) ≤ most_classes) timed stands few;
   are_groups = by_paths s links h (λ joined accesses. found ≡ grouping_of joined accesses) timed stands are;
 }
 
-pub tested : (s : Session) (links : List (List ℕ)) (h : List Record) (old new : ℕ) → AreClocks s.graph links → StandsFor s h → new ≤ old + most_tests (joins links) s.kept → new ≤ old + most_tests (path (rules s.graph.version) h) (kept h)
+pub tested : (s : Session) (links : List (List ℕ)) (h : List Record) (old new : ℕ) → AreClocks s.graph links → IsSessionOf s h → new ≤ old + most_tests (joins links) s.kept → new ≤ old + most_tests (path (rules s.graph.version) h) (kept h)
 tested s links h old new timed stands few = by_paths s links h (λ joined accesses. new ≤ old + most_tests joined accesses) timed stands few
 
-pub over_classes : (s : Session) (links : List (List ℕ)) (h : List Record) (found : List Race) → AreClocks s.graph links → StandsFor s h → AreListed s.graph.version found h → most_classes < length (classes_of (joins links) s.kept) → end_cause s.graph.version h ≡ Some TooManyClasses
+pub over_classes : (s : Session) (links : List (List ℕ)) (h : List Record) (found : List Race) → AreClocks s.graph links → IsSessionOf s h → AreListed s.graph.version found h → most_classes < length (classes_of (joins links) s.kept) → end_cause s.graph.version h ≡ Some TooManyClasses
 over_classes s links h found timed stands l many =
     listing_within s.graph.version h found (if nat_lt most_classes (length (classes s.graph.version h)) then Some TooManyClasses else None) l
     ∙ caused most_classes (length (classes s.graph.version h)) TooManyClasses (by_paths s links h (λ joined accesses. most_classes < length (classes_of joined accesses)) timed stands many)
@@ -192,12 +192,12 @@ report_within : (v : Version) (h : List Record) (listing : Listing) → IsListin
 report_within v h listing is =
     listing_within v h listing.races.items (if nat_lt most_classes (length (classes v h)) then Some TooManyClasses else None) is.listed ∙ not_caused most_classes (length (classes v h)) TooManyClasses is.grouped.few_classes
 
-pub judged_check : (s : Session) (asked : Command) (json : Bool) (input : Input) (h : List Record) (found : Found) (listing : Listing) → asked ≡ Check json input → StandsFor s h → IsListing s.graph.version listing h
+pub judged_check : (s : Session) (asked : Command) (json : Bool) (input : Input) (h : List Record) (found : Found) (listing : Listing) → asked ≡ Check json input → IsSessionOf s h → IsListing s.graph.version listing h
     → ((v : Version) (g : List Record) → IsListing v listing g → IsFound (Check json input) v found g) → IsJudged asked s found h
 judged_check s asked json input h found listing same stands is gives =
     subst (λ a. IsJudged a s found h) (sym same) (record { stands = stands; within = report_within s.graph.version h listing is; is_found = gives s.graph.version h is })
 
-pub judged_summary : (s : Session) (asked : Command) (n : ℕ) (h : List Record) (listing : Listing) → asked ≡ Gen n → StandsFor s h → IsListing s.graph.version listing h → IsJudged asked s (findings.Summary n listing) h
+pub judged_summary : (s : Session) (asked : Command) (n : ℕ) (h : List Record) (listing : Listing) → asked ≡ Gen n → IsSessionOf s h → IsListing s.graph.version listing h → IsJudged asked s (findings.Summary n listing) h
 judged_summary s asked n h listing same stands is =
     subst (λ a. IsJudged a s (findings.Summary n listing) h) (sym same) (record { stands = stands; within = report_within s.graph.version h listing is; is_found = (refl, is) })
 
@@ -209,13 +209,13 @@ no_race v h found k l past =
     ∙ caused (length (races v h)) k NoRace (omega (arith, past, as_many (kept h) found (races v h) (are_pairs v found h l)))
 
 -- the actions of a race, by the clocks
-pub race_by_clocks : (s : Session) (links : List (List ℕ)) (h : List Record) (found : List Race) (k : ℕ) (d : Race) (x y : access.Access) → AreClocks s.graph links → StandsFor s h → AreListed s.graph.version found h → k < length found
+pub race_by_clocks : (s : Session) (links : List (List ℕ)) (h : List Record) (found : List Race) (k : ℕ) (d : Race) (x y : access.Access) → AreClocks s.graph links → IsSessionOf s h → AreListed s.graph.version found h → k < length found
     → x.location < length (locations_of s.kept) → y.location < length (locations_of s.kept) → IsKeptAt s.kept (get_or found k d).first x → IsKeptAt s.kept (get_or found k d).second y → IsRaceAt (joins links) s.kept k x.action y.action
 race_by_clocks s links h found k d x y timed stands l below known_x known_y first second =
     race_at (joins links) s.kept found k d x y (subst Rises (sym stands.accesses) (kept_rises h)) (found_by_clocks s links h found timed stands l) below known_x known_y first second
 
 -- they are numbers of actions
-pub access_begun : (s : Session) (links : List (List ℕ)) (h : List Record) (n : ℕ) (x : access.Access) → AreClocks s.graph links → StandsFor s h → x.location < length (locations_of s.kept) → IsKeptAt s.kept n x → x.action < length links
+pub access_begun : (s : Session) (links : List (List ℕ)) (h : List Record) (n : ℕ) (x : access.Access) → AreClocks s.graph links → IsSessionOf s h → x.location < length (locations_of s.kept) → IsKeptAt s.kept n x → x.action < length links
 access_begun s links h n x timed stands known is =
     let o : Loc = Var 0 [] in
     let l : Loc = get_or (locations_of s.kept) x.location o in
@@ -225,7 +225,7 @@ access_begun s links h n x timed stands known is =
     rw (get_or_from_slice_get s.kept n a a there) at under
 
 -- the orders over the clocks are those of the edges
-pub ordered : (s : Session) (links : List (List ℕ)) (h : List Record) (found : List Race) (k : ℕ) (orders : Orders) (i j : ℕ) → AreClocks s.graph links → StandsFor s h → AreListed s.graph.version found h → 1 ≤ k → k ≤ length found
+pub ordered : (s : Session) (links : List (List ℕ)) (h : List Record) (found : List Race) (k : ℕ) (orders : Orders) (i j : ℕ) → AreClocks s.graph links → IsSessionOf s h → AreListed s.graph.version found h → 1 ≤ k → k ≤ length found
     → IsRaceAt (joins links) s.kept (k - 1) i j → clocks.Tells links (λ lists. orders ≡ orders_of (joins lists) (length lists) i j) → AreOrdersOf s.graph.version k found orders h
 ordered s links h found k orders i j timed stands l least within race tells =
     let lists = edges (rules s.graph.version) (told h).actions in
@@ -243,14 +243,14 @@ ordered s links h found k orders i j timed stands l least within race tells =
     }
 
 -- the numbers of a race are of kept accesses
-pub race_within : (s : Session) (h : List Record) (found : List Race) (k : ℕ) (d : Race) → StandsFor s h → AreListed s.graph.version found h → k < length found
+pub race_within : (s : Session) (h : List Record) (found : List Race) (k : ℕ) (d : Race) → IsSessionOf s h → AreListed s.graph.version found h → k < length found
     → ((get_or found k d).first < length s.kept) × ((get_or found k d).second < length s.kept)
 race_within s h found k d stands l below =
     let within = All-get_or (IsWithin (kept h)) found k d below (are_within (path (rules s.graph.version) h) (kept h) found l.are_races) in
     let long = ap length stands.accesses in
     (omega (arith, within.0, within.1, long), omega (arith, within.1, long))
 
-pub judged_orders : (s : Session) (k : ℕ) (h : List Record) (found : Vec Race Global) (orders : Orders) → StandsFor s h → AreOrdersOf s.graph.version k found.items orders h → IsJudged (Schedule k) s (findings.Orders k found orders) h
+pub judged_orders : (s : Session) (k : ℕ) (h : List Record) (found : Vec Race Global) (orders : Orders) → IsSessionOf s h → AreOrdersOf s.graph.version k found.items orders h → IsJudged (Schedule k) s (findings.Orders k found orders) h
 judged_orders s k h found orders stands are = record {
   stands = stands;
   within = listing_within s.graph.version h found.items (if nat_lt (length (races s.graph.version h)) k then Some NoRace else None) are.listed
@@ -261,15 +261,15 @@ judged_orders s k h found orders stands are = record {
 -- why two actions are ordered
 
 -- the actions of a page
-pub actions_told : (page : Page) (graph : Graph) (h : List Record) (n : ℕ) → ((accepted : List Accepted) → IsListed graph accepted → IsPage page (records accepted)) → IsGraph graph (numbered_records h) → ((g : List Record) → IsPage page g → n ≡ length (told g).actions)
+pub actions_told : (page : Page) (graph : Graph) (h : List Record) (n : ℕ) → ((accepted : List Accepted) → IsListed graph accepted → IsPage page (records accepted)) → IsGraph graph (with_lines h) → ((g : List Record) → IsPage page g → n ≡ length (told g).actions)
     → n ≡ length (told h).actions
 actions_told page graph h n is stands counts = counts h (sessions.page_of page graph h is stands)
 
-pub has_begun : (s : Session) (h : List Record) (action : ℕ) → StandsFor s h → action < length (told h).actions → HasBegun s.graph action
+pub has_begun : (s : Session) (h : List Record) (action : ℕ) → IsSessionOf s h → action < length (told h).actions → HasBegun s.graph action
 has_begun s h action stands below = record {
-  accepted = numbered_records h;
+  accepted = with_lines h;
   listed = stands.graph.listed;
-  begun = subst (λ l. action < length (told l).actions) (sym (sessions.records_numbered h)) below;
+  begun = subst (λ l. action < length (told l).actions) (sym (sessions.records_with_lines h)) below;
 }
 
 or_true : (a b : Bool) → b ≡ true → (a || b) ≡ true
@@ -286,12 +286,12 @@ no_action h i j past = by (length (told h).actions) past
         let both : (nat_le n i || nat_le n j) ≡ true = or_true (nat_le n i) (nat_le n j) over in
         rw both refl
 
-pub judged_steps : (s : Session) (i j : ℕ) (h : List Record) (steps : Option (List Step)) → StandsFor s h → i < length (told h).actions → j < length (told h).actions
+pub judged_steps : (s : Session) (i j : ℕ) (h : List Record) (steps : Option (List Step)) → IsSessionOf s h → i < length (told h).actions → j < length (told h).actions
     → ((accepted : List Accepted) → IsGraph s.graph accepted → steps ≡ explanation (rules s.graph.version) (records accepted) i j) → IsJudged (Explain i j) s (findings.Steps i j steps) h
 judged_steps s i j h steps stands first second is = record {
   stands = stands;
   within = by (length (told h).actions) first second;
-  is_found = (refl, record { first = first; second = second; is = is (numbered_records h) stands.graph ∙ ap (λ l. explanation (rules s.graph.version) l i j) (sessions.records_numbered h) });
+  is_found = (refl, record { first = first; second = second; is = is (with_lines h) stands.graph ∙ ap (λ l. explanation (rules s.graph.version) l i j) (sessions.records_with_lines h) });
 }
   where
     by : (n : ℕ) → i < n → j < n → (if nat_le n i || nat_le n j then Some NoAction else None) ≡ None
@@ -303,19 +303,19 @@ judged_steps s i j h steps stands first second is = record {
 -- the report
 
 -- the groups are those over the clocks
-pub groups_by_clocks : (s : Session) (links : List (List ℕ)) (h : List Record) (found : Grouping) → AreClocks s.graph links → StandsFor s h → AreGrouped s.graph.version found h → found ≡ grouping_of (joins links) s.kept
+pub groups_by_clocks : (s : Session) (links : List (List ℕ)) (h : List Record) (found : Grouping) → AreClocks s.graph links → IsSessionOf s h → AreGrouped s.graph.version found h → found ≡ grouping_of (joins links) s.kept
 groups_by_clocks s links h found timed stands g =
     g.are_groups ∙ sym (ap (λ joined. grouping_of joined s.kept) (paths_told s links h timed stands) ∙ ap (grouping_of (path (rules s.graph.version) h)) stands.accesses)
 
 -- what is written of the clocks and the kept accesses is the report of the list
-pub report_due : (s : Session) (links : List (List ℕ)) (h : List Record) (has : List ℕ → Type 0) → AreClocks s.graph links → StandsFor s h → clocks.Tells links (λ lists. has (texts.report lists s.kept)) → has (report s.graph.version h)
+pub report_due : (s : Session) (links : List (List ℕ)) (h : List Record) (has : List ℕ → Type 0) → AreClocks s.graph links → IsSessionOf s h → clocks.Tells links (λ lists. has (texts.report lists s.kept)) → has (report s.graph.version h)
 report_due s links h has timed stands tells = by_kept s links h (λ lists accesses. has (texts.report lists accesses)) timed stands tells
 
 -- and so is the summary, and the line of JSON
-pub summary_due : (n : ℕ) (s : Session) (links : List (List ℕ)) (h : List Record) (has : List ℕ → Type 0) → AreClocks s.graph links → StandsFor s h → clocks.Tells links (λ lists. has (texts.summary n lists s.kept)) → has (summary s.graph.version n h)
+pub summary_due : (n : ℕ) (s : Session) (links : List (List ℕ)) (h : List Record) (has : List ℕ → Type 0) → AreClocks s.graph links → IsSessionOf s h → clocks.Tells links (λ lists. has (texts.summary n lists s.kept)) → has (summary s.graph.version n h)
 summary_due n s links h has timed stands tells = by_kept s links h (λ lists accesses. has (texts.summary n lists accesses)) timed stands tells
 
-pub line_due : (s : Session) (links : List (List ℕ)) (h : List Record) (has : List ℕ → Type 0) → AreClocks s.graph links → StandsFor s h → clocks.Tells links (λ lists. has (lines.report lists s.kept)) → has (json_report s.graph.version h)
+pub line_due : (s : Session) (links : List (List ℕ)) (h : List Record) (has : List ℕ → Type 0) → AreClocks s.graph links → IsSessionOf s h → clocks.Tells links (λ lists. has (lines.report lists s.kept)) → has (json_report s.graph.version h)
 line_due s links h has timed stands tells = by_kept s links h (λ lists accesses. has (lines.report lists accesses)) timed stands tells
 
 -- and so are the orders
@@ -326,7 +326,7 @@ some_orders s found k orders o = record {
   are = subst (λ (accesses : List Kept). AreOrders (edges (rules s.graph.version) (told o.list).actions) accesses found k orders) (sym o.stands.accesses) o.are.are;
 }
 
-pub orders_due : (s : Session) (found : List Race) (k : ℕ) (orders : Orders) (h : List Record) (has : List ℕ → Type 0) → StandsFor s h → AreOrdersOf s.graph.version k found orders h
+pub orders_due : (s : Session) (found : List Race) (k : ℕ) (orders : Orders) (h : List Record) (has : List ℕ → Type 0) → IsSessionOf s h → AreOrdersOf s.graph.version k found orders h
     → ((lists : List (List ℕ)) → AreOrders lists s.kept found k orders → has (schedule_text lists s.kept k)) → has (schedule s.graph.version k h)
 orders_due s found k orders h has stands are tells =
     let lists = edges (rules s.graph.version) (told h).actions in

@@ -13,6 +13,7 @@ pub mod EveryText
 pub mod EveryAnswer
 pub mod TellLemmas
 pub mod FormatLemmas
+pub mod IllegalLines
 pub mod GeneratedLemmas
 pub mod RunLemmas
 pub mod ReadingLemmas

@@ -17,7 +17,9 @@ use Rattle.er_run.specs.Report.{text_for, refusal_for}
 use Rattle.er_words.specs.declared.commands.Command.{Command}
 use Rattle.er_run.specs.declared.outcome.Outcome.{Outcome}
 use Rattle.er_run.specs.declared.outcome.Outcome.TheVariants.{Clean, Races, Usage, Refused, ReadFault, WriteFault, NoMemory}
-use Rattle.er_run.specs.Answer.{IsLegalTrace, RefusesRecord, RefusesEnd, IsLegalBefore, FirstIllegal, OfLine, OfRecord, OfEnd, outcome_for, Answers}
+use Rattle.er_run.specs.Answer.{IsLegalTrace, IsLegalBefore, FirstIllegal, outcome_for, Answers}
+use Rattle.er_run.proofs.IllegalLines.{RefusesRecord, RefusesEnd, Kinds, kinds}
+use Rattle.er_run.proofs.IllegalLines as by_kind
 
 -- Two readings of the same bytes by records: one list is a front of the other.
 data Meets (f : Format) (v : Version) (a b : List Record) (r s : List ℕ) : Type 0 where
@@ -267,10 +269,13 @@ data Illegal (f : Format) (asked : Command) (bytes : List ℕ) (n : ℕ) (c : Ca
   ByRecord : (v : Version) (earlier : List Record) (x : Record) → n ≡ length earlier + 2 → IsLegal (rules v) (reverse earlier) → Faulty f v bytes earlier x c → Illegal f asked bytes n c
   ByEnd : (v : Version) (records : List Record) → n ≡ length records + 2 → RefusesEnd f asked v bytes records c → Ending f asked v bytes records (Some c) → Illegal f asked bytes n c
 
+illegal_by : (f : Format) (asked : Command) (bytes : List ℕ) (n : ℕ) (c : Cause) → Kinds f asked bytes n c → Illegal f asked bytes n c
+illegal_by f asked bytes n c (by_kind.ByLine place number legal h) = ByLine place number legal h
+illegal_by f asked bytes n c (by_kind.ByRecord v earlier number legal h) = ByRecord v earlier h.read number legal (faulty f v bytes earlier c h)
+illegal_by f asked bytes n c (by_kind.ByEnd v earlier number legal h) = ByEnd v earlier number h (ending f asked v bytes earlier c legal h)
+
 illegal : (f : Format) (asked : Command) (bytes : List ℕ) (n : ℕ) (c : Cause) → FirstIllegal f asked bytes n c → Illegal f asked bytes n c
-illegal f asked bytes n c (OfLine place number legal h) = ByLine place number legal h
-illegal f asked bytes n c (OfRecord v earlier number legal h) = ByRecord v earlier h.read number legal (faulty f v bytes earlier c h)
-illegal f asked bytes n c (OfEnd v earlier number legal h) = ByEnd v earlier number h (ending f asked v bytes earlier c legal h)
+illegal f asked bytes n c h = illegal_by f asked bytes n c (kinds f asked bytes n c h)
 
 illegal_once : (f : Format) → IsFormat f → (asked : Command) (bytes : List ℕ) (n m : ℕ) (c d : Cause) → Illegal f asked bytes n c → Illegal f asked bytes m d → (n ≡ m) × (c ≡ d)
 illegal_once f good asked bytes n m c d (ByLine p number_p legal_p first) (ByLine q number_q legal_q second) =

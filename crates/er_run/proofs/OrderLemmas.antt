@@ -23,7 +23,7 @@ use Rattle.er_races.specs.Races.{IsWithin, races_by, races_of}
 use Rattle.er_report.specs.Pieces.{placed}
 use Rattle.er_report.proofs.CountLemmas.{are_pairs, are_within}
 use Rattle.er_report.proofs.ReportLemmas.{reads_pair}
-use Rattle.er_run.specs.Races.{kept, accesses_of, without_repeats}
+use Rattle.er_run.specs.Races.{kept, access_in, without_repeats}
 use Rattle.er_run.proofs.AccessLemmas.{kept_begun, same_kept}
 
 -- the actions of these accesses never fall
@@ -55,7 +55,7 @@ rises_with old x under rises = by (repeats_any x old)
     by false = rises_more old x under rises
 
 access_rises : (actions : List Action) (m : Mode) (l : Loc) (place : ℕ) (old : List Kept) → IsNumbered actions → All (λ (y : Kept). y.action < length actions) old → Rises old
-    → Rises (without_repeats (accesses_of (record { read = Access m l; place = place; action = running actions })) old)
+    → Rises (without_repeats (access_in (record { read = Access m l; place = place; action = running actions })) old)
 access_rises [] m l place old n all rises = rises
 access_rises (a ∷ older) m l place old n all rises =
     rises_with old (access_of (place + 2) a.number m l) (λ k d below. let under = all k d below in omega (arith, n.0, under)) rises

@@ -26,7 +26,8 @@ use Rattle.er_run.specs.declared.input.LineRefusal.{LineRefusal}
 use Rattle.er_run.specs.declared.input.InputFault.{InputFault}
 use Rattle.er_run.specs.declared.input.InputFault.TheVariants as input_faults
 use Rattle.er_run.specs.declared.session.Session.{Session}
-use Rattle.er_run.specs.Answer.{FirstIllegal, IsLegalTrace, OfLine}
+use Rattle.er_run.specs.Answer.{FirstIllegal, IsLegalTrace}
+use Rattle.er_run.proofs.IllegalLines.{of_line}
 use Rattle.er_run.proofs.OneAnswer.{refused_once, not_refused}
 use Rattle.er_run.specs.Legal.{IsLegal, is_past_room, end_cause_for}
 use Rattle.er_run.specs.Legal as legality
@@ -34,8 +35,9 @@ use Rattle.er_words.specs.declared.commands.Command.{Command}
 use Rattle.er_words.specs.declared.commands.Command.TheVariants.{Check, Gen, Schedule, Explain}
 use Rattle.er_run.specs.declared.findings.Judged.{Judged}
 use Rattle.er_run.specs.Accepted.{IsAccepted, IsEndFault, IsJudged, IsReportable, IsVerdict}
+use Rattle.er_run.specs.declared.outcome.Outcome.TheVariants as outcomes
 use Rattle.er_run.specs.Promise.{piece_bytes, IsFinal, IsJustRefused, IsDecided}
-use Rattle.er_run.specs.Session.{StandsFor, IsBegun, begun}
+use Rattle.er_run.specs.Session.{IsSessionOf, IsBegun, begun}
 use Rattle.er_outside.specs.Ends.{Gives, IsSpent}
 use Rattle.er_outside.proofs.Puts.{gives_again, gives_nothing_back}
 use Rattle.er_run.specs.Reading.{IsAt, IsBy, IsOpen, IsRead, IsReadTo, IsAcceptedInput, IsRefusedInput, IsReading, IsEnd, GoesOn, Ends, IsRefusedBehind, IsRecordFault, IsFinalFault, fault_of}
@@ -211,9 +213,9 @@ pub begun_by : (f : Format) → IsFormat f → (mark : Mark) (kept : List ℕ) (
 begun_by f good mark kept fault session given bytes piece records at is =
     begun_at f good session.graph.version given at.fed.place bytes piece at.fed.before at.fed.rest records at.fed.are at.fed.begins at.fed.records_are at.by is
 
-pub on_by : (f : Format) (mark : Mark) (kept : List ℕ) (fault : Option FeedFault) (session : Session) (v : Version) (bytes : List ℕ) (records fresh : List Record) → IsFed f mark kept fault bytes records [] fresh → session.graph.version ≡ v → IsBy f v bytes → StandsFor session (reverse (records ++ fresh)) → GoesOn f mark kept fault session bytes records
+pub on_by : (f : Format) (mark : Mark) (kept : List ℕ) (fault : Option FeedFault) (session : Session) (v : Version) (bytes : List ℕ) (records fresh : List Record) → IsFed f mark kept fault bytes records [] fresh → session.graph.version ≡ v → IsBy f v bytes → IsSessionOf session (reverse (records ++ fresh)) → GoesOn f mark kept fault session bytes records
 on_by f mark kept fault session v bytes records fresh fed is by stands =
-    (fed.0, record { fed = fed.1; stands = subst (λ l. StandsFor session (reverse (records ++ l))) fed.2 stands; by = subst (λ u. IsBy f u bytes) (sym is) by })
+    (fed.0, record { fed = fed.1; stands = subst (λ l. IsSessionOf session (reverse (records ++ l))) fed.2 stands; by = subst (λ u. IsBy f u bytes) (sym is) by })
 
 pub room_by : (f : Format) (mark : Mark) (kept : List ℕ) (fault : Option FeedFault) (bytes : List ℕ) (records fresh : List Record) (count : ℕ) → IsFed f mark kept fault bytes records [] fresh → count ≡ length (reverse records) → count + length fresh ≤ most_lines
 room_by f mark kept fault bytes records fresh count fed is =
@@ -274,10 +276,10 @@ refused_by f left_old left_new n c bytes piece fault is gave few refused = recor
 undecided_at : (f : Format) → IsFormat f → (asked : Command) (v : Version) (place : Place) (bytes before rest : List ℕ) (records : List Record) → IsOf v place → AreBefore f place before → line_number place ≤ most_lines + 1 → bytes ≡ before ++ rest → records ≡ records_before place → IsUnfinished f place rest
     → IsLegal (rules v) (reverse records) → IsOpen f bytes records → IsFinal f asked bytes → ⊥
 undecided_at f good asked v Start bytes before rest records of are few begins same h legal ahead final =
-    final.3 (refused_once f good asked bytes final.0 1 final.1 NoEnd final.2 (OfLine Start refl tt (record { before = before; rest = rest; are = are; few = few; begins = begins; cause = h }))).1
+    final.3 (refused_once f good asked bytes final.0 1 final.1 NoEnd final.2 (of_line f asked bytes 1 NoEnd Start refl tt (record { before = before; rest = rest; are = are; few = few; begins = begins; cause = h }))).1
 undecided_at f good asked v (After w earlier) bytes before rest records of are few begins same h legal ahead final =
     let legally : IsLegal (rules w) (reverse earlier) = subst (λ u. IsLegal (rules u) (reverse earlier)) of (subst (λ rs. IsLegal (rules v) (reverse rs)) same legal) in
-    final.3 (refused_once f good asked bytes final.0 (length earlier + 2) final.1 NoEnd final.2 (OfLine (After w earlier) refl legally (record { before = before; rest = rest; are = are; few = few; begins = begins; cause = h }))).1
+    final.3 (refused_once f good asked bytes final.0 (length earlier + 2) final.1 NoEnd final.2 (of_line f asked bytes (length earlier + 2) NoEnd (After w earlier) refl legally (record { before = before; rest = rest; are = are; few = few; begins = begins; cause = h }))).1
 undecided_at f good asked v (Ended w earlier) bytes before rest records of are few begins same h legal ahead final =
     let whole : before ≡ bytes = sym (begins ∙ (ap (λ r. before ++ r) h ∙ append-nil before)) in
     let trace : IsTrace f w before earlier = record { whole = are; few = omega (arith, few) } in
@@ -305,7 +307,7 @@ pub final_reading : (f : Format) (asked : Command) (v : Version) (bytes : List �
 final_reading f asked v bytes records r reading other legal = by_line f asked v bytes records r (nat_lt (length records + 2) r.line) (end_cause_for asked v (reverse records)) refl refl reading other legal
 
 -- the session that is read stands for few enough records
-pub reportable : (f : Format) (bytes : List ℕ) (records : List Record) (session : Session) (refused : Option LineRefusal) → StandsFor session (reverse records) → IsReading f session.graph.version bytes records refused → IsReportable session
+pub reportable : (f : Format) (bytes : List ℕ) (records : List Record) (session : Session) (refused : Option LineRefusal) → IsSessionOf session (reverse records) → IsReading f session.graph.version bytes records refused → IsReportable session
 reportable f bytes records session refused stands reading = record { list = reverse records; stands = stands; few = omega (arith, few_read f session.graph.version bytes records refused reading, length-reverse records) }
 
 -- what was judged at the end of a reading is what the bytes come to
@@ -315,10 +317,10 @@ accepted_by f asked v bytes records judged same reading is =
     let there : IsReading f judged.session.graph.version bytes records None = subst (λ u. IsReading f u bytes records None) (sym same) reading in
     record { records = records; legal = legal_read f asked judged.session.graph.version bytes records None refl there is.stands.legal is.within; is_judged = is }
 
-pub verdict_by : (f : Format) (asked : Command) (bytes : List ℕ) (records : List Record) (session : Session) (verdict : Result Judged FeedFault) → StandsFor session (reverse records) → IsReading f session.graph.version bytes records None
+pub verdict_by : (f : Format) (asked : Command) (bytes : List ℕ) (records : List Record) (session : Session) (verdict : Result Judged FeedFault) → IsSessionOf session (reverse records) → IsReading f session.graph.version bytes records None
     → IfOk verdict (λ judged. judged.session.graph.version ≡ session.graph.version)
-    → IfOk verdict (λ judged. (h : List Record) → StandsFor session h → IsJudged asked judged.session judged.found h)
-    → IfErr verdict (λ fault. (h : List Record) → StandsFor session h → IsEndFault (end_cause_for asked session.graph.version h) h fault) → IsVerdict f asked bytes verdict
+    → IfOk verdict (λ judged. (h : List Record) → IsSessionOf session h → IsJudged asked judged.session judged.found h)
+    → IfErr verdict (λ fault. (h : List Record) → IsSessionOf session h → IsEndFault (end_cause_for asked session.graph.version h) h fault) → IsVerdict f asked bytes verdict
 verdict_by f asked bytes records session (Ok judged) stands reading same accepted refusal = accepted_by f asked session.graph.version bytes records judged same reading (accepted (reverse records) stands)
 verdict_by f asked bytes records session (Err fault) stands reading same accepted refusal = refused_fault f asked session.graph.version bytes records None fault reading tt stands.legal (refusal (reverse records) stands)
 
@@ -327,24 +329,31 @@ verdict_by f asked bytes records session (Err fault) stands reading same accepte
 all_given : (f : Format) (first left : Option (List ℕ)) (session : Session) (refused : Option LineRefusal) → (r : IsRead f first left session refused) → Gives first (r.bytes ++ r.ends.piece) left
 all_given f first left session refused r = gives_again first r.left left r.bytes r.ends.piece r.before.gave r.ends.gave
 
-just : (f : Format) (asked : Command) (first left : Option (List ℕ)) (session : Session) (refused : Option LineRefusal) → (r : IsRead f first left session refused) → IsFinal f asked (r.bytes ++ r.ends.piece) → IsJustRefused f asked (r.bytes ++ r.ends.piece)
-just f asked first left session refused r final = record { before = r.bytes; last = r.ends.piece; is = refl; few = r.ends.few; fresh = r.before.fresh asked; refused = final }
+just : (f : Format) (asked : Command) (first left : Option (List ℕ)) (session : Session) (refused : Option LineRefusal) (n : ℕ) (c : Cause) → (r : IsRead f first left session refused) → FirstIllegal f asked (r.bytes ++ r.ends.piece) n c → c ≢ NoEnd → IsJustRefused f asked (r.bytes ++ r.ends.piece) n c
+just f asked first left session refused n c r illegal other = record { before = r.bytes; last = r.ends.piece; is = refl; few = r.ends.few; fresh = r.before.fresh asked; refused = illegal; other = other }
 
-decided_by : (f : Format) (asked : Command) (first left : Option (List ℕ)) (session : Session) (line : LineRefusal) → (r : IsRead f first left session (Some line)) → IsDecided f asked (r.bytes ++ r.ends.piece) left
-decided_by f asked first left session line r = elim r.ends.end [
+-- a refusal of bytes that are refused for another cause than a missing end is for another one
+other_cause : (f : Format) → IsFormat f → (asked : Command) (bytes : List ℕ) (n : ℕ) (c : Cause) → FirstIllegal f asked bytes n c → IsFinal f asked bytes → c ≢ NoEnd
+other_cause f good asked bytes n c refused final = λ is. final.3 (sym (refused_once f good asked bytes n final.0 c final.1 refused final.2).1 ∙ is)
+
+decided_by : (f : Format) → IsFormat f → (asked : Command) (first left : Option (List ℕ)) (session : Session) (line : LineRefusal) (n : ℕ) (c : Cause) → (r : IsRead f first left session (Some line)) → FirstIllegal f asked (r.bytes ++ r.ends.piece) n c
+    → IsDecided f asked (r.bytes ++ r.ends.piece) left (outcomes.Refused n c)
+decided_by f good asked first left session line n c r refused = elim r.ends.end [
   | inl spent ↦ inl spent
-  | inr other ↦ inr (just f asked first left session (Some line) r (final_reading f asked session.graph.version (r.bytes ++ r.ends.piece) r.ends.records line r.ends.reading other r.ends.stands.legal))
+  | inr other ↦ (
+    let final : IsFinal f asked (r.bytes ++ r.ends.piece) = final_reading f asked session.graph.version (r.bytes ++ r.ends.piece) r.ends.records line r.ends.reading other r.ends.stands.legal in
+    inr (just f asked first left session (Some line) n c r refused (other_cause f good asked (r.bytes ++ r.ends.piece) n c refused final)))
 ]
 
-pub refused_input : (f : Format) (asked : Command) (first left : Option (List ℕ)) (session : Session) (line : LineRefusal) (n : ℕ) (c : Cause) → (r : IsRead f first left session (Some line)) → FirstIllegal f asked (r.bytes ++ r.ends.piece) n c → IsRefusedInput f asked first left n c
-refused_input f asked first left session line n c r refused =
-    record { taken = r.bytes ++ r.ends.piece; gave = all_given f first left session (Some line) r; decided = decided_by f asked first left session line r; refused = refused }
+pub refused_input : (f : Format) → IsFormat f → (asked : Command) (first left : Option (List ℕ)) (session : Session) (line : LineRefusal) (n : ℕ) (c : Cause) → (r : IsRead f first left session (Some line)) → FirstIllegal f asked (r.bytes ++ r.ends.piece) n c → IsRefusedInput f asked first left n c
+refused_input f good asked first left session line n c r refused =
+    record { taken = r.bytes ++ r.ends.piece; gave = all_given f first left session (Some line) r; decided = decided_by f good asked first left session line n c r refused; refused = refused }
 
 pub refused_record : (f : Format) (asked : Command) (first left : Option (List ℕ)) (n : ℕ) (c : Cause) → IsReadTo f first left n c → IsRefusedInput f asked first left n c
 refused_record f asked first left n c r = record {
   taken = r.bytes ++ r.refused.piece;
   gave = gives_again first r.left left r.bytes r.refused.piece r.before.gave r.refused.gave;
-  decided = inr (record { before = r.bytes; last = r.refused.piece; is = refl; few = r.refused.few; fresh = r.before.fresh asked; refused = (n, c, r.refused.refused.0 asked, r.refused.refused.1) });
+  decided = inr (record { before = r.bytes; last = r.refused.piece; is = refl; few = r.refused.few; fresh = r.before.fresh asked; refused = r.refused.refused.0 asked; other = r.refused.refused.1 });
   refused = r.refused.refused.0 asked;
 }
 
@@ -359,7 +368,7 @@ pub refused_limit : (f : Format) (asked : Command) (first left : Option (List �
 refused_limit f asked first left session n c r fault =
     let bytes = r.bytes ++ r.ends.piece in
     let refused : FirstIllegal f asked bytes n c = refused_end f asked session.graph.version bytes r.ends.records None n c r.ends.reading tt r.ends.stands.legal (omega (arith, fault.0, length-reverse r.ends.records)) fault.1 in
-    record { taken = bytes; gave = all_given f first left session None r; decided = inr (just f asked first left session None r (n, c, refused, end_cause_other asked session.graph.version (reverse r.ends.records) c fault.1)); refused = refused }
+    record { taken = bytes; gave = all_given f first left session None r; decided = inr (just f asked first left session None n c r refused (end_cause_other asked session.graph.version (reverse r.ends.records) c fault.1)); refused = refused }
 
 none_given : (old new : Option (List ℕ)) (n : ℕ) (buffer : List ℕ) → Gives old (take n buffer) new → n ≡ 0 → Gives old [] new
 none_given old new zero buffer gave none = gave
@@ -374,7 +383,7 @@ some_bytes [] some = absurd (omega arith)
 some_bytes (b ∷ bytes) some = λ e. cc
 
 after_end : (f : Format) (asked : Command) (v : Version) (bytes more : List ℕ) (records : List Record) → IsLegalTrace f asked v bytes records → 0 < length more → FirstIllegal f asked (bytes ++ more) (length records + 3) AfterEnd
-after_end f asked v bytes more records trace some = OfLine (Ended v records) refl (trace.legal, trace.within) (record {
+after_end f asked v bytes more records trace some = of_line f asked (bytes ++ more) (length records + 3) AfterEnd (Ended v records) refl (trace.legal, trace.within) (record {
   before = bytes;
   rest = more;
   are = trace.is_trace.whole;
@@ -393,7 +402,7 @@ refused_more f good asked first left_old left_new session judged more n same r i
     record {
       taken = bytes ++ more;
       gave = gives_again first left_old left_new bytes more (all_given f first left_old session None r) gave;
-      decided = inr (record { before = bytes; last = more; is = refl; few = few; fresh = λ final. not_refused f good asked session.graph.version bytes r.ends.records final.0 final.1 legal final.2; refused = (n, AfterEnd, refused, λ e. cc) });
+      decided = inr (record { before = bytes; last = more; is = refl; few = few; fresh = λ final. not_refused f good asked session.graph.version bytes r.ends.records final.0 final.1 legal final.2; refused = refused; other = λ e. cc });
       refused = refused;
     }
 

@@ -10,6 +10,7 @@ use Rattle.er_words.specs.Words.{Asks, Has, HasShards, IsNumberGiven, IsRaceGive
 use Rattle.er_lines.specs.Format.{Format}
 use Rattle.er_outside.specs.Ends.{Gives, Rose}
 use Rattle.er_run.specs.Accepted.{IsAskable}
+use Rattle.er_run.specs.declared.outcome.Outcome.{Outcome}
 use Rattle.er_run.specs.Promise.{IsInput, IsDecided, Holds, ReadsWithout}
 
 -- the command that was read is the one that is asked
@@ -60,11 +61,11 @@ askable words found asks =
 
 -- a command that reads judges what was taken
 
-pub read_input : (f : Format) (asked : Command) (bytes : List ℕ) (left_old left_new : Option (List ℕ)) → ((n : ℕ) → asked ≡ Gen n → ⊥) → Gives left_old bytes left_new → IsDecided f asked bytes left_new → IsInput f asked bytes left_old left_new
-read_input f (Check json input) bytes left_old left_new reads gave decided = (gave, decided)
-read_input f (Gen n) bytes left_old left_new reads gave decided = absurd (reads n refl)
-read_input f (Schedule k) bytes left_old left_new reads gave decided = (gave, decided)
-read_input f (Explain i j) bytes left_old left_new reads gave decided = (gave, decided)
+pub read_input : (f : Format) (asked : Command) (bytes : List ℕ) (left_old left_new : Option (List ℕ)) (outcome : Outcome) → ((n : ℕ) → asked ≡ Gen n → ⊥) → Gives left_old bytes left_new → IsDecided f asked bytes left_new outcome → IsInput f asked bytes left_old left_new outcome
+read_input f (Check json input) bytes left_old left_new outcome reads gave decided = (gave, decided)
+read_input f (Gen n) bytes left_old left_new outcome reads gave decided = absurd (reads n refl)
+read_input f (Schedule k) bytes left_old left_new outcome reads gave decided = (gave, decided)
+read_input f (Explain i j) bytes left_old left_new outcome reads gave decided = (gave, decided)
 
 pub holds_all : (asked : Command) (left : Option (List ℕ)) (bytes : List ℕ) → ((n : ℕ) → asked ≡ Gen n → ⊥) → Holds asked left bytes → left ≡ Some bytes
 holds_all (Check json input) left bytes reads held = held

@@ -1,6 +1,6 @@
 -- How a session comes to stand for one record more.
-use Rattle.std.proofs.Common.{◌≡◌, ℕ, ◌+◌, ◌<◌, Bool, true, false, List, [], ◌∷◌, length, get_or, Option, Some, None, refl, sym, ap, subst, ◌∙◌, arith, inl, inr}
-use Rattle.std.specs.Prelude.{◌≢◌, ◌&&◌, ◌==◌, nat_lt, if◌then◌else◌}
+use Rattle.std.proofs.Common.{◌≡◌, ℕ, ◌+◌, ◌<◌, ◌≤◌, Bool, true, false, List, [], ◌∷◌, length, get_or, Option, Some, None, refl, sym, ap, subst, ◌∙◌, arith, inl, inr}
+use Rattle.std.specs.Prelude.{◌≢◌, nat_lt, if◌then◌else◌}
 use Rattle.std.proofs.lemmas.Bool.Decides.{nat_tests}
 use Rattle.er_text.specs.declared.causes.Cause.{Cause}
 use Rattle.er_text.specs.declared.causes.Cause.TheVariants.{TooManyAccesses}
@@ -23,17 +23,17 @@ use Rattle.er_graph.specs.declared.fault.GraphFault.TheVariants.{Refused, NoMemo
 use Rattle.er_access.specs.Kept.{Kept, most_accesses}
 use Rattle.er_run.specs.declared.session.Session.{Session}
 use Rattle.er_run.specs.Legal as legality
-use Rattle.er_run.specs.Races.{kept, accesses_of, without_repeats}
-use Rattle.er_run.specs.Session.{numbered, StandsFor, IsBegun, IsFaultAfter, AreEarlier, AreKept, IsPastRoom, kept_with, is_access}
-use Rattle.er_run.proofs.AccessLemmas.{same_kept, kept_begun, kept_lines}
+use Rattle.er_run.specs.Races.{kept, access_in, without_repeats}
+use Rattle.er_run.specs.Session.{with_lines, IsSessionOf, IsBegun, IsFaultAfter, AreEarlier, AreKept, IsPastRoom, kept_with, is_access}
+use Rattle.er_run.proofs.AccessLemmas.{same_kept, kept_begun, kept_lines, kept_grow}
 
--- records keep what they are when they are numbered
-pub records_numbered : (h : List Record) → records (numbered h) ≡ h
-records_numbered [] = refl
-records_numbered (x ∷ h) = ap (λ l. x ∷ l) (records_numbered h)
+-- records keep what they are when they have their lines
+pub records_with_lines : (h : List Record) → records (with_lines h) ≡ h
+records_with_lines [] = refl
+records_with_lines (x ∷ h) = ap (λ l. x ∷ l) (records_with_lines h)
 
-pub page_of : (page : Page) (graph : Graph) (h : List Record) → ((accepted : List Accepted) → IsListed graph accepted → IsPage page (records accepted)) → IsGraph graph (numbered h) → IsPage page h
-page_of page graph h is stands = subst (IsPage page) (records_numbered h) (is (numbered h) stands.listed)
+pub page_of : (page : Page) (graph : Graph) (h : List Record) → ((accepted : List Accepted) → IsListed graph accepted → IsPage page (records accepted)) → IsGraph graph (with_lines h) → IsPage page h
+page_of page graph h is stands = subst (IsPage page) (records_with_lines h) (is (with_lines h) stands.listed)
 
 -- what a graph says that accepted a record
 abbrev pub Accepts : Graph → Graph → ℕ → Record → Type 0
@@ -41,16 +41,16 @@ Accepts old new line x = (accepted : List Accepted) → IsGraph old accepted →
 
 pub record IsAfter (v : Version) (graph : Graph) (h : List Record) (x : Record) (line : ℕ) : Type 0 where
   pub sound : sound.cause (rules v) h x ≡ None
-  pub stands : IsGraph graph (numbered (x ∷ h))
+  pub stands : IsGraph graph (with_lines (x ∷ h))
   pub line_is : line ≡ length (told h).entries + 2
 
-pub after : (old : Session) (graph : Graph) (h : List Record) (x : Record) (line : ℕ) → StandsFor old h → line ≡ old.records + 2 → Accepts old.graph graph line x → IsAfter old.graph.version graph h x line
+pub after : (old : Session) (graph : Graph) (h : List Record) (x : Record) (line : ℕ) → IsSessionOf old h → line ≡ old.records + 2 → Accepts old.graph graph line x → IsAfter old.graph.version graph h x line
 after old graph h x line stands e accepts =
-    let p = accepts (numbered h) stands.graph in
+    let p = accepts (with_lines h) stands.graph in
     let at : line ≡ length h + 2 = omega (arith, e, stands.count) in
     record {
-      sound = ap (λ l. sound.cause (rules old.graph.version) l x) (sym (records_numbered h)) ∙ p.0;
-      stands = subst (λ n. IsGraph graph (record { line = n; read = x } ∷ numbered h)) at p.1;
+      sound = ap (λ l. sound.cause (rules old.graph.version) l x) (sym (records_with_lines h)) ∙ p.0;
+      stands = subst (λ n. IsGraph graph (record { line = n; read = x } ∷ with_lines h)) at p.1;
       line_is = omega (arith, at, entries_length h);
     }
 
@@ -70,19 +70,34 @@ by_cause : (a b : Option Cause) (c : Cause) → a ≡ Some c → or_else a b ≡
 by_cause (Some d) b c e = e
 by_cause None b c e = absurd (cc)
 
-room_left : (m n most : ℕ) → (m < n → m ≢ most) → (nat_lt m n && (m == most)) ≡ false
-room_left m n most room = by (nat_lt m n) refl (m == most) refl
-  where
-    by : (s : Bool) → nat_lt m n ≡ s → (t : Bool) → (m == most) ≡ t → (s && t) ≡ false
-    by false e t f = refl
-    by true e false f = refl
-    by true e true f = absurd (room (grind (arith, nat_tests)) (grind (arith, nat_tests)))
+-- no legal list keeps more accesses than may be
 
-no_room_left : (m n most : ℕ) → m < n → m ≡ most → (nat_lt m n && (m == most)) ≡ true
+not_past : (a : Option Cause) (b : Bool) → or_else a (if b then Some TooManyAccesses else None) ≡ None → b ≡ false
+not_past None false e = refl
+not_past None true e = absurd (cc)
+not_past (Some c) b e = absurd (cc)
+
+up_to : (most n : ℕ) → nat_lt most n ≡ false → n ≤ most
+up_to most n e = grind (arith, nat_tests)
+
+kept_within : (table : List (ℕ × Rule)) (h : List Record) → legality.IsLegal table h → length (kept h) ≤ most_accesses
+kept_within table [] legal = omega arith
+kept_within table (x ∷ h) legal = up_to most_accesses (length (kept (x ∷ h))) (not_past (sound.cause table h x) (legality.is_past_room h x) legal.0)
+
+room_left : (m n most : ℕ) → m ≤ most → n ≤ m + 1 → (m < n → m ≢ most) → nat_lt most n ≡ false
+room_left m n most within grows room = by (nat_lt most n) refl
+  where
+    by : (past : Bool) → nat_lt most n ≡ past → nat_lt most n ≡ false
+    by false e = e
+    by true e =
+        let over : most < n = grind (arith, nat_tests) in
+        absurd (room (omega (arith, over, within)) (omega (arith, over, within, grows)))
+
+no_room_left : (m n most : ℕ) → m < n → m ≡ most → nat_lt most n ≡ true
 no_room_left m n most less is = grind (arith, nat_tests)
 
-legal_next : (table : List (ℕ × Rule)) (h : List Record) (x : Record) → sound.cause table h x ≡ None → (length (kept h) < length (kept (x ∷ h)) → length (kept h) ≢ most_accesses) → legality.cause table h x ≡ None
-legal_next table h x none room = by_room (sound.cause table h x) (legality.is_past_room h x) none (room_left (length (kept h)) (length (kept (x ∷ h))) most_accesses room)
+legal_next : (table : List (ℕ × Rule)) (h : List Record) (x : Record) → legality.IsLegal table h → sound.cause table h x ≡ None → (length (kept h) < length (kept (x ∷ h)) → length (kept h) ≢ most_accesses) → legality.cause table h x ≡ None
+legal_next table h x legal none room = by_room (sound.cause table h x) (legality.is_past_room h x) none (room_left (length (kept h)) (length (kept (x ∷ h))) most_accesses (kept_within table h legal) (kept_grow h x) room)
 
 full_next : (table : List (ℕ × Rule)) (h : List Record) (x : Record) → sound.cause table h x ≡ None → IsPastRoom (kept h) (kept (x ∷ h)) → legality.cause table h x ≡ Some TooManyAccesses
 full_next table h x none past = by_limit (sound.cause table h x) (legality.is_past_room h x) none (no_room_left (length (kept h)) (length (kept (x ∷ h))) most_accesses past.more past.most)
@@ -91,13 +106,13 @@ first_cause : (table : List (ℕ × Rule)) (h : List Record) (x : Record) (c : C
 first_cause table h x c e = by_cause (sound.cause table h x) (if legality.is_past_room h x then Some TooManyAccesses else None) c e
 
 -- a record is refused with its line, for the first cause against it
-pub fault_after : (old : Session) (new : Graph) (h : List Record) (x : Record) (line : ℕ) (fault : GraphFault) → StandsFor old h → line ≡ old.records + 2 → IsFault fault line x old.graph new → IsFaultAfter old.graph.version h x fault
+pub fault_after : (old : Session) (new : Graph) (h : List Record) (x : Record) (line : ℕ) (fault : GraphFault) → IsSessionOf old h → line ≡ old.records + 2 → IsFault fault line x old.graph new → IsFaultAfter old.graph.version h x fault
 fault_after old new h x line (Refused l c) stands e is =
-    (omega (arith, is.0, e, stands.count), first_cause (rules old.graph.version) h x c (ap (λ k. sound.cause (rules old.graph.version) k x) (sym (records_numbered h)) ∙ is.2 (numbered h) stands.graph.listed))
+    (omega (arith, is.0, e, stands.count), first_cause (rules old.graph.version) h x c (ap (λ k. sound.cause (rules old.graph.version) k x) (sym (records_with_lines h)) ∙ is.2 (with_lines h) stands.graph.listed))
 fault_after old new h x line NoMemory stands e is = tt
 
 -- what the access asks of the accesses before it
-pub earlier : (old : Session) (graph : Graph) (page : Page) (h : List Record) (x : Record) (line : ℕ) → StandsFor old h → line ≡ old.records + 2 → Accepts old.graph graph line x
+pub earlier : (old : Session) (graph : Graph) (page : Page) (h : List Record) (x : Record) (line : ℕ) → IsSessionOf old h → line ≡ old.records + 2 → Accepts old.graph graph line x
     → ((accepted : List Accepted) → IsListed graph accepted → IsPage page (records accepted)) → AreEarlier page line old.kept
 earlier old graph page h x line stands e accepts is =
     let at : line ≡ length h + 2 = omega (arith, e, stands.count) in
@@ -120,19 +135,19 @@ same_rules : (v w : Version) (h : List Record) → w ≡ v → legality.IsLegal 
 same_rules v w h same legal = subst (λ u. legality.IsLegal (rules u) h) (sym same) legal
 
 -- in another version it begins before the first record
-pub begun_first : (old new : Session) (v : Version) (h : List Record) → StandsFor old h → IsBegun old.graph.version (Some v) h → (old.graph.version ≡ v → ⊥) → IsGraph new.graph [] → new.kept ≡ old.kept → new.records ≡ old.records → StandsFor new h
+pub begun_first : (old new : Session) (v : Version) (h : List Record) → IsSessionOf old h → IsBegun old.graph.version (Some v) h → (old.graph.version ≡ v → ⊥) → IsGraph new.graph [] → new.kept ≡ old.kept → new.records ≡ old.records → IsSessionOf new h
 begun_first old new v h stands begins other graph accesses count = elim begins [
   | inl same ↦ absurd (other (sym same))
   | inr none ↦
-      let first : StandsFor old [] = subst (StandsFor old) none stands in
-      let now : StandsFor new [] = record { graph = graph; accesses = accesses ∙ first.accesses; count = count ∙ first.count; legal = tt } in
-      subst (StandsFor new) (sym none) now
+      let first : IsSessionOf old [] = subst (IsSessionOf old) none stands in
+      let now : IsSessionOf new [] = record { graph = graph; accesses = accesses ∙ first.accesses; count = count ∙ first.count; legal = tt } in
+      subst (IsSessionOf new) (sym none) now
 ]
 
 -- one record more
 
-pub noted : (old new : Session) (h : List Record) (x : Record) (line : ℕ) → StandsFor old h → line ≡ old.records + 2 → Accepts old.graph new.graph line x → is_access x ≡ false
-    → new.graph.version ≡ old.graph.version → new.kept ≡ old.kept → new.records ≡ old.records + 1 → StandsFor new (x ∷ h)
+pub noted : (old new : Session) (h : List Record) (x : Record) (line : ℕ) → IsSessionOf old h → line ≡ old.records + 2 → Accepts old.graph new.graph line x → is_access x ≡ false
+    → new.graph.version ≡ old.graph.version → new.kept ≡ old.kept → new.records ≡ old.records + 1 → IsSessionOf new (x ∷ h)
 noted old new h x line stands e accepts access version accesses count =
     let a = after old new.graph h x line stands e accepts in
     let same : kept (x ∷ h) ≡ kept h = same_kept h x access in
@@ -140,13 +155,13 @@ noted old new h x line stands e accepts access version accesses count =
       graph = a.stands;
       accesses = accesses ∙ (stands.accesses ∙ sym same);
       count = omega (arith, count, stands.count);
-      legal = same_rules old.graph.version new.graph.version (x ∷ h) version (legal_next (rules old.graph.version) h x a.sound (λ more. absurd (omega (arith, more, ap length same))), stands.legal);
+      legal = same_rules old.graph.version new.graph.version (x ∷ h) version (legal_next (rules old.graph.version) h x stands.legal a.sound (λ more. absurd (omega (arith, more, ap length same))), stands.legal);
     }
 
 -- what the table has with an access is what the records keep
 due_is : (old : List Kept) (h : List Record) (x : Record) (m : Mode) (l : Loc) → x ≡ Access m l → old ≡ kept h → kept_with (x ∷ h) (length (told h).entries) m l old ≡ kept (x ∷ h)
 due_is old h x m l is same =
-    let Kept_of : Record → List Kept = λ y. accesses_of (record { read = y; place = length (told h).entries; action = running (told (x ∷ h)).actions }) in
+    let Kept_of : Record → List Kept = λ y. access_in (record { read = y; place = length (told h).entries; action = running (told (x ∷ h)).actions }) in
     ap (λ y. without_repeats (Kept_of y) old) (sym is) ∙ ap (without_repeats (Kept_of x)) same
 
 -- what the table says of an access, for every list that the page stands for
@@ -156,8 +171,8 @@ Keeps page line m l old new = (h : List Record) (place : ℕ) → IsPage page h 
 abbrev pub IsRefusedRoom : Page → ℕ → Mode → Loc → List Kept → Type 0
 IsRefusedRoom page line m l old = (h : List Record) (place : ℕ) → IsPage page h → line ≡ place + 2 → IsPastRoom old (kept_with h place m l old)
 
-pub accessed : (old new : Session) (page : Page) (h : List Record) (x : Record) (m : Mode) (l : Loc) (line : ℕ) → StandsFor old h → x ≡ Access m l → line ≡ old.records + 2 → Accepts old.graph new.graph line x
-    → ((accepted : List Accepted) → IsListed new.graph accepted → IsPage page (records accepted)) → Keeps page line m l old.kept new.kept → new.graph.version ≡ old.graph.version → new.records ≡ old.records + 1 → StandsFor new (x ∷ h)
+pub accessed : (old new : Session) (page : Page) (h : List Record) (x : Record) (m : Mode) (l : Loc) (line : ℕ) → IsSessionOf old h → x ≡ Access m l → line ≡ old.records + 2 → Accepts old.graph new.graph line x
+    → ((accepted : List Accepted) → IsListed new.graph accepted → IsPage page (records accepted)) → Keeps page line m l old.kept new.kept → new.graph.version ≡ old.graph.version → new.records ≡ old.records + 1 → IsSessionOf new (x ∷ h)
 accessed old new page h x m l line stands is e accepts shows keeps version count =
     let a = after old new.graph h x line stands e accepts in
     let k = keeps (x ∷ h) (length (told h).entries) (page_of page new.graph (x ∷ h) shows a.stands) a.line_is in
@@ -168,11 +183,11 @@ accessed old new page h x m l line stands is e accepts shows keeps version count
       graph = a.stands;
       accesses = k.same ∙ due;
       count = omega (arith, count, stands.count);
-      legal = same_rules old.graph.version new.graph.version (x ∷ h) version (legal_next (rules old.graph.version) h x a.sound (λ more most. k.room (omega arith) (omega arith)), stands.legal);
+      legal = same_rules old.graph.version new.graph.version (x ∷ h) version (legal_next (rules old.graph.version) h x stands.legal a.sound (λ more most. k.room (omega arith) (omega arith)), stands.legal);
     }
 
 -- an access for which there is no room
-pub refused_room : (old : Session) (graph : Graph) (page : Page) (h : List Record) (x : Record) (m : Mode) (l : Loc) (line : ℕ) → StandsFor old h → x ≡ Access m l → line ≡ old.records + 2 → Accepts old.graph graph line x
+pub refused_room : (old : Session) (graph : Graph) (page : Page) (h : List Record) (x : Record) (m : Mode) (l : Loc) (line : ℕ) → IsSessionOf old h → x ≡ Access m l → line ≡ old.records + 2 → Accepts old.graph graph line x
     → ((accepted : List Accepted) → IsListed graph accepted → IsPage page (records accepted)) → IsRefusedRoom page line m l old.kept → IsFaultAfter old.graph.version h x (Refused line TooManyAccesses)
 refused_room old graph page h x m l line stands is e accepts shows past =
     let a = after old graph h x line stands e accepts in

@@ -24,7 +24,7 @@ use Rattle.er_run.specs.Report.{refusal_for}
 use Rattle.er_run.specs.Answer.{IsLegalTrace, FirstIllegal, outcome_for}
 use Rattle.er_run.specs.Promise.{compared_for, tested_for}
 use Rattle.er_run.specs.Legal.{end_cause_for, listing_cause}
-use Rattle.er_run.specs.Session.{StandsFor}
+use Rattle.er_run.specs.Session.{IsSessionOf}
 use Rattle.er_history.specs.Rules.{rules}
 use Rattle.er_history.specs.Edges.{edges, path}
 use Rattle.er_history.specs.History.{told}
@@ -74,7 +74,7 @@ IsFound asked v (findings.Steps i j steps) h = (asked ≡ Explain i j) × IsExpl
 
 -- the session stands for these records, newest first, their `end` line has no cause, and this was found of them
 pub record IsJudged (asked : Command) (session : Session) (found : Found) (h : List Record) : Type 0 where
-  pub stands : StandsFor session h
+  pub stands : IsSessionOf session h
   pub within : end_cause_for asked session.graph.version h ≡ None
   pub is_found : IsFound asked session.graph.version found h
 
@@ -92,18 +92,18 @@ pub record IsAccepted (f : Format) (asked : Command) (bytes : List ℕ) (judged 
 
 -- the count of comparisons rose by one for each candidate pair of the records for which the session stands
 abbrev pub IsCompared : Session → ℕ → ℕ → Type 0
-IsCompared session old new = (h : List Record) → StandsFor session h → new ≡ old + length (candidates h)
+IsCompared session old new = (h : List Record) → IsSessionOf session h → new ≡ old + length (candidates h)
 
 -- the count of tests rose by four at most for each class and each group of these records
 abbrev pub IsTested : Session → ℕ → ℕ → Type 0
-IsTested session old new = (h : List Record) → StandsFor session h → (old ≤ new) × (new ≤ old + 4 * (length (classes session.graph.version h) * length (groups session.graph.version h)))
+IsTested session old new = (h : List Record) → IsSessionOf session h → (old ≤ new) × (new ≤ old + 4 * (length (classes session.graph.version h) * length (groups session.graph.version h)))
 
 -- the same by what is asked
 abbrev pub IsComparedFor : Command → Session → ℕ → ℕ → Type 0
-IsComparedFor asked session old new = (h : List Record) → StandsFor session h → new ≡ old + compared_for asked h
+IsComparedFor asked session old new = (h : List Record) → IsSessionOf session h → new ≡ old + compared_for asked h
 
 abbrev pub IsTestedFor : Command → Session → ℕ → ℕ → Type 0
-IsTestedFor asked session old new = (h : List Record) → StandsFor session h → (old ≤ new) × (new ≤ old + 4 * tested_for asked session.graph.version h)
+IsTestedFor asked session old new = (h : List Record) → IsSessionOf session h → (old ≤ new) × (new ≤ old + 4 * tested_for asked session.graph.version h)
 
 -- the line behind these records, newest first, is refused for this cause; or memory ran out
 abbrev pub IsEndFault : Option Cause → List Record → FeedFault → Type 0
@@ -146,18 +146,18 @@ EndsAs due (Err fault) outcome = outcome ≡ WriteFault
 -- it stands for some records, and this was found of them
 pub record IsListed (session : Session) (listing : Listing) : Type 0 where
   pub list : List Record
-  pub stands : StandsFor session list
+  pub stands : IsSessionOf session list
   pub is : IsListing session.graph.version listing list
 
 pub record IsOrdered (session : Session) (k : ℕ) (found : List Race) (orders : Orders) : Type 0 where
   pub list : List Record
-  pub stands : StandsFor session list
+  pub stands : IsSessionOf session list
   pub are : AreOrdersOf session.graph.version k found orders list
 
 -- it stands for the records of some trace
 pub record IsReportable (session : Session) : Type 0 where
   pub list : List Record
-  pub stands : StandsFor session list
+  pub stands : IsSessionOf session list
   pub few : length list ≤ most_lines
 
 -- the fault is the refusal of the bytes, or want of memory

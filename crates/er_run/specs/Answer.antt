@@ -5,7 +5,7 @@ use Rattle.er_trace.specs.declared.record.Record.{Record}
 use Rattle.er_trace.specs.declared.version.Version.{Version}
 use Rattle.er_trace.specs.Trace.{line, most_lines}
 use Rattle.er_lines.specs.Format.{Format}
-use Rattle.er_lines.specs.Lines.{Place, Start, After, Ended, line_number, IsShort, AreBehind, IsTrace, Refuses}
+use Rattle.er_lines.specs.Lines.{Place, Start, After, Ended, line_number, IsShort, AreBefore, LineCause, IsTrace}
 use Rattle.er_lines.specs.Text.{text}
 use Rattle.er_jsonl.specs.Trace.{json as json_lines}
 use Rattle.er_history.specs.Rules.{rules}
@@ -40,42 +40,53 @@ pub record IsLegalTrace (f : Format) (asked : Command) (v : Version) (bytes : Li
   pub legal : IsLegal (rules v) (reverse records)
   pub within : end_cause_for asked v (reverse records) ≡ None
 
--- behind the lines of these records is the line of a record that has the cause after them
-pub record RefusesRecord (f : Format) (v : Version) (bytes : List ℕ) (earlier : List Record) (c : Cause) : Type 0 where
-  pub before : List ℕ
-  pub are : AreBehind f v before earlier
-  pub few : length earlier + 2 ≤ most_lines
-  pub read : Record
-  pub l : List ℕ
-  pub short : IsShort f.most l
-  pub spells : f.Spells v l read
-  pub rest : List ℕ
-  pub begins : bytes ≡ before ++ (line l ++ rest)
-  pub cause : legality.cause (rules v) (reverse earlier) read ≡ Some c
-
--- behind the lines of these records is a last line, and it has the cause after them
-pub record RefusesEnd (f : Format) (asked : Command) (v : Version) (bytes : List ℕ) (earlier : List Record) (c : Cause) : Type 0 where
-  pub before : List ℕ
-  pub are : AreBehind f v before earlier
-  pub few : length earlier + 2 ≤ most_lines
-  pub l : List ℕ
-  pub short : IsShort f.most l
-  pub end : f.IsEnd l
-  pub rest : List ℕ
-  pub begins : bytes ≡ before ++ (line l ++ rest)
-  pub cause : end_cause_for asked v (reverse earlier) ≡ Some c
-
 -- the lines before that place are legal
 abbrev pub IsLegalBefore : Command → Place → Type 0
 IsLegalBefore asked Start = Unit {0}
 IsLegalBefore asked (After v records) = IsLegal (rules v) (reverse records)
 IsLegalBefore asked (Ended v records) = IsLegal (rules v) (reverse records) × (end_cause_for asked v (reverse records) ≡ None)
 
--- The first line that is illegal, behind legal ones: it is no line of a trace, its record has a cause, or it is a last line that has one for what is asked.
-pub data FirstIllegal (f : Format) (asked : Command) (bytes : List ℕ) (n : ℕ) (c : Cause) : Type 0 where
-  OfLine : (place : Place) → n ≡ line_number place → IsLegalBefore asked place → Refuses f bytes place c → FirstIllegal f asked bytes n c
-  OfRecord : (v : Version) → (earlier : List Record) → n ≡ line_number (After v earlier) → IsLegalBefore asked (After v earlier) → RefusesRecord f v bytes earlier c → FirstIllegal f asked bytes n c
-  OfEnd : (v : Version) → (earlier : List Record) → n ≡ line_number (After v earlier) → IsLegalBefore asked (After v earlier) → RefusesEnd f asked v bytes earlier c → FirstIllegal f asked bytes n c
+-- the bytes begin with the line of a record that has the cause after the earlier ones
+pub record HasCause (f : Format) (v : Version) (earlier : List Record) (bytes : List ℕ) (c : Cause) : Type 0 where
+  pub few : length earlier + 2 ≤ most_lines
+  pub read : Record
+  pub l : List ℕ
+  pub short : IsShort f.most l
+  pub spells : f.Spells v l read
+  pub rest : List ℕ
+  pub begins : bytes ≡ line l ++ rest
+  pub cause : legality.cause (rules v) (reverse earlier) read ≡ Some c
+
+-- they begin with a last line that has the cause behind the earlier records
+pub record EndHasCause (f : Format) (asked : Command) (v : Version) (earlier : List Record) (bytes : List ℕ) (c : Cause) : Type 0 where
+  pub few : length earlier + 2 ≤ most_lines
+  pub l : List ℕ
+  pub short : IsShort f.most l
+  pub end : f.IsEnd l
+  pub rest : List ℕ
+  pub begins : bytes ≡ line l ++ rest
+  pub cause : end_cause_for asked v (reverse earlier) ≡ Some c
+
+-- Why the line that begins there, with these bytes from it on, is illegal.
+-- NoLine: it is no line of a trace
+-- OfRecord: it is the line of a record that has the cause
+-- OfEnd: it is a last line that has the cause for what is asked
+pub data Illegal (f : Format) (asked : Command) (place : Place) (bytes : List ℕ) (c : Cause) : Type 0 where
+  NoLine : LineCause f place bytes c → Illegal f asked place bytes c
+  OfRecord : (v : Version) (earlier : List Record) → place ≡ After v earlier → HasCause f v earlier bytes c → Illegal f asked place bytes c
+  OfEnd : (v : Version) (earlier : List Record) → place ≡ After v earlier → EndHasCause f asked v earlier bytes c → Illegal f asked place bytes c
+
+-- The first line that is illegal has number n and cause c: the lines before it are legal.
+pub record FirstIllegal (f : Format) (asked : Command) (bytes : List ℕ) (n : ℕ) (c : Cause) : Type 0 where
+  pub place : Place
+  pub number : n ≡ line_number place
+  pub few : line_number place ≤ most_lines + 1
+  pub before : List ℕ
+  pub are : AreBefore f place before
+  pub legal : IsLegalBefore asked place
+  pub rest : List ℕ
+  pub begins : bytes ≡ before ++ rest
+  pub illegal : Illegal f asked place rest c
 
 -- how the command ends on legal records with these races, newest record first: an explanation knows no races
 abbrev pub outcome_of : {X : Type 0} → List X → Outcome

@@ -1,6 +1,7 @@
 -- What holds of the definitions.
-use Rattle.std.specs.Prelude.{◌≡◌, ◌≢◌, ◌<◌, ◌+◌, ℕ, true, List, ◌++◌, length, reverse, Some}
+use Rattle.std.specs.Prelude.{◌≡◌, ◌≢◌, ◌<◌, ◌+◌, ℕ, true, List, ◌++◌, length, map, reverse, Some}
 use Rattle.std.specs.List.{slice_get}
+use Rattle.std.specs.List.Sorted.{IsStrictlyIncreasing}
 use Rattle.er_paths.specs.Paths.{joins}
 use Rattle.er_text.specs.Bytes.{count_of_lf}
 use Rattle.er_text.specs.declared.causes.Cause.{Cause}
@@ -19,7 +20,7 @@ use Rattle.er_orders.specs.Orders.{is_lawful, is_next, before_order, after_order
 use Rattle.er_run.specs.Answer.{format_of, FirstIllegal, Answers}
 use Rattle.er_run.specs.Legal.{IsLegal}
 use Rattle.er_run.specs.Report.{refusal_for}
-use Rattle.er_run.specs.Races.{races}
+use Rattle.er_run.specs.Races.{kept, races}
 
 -- to each command a byte string has one outcome, and one text is due for it
 abbrev pub OneAnswer : Type 0
@@ -40,6 +41,10 @@ abbrev pub CutTrace : Type 0
 CutTrace = (asked : Command) (v : Version) (records : List Record) (bytes more : List ℕ)
     → IsTrace (format_of asked) v (bytes ++ more) records → IsLegal (rules v) (reverse records) → 0 < length more
     → Answers (format_of asked) asked bytes (Refused (count_of_lf bytes + 1) NoEnd) (refusal_for asked (count_of_lf bytes + 1) NoEnd)
+
+-- The kept accesses stand in the order of their lines, each once, and so do those of the races.
+abbrev pub KeptInOrder : Type 0
+KeptInOrder = (h : List Record) → IsStrictlyIncreasing (map (λ (x : Kept). x.line) (kept h))
 
 -- by these lists no edge leads back in either order of the two actions, and each order shows them side by side
 pub record AreBothLawful (lists : List (List ℕ)) (i j : ℕ) : Type 0 where

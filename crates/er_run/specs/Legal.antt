@@ -1,5 +1,5 @@
 -- Which lists are legal, and when the `end` line behind them is refused. Lists of records stand newest first.
-use Rattle.std.specs.Prelude.{◌≡◌, ℕ, Bool, ◌&&◌, ◌==◌, ◌||◌, nat_lt, nat_le, if◌then◌else◌, List, [], ◌∷◌, length, Option, Some, None}
+use Rattle.std.specs.Prelude.{◌≡◌, ℕ, Bool, ◌||◌, nat_lt, nat_le, if◌then◌else◌, List, [], ◌∷◌, length, Option, Some, None}
 use Rattle.er_text.specs.declared.causes.Cause.{Cause}
 use Rattle.er_text.specs.declared.causes.Cause.TheVariants.{TooManyAccesses, TooManyPairs, TooManyRaces, TooManyClasses, NoRace, NoAction}
 use Rattle.er_trace.specs.declared.record.Record.{Record}
@@ -14,13 +14,9 @@ use Rattle.er_words.specs.declared.commands.Command.{Command}
 use Rattle.er_words.specs.declared.commands.Command.TheVariants.{Check, Gen, Schedule, Explain}
 use Rattle.er_run.specs.Races.{kept, candidates, races, classes}
 
--- the record is an access that repeats none of those before it
-abbrev pub is_new_access : List Record → Record → Bool
-is_new_access h x = nat_lt (length (kept h)) (length (kept (x ∷ h)))
-
--- and as many are kept as may be
+-- with the record more accesses are kept than may be
 abbrev pub is_past_room : List Record → Record → Bool
-is_past_room h x = is_new_access h x && (length (kept h) == most_accesses)
+is_past_room h x = nat_lt most_accesses (length (kept (x ∷ h)))
 
 -- the first cause for which the record is refused after the earlier ones
 abbrev pub cause : List (ℕ × Rule) → List Record → Record → Option Cause

@@ -31,18 +31,20 @@ IsFinal f asked bytes = (n : ℕ) × (c : Cause) × FirstIllegal f asked bytes n
 abbrev pub piece_bytes : ℕ
 piece_bytes = 4096
 
--- without their last piece the bytes are not refused, but for `no-end`, and with it they are
-pub record IsJustRefused (f : Format) (asked : Command) (bytes : List ℕ) : Type 0 where
+-- without their last piece the bytes are not refused, but for `no-end`, and with it they are refused so
+pub record IsJustRefused (f : Format) (asked : Command) (bytes : List ℕ) (n : ℕ) (c : Cause) : Type 0 where
   pub before : List ℕ
   pub last : List ℕ
   pub is : bytes ≡ before ++ last
   pub few : length last ≤ piece_bytes
   pub fresh : IsFinal f asked before → ⊥
-  pub refused : IsFinal f asked bytes
+  pub refused : FirstIllegal f asked bytes n c
+  pub other : c ≢ NoEnd
 
 -- nothing is left, or the piece that was taken last brought the refusal
-abbrev pub IsDecided : Format → Command → List ℕ → Option (List ℕ) → Type 0
-IsDecided f asked taken left = IsSpent left ⊎ IsJustRefused f asked taken
+abbrev pub IsDecided : Format → Command → List ℕ → Option (List ℕ) → Outcome → Type 0
+IsDecided f asked taken left (Refused n c) = IsSpent left ⊎ IsJustRefused f asked taken n c
+IsDecided f asked taken left _ = IsSpent left
 
 -- an outcome that leaves the sink as it was
 abbrev pub IsSilent : Outcome → Type 0
@@ -87,24 +89,34 @@ Tests f asked bytes Clean old new = (v : Version) (records : List Record) → Is
 Tests f asked bytes Races old new = (v : Version) (records : List Record) → IsLegalTrace f asked v bytes records → (old ≤ new) × (new ≤ old + 4 * tested_for asked v (reverse records))
 Tests f asked bytes _ old new = Unit {0}
 
--- What a command judges: a generated trace, for which it takes nothing of the source, or the bytes that the call took of it.
-abbrev pub IsInput : Format → Command → List ℕ → Option (List ℕ) → Option (List ℕ) → Type 0
-IsInput f (Gen n) bytes left_old left_new = (bytes ≡ text One (generated n)) × (left_new ≡ left_old)
-IsInput f asked bytes left_old left_new = Gives left_old bytes left_new × IsDecided f asked bytes left_new
+-- What a command judges for this outcome: a generated trace, for which it takes nothing of the source, or the bytes that the call took of it.
+abbrev pub IsInput : Format → Command → List ℕ → Option (List ℕ) → Option (List ℕ) → Outcome → Type 0
+IsInput f (Gen n) bytes left_old left_new outcome = (bytes ≡ text One (generated n)) × (left_new ≡ left_old)
+IsInput f asked bytes left_old left_new outcome = Gives left_old bytes left_new × IsDecided f asked bytes left_new outcome
+
+-- what is seen of a call: what is left of the source, what the sink got, and how many comparisons and tests were made
+pub record Seen : Type 0 where
+  pub left : Option (List ℕ)
+  pub got : Option (List ℕ)
+  pub compared : ℕ
+  pub tested : ℕ
+
+abbrev pub seen : Option (List ℕ) → Option (List ℕ) → ℕ → ℕ → Seen
+seen left got compared tested = record { left = left; got = got; compared = compared; tested = tested }
 
 -- The input of the command answers this outcome, exactly the text that is due came to the sink, and the comparisons and the tests that it needs were made.
-pub record IsAnswered (f : Format) (asked : Command) (left_old left_new got_old got_new : Option (List ℕ)) (compared_old compared_new tested_old tested_new : ℕ) (outcome : Outcome) : Type 0 where
+pub record IsAnswered (f : Format) (asked : Command) (old new : Seen) (outcome : Outcome) : Type 0 where
   pub input : List ℕ
-  pub taken : IsInput f asked input left_old left_new
-  pub given : IsGiven f asked input outcome got_old got_new
-  pub compared : Compares f asked input outcome compared_old compared_new
-  pub tested : Tests f asked input outcome tested_old tested_new
+  pub taken : IsInput f asked input old.left new.left outcome
+  pub given : IsGiven f asked input outcome old.got new.got
+  pub compared : Compares f asked input outcome old.compared new.compared
+  pub tested : Tests f asked input outcome old.tested new.tested
 
 -- The input of the command answers some outcome, and a proper front of the text that is due came to the sink.
-pub record IsCutShort (f : Format) (asked : Command) (left_old left_new got_old got_new : Option (List ℕ)) : Type 0 where
+pub record IsCutShort (f : Format) (asked : Command) (old new : Seen) : Type 0 where
   pub input : List ℕ
-  pub taken : IsInput f asked input left_old left_new
-  pub given : IsPartGiven f asked input got_old got_new
+  pub given : IsPartGiven f asked input old.got new.got
+  pub taken : IsInput f asked input old.left new.left given.outcome
 
 -- what a command has to judge: a generated trace, or all bytes that the source holds
 abbrev pub Holds : Command → Option (List ℕ) → List ℕ → Type 0

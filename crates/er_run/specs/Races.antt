@@ -13,8 +13,8 @@ use Rattle.er_cover.specs.Classes.{classes_of}
 use Rattle.er_cover.specs.Groups.{groups_of}
 
 -- the access of an entry; the record at place k stands in line k + 2
-abbrev pub accesses_of : Entry → List Kept
-accesses_of entry = by entry.action entry.read
+abbrev pub access_in : Entry → List Kept
+access_in entry = by entry.action entry.read
   where
     by : Option Action → Record → List Kept
     by (Some a) (Access m l) = access_of (entry.place + 2) a.number m l ∷ []
@@ -27,7 +27,7 @@ without_repeats (x ∷ xs) old = with_access x old
 
 abbrev pub kept_of : List Entry → List Kept
 kept_of [] = []
-kept_of (entry ∷ older) = without_repeats (accesses_of entry) (kept_of older)
+kept_of (entry ∷ older) = without_repeats (access_in entry) (kept_of older)
 
 abbrev pub kept : List Record → List Kept
 kept h = kept_of (told h).entries

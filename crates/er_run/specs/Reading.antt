@@ -18,8 +18,9 @@ use Rattle.er_run.specs.Answer.{FirstIllegal}
 use Rattle.er_graph.specs.declared.fault.GraphFault.TheVariants as graph_faults
 use Rattle.er_run.specs.declared.findings.Judged.{Judged}
 use Rattle.er_run.specs.Accepted.{IsAccepted}
+use Rattle.er_run.specs.declared.outcome.Outcome.TheVariants.{Refused}
 use Rattle.er_run.specs.Promise.{piece_bytes, IsFinal, IsDecided}
-use Rattle.er_run.specs.Session.{StandsFor, IsFaultOf}
+use Rattle.er_run.specs.Session.{IsSessionOf, IsFaultOf}
 
 -- the first line gives no other version
 abbrev pub IsBy : Format → Version → List ℕ → Type 0
@@ -33,7 +34,7 @@ IsReading f v bytes records (Some refused) = (place : Place) × Refuses f bytes 
 -- what a feed keeps and the session stand for these bytes and for the records of their whole lines
 pub record IsAt (f : Format) (mark : Mark) (kept : List ℕ) (fault : Option FeedFault) (session : Session) (bytes : List ℕ) (records : List Record) : Type 0 where
   pub fed : Stands f mark kept fault bytes records
-  pub stands : StandsFor session (reverse records)
+  pub stands : IsSessionOf session (reverse records)
   pub by : IsBy f session.graph.version bytes
 
 -- they stand for some bytes, and for the records of their whole lines
@@ -83,7 +84,7 @@ pub record Ends (f : Format) (left_old left_new : Option (List ℕ)) (session : 
   pub records : List Record
   pub gave : Gives left_old piece left_new
   pub few : length piece ≤ piece_bytes
-  pub stands : StandsFor session (reverse records)
+  pub stands : IsSessionOf session (reverse records)
   pub reading : IsReading f session.graph.version (bytes ++ piece) records refused
   pub end : IsEnd left_new refused
 
@@ -124,5 +125,5 @@ pub record IsAcceptedInput (f : Format) (asked : Command) (left_old left_new : O
 pub record IsRefusedInput (f : Format) (asked : Command) (left_old left_new : Option (List ℕ)) (n : ℕ) (c : Cause) : Type 0 where
   pub taken : List ℕ
   pub gave : Gives left_old taken left_new
-  pub decided : IsDecided f asked taken left_new
+  pub decided : IsDecided f asked taken left_new (Refused n c)
   pub refused : FirstIllegal f asked taken n c

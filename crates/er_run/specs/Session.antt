@@ -17,16 +17,16 @@ use Rattle.er_access.specs.Kept.{Kept, most_accesses}
 use Rattle.er_run.specs.declared.session.Session.{Session}
 use Rattle.er_run.specs.Legal.{IsLegal}
 use Rattle.er_run.specs.Legal as legality
-use Rattle.er_run.specs.Races.{kept, accesses_of, without_repeats}
+use Rattle.er_run.specs.Races.{kept, access_in, without_repeats}
 
 -- the records with their lines: the one at place k, counted from 0 in the order of the trace, stands in line k + 2
-abbrev pub numbered : List Record → List Accepted
-numbered [] = []
-numbered (x ∷ h) = record { line = length h + 2; read = x } ∷ numbered h
+abbrev pub with_lines : List Record → List Accepted
+with_lines [] = []
+with_lines (x ∷ h) = record { line = length h + 2; read = x } ∷ with_lines h
 
 -- what it keeps answers what the list says
-pub record StandsFor (session : Session) (h : List Record) : Type 0 where
-  pub graph : IsGraph session.graph (numbered h)
+pub record IsSessionOf (session : Session) (h : List Record) : Type 0 where
+  pub graph : IsGraph session.graph (with_lines h)
   pub accesses : session.kept ≡ kept h
   pub count : session.records ≡ length h
   pub legal : IsLegal (rules session.graph.version) h
@@ -34,7 +34,7 @@ pub record StandsFor (session : Session) (h : List Record) : Type 0 where
 -- it stands for some list
 pub record IsSession (session : Session) : Type 0 where
   pub list : List Record
-  pub stands : StandsFor session list
+  pub stands : IsSessionOf session list
 
 -- the version that it has once the first line was read
 abbrev pub begun : Version → Option Version → Version
@@ -48,7 +48,7 @@ IsBegun old given h = (begun old given ≡ old) ⊎ (h ≡ [])
 -- it stands for some list, and may begin in the version that was given
 pub record IsReady (session : Session) (given : Option Version) : Type 0 where
   pub list : List Record
-  pub stands : StandsFor session list
+  pub stands : IsSessionOf session list
   pub begins : IsBegun session.graph.version given list
 
 -- A record after the list is refused for the first cause against it, with its line; or memory ran out.
@@ -70,7 +70,7 @@ pub record AreEarlier (page : Page) (line : ℕ) (accesses : List Kept) : Type 0
 
 -- these accesses with one of the running action, which the record at that place makes
 abbrev pub kept_with : List Record → ℕ → Mode → Loc → List Kept → List Kept
-kept_with h place m l old = without_repeats (accesses_of (record { read = Access m l; place = place; action = running (told h).actions })) old
+kept_with h place m l old = without_repeats (access_in (record { read = Access m l; place = place; action = running (told h).actions })) old
 
 -- the new accesses are these; where one came to the old ones, there was room for it
 pub record AreKept (old due new : List Kept) : Type 0 where

@@ -8,7 +8,7 @@ ghost use Rattle.er_trace.specs.declared.version.Version.TheVariants.{One};
 ghost use Rattle.er_trace.specs.Trace.{text};
 ghost use Rattle.er_lines.specs.Text.{text as text_lines};
 ghost use Rattle.er_gen.specs.Generated.{generated, most_rounds};
-ghost use Rattle.er_run.specs.Session.{StandsFor};
+ghost use Rattle.er_run.specs.Session.{IsSessionOf};
 ghost use Rattle.er_run.specs.Answer.{FirstIllegal};
 ghost use Rattle.er_run.specs.Legal.{end_cause_for};
 ghost use Rattle.er_run.specs.Reading.{IsRead, IsReading, IsAcceptedInput, IsRefusedInput};
@@ -110,7 +110,7 @@ fn accept_end<L: Lines, R: Threads + Sync, S: Source, G: Gate + Sync>(
     ensures compares_rise { compares.old ≤ compares.new }
     ensures tests_rise { tests.old ≤ tests.new }
 {
-    let line = session.records + 3;
+    let after_end = session.next_line() + 1;
     let judged = match judge_end(rt, alloc, asked, session, compares, tests, gate) {
         Ok(judged) => judged,
         Err(fault) => return Err(of_end(fault)),
@@ -119,7 +119,7 @@ fn accept_end<L: Lines, R: Threads + Sync, S: Source, G: Gate + Sync>(
     match source.read(&mut byte) {
         Ok(0) => Ok(judged),
         Ok(_) => Err(InputFault::Refused {
-            line,
+            line: after_end,
             cause: Cause::AfterEnd,
         }),
         Err(Failed) => Err(InputFault::Failed),
@@ -143,14 +143,14 @@ fn first_refusal<L: Lines, R: Threads + Sync, G: Gate + Sync>(
     requires tests { tests.old < 2 ^ 60 }
     ensures refused { (n : ℕ) (c : Cause) → result ≡ InputFault.Refused n c
         → (bytes : List ℕ) (records : List Record)
-        → StandsFor session.now (reverse records)
+        → IsSessionOf session.now (reverse records)
         → IsReading L.format session.now.graph.version bytes records (Some refusal)
         → FirstIllegal L.format asked.command bytes n c }
     ensures no_failure { result ≢ InputFault.Failed }
     ensures compares_rise { compares.old ≤ compares.new }
     ensures tests_rise { tests.old ≤ tests.new }
 {
-    if refusal.line <= session.records + 2 {
+    if refusal.line <= session.next_line() {
         return of_line(refusal);
     }
     if let Err(fault) = found_within(rt, alloc, asked, session, compares, tests, gate) {
@@ -240,9 +240,9 @@ fn judge_end<R: Threads + Sync, G: Gate + Sync>(
     requires some { IsReportable session }
     requires compares { compares.old < 2 ^ 60 }
     requires tests { tests.old < 2 ^ 60 }
-    ensures accepted { IfOk result (λ judged. (h : List Record) → StandsFor session h
+    ensures accepted { IfOk result (λ judged. (h : List Record) → IsSessionOf session h
         → IsJudged asked.command judged.session judged.found h) }
-    ensures refused { IfErr result (λ fault. (h : List Record) → StandsFor session h
+    ensures refused { IfErr result (λ fault. (h : List Record) → IsSessionOf session h
         → IsEndFault (end_cause_for asked.command session.graph.version h) h fault) }
     ensures version { IfOk result (λ judged. judged.session.graph.version ≡ session.graph.version) }
     ensures judged { IfOk result IsJudgement }

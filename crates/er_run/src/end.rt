@@ -6,7 +6,7 @@ ghost use Rattle.er_trace.specs.declared.version.Version.{Version};
 ghost use Rattle.er_words.specs.Words.{most_shards};
 ghost use Rattle.er_words.specs.declared.commands.Input.{Input};
 ghost use Rattle.er_run.specs.Legal.{end_cause_for, end_cause, schedule_cause, explain_cause};
-ghost use Rattle.er_run.specs.Session.{StandsFor};
+ghost use Rattle.er_run.specs.Session.{IsSessionOf};
 ghost use Rattle.er_run.specs.Accepted.{IsAskable, IsReportable, AreListed, AreGrouped, AreOrdersOf, IsListing, IsFound, IsJudged};
 ghost use Rattle.er_run.specs.Accepted.{IsCompared, IsTested, IsComparedFor, IsTestedFor, IsEndFault, IsListFault};
 
@@ -42,12 +42,12 @@ pub(crate) fn found_within<R: Threads + Sync, G: Gate + Sync>(
     requires some { IsReportable session.now }
     requires compares { compares.old < 2 ^ 60 }
     requires tests { tests.old < 2 ^ 60 }
-    ensures found { IfOk result (λ found. (h : List Record) → StandsFor session.now h
+    ensures found { IfOk result (λ found. (h : List Record) → IsSessionOf session.now h
         → IsJudged asked.command session.now found h) }
     ensures compared { OnOk result
         (IsComparedFor asked.command session.now compares.old compares.new) }
     ensures tested { OnOk result (IsTestedFor asked.command session.now tests.old tests.new) }
-    ensures refused { IfErr result (λ fault. (h : List Record) → StandsFor session.now h
+    ensures refused { IfErr result (λ fault. (h : List Record) → IsSessionOf session.now h
         → IsEndFault (end_cause_for asked.command session.now.graph.version h) h fault) }
     ensures compares_rise { compares.old ≤ compares.new }
     ensures tests_rise { tests.old ≤ tests.new }
@@ -99,11 +99,11 @@ fn listing_within<R: Threads + Sync, G: Gate + Sync>(
     requires some { IsReportable session.now }
     requires compares { compares.old < 2 ^ 60 }
     requires tests { tests.old < 2 ^ 60 }
-    ensures listed { IfOk result (λ listing. (h : List Record) → StandsFor session.now h
+    ensures listed { IfOk result (λ listing. (h : List Record) → IsSessionOf session.now h
         → IsListing session.now.graph.version listing h) }
     ensures compared { OnOk result (IsCompared session.now compares.old compares.new) }
     ensures tested { OnOk result (IsTested session.now tests.old tests.new) }
-    ensures refused { IfErr result (λ fault. (h : List Record) → StandsFor session.now h
+    ensures refused { IfErr result (λ fault. (h : List Record) → IsSessionOf session.now h
         → IsEndFault (end_cause session.now.graph.version h) h fault) }
     ensures compares_rise { compares.old ≤ compares.new }
     ensures tests_rise { tests.old ≤ tests.new }
@@ -133,10 +133,10 @@ fn orders_within<R: Threads + Sync, G: Gate + Sync>(
     requires first { 1 ≤ race }
     requires some { IsReportable session.now }
     requires room { compares.old < 2 ^ 60 }
-    ensures found { IfOk result (λ found. (h : List Record) → StandsFor session.now h
+    ensures found { IfOk result (λ found. (h : List Record) → IsSessionOf session.now h
         → IsJudged (Command.Schedule race) session.now found h) }
     ensures compared { OnOk result (IsCompared session.now compares.old compares.new) }
-    ensures refused { IfErr result (λ fault. (h : List Record) → StandsFor session.now h
+    ensures refused { IfErr result (λ fault. (h : List Record) → IsSessionOf session.now h
         → IsEndFault (schedule_cause race session.now.graph.version h) h fault) }
     ensures rises { compares.old ≤ compares.new }
 {
@@ -146,7 +146,7 @@ fn orders_within<R: Threads + Sync, G: Gate + Sync>(
     };
     if race as usize > races.len() {
         return Err(FeedFault::Refused {
-            line: session.records + 2,
+            line: session.next_line(),
             cause: Cause::NoRace,
         });
     }
@@ -170,9 +170,9 @@ fn orders_of(
     requires first { 1 ≤ race }
     requires within { race ≤ length races.now }
     requires some { IsReportable session.now }
-    requires listed { (h : List Record) → StandsFor session.now h
+    requires listed { (h : List Record) → IsSessionOf session.now h
         → AreListed session.now.graph.version races.now h }
-    ensures { IfOk result (λ orders. (h : List Record) → StandsFor session.now h
+    ensures { IfOk result (λ orders. (h : List Record) → IsSessionOf session.now h
         → AreOrdersOf session.now.graph.version race races.now orders h) }
 {
     let found = races[race as usize - 1];
@@ -184,15 +184,15 @@ fn orders_of(
 /// The steps from one action to another, unless one of the two is no action.
 fn steps_within(alloc: Global, session: &Session, from: u32, to: u32) -> Result<Found, FeedFault>
     requires some { IsReportable session.now }
-    ensures found { IfOk result (λ found. (h : List Record) → StandsFor session.now h
+    ensures found { IfOk result (λ found. (h : List Record) → IsSessionOf session.now h
         → IsJudged (Command.Explain from to) session.now found h) }
-    ensures refused { IfErr result (λ fault. (h : List Record) → StandsFor session.now h
+    ensures refused { IfErr result (λ fault. (h : List Record) → IsSessionOf session.now h
         → IsEndFault (explain_cause from to h) h fault) }
 {
     let actions = session.graph.page().actions();
     if from >= actions || to >= actions {
         return Err(FeedFault::Refused {
-            line: session.records + 2,
+            line: session.next_line(),
             cause: Cause::NoAction,
         });
     }
@@ -214,14 +214,14 @@ fn races_within<R: Threads + Sync, G: Gate + Sync>(
     requires split { (1 ≤ shards) × (shards ≤ most_shards) }
     requires some { IsReportable session.now }
     requires room { compares.old < 2 ^ 60 }
-    ensures listed { IfOk result (λ races. (h : List Record) → StandsFor session.now h
+    ensures listed { IfOk result (λ races. (h : List Record) → IsSessionOf session.now h
         → AreListed session.now.graph.version races.items h) }
     ensures compared { OnOk result (IsCompared session.now compares.old compares.new) }
-    ensures refused { IfErr result (λ fault. (h : List Record) → StandsFor session.now h
+    ensures refused { IfErr result (λ fault. (h : List Record) → IsSessionOf session.now h
         → IsListFault session.now.graph.version h fault) }
     ensures rises { compares.old ≤ compares.new }
 {
-    let line = session.records + 2;
+    let line = session.next_line();
     if session.kept.pairs() > MOST_PAIRS {
         return Err(FeedFault::Refused {
             line,
@@ -258,13 +258,13 @@ fn groups_within<R: Threads + Sync, G: Gate + Sync>(
 ) -> Result<Groups, FeedFault>
     requires split { (1 ≤ shards) × (shards ≤ most_shards) }
     requires some { IsReportable session.now }
-    requires listed { (h : List Record) → StandsFor session.now h
+    requires listed { (h : List Record) → IsSessionOf session.now h
         → AreListed session.now.graph.version races.now h }
     requires room { tests.old < 2 ^ 60 }
-    ensures grouped { IfOk result (λ groups. (h : List Record) → StandsFor session.now h
+    ensures grouped { IfOk result (λ groups. (h : List Record) → IsSessionOf session.now h
         → AreGrouped session.now.graph.version groups h) }
     ensures tested { OnOk result (IsTested session.now tests.old tests.new) }
-    ensures refused { IfErr result (λ fault. (h : List Record) → StandsFor session.now h
+    ensures refused { IfErr result (λ fault. (h : List Record) → IsSessionOf session.now h
         → IsEndFault (end_cause session.now.graph.version h) h fault) }
     ensures rises { tests.old ≤ tests.new }
 {
@@ -280,7 +280,7 @@ fn groups_within<R: Threads + Sync, G: Gate + Sync>(
     ) {
         Ok(groups) => Ok(groups),
         Err(CoverFault::TooManyClasses) => Err(FeedFault::Refused {
-            line: session.records + 2,
+            line: session.next_line(),
             cause: Cause::TooManyClasses,
         }),
         Err(CoverFault::NoMemory) => Err(FeedFault::NoMemory),

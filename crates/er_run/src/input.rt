@@ -8,7 +8,7 @@ ghost use Rattle.er_trace.specs.Versions.{has_record};
 ghost use Rattle.er_lines.specs.Lines.{IsTraceOf};
 ghost use Rattle.er_lines.specs.Feed.{Stands};
 ghost use Rattle.er_trace.specs.declared.version.Version.{Version};
-ghost use Rattle.er_run.specs.Session.{StandsFor, IsReady, IsBegun, begun};
+ghost use Rattle.er_run.specs.Session.{IsSessionOf, IsReady, IsBegun, begun};
 ghost use Rattle.er_run.specs.Reading.{IsAt, IsBy, IsSomewhere, IsOpen, IsRead, IsReadTo, IsReading, GoesOn, Advances, Ends, IsRefusedBehind, IsFinalFault, IsRecordFault, fault_of};
 
 use crate::session::Session;
@@ -211,12 +211,12 @@ fn judge_all(
     requires some { IsReady session.old given }
     requires room { session.old.records + length records.now ≤ most_lines }
     requires of_version { list_all (has_record (begun session.old.graph.version given)) records.now ≡ true }
-    ensures taken { OnOk result ((earlier : List Record) → StandsFor session.old (reverse earlier)
+    ensures taken { OnOk result ((earlier : List Record) → IsSessionOf session.old (reverse earlier)
         → IsBegun session.old.graph.version given (reverse earlier)
-        → StandsFor session.new (reverse (earlier ++ records.now))) }
+        → IsSessionOf session.new (reverse (earlier ++ records.now))) }
     ensures version { OnOk result (session.new.graph.version ≡ begun session.old.graph.version given) }
     ensures refused { IfErr result (λ fault. (earlier : List Record)
-        → StandsFor session.old (reverse earlier)
+        → IsSessionOf session.old (reverse earlier)
         → IsBegun session.old.graph.version given (reverse earlier)
         → IsRecordFault (begun session.old.graph.version given) (earlier ++ records.now) fault) }
 {

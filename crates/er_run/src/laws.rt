@@ -1,7 +1,7 @@
 //! Laws of the definitions that the contracts cite. Each is a function that does nothing, whose
 //! contract is the law.
 
-ghost use Rattle.er_run.specs.Laws.{CutTrace, EveryAnswer, LongerInput, OneAnswer, OrdersKeepRules};
+ghost use Rattle.er_run.specs.Laws.{CutTrace, EveryAnswer, KeptInOrder, LongerInput, OneAnswer, OrdersKeepRules};
 
 /// No byte string has two outcomes, and no two texts are due for it.
 pub fn one_answer()
@@ -22,6 +22,11 @@ pub fn longer_input()
 /// line behind their last LF.
 pub fn cut_trace()
     ensures { CutTrace }
+{}
+
+/// The kept accesses stand in the order of their lines. So the pairs of the races do, and none comes twice.
+pub fn kept_in_order()
+    ensures { KeptInOrder }
 {}
 
 /// No edge leads back in either order of the actions of a race: the rules keep both, and each shows the two side

@@ -5,7 +5,7 @@ ghost use Rattle.std.specs.Prelude.{◌≡◌, ◌≢◌, ◌⊎◌, ℕ, ◌<�
 ghost use Rattle.er_outside.specs.Ends.{Rose, one_more};
 ghost use Rattle.er_words.specs.Words.{Asks};
 ghost use Rattle.er_run.specs.Answer.{Answers, format_of};
-ghost use Rattle.er_run.specs.Promise.{IsAnswer, IsAnswered, IsCutShort, IsSilent, Holds, ReadsWithout};
+ghost use Rattle.er_run.specs.Promise.{IsAnswer, IsAnswered, IsCutShort, IsSilent, Holds, ReadsWithout, seen};
 
 use crate::modes::{judge_generated, judge_input};
 use crate::outcome::Outcome;
@@ -53,8 +53,9 @@ pub fn run<R: Threads + Sync, S: Source, K: Sink, G: Gate + Sync>(
     // `compares` rose by exactly the number of candidate pairs, `tests` by at most four for each class and
     // each group.
     ensures answered { (asked : Asked) → Asks (map string_bytes words.now) asked → IsAnswer result
-        → IsAnswered (format_of asked.command) asked.command (S.left source.old) (S.left source.new)
-        (K.got sink.old) (K.got sink.new) compares.old compares.new tests.old tests.new result }
+        → IsAnswered (format_of asked.command) asked.command
+        (seen (S.left source.old) (K.got sink.old) compares.old tests.old)
+        (seen (S.left source.new) (K.got sink.new) compares.new tests.new) result }
     // Words that ask for a command are no wrong usage; others give that, or want of memory.
     ensures usage { result ≡ Outcome.Usage
         → (asked : Asked) → ¬ Asks (map string_bytes words.now) asked }
@@ -70,8 +71,9 @@ pub fn run<R: Threads + Sync, S: Source, K: Sink, G: Gate + Sync>(
     // At a failed write a proper front of the text that is due was written.
     ensures cut_short { (asked : Asked) → Asks (map string_bytes words.now) asked
         → result ≡ Outcome.WriteFault
-        → IsCutShort (format_of asked.command) asked.command (S.left source.old) (S.left source.new)
-        (K.got sink.old) (K.got sink.new) }
+        → IsCutShort (format_of asked.command) asked.command
+        (seen (S.left source.old) (K.got sink.old) compares.old tests.old)
+        (seen (S.left source.new) (K.got sink.new) compares.new tests.new) }
     // No answer comes over a fault.
     ensures no_fault { IsAnswer result
         → (S.faults source.new ≡ S.faults source.old) × (K.faults sink.new ≡ K.faults sink.old) }

@@ -8,7 +8,7 @@ ghost use Rattle.er_gen.specs.Generated.{generated, most_rounds};
 ghost use Rattle.er_words.specs.Words.{most_shards};
 ghost use Rattle.er_lines.specs.Text.{text as text_lines};
 ghost use Rattle.er_run.specs.Answer.{Answers, format_of, lines_asked};
-ghost use Rattle.er_run.specs.Promise.{IsAnswer, IsAnswered, IsCutShort, IsGiven, IsPartGiven, IsSilent, Compares, Tests};
+ghost use Rattle.er_run.specs.Promise.{IsAnswer, IsAnswered, IsCutShort, IsGiven, IsPartGiven, IsSilent, Compares, Tests, seen};
 ghost use Rattle.er_run.specs.Accepted.{IsAskable};
 
 use crate::accept::{accept_generated, accept_input};
@@ -42,8 +42,9 @@ pub(crate) fn judge_input<R: Threads + Sync, S: Source, K: Sink, G: Gate + Sync>
     requires compares { compares.old < 2 ^ 60 }
     requires tests { tests.old < 2 ^ 60 }
     ensures answered { IsAnswer result
-        → IsAnswered (format_of asked.command) asked.command (S.left source.old) (S.left source.new)
-        (K.got sink.old) (K.got sink.new) compares.old compares.new tests.old tests.new result }
+        → IsAnswered (format_of asked.command) asked.command
+        (seen (S.left source.old) (K.got sink.old) compares.old tests.old)
+        (seen (S.left source.new) (K.got sink.new) compares.new tests.new) result }
     ensures no_usage { result ≢ Outcome.Usage }
     ensures read_fault { result ≡ Outcome.ReadFault
         → Rose (S.faults source.old) (S.faults source.new) }
@@ -52,8 +53,9 @@ pub(crate) fn judge_input<R: Threads + Sync, S: Source, K: Sink, G: Gate + Sync>
     ensures write_fault { result ≡ Outcome.WriteFault
         → Rose (K.faults sink.old) (K.faults sink.new) }
     ensures cut_short { result ≡ Outcome.WriteFault
-        → IsCutShort (format_of asked.command) asked.command (S.left source.old) (S.left source.new)
-        (K.got sink.old) (K.got sink.new) }
+        → IsCutShort (format_of asked.command) asked.command
+        (seen (S.left source.old) (K.got sink.old) compares.old tests.old)
+        (seen (S.left source.new) (K.got sink.new) compares.new tests.new) }
     ensures no_fault { IsAnswer result
         → (S.faults source.new ≡ S.faults source.old) × (K.faults sink.new ≡ K.faults sink.old) }
     ensures unwritten { IsSilent result → sink.new ≡ sink.old }
@@ -103,8 +105,9 @@ fn judge_lines<L: Lines, R: Threads + Sync, S: Source, K: Sink, G: Gate + Sync>(
     requires compares { compares.old < 2 ^ 60 }
     requires tests { tests.old < 2 ^ 60 }
     ensures answered { IsAnswer result
-        → IsAnswered L.format asked.command (S.left source.old) (S.left source.new) (K.got sink.old)
-        (K.got sink.new) compares.old compares.new tests.old tests.new result }
+        → IsAnswered L.format asked.command
+        (seen (S.left source.old) (K.got sink.old) compares.old tests.old)
+        (seen (S.left source.new) (K.got sink.new) compares.new tests.new) result }
     ensures no_usage { result ≢ Outcome.Usage }
     ensures read_fault { result ≡ Outcome.ReadFault
         → Rose (S.faults source.old) (S.faults source.new) }
@@ -113,8 +116,9 @@ fn judge_lines<L: Lines, R: Threads + Sync, S: Source, K: Sink, G: Gate + Sync>(
     ensures write_fault { result ≡ Outcome.WriteFault
         → Rose (K.faults sink.old) (K.faults sink.new) }
     ensures cut_short { result ≡ Outcome.WriteFault
-        → IsCutShort L.format asked.command (S.left source.old) (S.left source.new) (K.got sink.old)
-        (K.got sink.new) }
+        → IsCutShort L.format asked.command
+        (seen (S.left source.old) (K.got sink.old) compares.old tests.old)
+        (seen (S.left source.new) (K.got sink.new) compares.new tests.new) }
     ensures no_fault { IsAnswer result
         → (S.faults source.new ≡ S.faults source.old) × (K.faults sink.new ≡ K.faults sink.old) }
     ensures unwritten { IsSilent result → sink.new ≡ sink.old }

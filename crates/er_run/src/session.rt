@@ -6,7 +6,7 @@ ghost use Rattle.er_trace.specs.declared.record.Record.{Record};
 ghost use Rattle.er_trace.specs.Trace.{most_lines};
 ghost use Rattle.er_trace.specs.Versions.{has_record};
 ghost use Rattle.er_page.specs.Page.{IsPage};
-ghost use Rattle.er_run.specs.Session.{StandsFor, IsSession, IsFaultAfter, IsFaultOf, IsBegun, begun, AreEarlier, AreKept, IsPastRoom, kept_with};
+ghost use Rattle.er_run.specs.Session.{IsSessionOf, IsSession, IsFaultAfter, IsFaultOf, IsBegun, begun, AreEarlier, AreKept, IsPastRoom, kept_with};
 
 use er_access::{AddFault, Table};
 use er_graph::{Graph, GraphFault};
@@ -38,7 +38,7 @@ impl Drop for Session {
 pub(crate) fn judge(alloc: Global, records: &[Record]) -> Result<Session, GraphFault>
     requires room { length records.now ≤ most_lines }
     requires of_version { list_all (has_record Version.One) records.now ≡ true }
-    ensures stands { IfOk result (λ session. StandsFor session (reverse records.now)) }
+    ensures stands { IfOk result (λ session. IsSessionOf session (reverse records.now)) }
     ensures version { IfOk result (λ session. session.graph.version ≡ Version.One) }
     ensures refused { IfErr result (λ fault. IsFaultOf Version.One records.now fault) }
 {
@@ -54,7 +54,7 @@ pub(crate) fn judge(alloc: Global, records: &[Record]) -> Result<Session, GraphF
 impl Session {
     /// No record yet, in this version.
     pub(crate) fn new(alloc: Global, version: Version) -> Result<Self, NoMemory>
-        ensures stands { IfOk result (λ session. StandsFor session []) }
+        ensures stands { IfOk result (λ session. IsSessionOf session []) }
         ensures version { IfOk result (λ session. session.graph.version ≡ version) }
     {
         Ok(Session {
@@ -64,10 +64,18 @@ impl Session {
         })
     }
 
+    /// The number of the line behind those of its records.
+    pub(crate) fn next_line(&self) -> u32
+        requires { self.now.records ≤ most_lines }
+        ensures { result ≡ self.now.records + 2 }
+    {
+        self.records + 2
+    }
+
     /// Is of the version that the first line gave, where it was read. No record came before it.
     pub(crate) fn begin(&mut self, alloc: Global, given: Option<Version>) -> Result<(), NoMemory>
-        ensures begun { OnOk result ((h : List Record) → StandsFor self.old h
-            → IsBegun self.old.graph.version given h → StandsFor self.new h) }
+        ensures begun { OnOk result ((h : List Record) → IsSessionOf self.old h
+            → IsBegun self.old.graph.version given h → IsSessionOf self.new h) }
         ensures version { OnOk result (self.new.graph.version ≡ begun self.old.graph.version given) }
         ensures count { self.new.records ≡ self.old.records }
     {
@@ -81,15 +89,16 @@ impl Session {
         Ok(())
     }
 
-    /// Takes the records one after the other, to the first that is refused. They are of its version.
+    /// Takes the records one after the other, to the first that is refused. They are of its version. After
+    /// an error it stands for no list.
     pub(crate) fn take_all(&mut self, records: &[Record]) -> Result<(), GraphFault>
         requires some { IsSession self.old }
         requires room { self.old.records + length records.now ≤ most_lines }
         requires of_version { list_all (has_record self.old.graph.version) records.now ≡ true }
-        ensures taken { OnOk result ((earlier : List Record) → StandsFor self.old (reverse earlier)
-            → StandsFor self.new (reverse (earlier ++ records.now))) }
+        ensures taken { OnOk result ((earlier : List Record) → IsSessionOf self.old (reverse earlier)
+            → IsSessionOf self.new (reverse (earlier ++ records.now))) }
         ensures refused { IfErr result (λ fault. (earlier : List Record)
-            → StandsFor self.old (reverse earlier)
+            → IsSessionOf self.old (reverse earlier)
             → IsFaultOf self.old.graph.version (earlier ++ records.now) fault) }
         ensures version { self.new.graph.version ≡ self.old.graph.version }
     {
@@ -101,18 +110,19 @@ impl Session {
         Ok(())
     }
 
-    /// Takes the next record, or answers why it is not accepted. The limit on accesses is asked last.
+    /// Takes the next record, or answers why it is not accepted. The limit on accesses is asked last. After
+    /// an error it stands for no list: the graph may have taken the record.
     pub(crate) fn take(&mut self, rec: &Record) -> Result<(), GraphFault>
         requires some { IsSession self.old }
         requires room { self.old.records < most_lines }
         requires of_version { has_record self.old.graph.version rec.now ≡ true }
-        ensures taken { OnOk result ((h : List Record) → StandsFor self.old h
-            → StandsFor self.new (rec.now ∷ h)) }
-        ensures refused { IfErr result (λ fault. (h : List Record) → StandsFor self.old h
+        ensures taken { OnOk result ((h : List Record) → IsSessionOf self.old h
+            → IsSessionOf self.new (rec.now ∷ h)) }
+        ensures refused { IfErr result (λ fault. (h : List Record) → IsSessionOf self.old h
             → IsFaultAfter self.old.graph.version h rec.now fault) }
         ensures version { self.new.graph.version ≡ self.old.graph.version }
     {
-        let line = self.records + 2;
+        let line = self.next_line();
         if let Err(fault) = self.graph.accept(line, rec) {
             return Err(fault);
         }

@@ -7,7 +7,7 @@ ghost use Rattle.er_trace.specs.declared.version.Version.{Version};
 ghost use Rattle.er_run.specs.Answer.{outcome_of, outcome_for};
 ghost use Rattle.er_run.specs.Promise.{IsAnswer};
 ghost use Rattle.er_run.specs.Report.{report, json_report, summary, schedule, is_json, text_for, refusal_for};
-ghost use Rattle.er_run.specs.Session.{StandsFor};
+ghost use Rattle.er_run.specs.Session.{IsSessionOf};
 ghost use Rattle.er_run.specs.Accepted.{EndsAs, IsFound, IsJudged, IsJudgement, IsListed, IsOrdered, AreOrdersOf};
 ghost use Rattle.er_run.specs.Accepted.{FailedAs, RefusedAs, ReportsOf};
 
@@ -101,7 +101,7 @@ fn outcome_of(races: &[Race]) -> Outcome
 /// Writes the report as a line of JSON.
 fn put_line<K: Sink>(session: &Session, listing: &Listing, sink: &mut K) -> Result<(), WriteFault>
     requires { IsListed session.now listing.now }
-    ensures { (h : List Record) → StandsFor session.now h
+    ensures { (h : List Record) → IsSessionOf session.now h
         → Puts K.got K.faults sink.old (json_report session.now.graph.version h) sink.new result }
 {
     write_json_report(
@@ -116,7 +116,7 @@ fn put_line<K: Sink>(session: &Session, listing: &Listing, sink: &mut K) -> Resu
 /// Writes the report.
 fn put_report<K: Sink>(session: &Session, listing: &Listing, sink: &mut K) -> Result<(), WriteFault>
     requires { IsListed session.now listing.now }
-    ensures { (h : List Record) → StandsFor session.now h
+    ensures { (h : List Record) → IsSessionOf session.now h
         → Puts K.got K.faults sink.old (report session.now.graph.version h) sink.new result }
 {
     write_report(
@@ -136,7 +136,7 @@ fn put_summary<K: Sink>(
     sink: &mut K,
 ) -> Result<(), WriteFault>
     requires { IsListed session.now listing.now }
-    ensures { (h : List Record) → StandsFor session.now h
+    ensures { (h : List Record) → IsSessionOf session.now h
         → Puts K.got K.faults sink.old (summary session.now.graph.version number h)
         sink.new result }
 {
@@ -159,7 +159,7 @@ fn put_orders<K: Sink>(
     sink: &mut K,
 ) -> Result<(), WriteFault>
     requires { IsOrdered session.now race races.now orders.now }
-    ensures { (h : List Record) → StandsFor session.now h
+    ensures { (h : List Record) → IsSessionOf session.now h
         → AreOrdersOf session.now.graph.version race races.now orders.now h
         → Puts K.got K.faults sink.old (schedule session.now.graph.version race h) sink.new result }
 {

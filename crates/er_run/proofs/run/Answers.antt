@@ -67,7 +67,7 @@ returns-in-Gen-clause-refused g c = λ none. absurd (none _ c.in-Ok.ensures.aske
 pub returns-in-Gen-clause-cut_short : goal.returns-in-Gen-clause-cut_short
 returns-in-Gen-clause-cut_short g c = λ asked asks is.
     let same : asked.command ≡ Gen c.in-Gen.number = same_command _ c.in-Ok.asked (Gen c.in-Gen.number) asked c.in-Ok.is c.in-Gen.is (c.read_words.ensures.exact asked asks) in
-    rw same (record { input = text One (generated c.in-Gen.number); taken = (refl, refl); given = c.judge_generated.ensures.cut_short is })
+    rw same (record { input = text One (generated c.in-Gen.number); given = c.judge_generated.ensures.cut_short is; taken = (refl, refl) })
 
 pub returns-in-Gen-clause-complete : goal.returns-in-Gen-clause-complete
 returns-in-Gen-clause-complete g c = λ asked asks no_read no_write bytes held.

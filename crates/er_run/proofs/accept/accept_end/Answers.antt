@@ -20,13 +20,13 @@ returns-in-Ok-eq0-clause-accepted g c = λ first r.
 
 pub returns-in-Ok-read-clause-refused : goal.returns-in-Ok-read-clause-refused
 returns-in-Ok-read-clause-refused g c = λ n cause is first r.
-    let line : n ≡ c.args.session.records + 3 = cc in
+    let line : n ≡ c.next_line-after_end.result + 1 = cc in
     let why : AfterEnd ≡ cause = cc in
     let count = r.ends.stands.count in
     let some = some_taken c.in-Ok-read.field-0 c.read.new.buf c.in-Ok-read.ensures.placed c.in-Ok-read.field-0-test.1 in
     subst (IsRefusedInput g.L.Lines.format c.args.asked.command first (g.S.Source.left c.read.new.self) n) why
     (refused_more g.L.Lines.format g.met.L.Lines.is_format c.args.asked.command first (g.S.Source.left c.args.source.now) (g.S.Source.left c.read.new.self) c.args.session c.in-Ok.judged (take c.in-Ok-read.field-0 c.read.new.buf) n c.in-Ok.ensures.version r (c.in-Ok.ensures.accepted (reverse r.ends.records) r.ends.stands)
-    c.in-Ok-read.ensures.given some (few_taken c.in-Ok-read.field-0 c.read.new.buf c.in-Ok-read.ensures.placed (omega arith)) (omega (arith, line, count, length-reverse r.ends.records)))
+    c.in-Ok-read.ensures.given some (few_taken c.in-Ok-read.field-0 c.read.new.buf c.in-Ok-read.ensures.placed (omega arith)) (omega (arith, line, c.next_line-after_end.ensures, count, length-reverse r.ends.records)))
 
 pub returns-in-Err-read-clause-once : goal.returns-in-Err-read-clause-once
 returns-in-Err-read-clause-once g c = λ is. c.in-Err-read.ensures.raised

@@ -3,7 +3,7 @@ use Rattle.er_trace.specs.Trace.{text}
 use Rattle.er_trace.specs.declared.version.Version.TheVariants.{One}
 use Rattle.er_lines.specs.Text.{text as text_lines}
 use Rattle.er_gen.specs.Generated.{generated}
-use Rattle.er_run.specs.Session.{StandsFor}
+use Rattle.er_run.specs.Session.{IsSessionOf}
 use Rattle.er_run.specs.Reading.{IsReading}
 use Rattle.er_run.proofs.AcceptLemmas.{refused_judged}
 use Rattle.er_run.proofs.GeneratedLemmas.{few_generated, generated_read}
@@ -19,7 +19,7 @@ judge-requires-clause-of_version g c = rw (c.as_slice.ensures.value, c.in-Ok.ens
 
 pub returns-in-Ok-judge-clause-verdict : goal.returns-in-Ok-judge-clause-verdict
 returns-in-Ok-judge-clause-verdict g c =
-    let stands : StandsFor c.in-Ok-judge.session (reverse (generated c.args.number)) = rw (c.as_slice.ensures.value, c.in-Ok.ensures) at c.in-Ok-judge.ensures.stands in
+    let stands : IsSessionOf c.in-Ok-judge.session (reverse (generated c.args.number)) = rw (c.as_slice.ensures.value, c.in-Ok.ensures) at c.in-Ok-judge.ensures.stands in
     let read : IsReading text_lines c.in-Ok-judge.session.graph.version (text One (generated c.args.number)) (generated c.args.number) None = rw c.in-Ok-judge.ensures.version (generated_read c.args.number c.requires.most) in
     verdict_by text_lines c.args.asked.command (text One (generated c.args.number)) (generated c.args.number) c.in-Ok-judge.session c.judge_end.result stands read c.judge_end.ensures.version c.judge_end.ensures.accepted c.judge_end.ensures.refused
 
@@ -30,6 +30,6 @@ returns-in-Err-Refused-clause-verdict g c =
 
 pub judge_end-requires-clause-some : goal.judge_end-requires-clause-some
 judge_end-requires-clause-some g c κs within =
-    let stands : StandsFor c.in-Ok-judge.session (reverse (generated c.args.number)) = rw (c.as_slice.ensures.value, c.in-Ok.ensures) at c.in-Ok-judge.ensures.stands in
+    let stands : IsSessionOf c.in-Ok-judge.session (reverse (generated c.args.number)) = rw (c.as_slice.ensures.value, c.in-Ok.ensures) at c.in-Ok-judge.ensures.stands in
     let read : IsReading text_lines c.in-Ok-judge.session.graph.version (text One (generated c.args.number)) (generated c.args.number) None = rw c.in-Ok-judge.ensures.version (generated_read c.args.number c.requires.most) in
     reportable text_lines (text One (generated c.args.number)) (generated c.args.number) c.in-Ok-judge.session None stands read

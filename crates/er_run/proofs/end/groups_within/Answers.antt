@@ -29,4 +29,4 @@ pub returns-in-Err-TooManyClasses-clause-refused : goal.returns-in-Err-TooManyCl
 returns-in-Err-TooManyClasses-clause-refused g c = λ h stands.
     let count = stands.count in
     let many = c.group_shards.ensures.many (rw c.in-Err-TooManyClasses.field-0-is at c.in-Err-TooManyClasses.is) in
-    (omega (arith, count), over_classes c.args.session.now c.clocks.result.now h c.args.races.now c.clocks.ensures stands (c.requires.listed h stands) many)
+    (omega (arith, count, c.next_line.ensures), over_classes c.args.session.now c.clocks.result.now h c.args.races.now c.clocks.ensures stands (c.requires.listed h stands) many)

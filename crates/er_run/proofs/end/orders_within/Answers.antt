@@ -16,4 +16,4 @@ returns-in-Err-clause-refused g c = λ h stands. c.in-Err.ensures.refused h stan
 pub returns-then-race-len-clause-refused : goal.returns-then-race-len-clause-refused
 returns-then-race-len-clause-refused g c = λ h stands.
     let count = stands.count in
-    (omega (arith, count), no_race c.args.session.now.graph.version h c.in-Ok.races.items c.args.race (c.in-Ok.ensures.listed h stands) (omega (arith, c.if-race-len.true, c.in-Ok.races.ok.0)))
+    (omega (arith, count, c.next_line.ensures), no_race c.args.session.now.graph.version h c.in-Ok.races.items c.args.race (c.in-Ok.ensures.listed h stands) (omega (arith, c.if-race-len.true, c.in-Ok.races.ok.0)))

@@ -13,4 +13,4 @@ pub returns-in-Err-TooManyRaces-clause-refused : goal.returns-in-Err-TooManyRace
 returns-in-Err-TooManyRaces-clause-refused g c = λ h stands other.
     let count = stands.count in
     let many = c.list_shards.ensures.many (rw c.in-Err-TooManyRaces.field-0-is at c.in-Err-TooManyRaces.is) in
-    (omega (arith, count), over_races c.args.session.now c.clocks.result.now h c.pairs.result other c.clocks.ensures stands c.pairs.ensures c.if-pairs-gt-MOST_PAIRS.false many)
+    (omega (arith, count, c.next_line-line.ensures), over_races c.args.session.now c.clocks.result.now h c.pairs.result other c.clocks.ensures stands c.pairs.ensures c.if-pairs-gt-MOST_PAIRS.false many)

@@ -8,7 +8,7 @@ returns-then-from-actions-clause-refused c = λ h stands.
     let count = stands.count in
     let all : c.actions-actions.result ≡ length (told h).actions = actions_told c.page.result.now c.args.session.now.graph h c.actions-actions.result c.page.ensures stands.graph c.actions-actions.ensures in
     let past : (length (told h).actions ≤ c.args.from) ⊎ (length (told h).actions ≤ c.args.to) = elim c.then-from-actions.either [ inl first ↦ inl (omega (arith, all, first)) | inr second ↦ inr (omega (arith, all, second.1)) ] in
-    (omega (arith, count), no_action h c.args.from c.args.to past)
+    (omega (arith, count, c.next_line.ensures), no_action h c.args.from c.args.to past)
 
 pub returns-in-Ok-clause-found : goal.returns-in-Ok-clause-found
 returns-in-Ok-clause-found c = λ h stands.
