@@ -53,8 +53,8 @@ impl Model for Clocks {
 
     ghost invariant = { λ c.
         IsClock (reverse (shared [] c.links.lists.items c.links.numbers.items))
-            (shared [] c.rows.lists.items c.rows.numbers.items)
-            c.numbers.items c.places.items c.chains c.count
+        (shared [] c.rows.lists.items c.rows.numbers.items)
+        c.numbers.items c.places.items c.chains c.count
         × AreShared c.rows.lists.items c.rows.numbers.items
         × AreShared c.links.lists.items c.links.numbers.items };
 }

@@ -75,7 +75,7 @@ fn row_for(
     ensures known { IfOk result (λ row. IsTakenFrom (length numbers.now) row) }
     ensures held { IfOk result
         (λ row. IsHeldOff chain (shared [] rows.now.lists.items rows.now.numbers.items)
-            numbers.now reach row) }
+        numbers.now reach row) }
 {
     match reach {
         Reach::Like(j, number) => row_like(rows, numbers, alloc, j, number, chain),
@@ -99,7 +99,7 @@ fn row_like(
     ensures known { IfOk result (λ row. IsTakenFrom (length numbers.now) row) }
     ensures held { IfOk result
         (λ row. IsLikeOff chain (shared [] rows.now.lists.items rows.now.numbers.items)
-            numbers.now j number row) }
+        numbers.now j number row) }
 {
     let own = numbers[j as usize];
     if own == chain {

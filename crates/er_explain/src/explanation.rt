@@ -59,7 +59,7 @@ fn go_back(
         → path (rules version) h from to ≡ true
         → reverse (all_shown found.new.items)
         ≡ spec.steps (spec.rule_of (rules version) h) (edges (rules version) (told h).actions)
-            from to) }
+        from to) }
     ensures few { OnOk result (length found.new.items ≤ to) }
 {
     let mut at = to;
@@ -87,9 +87,10 @@ fn note(
     ensures noted { OnOk result ((h : List Record) → IsTimed version page.now clocks.now h
         → all_shown found.new.items
         ≡ all_shown found.old.items ++ record {
-            source = source;
-            target = at;
-            rule = spec.number_of (spec.rule_of (rules version) h source at) } ∷ []) }
+          source = source;
+          target = at;
+          rule = spec.number_of (spec.rule_of (rules version) h source at);
+        } ∷ []) }
     ensures one { OnOk result (length found.new.items ≡ length found.old.items + 1) }
 {
     let rule = number_of(reason(page, clocks, version, source, at));

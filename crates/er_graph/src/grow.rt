@@ -28,7 +28,7 @@ pub(crate) fn grow(
         → IsTold version page.old lines.old.items accepted
         → cause_now version accepted rec.now ≡ None
         → IsTold version page.new lines.new.items
-            (record { line = line; read = rec.now } ∷ accepted)) }
+        (record { line = line; read = rec.now } ∷ accepted)) }
     ensures timed { OnOk result ((accepted : List Accepted)
         → IsTold version page.old lines.old.items accepted → AreTimed version clocks.old accepted
         → cause_now version accepted rec.now ≡ None
@@ -59,7 +59,7 @@ fn begin(
         → IsTold version page.old lines.old.items accepted
         → cause_now version accepted rec.now ≡ None
         → IsTold version page.new lines.new.items
-            (record { line = line; read = rec.now } ∷ accepted)) }
+        (record { line = line; read = rec.now } ∷ accepted)) }
     ensures timed { OnOk result ((accepted : List Accepted)
         → IsTold version page.old lines.old.items accepted → AreTimed version clocks.old accepted
         → cause_now version accepted rec.now ≡ None

@@ -290,7 +290,7 @@ what_begun h x = by x
     by (Anim a) = AnimRun a (first_to (makes_task (asks_for_anim a)) h.entries)
     by (Job j) =
         JobRun j (first_to (makes_task (queues_job j)) h.entries)
-          (map (λ (o : Open). o.dispatch.number) h.stack)
+        (map (λ (o : Open). o.dispatch.number) h.stack)
     by x = begin (dispatch_begun h.entries (length h.actions) x)
 
 -- the event that goes on where inline dispatch p is finished: that of the piece just before its begin

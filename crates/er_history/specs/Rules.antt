@@ -150,8 +150,8 @@ deferred_scripts_as_parsed joined u v = go u.what v.what
     go : What → What → Bool
     go (ScriptRun e made) (ScriptRun f made2) =
         both_made (λ x y.
-          is_deferred x && (is_deferred y && ((x.doc == y.doc) && nat_lt x.piece y.piece)))
-          made made2
+        is_deferred x && (is_deferred y && ((x.doc == y.doc) && nat_lt x.piece y.piece)))
+        made made2
     go _ _ = false
 
 -- 8. A parse step, or the run of a blocking or deferred script, before the begin of DOMContentLoaded of its document. HTML Standard, "The end".
@@ -295,8 +295,8 @@ timers_of_one_event_in_order joined u v = recorded u v && go u.what v.what
     go : What → What → Bool
     go (TimeoutRun s made) (TimeoutRun t made2) =
         both_made (λ x y.
-          (x.maker == y.maker) && (nat_lt x.place y.place && nat_le x.delay y.delay))
-          made made2
+        (x.maker == y.maker) && (nat_lt x.place y.place && nat_le x.delay y.delay))
+        made made2
     go _ _ = false
 
 -- 19, in versions 2 and 3. The callback of a timeout before that of another that was set later with no lesser delay, in a piece to which a path leads from the piece that set the first (recorded). HTML Standard, "Timers"; that delays alone are compared is this project's own.
@@ -306,8 +306,8 @@ timers_of_joined_pieces_in_order joined u v = recorded u v && go u.what v.what
     go : What → What → Bool
     go (TimeoutRun s made) (TimeoutRun t made2) =
         both_made (λ x y.
-          nat_lt x.place y.place && (nat_le x.delay y.delay && joined x.piece y.piece))
-          made made2
+        nat_lt x.place y.place && (nat_le x.delay y.delay && joined x.piece y.piece))
+        made made2
     go _ _ = false
 
 -- rule 19 of a version

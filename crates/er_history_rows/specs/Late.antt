@@ -41,7 +41,7 @@ StepAfterLoad = Judges
 abbrev pub BlockingAfterStep : Type 0
 BlockingAfterStep = Judges
     (ParseFrame 0 1 1 ∷ Parse 1 2 kinds.Inline ∷ Parse 0 3 kinds.Sync ∷ Parse 0 4 kinds.Async
-     ∷ Parse 0 5 kinds.Plain ∷ [])
+    ∷ Parse 0 5 kinds.Plain ∷ [])
     (Exec 3 ∷ [])
     (Exec 2 ∷ Exec 4 ∷ [])
 
@@ -49,7 +49,7 @@ BlockingAfterStep = Judges
 abbrev pub BlockingAfterDeferred : Type 0
 BlockingAfterDeferred = Judges
     (Parse 0 1 kinds.Defer ∷ ParseFrame 0 2 1 ∷ Parse 1 3 kinds.Sync ∷ Parse 0 4 kinds.Sync ∷ Exec 1
-     ∷ [])
+    ∷ [])
     (Exec 4 ∷ [])
     (Exec 3 ∷ [])
 
@@ -57,7 +57,7 @@ BlockingAfterDeferred = Judges
 abbrev pub DeferredExchanged : Type 0
 DeferredExchanged = Judges
     (Parse 0 1 kinds.Defer ∷ Parse 0 2 kinds.Defer ∷ Parse 0 3 kinds.Defer ∷ ParseFrame 0 4 1
-     ∷ Parse 1 5 kinds.Defer ∷ Exec 2 ∷ [])
+    ∷ Parse 1 5 kinds.Defer ∷ Exec 2 ∷ [])
     (Exec 1 ∷ [])
     (Exec 3 ∷ Exec 5 ∷ [])
 
@@ -72,7 +72,7 @@ ScriptAfterDcl = Judges
 abbrev pub ScriptAfterLoad : Type 0
 ScriptAfterLoad = Judges
     (Parse 0 1 kinds.Inline ∷ Exec 1 ∷ New 0 2 new_kinds.Async ∷ ParseFrame 0 3 1
-     ∷ Parse 1 4 kinds.Async ∷ Parse 0 5 kinds.Async ∷ Load 1 0 ∷ Close 1 ∷ [])
+    ∷ Parse 1 4 kinds.Async ∷ Parse 0 5 kinds.Async ∷ Load 1 0 ∷ Close 1 ∷ [])
     (Exec 5 ∷ [])
     (Exec 2 ∷ Exec 4 ∷ [])
 

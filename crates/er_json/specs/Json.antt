@@ -34,9 +34,9 @@ values_of value_of xs = array (items_of (map value_of xs))
 abbrev pub refusal_value : ℕ → Cause → Data
 refusal_value n c = object (
     member (codes "refused") (object (
-      member (codes "cause") (string (cause_name c))
-      (member (codes "line") (whole n)
-      no_members)))
+    member (codes "cause") (string (cause_name c))
+    (member (codes "line") (whole n)
+    no_members)))
     no_members)
 
 unfoldable pub refusal : ℕ → Cause → List ℕ
@@ -74,7 +74,7 @@ value_of races groups c = object (
 abbrev pub report_value : List (List ℕ) → List Kept → Data
 report_value lists accesses =
     value_of (races_by (joins lists) accesses) (grouping_of (joins lists) accesses)
-      (counts lists accesses)
+    (counts lists accesses)
 
 unfoldable pub report : List (List ℕ) → List Kept → List ℕ
 report lists accesses = json_line (report_value lists accesses)

@@ -40,7 +40,7 @@ pub(crate) fn put(lists: &mut IndexMap<u32, Vec<u32>>, handler: Option<(u32, u32
     ensures greatest { (p : ℕ) (test : ℕ → Bool)
         → greatest_in test (items_of (get nat_eq lists.new p))
         ≡ greater (group_put handler p test)
-            (greatest_in test (items_of (get nat_eq lists.old p))) }
+        (greatest_in test (items_of (get nat_eq lists.old p))) }
     ensures ordered { (p : ℕ) → IsRising (items_of (get nat_eq lists.old p))
         → IsRising (items_of (get nat_eq lists.new p)) }
 {

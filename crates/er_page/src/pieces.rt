@@ -51,8 +51,8 @@ impl Pieces {
             ≡ self.old.list.items ++ record { begin = begin; start = start } ∷ [] }
         ensures latest { (u : ℕ) → get nat_eq self.new.latest u
             ≡ (if start.event == u
-                then Some (length self.old.list.items)
-                else get nat_eq self.old.latest u) }
+            then Some (length self.old.list.items)
+            else get nat_eq self.old.latest u) }
     {
         let action = self.list.len() as u32;
         let Ok(_) = self.latest.insert(start.event, action) else {

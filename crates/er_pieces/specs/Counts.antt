@@ -25,7 +25,7 @@ fired_count v h t = by (event_begun (told h) (Timer t))
     by : Event → ℕ
     by e = length
         (events_of_each (λ (u : Event). timers_in_order v (up_to e.number (path (rules v) h)) u e)
-          (told h).actions)
+        (told h).actions)
 
 -- the handlers of the dispatch that ran in the group, where there is one
 abbrev pub run_count : List Record → ℕ → Option ℕ → ℕ

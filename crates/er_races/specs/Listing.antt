@@ -20,7 +20,7 @@ race joined accesses i j = passes (is_race_by_number joined) accesses i j
 abbrev pub at_location : (ℕ → ℕ → Bool) → List Access → ℕ → List Race
 at_location test accesses k =
     filter (λ (r : Race). (access_at accesses r.first).location == k)
-      (all_pairs test (length accesses))
+    (all_pairs test (length accesses))
 
 -- the same, where the location is one of those asked for
 abbrev pub own_at : (ℕ → Bool) → (ℕ → ℕ → Bool) → List Access → ℕ → List Race
@@ -30,7 +30,7 @@ own_at own test accesses k = cond (own k) (at_location test accesses k) []
 abbrev pub part : (ℕ → Bool) → (ℕ → ℕ → Bool) → List Access → List Race
 part own test accesses =
     filter (λ (r : Race). own (access_at accesses r.first).location)
-      (all_pairs test (length accesses))
+    (all_pairs test (length accesses))
 
 -- the number of the location leaves this rest
 abbrev pub leaves : ℕ → ℕ → ℕ → Bool

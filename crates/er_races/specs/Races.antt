@@ -12,7 +12,7 @@ races_by joined accesses = filter (λ p. not (joined p.0.action p.1.action)) (ca
 abbrev pub passing : {A : Type 0} → (A → A → Bool) → List A → List Race
 passing test accesses =
     map (λ p. record { first = p.0.0; second = p.1.0 })
-      (filter (λ p. test p.0.1 p.1.1) (pairs_of (numbered accesses)))
+    (filter (λ p. test p.0.1 p.1.1) (pairs_of (numbered accesses)))
 
 abbrev pub is_race : (ℕ → ℕ → Bool) → Kept → Kept → Bool
 is_race joined a b = is_candidate a b && not (joined a.action b.action)

@@ -106,7 +106,7 @@ fn list_front<P: Paths>(
     ensures found { OnOk result (found.new.items
         ≡ found.old.items
         ++ with_second
-            (unjoined (λ a. P.joins paths.now a action) numbers.now actions.now) second) }
+        (unjoined (λ a. P.joins paths.now a action) numbers.now actions.now) second) }
     ensures once { OnOk result (meter.new ≡ meter.old + length actions.now) }
     ensures few { OnOk result (length found.new.items ≤ most_races) }
     ensures many { IfErr result (λ fault. fault ≡ ListFault.TooManyRaces

@@ -56,15 +56,15 @@ is_setter made event = of_made (λ x. x.maker == event) made
 abbrev pub fires_in_order : Option Timeout → Option Timeout → Bool
 fires_in_order made later =
     both_made (λ x y.
-      (x.maker == y.maker) && (nat_lt x.place y.place && nat_le x.delay y.delay))
-      made later
+    (x.maker == y.maker) && (nat_lt x.place y.place && nat_le x.delay y.delay))
+    made later
 
 -- the one timeout was set before the other with no greater delay, and a path leads from the piece that set it to that of the other
 abbrev pub fires_behind : (ℕ → ℕ → Bool) → Option Timeout → Option Timeout → Bool
 fires_behind joined made later =
     both_made (λ x y.
-      nat_lt x.place y.place && (nat_le x.delay y.delay && joined x.piece y.piece))
-      made later
+    nat_lt x.place y.place && (nat_le x.delay y.delay && joined x.piece y.piece))
+    made later
 
 -- the event that declared the task
 abbrev pub is_declarer : Option Task → ℕ → Bool

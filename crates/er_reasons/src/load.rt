@@ -124,7 +124,7 @@ fn is_parsed_before_dcl(what: What<'_>, doc: u32) -> bool
     ensures { (h : List Record)
         → result
         ≡ rules.step_or_script (λ e. rules.is_blocking e || rules.is_deferred e) doc
-            (what_shown h what.entry) }
+        (what_shown h what.entry) }
 {
     match what {
         What::ParseStep { doc: parsed, .. } => parsed == doc,

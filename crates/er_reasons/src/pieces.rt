@@ -24,7 +24,7 @@ pub(crate) fn piece_rule(
     ensures { (h : List Record) (x : Record)
         → result
         ≡ rule_of_pieces (piece i x (event_shown h u.now))
-            (piece j begin.now (event_shown h v.now)) }
+        (piece j begin.now (event_shown h v.now)) }
 {
     lesser(
         given(is_around_inline(i, u, j, begin), 22),

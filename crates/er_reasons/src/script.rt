@@ -116,7 +116,7 @@ fn is_deferred_in(made: Option<Element>, doc: u32) -> bool
 fn is_blocking_before(made: Option<Element>, later: Option<Element>) -> bool
     ensures { result
         ≡ rules.both_made blocks_deferred
-            (option_map element_of made) (option_map element_of later) }
+        (option_map element_of made) (option_map element_of later) }
 {
     let Some(x) = made else {
         return false;
@@ -131,7 +131,7 @@ fn is_blocking_before(made: Option<Element>, later: Option<Element>) -> bool
 fn is_deferred_before(made: Option<Element>, later: Option<Element>) -> bool
     ensures { result
         ≡ rules.both_made deferred_before
-            (option_map element_of made) (option_map element_of later) }
+        (option_map element_of made) (option_map element_of later) }
 {
     let Some(x) = made else {
         return false;

@@ -21,12 +21,7 @@ use er_page::page::Page;
 use er_tasks::tasks::Task;
 
 /// The least number of a rule on tasks that holds from u to v.
-pub(crate) fn task_rule(
-    page: &Page,
-    clocks: &Clocks,
-    u: &Event<'_>,
-    v: &Event<'_>,
-) -> Option<u32>
+pub(crate) fn task_rule(page: &Page, clocks: &Clocks, u: &Event<'_>, v: &Event<'_>) -> Option<u32>
     ensures { (h : List Record) (lists : List (List ℕ)) → IsPage page.now h
         → StandsFor clocks.now lists
         → result ≡ least rules.task_rules (up_to v.now.number (joins lists)) h u.now v.now }
@@ -65,7 +60,14 @@ fn messages_in_order(page: &Page, clocks: &Clocks, u: &Event<'_>, v: &Event<'_>)
     match u.what {
         What::MessageRun { message } => match v.what {
             What::MessageRun { message: later } => {
-                first & in_order(page, clocks, page.message(message), page.message(later), v.number)
+                first
+                    & in_order(
+                        page,
+                        clocks,
+                        page.message(message),
+                        page.message(later),
+                        v.number,
+                    )
             }
             _ => false,
         },
@@ -212,7 +214,7 @@ fn in_order(
         → first ≡ task_at kind page.now.tasks m → second ≡ task_at kind page.now.tasks n
         → result
         ≡ rules.declared_in_order (up_to before (joins lists))
-            (task_made kind h m) (task_made kind h n) }
+        (task_made kind h m) (task_made kind h n) }
 {
     let Some(earlier) = first else {
         return false;

@@ -96,7 +96,7 @@ fn timers_of_joined_pieces_in_order(
         → StandsFor clocks.now lists
         → result
         ≡ holds rules.timers_of_joined_pieces_in_order (up_to v.now.number (joins lists))
-            h u.now v.now }
+        h u.now v.now }
 {
     let first = recorded(u, v);
     match u.what {
@@ -164,7 +164,7 @@ fn fires_behind(page: &Page, clocks: &Clocks, timeout: u32, later: u32, before: 
         → StandsFor clocks.now lists
         → result
         ≡ fires_behind (up_to before (joins lists))
-            (timeout_made h timeout) (timeout_made h later) }
+        (timeout_made h timeout) (timeout_made h later) }
 {
     let Some(piece) = page.setting_piece(timeout) else {
         return false;

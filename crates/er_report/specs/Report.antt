@@ -73,7 +73,7 @@ counts lists accesses = record {
 abbrev pub report : List (List ℕ) → List Kept → List ℕ
 report lists accesses =
     report_of (races_by (joins lists) accesses) (grouping_of (joins lists) accesses)
-      (counts lists accesses)
+    (counts lists accesses)
 
 -- `generated N`, then what a report says of these groups and counts
 abbrev pub summary_of : ℕ → Grouping → Counts → List ℕ

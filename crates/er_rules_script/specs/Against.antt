@@ -19,8 +19,8 @@ has_deferred_run h d = is_some (last_deferred_run h d)
 abbrev pub is_parsed_past : List Record → ℕ → Option Element → Bool
 is_parsed_past h d y =
     of_made (λ (x : Element).
-      x.is_static && of_made (λ (last : ℕ). nat_lt x.piece last) (last_parse h d))
-      y
+    x.is_static && of_made (λ (last : ℕ). nat_lt x.piece last) (last_parse h d))
+    y
 
 -- the last deferred script of the document that ran was parsed after it
 abbrev pub is_passed : List Record → ℕ → Option Element → Bool

@@ -16,7 +16,7 @@ defers = of_made is_deferred
 abbrev pub is_parsed_before : Option Element → Option Element → Bool
 is_parsed_before =
     both_made (λ (x : Element) (y : Element).
-      x.is_static && (y.is_static && nat_lt x.piece y.piece))
+    x.is_static && (y.is_static && nat_lt x.piece y.piece))
 
 -- the document of a deferred script
 abbrev pub deferred_document : Option Element → Option ℕ

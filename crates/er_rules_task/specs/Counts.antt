@@ -23,7 +23,7 @@ earlier_count h x = by (event_begun (told h) x)
     by : Event → ℕ
     by v = length
         (events_of_each (λ (u : Event). in_order (up_to v.number (path (rules Three) h)) u v)
-          (told h).actions)
+        (told h).actions)
 
 -- the jobs that have begun of those that the event queued
 abbrev pub queued_count : List Record → Option ℕ → ℕ

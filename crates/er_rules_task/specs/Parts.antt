@@ -22,7 +22,7 @@ task_due kind number h u = comes_before (path (rules Three) h) kind (task_made k
 abbrev pub earlier_tasks : TaskKind → ℕ → List Record → ℕ
 earlier_tasks kind number h = length
     (events_of_each (is_earlier (path (rules Three) h) kind (task_made kind h number))
-      (told h).actions)
+    (told h).actions)
 
 abbrev pub task_count : TaskKind → ℕ → List Record → ℕ
 task_count kind number h = 1 + earlier_tasks kind number h

@@ -86,7 +86,7 @@ fn walk_on(
     ensures less { IfOk result (λ next. next.left < walk.left) }
     ensures walked { IfOk result (λ next. (h : List Record) → IsTimed Three page.now clocks.now h
         → WalksOn (path (rules Three) h) (told h).actions asked begun.now walk next
-            out.old.items out.new.items) }
+        out.old.items out.new.items) }
     ensures same { OnErr result (out.new.items ≡ out.old.items) }
 {
     let task = begun[walk.left - 1];
@@ -123,10 +123,10 @@ pub(crate) fn hand_before(
         → AreJoined (path (rules Three) h) (told h).actions begun.now }
     ensures whole { OnOk result ((h : List Record) → IsTimed Three page.now clocks.now h
         → HandsOf (path (rules Three) h) (told h).actions asked begun.now 0
-            out.old.items out.new.items) }
+        out.old.items out.new.items) }
     ensures part { OnErr result ((h : List Record) → IsTimed Three page.now clocks.now h
         → HandsSomeOf (path (rules Three) h) (told h).actions asked begun.now 0
-            out.old.items out.new.items) }
+        out.old.items out.new.items) }
 {
     let mut walk = Walk {
         left: begun.len(),

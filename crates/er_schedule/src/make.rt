@@ -62,12 +62,12 @@ fn place(
 ) -> Result<(), NoMemory>
     ensures before { OnOk result (Tells clocks.now (λ lists. before.new.items
         ≡ (if comes_before (joins lists) i j k
-            then before.old.items ++ k ∷ []
-            else before.old.items))) }
+        then before.old.items ++ k ∷ []
+        else before.old.items))) }
     ensures after { OnOk result (Tells clocks.now (λ lists. after.new.items
         ≡ (if comes_after (joins lists) i j k
-            then after.old.items ++ k ∷ []
-            else after.old.items))) }
+        then after.old.items ++ k ∷ []
+        else after.old.items))) }
 {
     if k == i || k == j {
         return Ok(());

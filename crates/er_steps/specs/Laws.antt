@@ -36,4 +36,4 @@ abbrev pub StepsFollowLinks : Type 0
 StepsFollowLinks = (table : List (ℕ × Rule)) (h : List Record) (i j : ℕ)
     → joins (edges table (told h).actions) i j ≡ true
     → LeadsByLinks (rule_of table h) (edges table (told h).actions) i
-        (steps (rule_of table h) (edges table (told h).actions) i j) j
+    (steps (rule_of table h) (edges table (told h).actions) i j) j

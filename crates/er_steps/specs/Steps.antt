@@ -36,7 +36,7 @@ abbrev pub rule_between : List (ℕ × Rule) → (ℕ → ℕ → Bool) → Acti
 rule_between table joined i j =
     if nat_lt i.number j.number
     then lesser (rule_of_events table (up_to j.event.number joined) i.event j.event)
-      (rule_of_pieces i j)
+    (rule_of_pieces i j)
     else None
 
 abbrev pub both_actions : Option Action → Option Action → (Action → Action → Option ℕ) → Option ℕ
@@ -47,7 +47,7 @@ both_actions _ _ rule = None
 abbrev pub rule_of : List (ℕ × Rule) → List Record → ℕ → ℕ → Option ℕ
 rule_of table h i j =
     both_actions (action_at i (told h).actions) (action_at j (told h).actions)
-      (rule_between table (path table h))
+    (rule_between table (path table h))
 
 -- a link from one action to another, and the number of its rule
 pub record Step : Type 0 where

@@ -44,7 +44,7 @@ pub record TaskGiven (kind : TaskKind) (pair : Option (ℕ × Task)) (x : Record
     (a : Action) : Type 0 where
   pub placed : (k place : ℕ)
       → option_map (λ (t : history.Task). t.place)
-          (makes_task (declares_task kind k) (entry_of x place a))
+      (makes_task (declares_task kind k) (entry_of x place a))
       ≡ option_map (λ (t : Task). place) (noted_in k pair)
   pub made : (k place : ℕ)
       → option_map declared_of (noted_in k pair)
@@ -55,7 +55,7 @@ pub record TaskGiven (kind : TaskKind) (pair : Option (ℕ × Task)) (x : Record
 abbrev pub TasksAreRanked : TaskKind → (ℕ → Option Task) → ℕ → List Record → Type 0
 TasksAreRanked kind found count h =
     IsRanked (λ k. option_map task_rank (found k)) (task_place kind h) count
-      (length (told h).entries)
+    (length (told h).entries)
 
 -- the tables of a kind of tasks answer what the list says
 pub record TaskTableIs (kind : TaskKind) (table : TaskTable) (h : List Record) : Type 0 where
@@ -124,7 +124,7 @@ pub record TasksAre (tasks : Tasks) (h : List Record) : Type 0 where
   pub queued : QueuedAre tasks.queued h
   pub begun : (u : ℕ)
       → AreBegun (get nat_eq tasks.jobs.declared) (get nat_eq tasks.jobs.started)
-          (tasks_at tasks.queued u)
+      (tasks_at tasks.queued u)
 
 -- and there is room for what the record declares or begins
 pub record HaveRoomFor (tasks : Tasks) (x : Record) : Type 0 where
@@ -147,7 +147,7 @@ task_at kind tasks number = get nat_eq (table_of kind tasks).declared number
 abbrev pub HaveBegun : TaskKind → Tasks → List BegunTask → Type 0
 HaveBegun kind tasks begun =
     AreBegun (get nat_eq (table_of kind tasks).declared) (get nat_eq (table_of kind tasks).started)
-      begun
+    begun
 
 -- What naming asks of records that declare or begin a task, and of no other.
 

@@ -33,9 +33,9 @@ with_counts =
 abbrev pub with_places : App
 with_places =
     with_rule (with_rule (with_rule with_counts
-      (value_option (codes "race")))
-      (value_option (codes "from")))
-      (value_option (codes "to"))
+    (value_option (codes "race")))
+    (value_option (codes "from")))
+    (value_option (codes "to"))
 
 -- one simple command: a word for the mode, the options of all modes with a value, and the flag --json
 abbrev pub syntax : App
