@@ -8,7 +8,8 @@ unfoldable pub HoldsRest : Option (List ℕ) → List ℕ → Option (List ℕ) 
 HoldsRest old due new held = (sent : List ℕ) × Gets old sent new × (due ≡ sent ++ held)
 
 -- the count of faults, from before to after: it rose where the call failed, and stands where it did not
-pub record CountsFaults {S : Type 0} (faults : S → ℕ) (old new : S) (result : Result Unit Failed) : Type 0 where
+pub record CountsFaults {S : Type 0} (faults : S → ℕ) (old new : S)
+    (result : Result Unit Failed) : Type 0 where
   pub stands : OnOk result (faults new ≡ faults old)
   pub cause : OnErr result (Rose (faults old) (faults new))
   pub count : faults old ≤ faults new

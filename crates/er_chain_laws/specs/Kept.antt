@@ -13,12 +13,14 @@ edges_after table h = edges table (told h).actions
 
 -- By any table, after any list, an action's chain, its place there and its entries are those that it had.
 abbrev pub ChainsAreKept : Type 0
-ChainsAreKept = (table : List (ℕ × Rule)) (more h : List Record) (j c : ℕ) → j < length (told h).actions
+ChainsAreKept = (table : List (ℕ × Rule)) (more h : List Record)
+    → (j c : ℕ) → j < length (told h).actions
     → (chain_of (edges_after table (more ++ h)) j ≡ chain_of (edges_after table h) j)
     × (place_of (edges_after table (more ++ h)) j ≡ place_of (edges_after table h) j)
     × (entry (edges_after table (more ++ h)) j c ≡ entry (edges_after table h) j c)
 
 -- So are the sources of the links into it.
 abbrev pub LinksAreKept : Type 0
-LinksAreKept = (table : List (ℕ × Rule)) (more h : List Record) (j : ℕ) → j < length (told h).actions
+LinksAreKept = (table : List (ℕ × Rule)) (more h : List Record)
+    → (j : ℕ) → j < length (told h).actions
     → links_of (edges_after table (more ++ h)) j ≡ links_of (edges_after table h) j

@@ -8,8 +8,8 @@ use Rattle.std.proofs.lemmas.List.FromFn.{length-map-range_with_len, get_or-map-
 use Rattle.std.proofs.lemmas.Grind.{same_number_lists}
 use Rattle.er_cover.specs.declared.class.Class.{Class}
 use Rattle.er_cover.specs.Classes.{same, is_among, each_once}
-use Rattle.er_cover.specs.Groups.{the_groups, covers, is_maximal, maximal_of, name_of, representative, size_of, groups_by, names_by, representatives_by, sizes_by, grouping_by}
-use Rattle.er_cover.specs.Passes.{AreDistinct, AreMaximal, IsKnown}
+use Rattle.er_cover.specs.Groups.{covers, is_maximal, maximal_of, name_of, representative, size_of, groups_by, names_by, grouping_by}
+use Rattle.er_cover.specs.Passes.{AreDistinct, AreMaximal, IsKnown, the_groups, representatives_by, sizes_by}
 use Rattle.er_cover.proofs.CoverLemmas.{AreOrders, decide, same_bool, same_is, same_sym, and_true, top_parts, both, member_filter, each_covered, name_below}
 use Rattle.er_cover.proofs.PassLemmas.{all_at}
 use Rattle.er_cover.proofs.OrderLemmas.{once_distinct, maximal_distinct, each_member, filter_alike, in_order, as_many, apart_any_order, classes_apart}

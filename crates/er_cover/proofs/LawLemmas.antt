@@ -1,20 +1,21 @@
 -- The laws on covers.
-use Rattle.std.proofs.Common.{◌≡◌, ℕ, zero, suc, ◌+◌, ◌<◌, ◌≤◌, Bool, true, false, List, [], ◌∷◌, map, length, refl, sym, ap, ◌∙◌, subst, arith, inl, inr}
+use Rattle.std.proofs.Common.{◌≡◌, ℕ, zero, suc, ◌+◌, ◌<◌, ◌≤◌, Bool, true, false, List, [], ◌∷◌, map, length, Some, option_map, refl, sym, ap, ◌∙◌, subst, arith, inl, inr}
 use Rattle.std.specs.Prelude.{◌⊎◌, ◌==◌, ◌&&◌, not, pos, ◌-ℤ◌, ◌<ℤ◌}
-use Rattle.std.specs.List.{AllByRecursion, filter}
+use Rattle.std.specs.List.{AllByRecursion, filter, list_any, position_or_len, slice_get}
 use Rattle.std.specs.List.Sorted.{IsStrictlyIncreasing}
 use Rattle.std.proofs.lemmas.Int.{ints}
 use Rattle.std.proofs.lemmas.Bool.Decides.{nat_tests}
 use Rattle.std.proofs.lemmas.List.Elements.{recursion_from_All}
+use Rattle.std.proofs.lemmas.Option.{slice_get-map}
 use Rattle.er_paths.specs.Paths.{joins}
 use Rattle.er_cover.specs.declared.class.Class.{Class}
 use Rattle.er_cover.specs.Classes.{same, is_among, each_once}
-use Rattle.er_cover.specs.Groups.{covers, is_maximal, groups_by, names_by, representative, representatives_by}
-use Rattle.er_cover.specs.Passes.{IsKnown}
-use Rattle.er_cover.specs.Laws.{ClassesAreOnce, CoveredIsWider, EachIsCovered, EachNamesAGroup, GroupsInOrder, MaximalIsUncovered}
+use Rattle.er_cover.specs.Groups.{covers, is_maximal, groups_by, name_of, names_by, representative}
+use Rattle.er_cover.specs.Passes.{IsKnown, representatives_by}
+use Rattle.er_cover.specs.Laws.{ClassesAreOnce, CoveredIsWider, EachIsCovered, EachNamesACover, EachNamesAGroup, GroupsInOrder, MaximalIsUncovered}
 use Rattle.er_cover.proofs.ClockLemmas.{orders, selves}
 use Rattle.er_cover.proofs.CoverLemmas.{both, decide, each_covered, not_top, same_is, same_refl, same_sym, top_parts}
-use Rattle.er_cover.proofs.GroupLemmas.{names_below}
+use Rattle.er_cover.proofs.GroupLemmas.{names_below, race_covered}
 use Rattle.er_cover.proofs.NumberLemmas.{once_members}
 use Rattle.er_cover.proofs.OrderLemmas.{classes_apart}
 use Rattle.er_cover.proofs.PassLemmas.{all_at}
@@ -63,6 +64,35 @@ classes_are_once by_race = (classes_apart by_race, λ x. once_members by_race x)
 
 pub each_names_a_group : EachNamesAGroup
 each_names_a_group lists by_race known = names_below (length lists) (joins lists) by_race (names_by (joins lists) by_race) (length (groups_by (joins lists) by_race)) (orders lists) (selves lists) known refl refl
+
+-- where one of a list passes, the first that does stands at the place of it
+first_at : {X : Type 0} (p : X → Bool) (xs : List X) → list_any p xs ≡ true → (x : X) × (slice_get xs (position_or_len p xs) ≡ Some x) × (p x ≡ true)
+first_at p [] any = absurd (cc)
+first_at p (x ∷ xs) any = by (p x) refl
+  where
+    by : (b : Bool) → p x ≡ b → (y : X) × (slice_get (x ∷ xs) (position_or_len p (x ∷ xs)) ≡ Some y) × (p y ≡ true)
+    by true is = (x, rw is refl, is)
+    by false is = let later = first_at p xs (rw is at any) in (later.0, rw is later.1, later.2)
+
+-- what stands at a place is one of the list
+among_at : (xs : List Class) (k : ℕ) (x : Class) → slice_get xs k ≡ Some x → is_among x xs ≡ true
+among_at [] k x at = absurd (cc)
+among_at (y ∷ ys) zero x at = let same : y ≡ x = cc in rw (same, same_refl x) refl
+among_at (y ∷ ys) (suc k) x at = rw (among_at ys k x at) (grind arith)
+
+pub each_names_a_cover : EachNamesACover
+each_names_a_cover lists by_race k x known at =
+    let joined = joins lists in
+    let groups = groups_by joined by_race in
+    let covered = race_covered (length lists) joined by_race x (orders lists) (selves lists) known (among_at by_race k x at) in
+    let found = first_at (λ g. covers joined g x) groups covered in
+    record {
+      number = name_of joined groups x;
+      group = found.0;
+      names = slice_get-map (name_of joined groups) by_race k ∙ ap (option_map (name_of joined groups)) at;
+      is = found.1;
+      is_cover = found.2;
+    }
 
 -- the first races of the classes rise
 

@@ -143,8 +143,8 @@ scan_bound o t u i f n g a b c d = let m : (i + 1) * f ≤ n * g = mul-le (i + 1
 pub step_bound : (o t u i f g : ℕ) → t ≤ o + 2 * (i * f) → u ≤ t + 2 * f → f ≤ g → u ≤ o + 2 * ((i + 1) * g)
 step_bound o t u i f g a b d = scan_bound o t u i f (i + 1) g a b (omega arith) d
 
-pub room_left : (o t i f : ℕ) → o < 2 ^ 61 + 2 ^ 31 → t ≤ o + 2 * (i * f) → i ≤ 2 ^ 15 → f ≤ 2 ^ 15 → t + 2 * f < 2 ^ 62
-room_left o t i f a b c d = let m : i * f ≤ 32768 * 32768 = mul-le i f 32768 32768 (omega arith) (omega arith) in omega arith
+pub room_left : (o t i f : ℕ) → o < 2 ^ 61 + 2 ^ 31 → t ≤ o + 2 * (i * f) → i ≤ most_classes → f ≤ most_classes → t + 2 * f < 2 ^ 62
+room_left o t i f a b c d = let m : i * f ≤ most_classes * most_classes = mul-le i f most_classes most_classes c d in omega arith
 
 pub same_read : (xs : List Class) (i : ℕ) (d e : Class) → i < length xs → get_or xs i d ≡ get_or xs i e
 same_read [] i d e h = absurd (omega arith)
@@ -187,7 +187,7 @@ step_cost joined xs found i o t u f a b =
 pub whole_cost : (o u i n g : ℕ) → u ≤ o + 2 * (i * g) → i ≤ n → u ≤ o + 2 * (n * g)
 whole_cost o u i n g a h = let m : i * g ≤ n * g = mul-le i g n g h (omega arith) in omega arith
 
-pub room_kept : (joined : ℕ → ℕ → Bool) (xs found : List Class) (i o t : ℕ) → found ≡ filter (λ y. is_maximal joined xs y) (take i xs) → i < length xs → length xs ≤ 32768 → o < 2 ^ 61 → t ≤ o + 2 * (i * length (maximal_of joined xs)) → t + 2 * length found < 2 ^ 62
+pub room_kept : (joined : ℕ → ℕ → Bool) (xs found : List Class) (i o t : ℕ) → found ≡ filter (λ y. is_maximal joined xs y) (take i xs) → i < length xs → length xs ≤ most_classes → o < 2 ^ 61 → t ≤ o + 2 * (i * length (maximal_of joined xs)) → t + 2 * length found < 2 ^ 62
 room_kept joined xs found i o t f within few r a =
     let l : length found ≤ length xs = found_small joined xs found i f in
     let g : length (maximal_of joined xs) ≤ length xs = filter_le (λ y. is_maximal joined xs y) xs in

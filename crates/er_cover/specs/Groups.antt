@@ -46,20 +46,17 @@ pub record Grouping : Type 0 where
 abbrev pub groups_by : (ℕ → ℕ → Bool) → List Class → List Class
 groups_by joined by_race = maximal_of joined (each_once by_race)
 
+-- the group that each race names
 abbrev pub names_by : (ℕ → ℕ → Bool) → List Class → List ℕ
 names_by joined by_race = map (name_of joined (groups_by joined by_race)) by_race
 
-abbrev pub representatives_by : (ℕ → ℕ → Bool) → List Class → List ℕ
-representatives_by joined by_race = map (representative by_race) (groups_by joined by_race)
-
-abbrev pub sizes_by : (ℕ → ℕ → Bool) → List Class → List ℕ
-sizes_by joined by_race = map (size_of (names_by joined by_race)) (numbers_of (groups_by joined by_race))
-
-abbrev pub the_groups : List ℕ → List ℕ → List ℕ → Grouping
-the_groups names representatives sizes = record { names = names; representatives = representatives; sizes = sizes }
-
+-- what is seen of them
 abbrev pub grouping_by : (ℕ → ℕ → Bool) → List Class → Grouping
-grouping_by joined by_race = the_groups (names_by joined by_race) (representatives_by joined by_race) (sizes_by joined by_race)
+grouping_by joined by_race = record {
+  names = names_by joined by_race;
+  representatives = map (representative by_race) (groups_by joined by_race);
+  sizes = map (size_of (names_by joined by_race)) (numbers_of (groups_by joined by_race));
+}
 
 -- the groups of the races among kept accesses
 abbrev pub groups_of : (ℕ → ℕ → Bool) → List Kept → List Class
@@ -75,4 +72,5 @@ most_classes = 32768
 
 -- how many comparisons there may be: four for each class and each group
 abbrev pub most_tests : (ℕ → ℕ → Bool) → List Kept → ℕ
-most_tests joined accesses = 4 * (length (classes_of joined accesses) * length (groups_of joined accesses))
+most_tests joined accesses =
+    4 * (length (classes_of joined accesses) * length (groups_of joined accesses))

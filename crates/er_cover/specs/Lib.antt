@@ -4,4 +4,3 @@ pub mod Laws
 pub mod Parts
 pub mod Passes
 pub mod Rows
-pub mod Told

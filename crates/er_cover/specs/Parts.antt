@@ -34,14 +34,16 @@ IsOver joined classes = classes.groups ≡ groups_by joined classes.by_race
 
 -- what the classes from one number up to another name
 abbrev pub names_between : (ℕ → ℕ → Bool) → Classing → ℕ → ℕ → List ℕ
-names_between joined classes from to = map (name_of joined classes.groups) (take (to - from) (drop from (once_of classes)))
+names_between joined classes from to =
+    map (name_of joined classes.groups) (take (to - from) (drop from (once_of classes)))
 
 -- what all classes name
 abbrev pub class_names : (ℕ → ℕ → Bool) → Classing → List ℕ
 class_names joined classes = map (name_of joined classes.groups) (once_of classes)
 
 -- the classes each once with their first races, and groups among them
-pub record IsClassing (by_race keys : List Class) (firsts : List ℕ) (groups : List Class) : Type 0 where
+pub record IsClassing (by_race keys : List Class) (firsts : List ℕ)
+    (groups : List Class) : Type 0 where
   pub few : length by_race ≤ most_races
   pub few_classes : length (each_once by_race) ≤ most_classes
   pub few_groups : length groups ≤ length (each_once by_race)

@@ -9,7 +9,7 @@ use Rattle.er_races.specs.Races.{most_races}
 use Rattle.er_cover.specs.declared.class.Class.{Class}
 use Rattle.er_cover.specs.declared.maximal.Leading.{Leading}
 use Rattle.er_cover.specs.Classes.{same, is_among, each_once}
-use Rattle.er_cover.specs.Groups.{covers, maximal_of, most_classes, name_of, representative, size_of}
+use Rattle.er_cover.specs.Groups.{Grouping, covers, groups_by, maximal_of, most_classes, name_of, names_by, numbers_of, representative, size_of}
 
 -- the action of the access of a number
 abbrev pub action_at : List Access → ℕ → ℕ
@@ -17,7 +17,8 @@ action_at accesses n = (access_at accesses n).action
 
 -- the class of a race, by the numbers of its accesses
 abbrev pub class_by_number : List Access → Race → Class
-class_by_number accesses race = record { first = action_at accesses race.first; second = action_at accesses race.second }
+class_by_number accesses race =
+    record { first = action_at accesses race.first; second = action_at accesses race.second }
 
 abbrev pub classes_by_number : List Access → List Race → List Class
 classes_by_number accesses races = map (class_by_number accesses) races
@@ -53,15 +54,18 @@ Adds classes x race old new = new ≡ (if is_among x classes then old else old +
 
 -- x goes last, where none of these covers it
 abbrev pub Keeps : (ℕ → ℕ → Bool) → Class → List Class → List Class → Type 0
-Keeps joined x old new = new ≡ (if list_any (λ g. covers joined g x) old then old else old ++ x ∷ [])
+Keeps joined x old new =
+    new ≡ (if list_any (λ g. covers joined g x) old then old else old ++ x ∷ [])
 
 -- the second actions of the classes to whose first action a path leads
 abbrev pub seconds_from : (ℕ → ℕ → Bool) → ℕ → List Class → List ℕ
-seconds_from joined first classes = map (λ (g : Class). g.second) (filter (λ (g : Class). joined first g.first) classes)
+seconds_from joined first classes =
+    map (λ (g : Class). g.second) (filter (λ (g : Class). joined first g.first) classes)
 
 -- these are what stands there, where it was found for a first action
 abbrev pub IsLeading : (ℕ → ℕ → Bool) → List Class → Leading → Type 0
-IsLeading joined classes leading = (first : ℕ) → leading.first ≡ Some first → leading.seconds.items ≡ seconds_from joined first classes
+IsLeading joined classes leading = (first : ℕ) → leading.first ≡ Some first
+    → leading.seconds.items ≡ seconds_from joined first classes
 
 -- x goes last, where it is one of these
 abbrev pub Chooses : List Class → Class → List Class → List Class → Type 0
@@ -110,4 +114,18 @@ HasTooMany by_race = most_classes < length (each_once by_race)
 
 -- no more races name groups than are listed; each representative has a size, and their numbers fit
 abbrev pub AreWhole : List ℕ → List ℕ → List ℕ → Type 0
-AreWhole names representatives sizes = (length names ≤ most_races) × (length sizes ≡ length representatives) × (length representatives < 2 ^ 32)
+AreWhole names representatives sizes = (length names ≤ most_races)
+    × (length sizes ≡ length representatives) × (length representatives < 2 ^ 32)
+
+-- The parts of a grouping.
+
+abbrev pub representatives_by : (ℕ → ℕ → Bool) → List Class → List ℕ
+representatives_by joined by_race = map (representative by_race) (groups_by joined by_race)
+
+abbrev pub sizes_by : (ℕ → ℕ → Bool) → List Class → List ℕ
+sizes_by joined by_race =
+    map (size_of (names_by joined by_race)) (numbers_of (groups_by joined by_race))
+
+abbrev pub the_groups : List ℕ → List ℕ → List ℕ → Grouping
+the_groups names representatives sizes =
+    record { names = names; representatives = representatives; sizes = sizes }

@@ -3,7 +3,8 @@
 ghost use Rattle.std.specs.Prelude.{◌≡◌, ◌+◌, ◌*◌, ◌<◌, ◌≤◌, ◌^◌, Err, length, All, IfOk, OnOk};
 ghost use Rattle.er_paths.specs.Paths.{joins};
 ghost use Rattle.er_races.specs.Races.{races_of, most_races};
-ghost use Rattle.er_cover.specs.Told.{AreFewClasses, AreFewTests, AreGroups, AreTooManyClasses};
+ghost use Rattle.er_cover.specs.Classes.{classes_of};
+ghost use Rattle.er_cover.specs.Groups.{grouping_of, most_classes, most_tests};
 
 use crate::parts::{gather, make_classes, name_part};
 use crate::{CoverFault, Groups};
@@ -26,11 +27,12 @@ pub fn group(
     requires races { races.now ≡ races_of (joins clocks.now) table.now }
     requires few { length races.now ≤ most_races }
     requires room { tests.old < 2 ^ 61 }
-    ensures groups { IfOk result (AreGroups clocks.now table.now) }
+    ensures groups { IfOk result (λ v. v ≡ grouping_of (joins clocks.now) table.now) }
     ensures each { IfOk result (λ v. length v.names ≡ length races.now) }
-    ensures few { OnOk result (AreFewClasses clocks.now table.now) }
-    ensures many { result ≡ Err CoverFault.TooManyClasses → AreTooManyClasses clocks.now table.now }
-    ensures bound { AreFewTests clocks.now table.now tests.old tests.new }
+    ensures few { OnOk result (length (classes_of (joins clocks.now) table.now) ≤ most_classes) }
+    ensures many { result ≡ Err CoverFault.TooManyClasses
+        → most_classes < length (classes_of (joins clocks.now) table.now) }
+    ensures bound { tests.new ≤ tests.old + most_tests (joins clocks.now) table.now }
     ensures rises { tests.old ≤ tests.new }
 {
     let classes = match make_classes(alloc, races, table, clocks, tests) {

@@ -23,8 +23,8 @@ impl Drop for Groups {
 }
 
 impl Model for Groups {
-    ghost use Rattle.er_cover.specs.Groups.{Grouping, the_groups};
-    ghost use Rattle.er_cover.specs.Passes.{AreWhole};
+    ghost use Rattle.er_cover.specs.Groups.{Grouping};
+    ghost use Rattle.er_cover.specs.Passes.{AreWhole, the_groups};
 
     ghost Value = { Grouping };
 

@@ -1,6 +1,6 @@
 //! Laws on classes, covers and groups. Each is a function with no parameters, whose contract is the law.
 
-ghost use Rattle.er_cover.specs.Laws.{ClassesAreOnce, CoveredIsWider, EachIsCovered, EachNamesAGroup, GroupsInOrder, MaximalIsUncovered};
+ghost use Rattle.er_cover.specs.Laws.{ClassesAreOnce, CoveredIsWider, EachIsCovered, EachNamesACover, EachNamesAGroup, GroupsInOrder, MaximalIsUncovered};
 ghost use Rattle.er_cover.specs.Rows.{WorkedRows};
 
 /// A class that is covered by another class is wider.
@@ -28,9 +28,10 @@ pub fn groups_in_order()
     ensures { GroupsInOrder }
 {}
 
-/// Each race names a group.
+/// Each race names a group, and this covers it.
 pub fn each_names_a_group()
-    ensures { EachNamesAGroup }
+    ensures within { EachNamesAGroup }
+    ensures covers { EachNamesACover }
 {}
 
 /// Small lists of predecessors with the groups of some races.

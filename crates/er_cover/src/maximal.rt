@@ -100,7 +100,8 @@ fn consider(
     requires class { IsKnown (length clocks.now) class.now }
     requires leading { IsLeading (joins clocks.now) found.old.items leading.old }
     requires room { tests.old + 2 * length found.old.items < 2 ^ 62 }
-    ensures kept { OnOk result (Keeps (joins clocks.now) class.now found.old.items found.new.items) }
+    ensures kept { OnOk result
+        (Keeps (joins clocks.now) class.now found.old.items found.new.items) }
     ensures leading { OnOk result (IsLeading (joins clocks.now) found.new.items leading.new) }
     ensures bound { tests.new ≤ tests.old + 2 * length found.old.items }
     ensures rises { tests.old ≤ tests.new }
@@ -131,7 +132,8 @@ fn lead(
     requires leading { IsLeading (joins clocks.now) found.now leading.old }
     requires room { tests.old + length found.now < 2 ^ 62 }
     ensures first { OnOk result (leading.new.first ≡ Some first) }
-    ensures seconds { OnOk result (leading.new.seconds.items ≡ seconds_from (joins clocks.now) first found.now) }
+    ensures seconds { OnOk result
+        (leading.new.seconds.items ≡ seconds_from (joins clocks.now) first found.now) }
     ensures bound { tests.new ≤ tests.old + length found.now }
     ensures rises { tests.old ≤ tests.new }
 {
@@ -156,7 +158,8 @@ fn gather(
     requires first { first < length clocks.now }
     requires none { seconds.old.items ≡ [] }
     requires room { tests.old + length found.now < 2 ^ 62 }
-    ensures seconds { OnOk result (seconds.new.items ≡ seconds_from (joins clocks.now) first found.now) }
+    ensures seconds { OnOk result
+        (seconds.new.items ≡ seconds_from (joins clocks.now) first found.now) }
     ensures bound { tests.new ≤ tests.old + length found.now }
     ensures rises { tests.old ≤ tests.new }
 {

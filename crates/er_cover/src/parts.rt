@@ -48,7 +48,8 @@ impl Model for Classes {
 
     ghost view = { λ c. classing c.by_race.items c.groups.keys };
 
-    ghost invariant = { λ c. IsClassing c.by_race.items c.distinct.set.keys c.distinct.firsts.items c.groups.keys };
+    ghost invariant = { λ c.
+        IsClassing c.by_race.items c.distinct.set.keys c.distinct.firsts.items c.groups.keys };
 }
 
 impl Classes {
@@ -93,8 +94,11 @@ pub fn make_classes(
     ensures classes { IfOk result (λ c. c ≡ classing_of (joins clocks.now) table.now) }
     ensures known { IfOk result (λ c. All (IsKnown (length clocks.now)) c.by_race) }
     ensures few { OnOk result (length (classes_over (joins clocks.now) table.now) ≤ most_classes) }
-    ensures many { result ≡ Err CoverFault.TooManyClasses → most_classes < length (classes_over (joins clocks.now) table.now) }
-    ensures bound { tests.new ≤ tests.old + 2 * (length (classes_over (joins clocks.now) table.now) * length (groups_of (joins clocks.now) table.now)) }
+    ensures many { result ≡ Err CoverFault.TooManyClasses
+        → most_classes < length (classes_over (joins clocks.now) table.now) }
+    ensures bound { tests.new
+        ≤ tests.old + 2 * (length (classes_over (joins clocks.now) table.now)
+        * length (groups_of (joins clocks.now) table.now)) }
     ensures rises { tests.old ≤ tests.new }
 {
     let by_race = classes_by_race(alloc, races, table)?;
@@ -114,7 +118,8 @@ fn with_groups(
     ensures classes { IfOk result (λ c. c ≡ classing_by (joins clocks.now) by_race.items) }
     ensures few { OnOk result (length (each_once by_race.items) ≤ most_classes) }
     ensures many { result ≡ Err CoverFault.TooManyClasses → HasTooMany by_race.items }
-    ensures bound { tests.new ≤ tests.old + maximal_tests (joins clocks.now) (each_once by_race.items) }
+    ensures bound { tests.new
+        ≤ tests.old + maximal_tests (joins clocks.now) (each_once by_race.items) }
     ensures rises { tests.old ≤ tests.new }
 {
     let distinct = classes_of(alloc, by_race.as_slice())?;
@@ -143,7 +148,8 @@ pub fn name_part(
     requires over { IsOver (joins clocks.now) classes.now }
     requires known { All (IsKnown (length clocks.now)) classes.now.by_race }
     requires room { tests.old < 2 ^ 61 }
-    ensures names { IfOk result (λ v. v.items ≡ names_between (joins clocks.now) classes.now from to) }
+    ensures names { IfOk result
+        (λ v. v.items ≡ names_between (joins clocks.now) classes.now from to) }
     ensures bound { tests.new ≤ tests.old + 2 * ((to - from) * length classes.now.groups) }
     ensures rises { tests.old ≤ tests.new }
 {

@@ -13,7 +13,8 @@ use Rattle.er_history.specs.Sound.{out_of_order}
 pub record Judges (before late ordered : List Record) : Type 0 where
   pub named : map (naming (reverse before)) (late ++ ordered) ≡ map (λ x. None) (late ++ ordered)
   pub late_ones : map (out_of_order (tables.rules One) (reverse before)) late ≡ map (λ x. true) late
-  pub in_order : map (out_of_order (tables.rules One) (reverse before)) ordered ≡ map (λ x. false) ordered
+  pub in_order : map (out_of_order (tables.rules One) (reverse before)) ordered
+      ≡ map (λ x. false) ordered
 
 -- Rule 5: a parse step after a deferred script of its document has run.
 abbrev pub StepAfterDeferredScript : Type 0
@@ -39,21 +40,24 @@ StepAfterLoad = Judges
 -- Rule 4: a blocking script after a later parse step of its document.
 abbrev pub BlockingAfterStep : Type 0
 BlockingAfterStep = Judges
-    (ParseFrame 0 1 1 ∷ Parse 1 2 kinds.Inline ∷ Parse 0 3 kinds.Sync ∷ Parse 0 4 kinds.Async ∷ Parse 0 5 kinds.Plain ∷ [])
+    (ParseFrame 0 1 1 ∷ Parse 1 2 kinds.Inline ∷ Parse 0 3 kinds.Sync ∷ Parse 0 4 kinds.Async
+    ∷ Parse 0 5 kinds.Plain ∷ [])
     (Exec 3 ∷ [])
     (Exec 2 ∷ Exec 4 ∷ [])
 
 -- Rule 6: a blocking script after a deferred script of its document has run.
 abbrev pub BlockingAfterDeferred : Type 0
 BlockingAfterDeferred = Judges
-    (Parse 0 1 kinds.Defer ∷ ParseFrame 0 2 1 ∷ Parse 1 3 kinds.Sync ∷ Parse 0 4 kinds.Sync ∷ Exec 1 ∷ [])
+    (Parse 0 1 kinds.Defer ∷ ParseFrame 0 2 1 ∷ Parse 1 3 kinds.Sync ∷ Parse 0 4 kinds.Sync ∷ Exec 1
+    ∷ [])
     (Exec 4 ∷ [])
     (Exec 3 ∷ [])
 
 -- Rule 7: a deferred script after one of its document that was parsed after it.
 abbrev pub DeferredExchanged : Type 0
 DeferredExchanged = Judges
-    (Parse 0 1 kinds.Defer ∷ Parse 0 2 kinds.Defer ∷ Parse 0 3 kinds.Defer ∷ ParseFrame 0 4 1 ∷ Parse 1 5 kinds.Defer ∷ Exec 2 ∷ [])
+    (Parse 0 1 kinds.Defer ∷ Parse 0 2 kinds.Defer ∷ Parse 0 3 kinds.Defer ∷ ParseFrame 0 4 1
+    ∷ Parse 1 5 kinds.Defer ∷ Exec 2 ∷ [])
     (Exec 1 ∷ [])
     (Exec 3 ∷ Exec 5 ∷ [])
 
@@ -67,7 +71,8 @@ ScriptAfterDcl = Judges
 -- Rule 10: a static script after load of its document has begun.
 abbrev pub ScriptAfterLoad : Type 0
 ScriptAfterLoad = Judges
-    (Parse 0 1 kinds.Inline ∷ Exec 1 ∷ New 0 2 new_kinds.Async ∷ ParseFrame 0 3 1 ∷ Parse 1 4 kinds.Async ∷ Parse 0 5 kinds.Async ∷ Load 1 0 ∷ Close 1 ∷ [])
+    (Parse 0 1 kinds.Inline ∷ Exec 1 ∷ New 0 2 new_kinds.Async ∷ ParseFrame 0 3 1
+    ∷ Parse 1 4 kinds.Async ∷ Parse 0 5 kinds.Async ∷ Load 1 0 ∷ Close 1 ∷ [])
     (Exec 5 ∷ [])
     (Exec 2 ∷ Exec 4 ∷ [])
 

@@ -16,7 +16,9 @@ use Rattle.er_history.specs.Rows.{Line, records_in, IsRow}
 -- A row, and the cause of each record that may come behind it.
 pub record IsRowBefore (lines : List Line) (nexts : List (Record × Option Cause)) : Type 0 where
   pub row : IsRow lines
-  pub next : map (λ (n : Record × Option Cause). sound.cause (tables.rules One) (records_in lines) n.0) nexts ≡ map (λ (n : Record × Option Cause). n.1) nexts
+  pub next :
+      map (λ (n : Record × Option Cause). sound.cause (tables.rules One) (records_in lines) n.0) nexts
+      ≡ map (λ (n : Record × Option Cause). n.1) nexts
 
 abbrev pub FirstPage : Type 0
 FirstPage = IsRowBefore (

@@ -26,14 +26,20 @@ abbrev pub race_items : List (Kept × Kept) → Grouping → List ℕ
 race_items races groups = lines_from race_item 1 (zip races groups.names)
 
 unfoldable pub before_groups : Counts → List ℕ
-before_groups c = codes "{\"accesses\":" ++ (decimal c.accesses ++ (codes ",\"actions\":" ++ (decimal c.actions ++ (codes ",\"chains\":" ++ (decimal c.chains ++ codes ",\"groups\":[")))))
+before_groups c =
+    codes "{\"accesses\":" ++ (decimal c.accesses
+    ++ (codes ",\"actions\":" ++ (decimal c.actions
+    ++ (codes ",\"chains\":" ++ (decimal c.chains
+    ++ codes ",\"groups\":[")))))
 
 unfoldable pub before_races : Counts → List ℕ
-before_races c = codes "],\"links\":" ++ (decimal c.links ++ (codes ",\"pairs\":" ++ (decimal c.pairs ++ codes ",\"races\":[")))
+before_races c = codes "],\"links\":"
+    ++ (decimal c.links ++ (codes ",\"pairs\":" ++ (decimal c.pairs ++ codes ",\"races\":[")))
 
 unfoldable pub after_races : List ℕ
 after_races = codes "],\"version\":1}\n"
 
 -- the line of these races, groups and counts
 abbrev pub pieces_of : List (Kept × Kept) → Grouping → Counts → List ℕ
-pieces_of races groups c = before_groups c ++ group_items groups ++ before_races c ++ race_items races groups ++ after_races
+pieces_of races groups c = before_groups c ++ group_items groups ++ before_races c
+    ++ race_items races groups ++ after_races

@@ -135,10 +135,10 @@ fn put_races<K: Sink>(
 
 /// Puts the parts into the buffer, as one text.
 fn put_piece<K: Sink>(sink: &mut K, buffer: &mut Buffer, parts: &[Part]) -> Result<(), Failed>
-    ensures whole { OnOk result (HoldsRest (K.got sink.old) (buffer.old ++ flat_map part_text parts.now)
-        (K.got sink.new) buffer.new) }
-    ensures part { OnErr result (GetsPart (K.got sink.old) (buffer.old ++ flat_map part_text parts.now)
-        (K.got sink.new)) }
+    ensures whole { OnOk result (HoldsRest (K.got sink.old)
+        (buffer.old ++ flat_map part_text parts.now) (K.got sink.new) buffer.new) }
+    ensures part { OnErr result (GetsPart (K.got sink.old)
+        (buffer.old ++ flat_map part_text parts.now) (K.got sink.new)) }
     ensures counts { CountsFaults K.faults sink.old sink.new result }
 {
     put_text(sink, buffer, &Piece { parts })

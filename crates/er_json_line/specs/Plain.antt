@@ -48,7 +48,9 @@ pub record AreLast (spaced : Bool) (bytes : List ℕ) (n : ℕ) (name behind : L
   pub small : n < 2 ^ 32
   pub named : IsName name
   pub plain : list_all needs_no_escape name ≡ true
-  pub cut : bytes ≡ decimal n ++ comma ∷ (gap spaced ++ quote ∷ (name ++ quote ∷ close_bracket ∷ line_end ∷ behind))
+  pub cut : bytes
+      ≡ decimal n ++ comma
+      ∷ (gap spaced ++ quote ∷ (name ++ quote ∷ close_bracket ∷ line_end ∷ behind))
 
 -- the most bytes of such a line of an access
 abbrev pub most_plain_bytes : ℕ

@@ -17,7 +17,8 @@ use std::alloc::Global;
 /// The record that the line spells. `BadRecord` comes where it spells none.
 pub fn parse_json_line(alloc: Global, line: &[u8]) -> Result<Record, LineFault>
     ensures read { IfOk result (λ x. Spells line.now x) }
-    ensures exact { (x : Record) → Spells line.now x → (result ≡ Ok x) ⊎ (result ≡ Err LineFault.NoMemory) }
+    ensures exact { (x : Record) → Spells line.now x
+        → (result ≡ Ok x) ⊎ (result ≡ Err LineFault.NoMemory) }
 {
     let members = match members_of(alloc, line) {
         Ok(members) => members,
@@ -40,7 +41,8 @@ pub fn read_header(alloc: Global, line: &[u8]) -> Result<Option<Version>, NoMemo
 /// What the line is behind the first: the last one, or one that spells a record.
 pub fn read_later(alloc: Global, line: &[u8]) -> Result<Later, LineFault>
     ensures read { IfOk result (IsLater IsEnd Spells line.now) }
-    ensures bad { result ≡ Err LineFault.BadRecord → ¬ IsEnd line.now × ((x : Record) → ¬ Spells line.now x) }
+    ensures bad { result ≡ Err LineFault.BadRecord
+        → ¬ IsEnd line.now × ((x : Record) → ¬ Spells line.now x) }
 {
     let members = match members_of(alloc, line) {
         Ok(members) => members,

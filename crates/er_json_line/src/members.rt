@@ -27,7 +27,8 @@ use std::alloc::Global;
 fn put_member(letters: &mut Letters, member: &Value) -> Result<(), LineFault>
     ensures read { OnOk result (HasWord (view member.now) × IsText (view member.now)
         × (letters.new.bytes.items ≡ letters.old.bytes.items ++ member_word (view member.now))) }
-    ensures exact { HasWord (view member.now) → (result ≡ Ok tt) ⊎ (result ≡ Err LineFault.NoMemory) }
+    ensures exact { HasWord (view member.now)
+        → (result ≡ Ok tt) ⊎ (result ≡ Err LineFault.NoMemory) }
 {
     if let Some(text) = member.as_str() {
         let name = text.as_bytes();
@@ -55,7 +56,8 @@ fn put_member(letters: &mut Letters, member: &Value) -> Result<(), LineFault>
 fn put_next(letters: &mut Letters, member: &Value) -> Result<(), LineFault>
     ensures read { OnOk result (HasWord (view member.now) × IsText (view member.now)
         × (letters.new.bytes.items ≡ letters.old.bytes.items ++ next_word (view member.now))) }
-    ensures exact { HasWord (view member.now) → (result ≡ Ok tt) ⊎ (result ≡ Err LineFault.NoMemory) }
+    ensures exact { HasWord (view member.now)
+        → (result ≡ Ok tt) ⊎ (result ≡ Err LineFault.NoMemory) }
 {
     let Ok(()) = put_all(letters, b" ") else {
         return Err(LineFault::NoMemory);
@@ -67,7 +69,8 @@ fn put_next(letters: &mut Letters, member: &Value) -> Result<(), LineFault>
 pub fn put_members(letters: &mut Letters, members: &[Value]) -> Result<(), LineFault>
     ensures read { OnOk result (HaveWords (map view members.now) × AreTexts (map view members.now)
         × (letters.new.bytes.items ≡ letters.old.bytes.items ++ text_of (map view members.now))) }
-    ensures exact { HaveWords (map view members.now) → (result ≡ Ok tt) ⊎ (result ≡ Err LineFault.NoMemory) }
+    ensures exact { HaveWords (map view members.now)
+        → (result ≡ Ok tt) ⊎ (result ≡ Err LineFault.NoMemory) }
 {
     for member in members {
         if let Err(fault) = put_next(letters, member) {
@@ -80,7 +83,8 @@ pub fn put_members(letters: &mut Letters, members: &[Value]) -> Result<(), LineF
 /// The members of the array that the line is read as. `BadRecord` comes where it is read as none.
 pub fn members_of(alloc: Global, line: &[u8]) -> Result<Vec<Value>, LineFault>
     ensures read { IfOk result (λ members. ReadsAs line.now (map view members.items)) }
-    ensures exact { result ≡ Err LineFault.BadRecord → (members : List Data) → ¬ ReadsAs line.now members }
+    ensures exact { result ≡ Err LineFault.BadRecord → (members : List Data)
+        → ¬ ReadsAs line.now members }
 {
     match Value::from_slice(alloc, line) {
         Ok(Value::Array(members)) => Ok(members),
@@ -94,8 +98,10 @@ pub fn members_of(alloc: Global, line: &[u8]) -> Result<Vec<Value>, LineFault>
 
 /// The record of versions 1 and 2 that the members are.
 pub fn read_record(alloc: Global, members: &[Value]) -> Result<Record, LineFault>
-    ensures read { IfOk result (λ x. IsRecordOf Two x × AreMembers (record_items x) (map view members.now)) }
-    ensures exact { (x : Record) → IsRecordOf Two x → AreMembers (record_items x) (map view members.now)
+    ensures read { IfOk result
+        (λ x. IsRecordOf Two x × AreMembers (record_items x) (map view members.now)) }
+    ensures exact { (x : Record) → IsRecordOf Two x
+        → AreMembers (record_items x) (map view members.now)
         → (result ≡ Ok x) ⊎ (result ≡ Err LineFault.NoMemory) }
 {
     let mut letters = Letters {
@@ -112,7 +118,8 @@ pub fn read_record(alloc: Global, members: &[Value]) -> Result<Record, LineFault
 
 /// The record of versions 1 and 2 that is spelled behind a first byte.
 fn parse_text(alloc: Global, text: &[u8]) -> Result<Record, LineFault>
-    ensures read { IfOk result (λ x. IsRecordOf Two x × (text.now ≢ []) × (drop 1 text.now ≡ spelling x)) }
+    ensures read { IfOk result
+        (λ x. IsRecordOf Two x × (text.now ≢ []) × (drop 1 text.now ≡ spelling x)) }
     ensures exact { (x : Record) → IsRecordOf Two x → text.now ≢ [] → drop 1 text.now ≡ spelling x
         → (result ≡ Ok x) ⊎ (result ≡ Err LineFault.NoMemory) }
 {

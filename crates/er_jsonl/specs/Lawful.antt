@@ -5,4 +5,9 @@ use Rattle.er_json_line.proofs.HeaderLemmas.{one_version}
 use Rattle.er_json_line.proofs.RecordLemmas.{one_of_line, of_each, end_is_none}
 
 pub json_is_format : IsFormat json
-json_is_format = record { one_version = one_version; one_record = λ v. one_of_line; of_version = λ v l x spells. of_each v x spells.0.1; not_end = λ v. end_is_none }
+json_is_format = record {
+  one_version = one_version;
+  one_record = λ v. one_of_line;
+  of_version = λ v l x spells. of_each v x spells.0.1;
+  not_end = λ v. end_is_none;
+}

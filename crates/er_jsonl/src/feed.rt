@@ -49,12 +49,9 @@ impl Lines for JsonLines {
     }
 
     #[tactic(auto, using(crate::proofs::FrontLemmas::front_within))]
-    fn front<'a>(
-        alloc: Global,
-        _version: Version,
-        piece: &'a [u8],
-    ) -> Option<(Record, &'a [u8])>
-        ensures { IfSome result (λ pair. IsFront most_line_bytes Spells piece.now pair.0 pair.1.now) }
+    fn front<'a>(alloc: Global, _version: Version, piece: &'a [u8]) -> Option<(Record, &'a [u8])>
+        ensures { IfSome result
+            (λ pair. IsFront most_line_bytes Spells piece.now pair.0 pair.1.now) }
     {
         plain_json_line(alloc, piece)
     }

@@ -19,15 +19,18 @@ pub fn one_record()
 
 /// The bytes of a trace have one version and one list of records.
 pub fn one_trace()
-    ensures { (bytes : List ℕ) (v w : Version) (a b : List Record) → IsTrace v bytes a → IsTrace w bytes b
+    ensures { (bytes : List ℕ) (v w : Version) (a b : List Record)
+        → IsTrace v bytes a → IsTrace w bytes b
         → (v ≡ w) × (a ≡ b) }
 {}
 
 /// Bytes are refused at one place, for one cause. A whole trace is not refused.
 pub fn one_cause()
-    ensures place { (bytes : List ℕ) (p q : Place) (c d : Cause) → Refuses bytes p c → Refuses bytes q d
+    ensures place { (bytes : List ℕ) (p q : Place) (c d : Cause)
+        → Refuses bytes p c → Refuses bytes q d
         → p ≡ q }
-    ensures cause { (bytes : List ℕ) (p q : Place) (c d : Cause) → Refuses bytes p c → Refuses bytes q d
+    ensures cause { (bytes : List ℕ) (p q : Place) (c d : Cause)
+        → Refuses bytes p c → Refuses bytes q d
         → c ≡ d }
     ensures never { (v : Version) (bytes : List ℕ) (records : List Record) (p : Place) (c : Cause)
         → IsTrace v bytes records → ¬ Refuses bytes p c }

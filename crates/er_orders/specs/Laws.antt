@@ -14,16 +14,21 @@ pub record AreApart (lists : List (List ℕ)) (i j : ℕ) : Type 0 where
 -- Where edges go forward, both orders of two such actions are lawful.
 abbrev pub BothOrdersAreLawful : Type 0
 BothOrdersAreLawful = (lists : List (List ℕ)) (i j : ℕ) → GoForward lists → AreApart lists i j
-    → (is_lawful lists (before_order (joins lists) (length lists) i j) ≡ true) × (is_lawful lists (after_order (joins lists) (length lists) i j) ≡ true)
+    → (is_lawful lists (before_order (joins lists) (length lists) i j) ≡ true)
+    × (is_lawful lists (after_order (joins lists) (length lists) i j) ≡ true)
 
 -- In the one i stands directly before j, in the other directly after it.
 abbrev pub BothOrdersAreShown : Type 0
-BothOrdersAreShown = (joined : ℕ → ℕ → Bool) (n i j : ℕ) → (is_next i j (before_order joined n i j) ≡ true) × (is_next j i (after_order joined n i j) ≡ true)
+BothOrdersAreShown = (joined : ℕ → ℕ → Bool) (n i j : ℕ)
+    → (is_next i j (before_order joined n i j) ≡ true)
+    × (is_next j i (after_order joined n i j) ≡ true)
 
 -- An order is lawful exactly where no path leads back in it.
 abbrev pub LawfulOrdersKeepPaths : Type 0
-LawfulOrdersKeepPaths = (lists : List (List ℕ)) (order : List ℕ) → GoForward lists → is_lawful lists order ≡ keeps_paths (joins lists) (length lists) order
+LawfulOrdersKeepPaths = (lists : List (List ℕ)) (order : List ℕ) → GoForward lists
+    → is_lawful lists order ≡ keeps_paths (joins lists) (length lists) order
 
 -- So the links alone decide.
 abbrev pub LinksDecide : Type 0
-LinksDecide = (lists : List (List ℕ)) (order : List ℕ) → is_lawful (links lists) order ≡ keeps_paths (joins lists) (length lists) order
+LinksDecide = (lists : List (List ℕ)) (order : List ℕ)
+    → is_lawful (links lists) order ≡ keeps_paths (joins lists) (length lists) order

@@ -12,12 +12,14 @@ times k ks = count_in (λ m. m == k) ks
 
 -- each of the numbers below n stands there once, and nothing else does
 abbrev pub has_each_once : ℕ → List ℕ → Bool
-has_each_once n order = list_all (λ k. times k order == 1) (numbers_below n) && list_all (λ k. nat_lt k n) order
+has_each_once n order =
+    list_all (λ k. times k order == 1) (numbers_below n) && list_all (λ k. nat_lt k n) order
 
 -- the relation leads from no member to an earlier one
 abbrev pub none_leads_back : (ℕ → ℕ → Bool) → List ℕ → Bool
 none_leads_back leads [] = true
-none_leads_back leads (k ∷ later) = not (list_any (λ m. leads m k) later) && none_leads_back leads later
+none_leads_back leads (k ∷ later) =
+    not (list_any (λ m. leads m k) later) && none_leads_back leads later
 
 -- an edge leads from i to j
 abbrev pub has_edge : List (List ℕ) → ℕ → ℕ → Bool

@@ -25,9 +25,11 @@ abbrev pub is_told : List ℕ → Bool → Type 0
 is_told order told = is_schedule (joins two_timeouts) 4 order 2 3 ≡ told
 
 abbrev pub WorkedSchedules : Type 0
-WorkedSchedules = is_told (0 ∷ 1 ∷ 2 ∷ 3 ∷ []) true × is_told (0 ∷ 1 ∷ 3 ∷ 2 ∷ []) false × is_told (1 ∷ 0 ∷ 2 ∷ 3 ∷ []) false × is_told (0 ∷ 1 ∷ 2 ∷ []) false
+WorkedSchedules = is_told (0 ∷ 1 ∷ 2 ∷ 3 ∷ []) true × is_told (0 ∷ 1 ∷ 3 ∷ 2 ∷ []) false
+    × is_told (1 ∷ 0 ∷ 2 ∷ 3 ∷ []) false × is_told (0 ∷ 1 ∷ 2 ∷ []) false
     × is_told (0 ∷ 1 ∷ 2 ∷ 3 ∷ 1 ∷ []) false × is_told (0 ∷ 1 ∷ 2 ∷ 3 ∷ 4 ∷ []) false
 
 -- moving an action before another without what has a path to it breaks an edge
 abbrev pub WorkedLaws : Type 0
-WorkedLaws = (is_lawful two_pairs (0 ∷ 1 ∷ 4 ∷ 5 ∷ 2 ∷ 3 ∷ []) ≡ true) × (is_lawful two_pairs (0 ∷ 1 ∷ 5 ∷ 2 ∷ 3 ∷ 4 ∷ []) ≡ false)
+WorkedLaws = (is_lawful two_pairs (0 ∷ 1 ∷ 4 ∷ 5 ∷ 2 ∷ 3 ∷ []) ≡ true)
+    × (is_lawful two_pairs (0 ∷ 1 ∷ 5 ∷ 2 ∷ 3 ∷ 4 ∷ []) ≡ false)

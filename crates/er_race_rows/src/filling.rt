@@ -36,7 +36,8 @@ impl Model for Filling {
 
     ghost view = { λ f. f.table };
 
-    ghost invariant = { λ f. All (λ x. x.line < f.line) f.table × All (λ x. x.action ≤ f.action) f.table };
+    ghost invariant = { λ f.
+        All (λ x. x.line < f.line) f.table × All (λ x. x.action ≤ f.action) f.table };
 }
 
 impl Filling {

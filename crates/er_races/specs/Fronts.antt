@@ -39,11 +39,13 @@ AllButLast P (x ∷ y ∷ xs) = P x × AllButLast P (y ∷ xs)
 -- these come before j at its location, all but the last of lesser actions
 pub record IsFront (accesses : List Access) (rows : List ℕ) (j : ℕ) : Type 0 where
   pub earlier : AllByRecursion (λ i. i < j) rows
-  pub here : AllByRecursion (λ i. ((access_at accesses i).location == (access_at accesses j).location) ≡ true) rows
+  pub here : AllByRecursion
+      (λ i. ((access_at accesses i).location == (access_at accesses j).location) ≡ true) rows
   pub lesser : AllButLast (λ i. action_of accesses i < action_of accesses j) rows
 
 -- the numbers whose action does not pass
 abbrev pub unjoined : (ℕ → Bool) → List ℕ → List ℕ → List ℕ
 unjoined joined [] actions = []
 unjoined joined (n ∷ numbers) [] = []
-unjoined joined (n ∷ numbers) (a ∷ actions) = cond (joined a) (unjoined joined numbers actions) (n ∷ unjoined joined numbers actions)
+unjoined joined (n ∷ numbers) (a ∷ actions) =
+    cond (joined a) (unjoined joined numbers actions) (n ∷ unjoined joined numbers actions)

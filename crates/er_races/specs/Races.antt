@@ -10,7 +10,9 @@ races_by joined accesses = filter (λ p. not (joined p.0.action p.1.action)) (ca
 
 -- the numbers of the pairs that pass, in the order of the first and then of the second
 abbrev pub passing : {A : Type 0} → (A → A → Bool) → List A → List Race
-passing test accesses = map (λ p. record { first = p.0.0; second = p.1.0 }) (filter (λ p. test p.0.1 p.1.1) (pairs_of (numbered accesses)))
+passing test accesses =
+    map (λ p. record { first = p.0.0; second = p.1.0 })
+    (filter (λ p. test p.0.1 p.1.1) (pairs_of (numbered accesses)))
 
 abbrev pub is_race : (ℕ → ℕ → Bool) → Kept → Kept → Bool
 is_race joined a b = is_candidate a b && not (joined a.action b.action)
@@ -21,7 +23,9 @@ races_of joined accesses = passing (is_race joined) accesses
 
 -- these numbers are those of the pairs, in their order
 abbrev pub ArePairs : List Kept → List Race → List (Kept × Kept) → Type 0
-ArePairs accesses found pairs = map (λ r. slice_get accesses r.first) found ≡ map (λ p. Some p.0) pairs × map (λ r. slice_get accesses r.second) found ≡ map (λ p. Some p.1) pairs
+ArePairs accesses found pairs = map (λ r. slice_get accesses r.first) found
+    ≡ map (λ p. Some p.0) pairs
+    × map (λ r. slice_get accesses r.second) found ≡ map (λ p. Some p.1) pairs
 
 -- the numbers are of accesses, the lesser first
 abbrev pub IsWithin : List Kept → Race → Type 0

@@ -50,7 +50,8 @@ impl Columns {
     /// One access more.
     pub(crate) fn note(&mut self, table: &Table, n: u32) -> Result<(), NoMemory>
         requires { n < length table.now }
-        ensures { (rows : List ℕ) → AreColumns (accesses_of table.now) rows self.old → OnOk result (AreColumns (accesses_of table.now) (rows ++ n ∷ []) self.new) }
+        ensures { (rows : List ℕ) → AreColumns (accesses_of table.now) rows self.old
+            → OnOk result (AreColumns (accesses_of table.now) (rows ++ n ∷ []) self.new) }
     {
         let access = table.access(n);
         if is_write(access.mode) {
@@ -63,7 +64,8 @@ impl Columns {
     /// Those of these accesses with which one of this mode can race: all, or those that write.
     pub(crate) fn partners<'a>(&'a self, rows: &'a [u32], mode: Mode) -> Column<'a>
         ensures numbers { result.numbers.now ≡ spec.partners mode rows.now self.now.writes.items }
-        ensures actions { result.actions.now ≡ spec.partners mode self.now.actions.items self.now.write_actions.items }
+        ensures actions { result.actions.now
+            ≡ spec.partners mode self.now.actions.items self.now.write_actions.items }
     {
         if is_write(mode) {
             Column {

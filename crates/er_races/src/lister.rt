@@ -5,7 +5,7 @@ ghost use Rattle.std.specs.List.Sorted.{IsPermutation};
 ghost use Rattle.er_access.specs.Kept.{candidates_of};
 ghost use Rattle.er_access.specs.Numbers.{accesses_of, locations_of};
 ghost use Rattle.er_races.specs.Races.{races_of, races_by, most_pairs, most_races, AreTooMany};
-ghost use Rattle.er_races.specs.Listing.{candidate, race, own_at, part, leaves};
+ghost use Rattle.er_races.specs.Listing.{candidates_in, leaves, own_candidates, own_races, races_in};
 
 use crate::columns::Columns;
 use crate::location::list_location;
@@ -57,11 +57,15 @@ pub fn list_part<P: Paths>(
     requires few { length (candidates_of table.now) ≤ most_pairs }
     requires known { All (λ x. x.action < P.actions paths.now) table.now }
     requires room { meter.old < 2 ^ 61 }
-    ensures races { IfOk result (λ races. IsPermutation races.items (part (leaves shards shard) (race (P.joins paths.now) (accesses_of table.now)) (accesses_of table.now))) }
-    ensures once { OnOk result (meter.new ≡ meter.old + length (part (leaves shards shard) (candidate (accesses_of table.now)) (accesses_of table.now))) }
+    ensures races { IfOk result (λ races. IsPermutation races.items
+        (races_in (leaves shards shard) (P.joins paths.now) table.now)) }
+    ensures once { OnOk result (meter.new
+        ≡ meter.old + length (candidates_in (leaves shards shard) table.now)) }
     ensures few { IfOk result (λ races. length races.items ≤ most_races) }
-    ensures many { result ≡ Err ListFault.TooManyRaces → most_races < length (part (leaves shards shard) (race (P.joins paths.now) (accesses_of table.now)) (accesses_of table.now)) }
-    ensures at_most { meter.new ≤ meter.old + length (part (leaves shards shard) (candidate (accesses_of table.now)) (accesses_of table.now)) }
+    ensures many { result ≡ Err ListFault.TooManyRaces
+        → most_races < length (races_in (leaves shards shard) (P.joins paths.now) table.now) }
+    ensures at_most { meter.new
+        ≤ meter.old + length (candidates_in (leaves shards shard) table.now) }
     ensures rises { meter.old ≤ meter.new }
 {
     let mut found = Vec::new(alloc);
@@ -89,13 +93,19 @@ fn list_own<P: Paths>(
     requires split { 0 < shards }
     requires within { k < length (locations_of table.now) }
     requires known { All (λ x. x.action < P.actions paths.now) (accesses_of table.now) }
-    requires room { meter.old + length (own_at (leaves shards shard) (candidate (accesses_of table.now)) (accesses_of table.now) k) < 2 ^ 61 + 2 ^ 25 }
+    requires room { meter.old
+        + length (own_candidates (leaves shards shard) table.now k) < 2 ^ 61 + 2 ^ 25 }
     requires few { length found.old.items ≤ most_races }
-    ensures found { OnOk result (IsPermutation found.new.items (found.old.items ++ own_at (leaves shards shard) (race (P.joins paths.now) (accesses_of table.now)) (accesses_of table.now) k)) }
-    ensures once { OnOk result (meter.new ≡ meter.old + length (own_at (leaves shards shard) (candidate (accesses_of table.now)) (accesses_of table.now) k)) }
+    ensures found { OnOk result (IsPermutation found.new.items
+        (found.old.items ++ own_races (leaves shards shard) (P.joins paths.now) table.now k)) }
+    ensures once { OnOk result (meter.new
+        ≡ meter.old + length (own_candidates (leaves shards shard) table.now k)) }
     ensures few { OnOk result (length found.new.items ≤ most_races) }
-    ensures many { IfErr result (λ fault. fault ≡ ListFault.TooManyRaces → most_races < length found.old.items + length (own_at (leaves shards shard) (race (P.joins paths.now) (accesses_of table.now)) (accesses_of table.now) k)) }
-    ensures at_most { meter.new ≤ meter.old + length (own_at (leaves shards shard) (candidate (accesses_of table.now)) (accesses_of table.now) k) }
+    ensures many { IfErr result (λ fault. fault ≡ ListFault.TooManyRaces
+        → most_races < length found.old.items
+        + length (own_races (leaves shards shard) (P.joins paths.now) table.now k)) }
+    ensures at_most { meter.new
+        ≤ meter.old + length (own_candidates (leaves shards shard) table.now k) }
     ensures rises { meter.old ≤ meter.new }
 {
     if k % shards == shard {

@@ -1,11 +1,11 @@
 //! The races at one location.
 
-ghost use Rattle.std.specs.Prelude.{◌≡◌, ◌+◌, ◌<◌, ◌≤◌, ◌^◌, [], ◌∷◌, ◌++◌, All, length, filter, OnOk, IfErr};
+ghost use Rattle.std.specs.Prelude.{◌≡◌, ◌+◌, ◌<◌, ◌≤◌, ◌^◌, [], ◌∷◌, ◌++◌, All, length, OnOk, IfErr};
 ghost use Rattle.std.specs.List.Sorted.{IsPermutation};
 ghost use Rattle.er_access.specs.Numbers.{accesses_of, locations_of};
 ghost use Rattle.er_races.specs.Races.{most_races};
 ghost use Rattle.er_races.specs.Pairs.{with_second};
-ghost use Rattle.er_races.specs.Listing.{candidate, race, at_location};
+ghost use Rattle.er_races.specs.Listing.{candidates_at, candidates_with, races_at, races_with};
 ghost use Rattle.er_races.specs.Fronts.{unjoined, AreColumns, IsFront};
 
 use crate::columns::{Columns, front_len};
@@ -27,13 +27,16 @@ pub(crate) fn list_location<P: Paths>(
 ) -> Result<(), ListFault>
     requires within { k < length (locations_of table.now) }
     requires known { All (λ x. x.action < P.actions paths.now) (accesses_of table.now) }
-    requires room { meter.old + length (at_location (candidate (accesses_of table.now)) (accesses_of table.now) k) < 2 ^ 61 + 2 ^ 25 }
+    requires room { meter.old + length (candidates_at table.now k) < 2 ^ 61 + 2 ^ 25 }
     requires few { length found.old.items ≤ most_races }
-    ensures found { OnOk result (IsPermutation found.new.items (found.old.items ++ at_location (race (P.joins paths.now) (accesses_of table.now)) (accesses_of table.now) k)) }
-    ensures once { OnOk result (meter.new ≡ meter.old + length (at_location (candidate (accesses_of table.now)) (accesses_of table.now) k)) }
+    ensures found { OnOk result (IsPermutation found.new.items
+        (found.old.items ++ races_at (P.joins paths.now) table.now k)) }
+    ensures once { OnOk result (meter.new ≡ meter.old + length (candidates_at table.now k)) }
     ensures few { OnOk result (length found.new.items ≤ most_races) }
-    ensures many { IfErr result (λ fault. fault ≡ ListFault.TooManyRaces → most_races < length found.old.items + length (at_location (race (P.joins paths.now) (accesses_of table.now)) (accesses_of table.now) k)) }
-    ensures at_most { meter.new ≤ meter.old + length (at_location (candidate (accesses_of table.now)) (accesses_of table.now) k) }
+    ensures many { IfErr result (λ fault. fault ≡ ListFault.TooManyRaces
+        → most_races < length found.old.items
+        + length (races_at (P.joins paths.now) table.now k)) }
+    ensures at_most { meter.new ≤ meter.old + length (candidates_at table.now k) }
     ensures rises { meter.old ≤ meter.new }
 {
     columns.clear();
@@ -62,13 +65,19 @@ fn list_second<P: Paths>(
     requires earlier { IsFront (accesses_of table.now) earlier.now second }
     requires columns { AreColumns (accesses_of table.now) earlier.now columns.now }
     requires known { All (λ x. x.action < P.actions paths.now) (accesses_of table.now) }
-    requires room { meter.old + length (filter (λ i. candidate (accesses_of table.now) i second) earlier.now) < 2 ^ 62 }
+    requires room { meter.old + length (candidates_with table.now second earlier.now) < 2 ^ 62 }
     requires few { length found.old.items ≤ most_races }
-    ensures found { OnOk result (found.new.items ≡ found.old.items ++ with_second (filter (λ i. race (P.joins paths.now) (accesses_of table.now) i second) earlier.now) second) }
-    ensures once { OnOk result (meter.new ≡ meter.old + length (filter (λ i. candidate (accesses_of table.now) i second) earlier.now)) }
+    ensures found { OnOk result (found.new.items
+        ≡ found.old.items
+        ++ with_second (races_with (P.joins paths.now) table.now second earlier.now) second) }
+    ensures once { OnOk result (meter.new
+        ≡ meter.old + length (candidates_with table.now second earlier.now)) }
     ensures few { OnOk result (length found.new.items ≤ most_races) }
-    ensures many { IfErr result (λ fault. fault ≡ ListFault.TooManyRaces → most_races < length found.old.items + length (filter (λ i. race (P.joins paths.now) (accesses_of table.now) i second) earlier.now)) }
-    ensures at_most { meter.new ≤ meter.old + length (filter (λ i. candidate (accesses_of table.now) i second) earlier.now) }
+    ensures many { IfErr result (λ fault. fault ≡ ListFault.TooManyRaces
+        → most_races < length found.old.items
+        + length (races_with (P.joins paths.now) table.now second earlier.now)) }
+    ensures at_most { meter.new
+        ≤ meter.old + length (candidates_with table.now second earlier.now) }
     ensures rises { meter.old ≤ meter.new }
 {
     let access = table.access(second);
@@ -94,10 +103,15 @@ fn list_front<P: Paths>(
     requires action { action < P.actions paths.now }
     requires room { meter.old + length actions.now < 2 ^ 62 }
     requires few { length found.old.items ≤ most_races }
-    ensures found { OnOk result (found.new.items ≡ found.old.items ++ with_second (unjoined (λ a. P.joins paths.now a action) numbers.now actions.now) second) }
+    ensures found { OnOk result (found.new.items
+        ≡ found.old.items
+        ++ with_second
+        (unjoined (λ a. P.joins paths.now a action) numbers.now actions.now) second) }
     ensures once { OnOk result (meter.new ≡ meter.old + length actions.now) }
     ensures few { OnOk result (length found.new.items ≤ most_races) }
-    ensures many { IfErr result (λ fault. fault ≡ ListFault.TooManyRaces → most_races < length found.old.items + length (unjoined (λ a. P.joins paths.now a action) numbers.now actions.now)) }
+    ensures many { IfErr result (λ fault. fault ≡ ListFault.TooManyRaces
+        → most_races < length found.old.items
+        + length (unjoined (λ a. P.joins paths.now a action) numbers.now actions.now)) }
     ensures at_most { meter.new ≤ meter.old + length actions.now }
     ensures rises { meter.old ≤ meter.new }
 {
@@ -121,7 +135,8 @@ fn keep(found: &mut Vec<Race>, race: Race) -> Result<(), ListFault>
     requires few { length found.old.items ≤ most_races }
     ensures found { OnOk result (found.new.items ≡ found.old.items ++ race ∷ []) }
     ensures few { OnOk result (length found.new.items ≤ most_races) }
-    ensures many { IfErr result (λ fault. fault ≡ ListFault.TooManyRaces → length found.old.items ≡ most_races) }
+    ensures many { IfErr result
+        (λ fault. fault ≡ ListFault.TooManyRaces → length found.old.items ≡ most_races) }
 {
     if found.len() == MOST_RACES {
         return Err(ListFault::TooManyRaces);

@@ -18,7 +18,10 @@ use Rattle.er_report.specs.declared.counts.Counts.{Counts}
 
 -- `race K LINE LINE MODES ACTION ACTION LOC`
 abbrev pub race_line : ℕ → Kept × Kept → List ℕ
-race_line k (a, b) = item_line (Word (codes "race") ∷ Number k ∷ Number a.line ∷ Number b.line ∷ Word (mode_word a.mode ++ mode_word b.mode) ∷ Number a.action ∷ Number b.action ∷ loc_items a.loc)
+race_line k (a, b) = item_line (
+    Word (codes "race") ∷ Number k ∷ Number a.line ∷ Number b.line
+    ∷ Word (mode_word a.mode ++ mode_word b.mode) ∷ Number a.action ∷ Number b.action
+    ∷ loc_items a.loc)
 
 -- `cover K G`, for the group at place g
 abbrev pub cover_line : ℕ → ℕ → List ℕ
@@ -26,7 +29,8 @@ cover_line k g = item_line (Word (codes "cover") ∷ Number k ∷ Number (g + 1)
 
 -- `group G K SIZE`, for the representative at place k
 abbrev pub group_line : ℕ → ℕ × ℕ → List ℕ
-group_line g (k, size) = item_line (Word (codes "group") ∷ Number g ∷ Number (k + 1) ∷ Number size ∷ [])
+group_line g (k, size) =
+    item_line (Word (codes "group") ∷ Number g ∷ Number (k + 1) ∷ Number size ∷ [])
 
 abbrev pub race_lines : List (Kept × Kept) → List ℕ
 race_lines races = lines_from race_line 1 races
@@ -43,12 +47,15 @@ opening_line = count_line (codes "report") 1
 
 -- the lines behind those of the groups
 abbrev pub closing_lines : Counts → List ℕ
-closing_lines c = count_line (codes "actions") c.actions ++ count_line (codes "accesses") c.accesses ++ count_line (codes "pairs") c.pairs ++ count_line (codes "races") c.races
-    ++ count_line (codes "groups") c.groups ++ count_line (codes "chains") c.chains ++ count_line (codes "links") c.links ++ line (codes "end")
+closing_lines c = count_line (codes "actions") c.actions ++ count_line (codes "accesses") c.accesses
+    ++ count_line (codes "pairs") c.pairs ++ count_line (codes "races") c.races
+    ++ count_line (codes "groups") c.groups ++ count_line (codes "chains") c.chains
+    ++ count_line (codes "links") c.links ++ line (codes "end")
 
 -- the report of these races, groups and counts
 abbrev pub report_of : List (Kept × Kept) → Grouping → Counts → List ℕ
-report_of races groups c = opening_line ++ race_lines races ++ cover_lines groups ++ group_lines groups ++ closing_lines c
+report_of races groups c =
+    opening_line ++ race_lines races ++ cover_lines groups ++ group_lines groups ++ closing_lines c
 
 -- the counts of actions with these predecessors, and of the kept accesses
 abbrev pub counts : List (List ℕ) → List Kept → Counts
@@ -64,7 +71,9 @@ counts lists accesses = record {
 
 -- the report of actions with these predecessors, and of the kept accesses
 abbrev pub report : List (List ℕ) → List Kept → List ℕ
-report lists accesses = report_of (races_by (joins lists) accesses) (grouping_of (joins lists) accesses) (counts lists accesses)
+report lists accesses =
+    report_of (races_by (joins lists) accesses) (grouping_of (joins lists) accesses)
+    (counts lists accesses)
 
 -- `generated N`, then what a report says of these groups and counts
 abbrev pub summary_of : ℕ → Grouping → Counts → List ℕ

@@ -38,7 +38,6 @@ use Rattle.er_races.specs.Races.{races_by, races_of, ArePairs, IsWithin, most_pa
 use Rattle.er_races.proofs.RaceLemmas.{numbers_are_pairs}
 use Rattle.er_cover.specs.Classes.{classes_of}
 use Rattle.er_cover.specs.Groups.{Grouping, grouping_of, most_classes, most_tests}
-use Rattle.er_cover.specs.Told.{AreGroups, AreFewClasses, AreTooManyClasses, AreFewTests}
 use Rattle.er_report.specs.Report as texts
 use Rattle.er_run.specs.declared.session.Session.{Session}
 use Rattle.er_run.specs.declared.findings.Listing.{Listing}
@@ -167,19 +166,26 @@ by_kept : (s : Session) (links : List (List ℕ)) (h : List Record) (has : List 
     → clocks.Tells links (λ lists. has lists s.kept) → has (edges (rules s.graph.version) (told h).actions) (kept h)
 by_kept s links h has timed stands tells = subst (has (edges (rules s.graph.version) (told h).actions)) stands.accesses (tells (edges (rules s.graph.version) (told h).actions) (clocks_stand s links h timed stands))
 
-pub grouped : (s : Session) (links : List (List ℕ)) (h : List Record) (found : Grouping) → AreClocks s.graph links → IsSessionOf s h → AreGroups links s.kept found → AreFewClasses links s.kept → AreGrouped s.graph.version found h
+-- what holds by the paths of the clocks and of the kept accesses of the session holds by those of the list
+by_paths : (s : Session) (links : List (List ℕ)) (h : List Record) (has : (ℕ → ℕ → Bool) → List Kept → Type 0) → AreClocks s.graph links → IsSessionOf s h
+    → has (joins links) s.kept → has (path (rules s.graph.version) h) (kept h)
+by_paths s links h has timed stands is =
+    subst (has (path (rules s.graph.version) h)) stands.accesses (subst (λ joined. has joined s.kept) (paths_told s links h timed stands) is)
+
+pub grouped : (s : Session) (links : List (List ℕ)) (h : List Record) (found : Grouping) → AreClocks s.graph links → IsSessionOf s h
+    → found ≡ grouping_of (joins links) s.kept → length (classes_of (joins links) s.kept) ≤ most_classes → AreGrouped s.graph.version found h
 grouped s links h found timed stands are few = record {
-  few_classes = by_kept s links h (λ lists accesses. length (classes_of (joins lists) accesses) ≤ most_classes) timed stands few;
-  are_groups = by_kept s links h (λ lists accesses. found ≡ grouping_of (joins lists) accesses) timed stands are;
+  few_classes = by_paths s links h (λ joined accesses. length (classes_of joined accesses) ≤ most_classes) timed stands few;
+  are_groups = by_paths s links h (λ joined accesses. found ≡ grouping_of joined accesses) timed stands are;
 }
 
-pub tested : (s : Session) (links : List (List ℕ)) (h : List Record) (old new : ℕ) → AreClocks s.graph links → IsSessionOf s h → AreFewTests links s.kept old new → new ≤ old + most_tests (path (rules s.graph.version) h) (kept h)
-tested s links h old new timed stands few = by_kept s links h (λ lists accesses. new ≤ old + most_tests (joins lists) accesses) timed stands few
+pub tested : (s : Session) (links : List (List ℕ)) (h : List Record) (old new : ℕ) → AreClocks s.graph links → IsSessionOf s h → new ≤ old + most_tests (joins links) s.kept → new ≤ old + most_tests (path (rules s.graph.version) h) (kept h)
+tested s links h old new timed stands few = by_paths s links h (λ joined accesses. new ≤ old + most_tests joined accesses) timed stands few
 
-pub over_classes : (s : Session) (links : List (List ℕ)) (h : List Record) (found : List Race) → AreClocks s.graph links → IsSessionOf s h → AreListed s.graph.version found h → AreTooManyClasses links s.kept → end_cause s.graph.version h ≡ Some TooManyClasses
+pub over_classes : (s : Session) (links : List (List ℕ)) (h : List Record) (found : List Race) → AreClocks s.graph links → IsSessionOf s h → AreListed s.graph.version found h → most_classes < length (classes_of (joins links) s.kept) → end_cause s.graph.version h ≡ Some TooManyClasses
 over_classes s links h found timed stands l many =
     listing_within s.graph.version h found (if nat_lt most_classes (length (classes s.graph.version h)) then Some TooManyClasses else None) l
-    ∙ caused most_classes (length (classes s.graph.version h)) TooManyClasses (by_kept s links h (λ lists accesses. most_classes < length (classes_of (joins lists) accesses)) timed stands many)
+    ∙ caused most_classes (length (classes s.graph.version h)) TooManyClasses (by_paths s links h (λ joined accesses. most_classes < length (classes_of joined accesses)) timed stands many)
 
 -- where they are listed and grouped, a report is due
 report_within : (v : Version) (h : List Record) (listing : Listing) → IsListing v listing h → end_cause v h ≡ None

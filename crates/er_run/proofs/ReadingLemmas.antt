@@ -341,8 +341,8 @@ decided_by : (f : Format) → IsFormat f → (asked : Command) (first left : Opt
 decided_by f good asked first left session line n c r refused = elim r.ends.end [
   | inl spent ↦ inl spent
   | inr other ↦ (
-    let final : IsFinal f asked (r.bytes ++ r.ends.piece) = final_reading f asked session.graph.version (r.bytes ++ r.ends.piece) r.ends.records line r.ends.reading other r.ends.stands.legal in
-    inr (just f asked first left session (Some line) n c r refused (other_cause f good asked (r.bytes ++ r.ends.piece) n c refused final)))
+      let final : IsFinal f asked (r.bytes ++ r.ends.piece) = final_reading f asked session.graph.version (r.bytes ++ r.ends.piece) r.ends.records line r.ends.reading other r.ends.stands.legal in
+      inr (just f asked first left session (Some line) n c r refused (other_cause f good asked (r.bytes ++ r.ends.piece) n c refused final)))
 ]
 
 pub refused_input : (f : Format) → IsFormat f → (asked : Command) (first left : Option (List ℕ)) (session : Session) (line : LineRefusal) (n : ℕ) (c : Cause) → (r : IsRead f first left session (Some line)) → FirstIllegal f asked (r.bytes ++ r.ends.piece) n c → IsRefusedInput f asked first left n c

@@ -9,7 +9,8 @@ pub record Orders : Type 0 where
 
 -- in the first i stands directly before j, in the second directly after it
 abbrev pub orders_of : (ℕ → ℕ → Bool) → ℕ → ℕ → ℕ → Orders
-orders_of joined n i j = record { first = before_order joined n i j; second = after_order joined n i j }
+orders_of joined n i j =
+    record { first = before_order joined n i j; second = after_order joined n i j }
 
 -- both are lawful
 pub record AreLawful (lists : List (List ℕ)) (orders : Orders) : Type 0 where

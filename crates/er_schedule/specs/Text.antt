@@ -26,24 +26,30 @@ end_line = line (codes "end")
 
 -- the text of a race with its number, and of two orders
 abbrev pub schedules_of : ℕ → Kept × Kept → Orders → List ℕ
-schedules_of k race orders = opening_line ++ race_line k race ++ order_lines (codes "first") orders.first ++ order_lines (codes "second") orders.second ++ end_line
+schedules_of k race orders = opening_line ++ race_line k race
+    ++ order_lines (codes "first") orders.first ++ order_lines (codes "second") orders.second
+    ++ end_line
 
 abbrev pub text_of : List (List ℕ) → ℕ → Option (Kept × Kept) → List ℕ
 text_of lists k None = []
-text_of lists k (Some race) = schedules_of k race (orders_of (joins lists) (length lists) race.0.action race.1.action)
+text_of lists k (Some race) =
+    schedules_of k race (orders_of (joins lists) (length lists) race.0.action race.1.action)
 
 -- the text of race number k, from 1, of the kept accesses
 abbrev pub schedule_text : List (List ℕ) → List Kept → ℕ → List ℕ
-schedule_text lists accesses k = text_of lists k (slice_get (races_by (joins lists) accesses) (k - 1))
+schedule_text lists accesses k =
+    text_of lists k (slice_get (races_by (joins lists) accesses) (k - 1))
 
 -- By these lists, these are the races of the kept accesses, and the orders of race number k.
-pub record AreOrders (lists : List (List ℕ)) (accesses : List Kept) (races : List Race) (k : ℕ) (orders : Orders) : Type 0 where
+pub record AreOrders (lists : List (List ℕ)) (accesses : List Kept) (races : List Race) (k : ℕ)
+    (orders : Orders) : Type 0 where
   pub races_are : races ≡ races_of (joins lists) accesses
   pub race : Kept × Kept
   pub found : slice_get (races_by (joins lists) accesses) (k - 1) ≡ Some race
   pub orders_are : orders ≡ orders_of (joins lists) (length lists) race.0.action race.1.action
 
 -- the same by some lists
-pub record AreSomeOrders (accesses : List Kept) (races : List Race) (k : ℕ) (orders : Orders) : Type 0 where
+pub record AreSomeOrders (accesses : List Kept) (races : List Race) (k : ℕ)
+    (orders : Orders) : Type 0 where
   pub lists : List (List ℕ)
   pub are : AreOrders lists accesses races k orders

@@ -24,7 +24,8 @@ pub fn check_schedule(
 ) -> Result<bool, NoMemory>
     requires first { i < length clocks.now }
     requires second { j < length clocks.now }
-    ensures { IfOk result (λ told. Tells clocks.now (λ lists. told ≡ is_schedule (joins lists) (length lists) order.now i j)) }
+    ensures { IfOk result (λ told. Tells clocks.now (λ lists.
+        told ≡ is_schedule (joins lists) (length lists) order.now i j)) }
 {
     let Ok(mut marks) = vec![in alloc; false; clocks.len() as usize] else {
         return Err(NoMemory);
@@ -35,7 +36,8 @@ pub fn check_schedule(
 /// The same, with a mark for each action.
 fn shows(clocks: &Clocks, marks: &mut [bool], order: &[u32], i: u32, j: u32) -> bool
     requires { marks.old ≡ replicate (length clocks.now) false }
-    ensures { Tells clocks.now (λ lists. result ≡ is_schedule (joins lists) (length lists) order.now i j) }
+    ensures { Tells clocks.now (λ lists.
+        result ≡ is_schedule (joins lists) (length lists) order.now i j) }
 {
     if !come(clocks, marks, order) {
         return false;

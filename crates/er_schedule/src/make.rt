@@ -19,8 +19,10 @@ pub fn make_schedules(alloc: Global, clocks: &Clocks, i: u32, j: u32) -> Result<
     requires earlier { i < j }
     requires begun { j < length clocks.now }
     requires apart { joins clocks.now i j ≡ false }
-    ensures orders { IfOk result (λ s. Tells clocks.now (λ lists. s ≡ orders_of (joins lists) (length lists) i j)) }
-    ensures lawful { IfOk result (λ s. Tells clocks.now (λ lists. GoForward lists → AreLawful lists s)) }
+    ensures orders { IfOk result
+        (λ s. Tells clocks.now (λ lists. s ≡ orders_of (joins lists) (length lists) i j)) }
+    ensures lawful { IfOk result
+        (λ s. Tells clocks.now (λ lists. GoForward lists → AreLawful lists s)) }
 {
     let others = others_of(alloc, clocks, i, j)?;
     let first = around(alloc, &others.before, i, j, &others.after)?;
@@ -36,8 +38,10 @@ struct Others {
 }
 
 fn others_of(alloc: Global, clocks: &Clocks, i: u32, j: u32) -> Result<Others, NoMemory>
-    ensures before { IfOk result (λ o. Tells clocks.now (λ lists. o.before.items ≡ others_before (joins lists) (length lists) i j)) }
-    ensures after { IfOk result (λ o. Tells clocks.now (λ lists. o.after.items ≡ others_after (joins lists) (length lists) i j)) }
+    ensures before { IfOk result (λ o. Tells clocks.now (λ lists.
+        o.before.items ≡ others_before (joins lists) (length lists) i j)) }
+    ensures after { IfOk result (λ o. Tells clocks.now (λ lists.
+        o.after.items ≡ others_after (joins lists) (length lists) i j)) }
 {
     let mut before = Vec::new(alloc);
     let mut after = Vec::new(alloc);
@@ -56,8 +60,14 @@ fn place(
     before: &mut Vec<u32>,
     after: &mut Vec<u32>,
 ) -> Result<(), NoMemory>
-    ensures before { OnOk result (Tells clocks.now (λ lists. before.new.items ≡ (if comes_before (joins lists) i j k then before.old.items ++ k ∷ [] else before.old.items))) }
-    ensures after { OnOk result (Tells clocks.now (λ lists. after.new.items ≡ (if comes_after (joins lists) i j k then after.old.items ++ k ∷ [] else after.old.items))) }
+    ensures before { OnOk result (Tells clocks.now (λ lists. before.new.items
+        ≡ (if comes_before (joins lists) i j k
+        then before.old.items ++ k ∷ []
+        else before.old.items))) }
+    ensures after { OnOk result (Tells clocks.now (λ lists. after.new.items
+        ≡ (if comes_after (joins lists) i j k
+        then after.old.items ++ k ∷ []
+        else after.old.items))) }
 {
     if k == i || k == j {
         return Ok(());

@@ -50,10 +50,12 @@ fn put_schedules<K: Sink>(
     orders: &Schedules,
 ) -> Result<(), Failed>
     ensures whole { OnOk result (Gets (K.got sink.old)
-        (schedules_of race.now.number (both_at race.now.first race.now.second race.now.loc.now) orders.now)
+        (schedules_of race.now.number
+        (both_at race.now.first race.now.second race.now.loc.now) orders.now)
         (K.got sink.new)) }
     ensures part { OnErr result (GetsPart (K.got sink.old)
-        (schedules_of race.now.number (both_at race.now.first race.now.second race.now.loc.now) orders.now)
+        (schedules_of race.now.number
+        (both_at race.now.first race.now.second race.now.loc.now) orders.now)
         (K.got sink.new)) }
     ensures counts { CountsFaults K.faults sink.old sink.new result }
 {

@@ -4,10 +4,10 @@ ghost use Rattle.std.specs.Prelude.{◌≡◌, ℕ, ◌+◌, ◌<◌, ◌≤◌,
 ghost use Rattle.std.specs.Thread.{IsSync};
 ghost use Rattle.er_paths.specs.Paths.{joins};
 ghost use Rattle.er_races.specs.Races.{races_of, most_races};
-ghost use Rattle.er_cover.specs.Groups.{most_classes};
+ghost use Rattle.er_cover.specs.Classes.{classes_of};
+ghost use Rattle.er_cover.specs.Groups.{grouping_of, most_classes, most_tests};
 ghost use Rattle.er_cover.specs.Parts.{IsOver, once_of};
 ghost use Rattle.er_cover.specs.Passes.{IsKnown};
-ghost use Rattle.er_cover.specs.Told.{AreFewClasses, AreFewTests, AreGroups, AreTooManyClasses};
 ghost use Rattle.er_shard.specs.Named.{IsNamed};
 
 use crate::Gate;
@@ -38,11 +38,12 @@ pub fn group_shards<R: Threads + Sync, G: Gate + Sync>(
     requires races { races.now ≡ races_of (joins clocks.now) table.now }
     requires few { length races.now ≤ most_races }
     requires room { tests.old < 2 ^ 61 }
-    ensures groups { IfOk result (AreGroups clocks.now table.now) }
+    ensures groups { IfOk result (λ v. v ≡ grouping_of (joins clocks.now) table.now) }
     ensures each { IfOk result (λ v. length v.names ≡ length races.now) }
-    ensures few { OnOk result (AreFewClasses clocks.now table.now) }
-    ensures many { result ≡ Err CoverFault.TooManyClasses → AreTooManyClasses clocks.now table.now }
-    ensures bound { AreFewTests clocks.now table.now tests.old tests.new }
+    ensures few { OnOk result (length (classes_of (joins clocks.now) table.now) ≤ most_classes) }
+    ensures many { result ≡ Err CoverFault.TooManyClasses
+        → most_classes < length (classes_of (joins clocks.now) table.now) }
+    ensures bound { tests.new ≤ tests.old + most_tests (joins clocks.now) table.now }
     ensures rises { tests.old ≤ tests.new }
 {
     let classes = match make_classes(alloc, races, table, clocks, tests) {
@@ -93,7 +94,8 @@ fn name_between<R: Threads + Sync, G: Gate + Sync>(
                 × All (IsKnown (length clocks.now)) classes.now.by_race
                 × (length (once_of classes.now) ≤ most_classes)
                 × (length classes.now.groups ≤ most_classes) }
-            ensures { IsNamed shards from middle (joins clocks.entry.now) classes.entry.now result.names result.meter }
+            ensures { IsNamed shards from middle (joins clocks.entry.now) classes.entry.now
+                result.names result.meter }
         { name_between(rt, alloc, classes, clocks, shards, from, middle, gate) },
         || -> Names
             requires { IsSync R.row × (middle < to) × (to ≤ shards)
@@ -101,7 +103,8 @@ fn name_between<R: Threads + Sync, G: Gate + Sync>(
                 × All (IsKnown (length clocks.now)) classes.now.by_race
                 × (length (once_of classes.now) ≤ most_classes)
                 × (length classes.now.groups ≤ most_classes) }
-            ensures { IsNamed shards middle to (joins clocks.entry.now) classes.entry.now result.names result.meter }
+            ensures { IsNamed shards middle to (joins clocks.entry.now) classes.entry.now
+                result.names result.meter }
         { name_between(rt, alloc, classes, clocks, shards, middle, to, gate) },
     );
     together(left, right)
@@ -119,7 +122,8 @@ fn name_one<G: Gate>(
     requires within { shard < shards }
     requires over { IsOver (joins clocks.now) classes.now }
     requires known { All (IsKnown (length clocks.now)) classes.now.by_race }
-    ensures { IsNamed shards shard (shard + 1) (joins clocks.now) classes.now result.names result.meter }
+    ensures { IsNamed shards shard (shard + 1) (joins clocks.now) classes.now
+        result.names result.meter }
 {
     gate.enter(shard);
     let count = classes.count();

@@ -59,7 +59,8 @@ fn both(
 fn append(mut races: Vec<Race>, more: &[Race]) -> Result<Vec<Race>, ListFault>
     ensures all { IfOk result (λ all. all.items ≡ races.items ++ more.now) }
     ensures few { IfOk result (λ all. length all.items ≤ most_races) }
-    ensures many { result ≡ Err ListFault.TooManyRaces → most_races < length races.items + length more.now }
+    ensures many { result ≡ Err ListFault.TooManyRaces
+        → most_races < length races.items + length more.now }
 {
     if races.len() + more.len() > MOST_RACES {
         return Err(ListFault::TooManyRaces);

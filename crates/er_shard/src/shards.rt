@@ -79,13 +79,15 @@ fn list_between<R: Threads + Sync, P: Paths + Sync, G: Gate + Sync>(
             requires { IsSync R.row × (from < middle) × (middle ≤ shards)
                 × (length (candidates_of table.now) ≤ most_pairs)
                 × All (λ x. x.action < P.actions paths.now) table.now }
-            ensures { IsPart shards from middle (P.joins paths.entry.now) table.entry.now result.races result.meter }
+            ensures { IsPart shards from middle (P.joins paths.entry.now) table.entry.now
+                result.races result.meter }
         { list_between(rt, alloc, table, paths, shards, from, middle, gate) },
         || -> Part
             requires { IsSync R.row × (middle < to) × (to ≤ shards)
                 × (length (candidates_of table.now) ≤ most_pairs)
                 × All (λ x. x.action < P.actions paths.now) table.now }
-            ensures { IsPart shards middle to (P.joins paths.entry.now) table.entry.now result.races result.meter }
+            ensures { IsPart shards middle to (P.joins paths.entry.now) table.entry.now
+                result.races result.meter }
         { list_between(rt, alloc, table, paths, shards, middle, to, gate) },
     );
     together(left, right)
@@ -103,7 +105,8 @@ fn list_one<P: Paths, G: Gate>(
     requires within { shard < shards }
     requires few { length (candidates_of table.now) ≤ most_pairs }
     requires known { All (λ x. x.action < P.actions paths.now) table.now }
-    ensures { IsPart shards shard (shard + 1) (P.joins paths.now) table.now result.races result.meter }
+    ensures { IsPart shards shard (shard + 1) (P.joins paths.now) table.now
+        result.races result.meter }
 {
     gate.enter(shard);
     let mut meter = Meter::new();

@@ -27,10 +27,15 @@ abbrev pub with_mode : App
 with_mode = with_rule (new_app (codes "er_cli")) (new_rule (codes "mode"))
 
 abbrev pub with_counts : App
-with_counts = with_rule (with_rule with_mode (value_option (codes "shards"))) (value_option (codes "number"))
+with_counts =
+    with_rule (with_rule with_mode (value_option (codes "shards"))) (value_option (codes "number"))
 
 abbrev pub with_places : App
-with_places = with_rule (with_rule (with_rule with_counts (value_option (codes "race"))) (value_option (codes "from"))) (value_option (codes "to"))
+with_places =
+    with_rule (with_rule (with_rule with_counts
+    (value_option (codes "race")))
+    (value_option (codes "from")))
+    (value_option (codes "to"))
 
 -- one simple command: a word for the mode, the options of all modes with a value, and the flag --json
 abbrev pub syntax : App
@@ -131,9 +136,12 @@ mode_of (Explain i j) = codes "explain"
 -- no options are given but those that belong to the mode, and those that it requires are
 abbrev pub AreOptions : Given → Command → Type 0
 AreOptions g (Check asked input) = g ≡ record nothing { shards = g.shards; json = asked }
-AreOptions g (Gen n) = Has IsNumberGiven g.number n × (g ≡ record nothing { shards = g.shards; number = g.number })
-AreOptions g (Schedule k) = Has IsRaceGiven g.race k × (g ≡ record nothing { shards = g.shards; race = g.race })
-AreOptions g (Explain i j) = Has IsNumber g.from i × Has IsNumber g.to j × (g ≡ record nothing { from = g.from; to = g.to })
+AreOptions g (Gen n) =
+    Has IsNumberGiven g.number n × (g ≡ record nothing { shards = g.shards; number = g.number })
+AreOptions g (Schedule k) =
+    Has IsRaceGiven g.race k × (g ≡ record nothing { shards = g.shards; race = g.race })
+AreOptions g (Explain i j) =
+    Has IsNumber g.from i × Has IsNumber g.to j × (g ≡ record nothing { from = g.from; to = g.to })
 
 abbrev pub IsCommand : Text → Given → Command → Type 0
 IsCommand mode g c = (mode ≡ mode_of c) × AreOptions g c
@@ -141,7 +149,8 @@ IsCommand mode g c = (mode ≡ mode_of c) × AreOptions g c
 -- ---- what the words come to
 
 abbrev pub IsAsked : List Row → Asked → Type 0
-IsAsked rows asked = IsCommand (mode_word rows) (given_in rows) asked.command × HasShards (given_in rows).shards asked.shards
+IsAsked rows asked = IsCommand (mode_word rows) (given_in rows) asked.command
+    × HasShards (given_in rows).shards asked.shards
 
 -- clap finds no fault in the line, and its matches ask for the command, in so many shards
 abbrev pub AsksBy : List Text → Asked → Type 0

@@ -3,9 +3,9 @@ use Rattle.std.specs.List.{AllByRecursion}
 use Rattle.std.specs.Prelude.{map, true}
 use Rattle.er_cover.specs.declared.class.Class.{Class}
 use Rattle.er_cover.specs.Classes.{is_among, each_once}
-use Rattle.er_cover.specs.Groups.{groups_by, names_by, representatives_by}
+use Rattle.er_cover.specs.Groups.{groups_by, names_by}
 use Rattle.er_cover.specs.Parts.{Classing}
-use Rattle.er_cover.specs.Passes.{first_races, value_of}
+use Rattle.er_cover.specs.Passes.{first_races, value_of, representatives_by}
 use Rattle.er_cover.proofs.GroupLemmas.{races_there, all_there, names_are, representatives_are, sizes_are, grouping_is}
 use Rattle.er_cover.proofs.PartLemmas.{looked_below}
 use Rattle.er_cover.proofs.parts.gather.Goals as goal

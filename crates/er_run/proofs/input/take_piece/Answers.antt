@@ -12,7 +12,7 @@ judge_all-requires g c =
       some = record { list = reverse c.requires.records; stands = here.stands; begins = begun_by g.L.Lines.format g.met.L.Lines.is_format c.args.feed.now.mark c.args.feed.now.line.items c.args.feed.now.fault c.args.session.now c.version.result c.requires.bytes c.args.piece.now c.requires.records here (λ v e. c.version.ensures.given v e (c.requires.bytes ++ c.args.piece.now) (c.requires.records ++ fed.0) fed.1, λ e v. c.version.ensures.none e (c.requires.bytes ++ c.args.piece.now) (c.requires.records ++ fed.0) fed.1 v) };
       room = rw c.as_slice.ensures.value (room_by g.L.Lines.format c.feed.new.self.mark c.feed.new.self.line.items c.feed.new.self.fault (c.requires.bytes ++ c.args.piece.now) c.requires.records c.feed.new.out.items c.args.session.now.records fed here.stands.count);
       of_version = rw c.as_slice.ensures.value (came_of_version g.L.Lines.format g.met.L.Lines.is_format (begun c.args.session.now.graph.version c.version.result) c.feed.new.self.mark c.feed.new.self.line.items c.feed.new.self.fault (c.requires.bytes ++ c.args.piece.now) c.requires.records c.feed.new.out.items fed
-      (by_given g.L.Lines.format g.met.L.Lines.is_format c.args.session.now.graph.version c.version.result c.requires.bytes c.args.piece.now (λ v e. c.version.ensures.given v e (c.requires.bytes ++ c.args.piece.now) (c.requires.records ++ fed.0) fed.1, λ e v. c.version.ensures.none e (c.requires.bytes ++ c.args.piece.now) (c.requires.records ++ fed.0) fed.1 v)));
+          (by_given g.L.Lines.format g.met.L.Lines.is_format c.args.session.now.graph.version c.version.result c.requires.bytes c.args.piece.now (λ v e. c.version.ensures.given v e (c.requires.bytes ++ c.args.piece.now) (c.requires.records ++ fed.0) fed.1, λ e v. c.version.ensures.none e (c.requires.bytes ++ c.args.piece.now) (c.requires.records ++ fed.0) fed.1 v)));
     }
 
 pub returns-in_default-clause-on : goal.returns-in_default-clause-on
@@ -37,7 +37,7 @@ judge_all-requires-in-Err-Refused g c =
       some = record { list = reverse c.requires.records; stands = here.stands; begins = begun_by g.L.Lines.format g.met.L.Lines.is_format c.args.feed.now.mark c.args.feed.now.line.items c.args.feed.now.fault c.args.session.now c.version-in-Err-Refused.result c.requires.bytes c.args.piece.now c.requires.records here (λ v e. c.version-in-Err-Refused.ensures.given v e (c.requires.bytes ++ c.args.piece.now) (c.requires.records ++ fed.0) fed.1, λ e v. c.version-in-Err-Refused.ensures.none e (c.requires.bytes ++ c.args.piece.now) (c.requires.records ++ fed.0) fed.1 v) };
       room = rw c.as_slice-in-Err-Refused.ensures.value (room_by g.L.Lines.format c.feed.new.self.mark c.feed.new.self.line.items c.feed.new.self.fault (c.requires.bytes ++ c.args.piece.now) c.requires.records c.feed.new.out.items c.args.session.now.records fed here.stands.count);
       of_version = rw c.as_slice-in-Err-Refused.ensures.value (came_of_version g.L.Lines.format g.met.L.Lines.is_format (begun c.args.session.now.graph.version c.version-in-Err-Refused.result) c.feed.new.self.mark c.feed.new.self.line.items c.feed.new.self.fault (c.requires.bytes ++ c.args.piece.now) c.requires.records c.feed.new.out.items fed
-      (by_given g.L.Lines.format g.met.L.Lines.is_format c.args.session.now.graph.version c.version-in-Err-Refused.result c.requires.bytes c.args.piece.now (λ v e. c.version-in-Err-Refused.ensures.given v e (c.requires.bytes ++ c.args.piece.now) (c.requires.records ++ fed.0) fed.1, λ e v. c.version-in-Err-Refused.ensures.none e (c.requires.bytes ++ c.args.piece.now) (c.requires.records ++ fed.0) fed.1 v)));
+          (by_given g.L.Lines.format g.met.L.Lines.is_format c.args.session.now.graph.version c.version-in-Err-Refused.result c.requires.bytes c.args.piece.now (λ v e. c.version-in-Err-Refused.ensures.given v e (c.requires.bytes ++ c.args.piece.now) (c.requires.records ++ fed.0) fed.1, λ e v. c.version-in-Err-Refused.ensures.none e (c.requires.bytes ++ c.args.piece.now) (c.requires.records ++ fed.0) fed.1 v)));
     }
 
 pub returns-in_default-judge_all-clause-on : goal.returns-in_default-judge_all-clause-on

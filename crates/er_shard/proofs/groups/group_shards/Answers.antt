@@ -4,19 +4,19 @@ use Rattle.er_cover.specs.declared.fault.CoverFault.TheVariants.{TooManyClasses}
 use Rattle.er_cover.specs.Classes.{classes_of}
 use Rattle.er_cover.specs.Groups.{Grouping, grouping_by, grouping_of, groups_of, most_classes, most_tests}
 use Rattle.er_cover.specs.Parts.{Classing, class_names}
-use Rattle.er_cover.proofs.ClockLemmas.{orders, selves, over_lists}
+use Rattle.er_cover.proofs.ClockLemmas.{orders, selves}
 use Rattle.er_cover.proofs.PartLemmas.{as_many_names, class_names_below, few_tests, over_classing}
 use Rattle.er_shard.proofs.NamedLemmas.{all_bounded, named_all}
 use Rattle.er_shard.proofs.groups.group_shards.Goals as goal
 
 pub returns-in-Err-clause-many : goal.returns-in-Err-clause-many
-returns-in-Err-clause-many g c = λ is lists stands.
+returns-in-Err-clause-many g c = λ is.
     let same : c.in-Err.fault ≡ TooManyClasses = cc in
-    over_lists (λ joined. most_classes < length (classes_of joined c.args.table.now)) c.args.clocks.now lists stands (c.make_classes.ensures.many (cc))
+    (c.make_classes.ensures.many (cc))
 
 pub returns-in-Err-clause-bound : goal.returns-in-Err-clause-bound
-returns-in-Err-clause-bound g c = λ lists stands.
-    over_lists (λ joined. c.make_classes.new.tests ≤ c.args.tests.now + most_tests joined c.args.table.now) c.args.clocks.now lists stands (let h = c.make_classes.ensures.bound in omega (arith, h))
+returns-in-Err-clause-bound g c =
+    (let h = c.make_classes.ensures.bound in omega (arith, h))
 
 pub absorb-requires : goal.absorb-requires
 absorb-requires g c =
@@ -32,10 +32,9 @@ gather-requires-clause-below g c =
     (c.deref.ensures.value ∙ named_all c.args.shards joined c.in-Ok.classes c.name_between-all.result.names c.in-Ok-names.names c.name_between-all.result.meter c.requires.some c.in-Ok-names.is c.name_between-all.ensures)
 
 pub returns-in-Ok-gather-clause-groups : goal.returns-in-Ok-gather-clause-groups
-returns-in-Ok-gather-clause-groups g c = λ lists stands.
+returns-in-Ok-gather-clause-groups g c =
     let joined = joins c.args.clocks.now in
     let named : c.deref.result.now ≡ class_names joined c.in-Ok.classes = c.deref.ensures.value ∙ named_all c.args.shards joined c.in-Ok.classes c.name_between-all.result.names c.in-Ok-names.names c.name_between-all.result.meter c.requires.some c.in-Ok-names.is c.name_between-all.ensures in
-    over_lists (λ j. c.in-Ok-gather.groups ≡ grouping_of j c.args.table.now) c.args.clocks.now lists stands
     (c.in-Ok-gather.ensures joined (over_classing joined c.args.table.now c.in-Ok.classes c.in-Ok.ensures.classes) named ∙ ap (λ (s : Classing). grouping_by joined s.by_race) c.in-Ok.ensures.classes)
 
 pub returns-in-Ok-gather-clause-each : goal.returns-in-Ok-gather-clause-each
@@ -46,25 +45,25 @@ returns-in-Ok-gather-clause-each g c =
     (c.in-Ok-gather.ensures joined (over_classing joined c.args.table.now c.in-Ok.classes c.in-Ok.ensures.classes) named ∙ ap (λ (s : Classing). grouping_by joined s.by_race) c.in-Ok.ensures.classes)
 
 pub returns-in-Ok-gather-clause-few : goal.returns-in-Ok-gather-clause-few
-returns-in-Ok-gather-clause-few g c = λ lists stands. over_lists (λ joined. length (classes_of joined c.args.table.now) ≤ most_classes) c.args.clocks.now lists stands c.in-Ok.ensures.few
+returns-in-Ok-gather-clause-few g c = c.in-Ok.ensures.few
 
 pub returns-in-Ok-gather-clause-bound : goal.returns-in-Ok-gather-clause-bound
-returns-in-Ok-gather-clause-bound g c = λ lists stands.
+returns-in-Ok-gather-clause-bound g c =
     let joined = joins c.args.clocks.now in
     let kept = c.args.table.now in
     let made = all_bounded c.args.shards joined c.in-Ok.classes kept c.name_between-all.result.names c.name_between-all.result.meter c.requires.some c.in-Ok.ensures.classes c.name_between-all.ensures in
-    over_lists (λ j. c.absorb.new.self ≤ c.args.tests.now + most_tests j kept) c.args.clocks.now lists stands (omega (arith, made, c.in-Ok.ensures.bound, c.absorb.ensures))
+    (omega (arith, made, c.in-Ok.ensures.bound, c.absorb.ensures))
 
 pub returns-in-Ok-names-clause-bound : goal.returns-in-Ok-names-clause-bound
-returns-in-Ok-names-clause-bound g c = λ lists stands.
+returns-in-Ok-names-clause-bound g c =
     let joined = joins c.args.clocks.now in
     let kept = c.args.table.now in
     let made = all_bounded c.args.shards joined c.in-Ok.classes kept c.name_between-all.result.names c.name_between-all.result.meter c.requires.some c.in-Ok.ensures.classes c.name_between-all.ensures in
-    over_lists (λ j. c.absorb.new.self ≤ c.args.tests.now + most_tests j kept) c.args.clocks.now lists stands (omega (arith, made, c.in-Ok.ensures.bound, c.absorb.ensures))
+    (omega (arith, made, c.in-Ok.ensures.bound, c.absorb.ensures))
 
 pub returns-clause-bound : goal.returns-clause-bound
-returns-clause-bound g c = λ lists stands.
+returns-clause-bound g c =
     let joined = joins c.args.clocks.now in
     let kept = c.args.table.now in
     let made = all_bounded c.args.shards joined c.in-Ok.classes kept c.name_between-all.result.names c.name_between-all.result.meter c.requires.some c.in-Ok.ensures.classes c.name_between-all.ensures in
-    over_lists (λ j. c.absorb.new.self ≤ c.args.tests.now + most_tests j kept) c.args.clocks.now lists stands (omega (arith, made, c.in-Ok.ensures.bound, c.absorb.ensures))
+    (omega (arith, made, c.in-Ok.ensures.bound, c.absorb.ensures))
