@@ -17,4 +17,6 @@ pub record EndsWith (words : List (List ℕ)) (status : ℕ) : Type 0 where
   pub is : status ≡ status_of outcome
   pub usage : outcome ≡ Usage → (asked : Asked) → Asks words asked → ⊥
   pub refused : ((asked : Asked) → Asks words asked → ⊥) → (outcome ≡ Usage) ⊎ (outcome ≡ NoMemory)
-  pub answered : (asked : Asked) → Asks words asked → IsAnswer outcome → IsAnswered (format_of asked.command) asked.command (seen untold untold 0 0) (seen untold untold compared tested) outcome
+  pub answered : (asked : Asked) → Asks words asked → IsAnswer outcome
+      → IsAnswered (format_of asked.command) asked.command (seen untold untold 0 0)
+      (seen untold untold compared tested) outcome

@@ -44,7 +44,8 @@ GetsPart old due new = (n : ℕ) × (n < length due) × Gets old (take n due) ne
 
 -- What writing the bytes that are due comes to, by what the sink got and counted before and after:
 -- all of them came and no fault, or a proper front of them and a fault.
-pub record Puts {S E : Type 0} (got : S → Option (List ℕ)) (faults : S → ℕ) (old : S) (due : List ℕ) (new : S) (result : Result Unit E) : Type 0 where
+pub record Puts {S E : Type 0} (got : S → Option (List ℕ)) (faults : S → ℕ) (old : S) (due : List ℕ)
+    (new : S) (result : Result Unit E) : Type 0 where
   pub whole : OnOk result (Gets (got old) due (got new))
   pub stands : OnOk result (faults new ≡ faults old)
   pub part : OnErr result (GetsPart (got old) due (got new))

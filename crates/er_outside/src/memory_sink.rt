@@ -79,7 +79,8 @@ impl MemorySink {
 
     /// How many bytes the next write takes of a piece of this length, if it does not fail.
     fn amount(&self, due: usize) -> usize
-        ensures amount { result ≡ min self.now.most (min due (self.now.room - length self.now.got)) }
+        ensures amount { result
+            ≡ min self.now.most (min due (self.now.room - length self.now.got)) }
         ensures some { (0 < due → length self.now.got < self.now.room → 0 < result) }
     {
         (self.most as usize)
@@ -95,7 +96,8 @@ impl Sink for MemorySink {
 
     fn write(&mut self, piece: &[u8]) -> Result<usize, Failed>
         ensures taken { IfOk result (λ n. n ≤ length piece.now) }
-        ensures got { IfOk result (λ n. Gets (Some self.old.got) (take n piece.now) (Some self.new.got)) }
+        ensures got { IfOk result
+            (λ n. Gets (Some self.old.got) (take n piece.now) (Some self.new.got)) }
         ensures some { IfOk result (λ n. 0 < length piece.now → 0 < n) }
         ensures kept { OnErr result (Some self.new.got ≡ Some self.old.got) }
         ensures cause { OnErr result (Rose self.old.faults self.new.faults) }
@@ -103,7 +105,8 @@ impl Sink for MemorySink {
         ensures count { self.old.faults ≤ self.new.faults }
         ensures stands { OnOk result (self.new.faults ≡ self.old.faults) }
         ensures fails { IsErr result ↔ ((0 < length piece.now) × (Contains self.old.failing (next_call self.old.calls) ⊎ (self.old.room ≤ length self.old.got))) }
-        ensures amount { IfOk result (λ n. n ≡ min self.old.most (min (length piece.now) (self.old.room - length self.old.got))) }
+        ensures amount { IfOk result (λ n. n
+            ≡ min self.old.most (min (length piece.now) (self.old.room - length self.old.got))) }
         ensures after { IfOk result (λ n. self.new ≡ record self.old { got = self.old.got ++ take n piece.now; calls = next_call self.old.calls }) }
         ensures after_fault { OnErr result (self.new ≡ record self.old { calls = next_call self.old.calls; faults = one_more self.old.faults }) }
     {

@@ -80,7 +80,8 @@ impl Source for MemorySource {
 
     fn read(&mut self, buf: &mut [u8]) -> Result<usize, Failed>
         ensures placed { IfOk result (λ n. n ≤ length buf.new) }
-        ensures given { IfOk result (λ n. Gives (Some self.old.left) (take n buf.new) (Some self.new.left)) }
+        ensures given { IfOk result
+            (λ n. Gives (Some self.old.left) (take n buf.new) (Some self.new.left)) }
         ensures end { IfOk result (λ n. n ≡ 0 → 0 < length buf.new → IsSpent (Some self.new.left)) }
         ensures kept { OnErr result (Some self.new.left ≡ Some self.old.left) }
         ensures cause { OnErr result (Rose self.old.faults self.new.faults) }
@@ -88,9 +89,11 @@ impl Source for MemorySource {
         ensures count { self.old.faults ≤ self.new.faults }
         ensures stands { OnOk result (self.new.faults ≡ self.old.faults) }
         ensures fails { IsErr result ↔ Contains self.old.failing (next_call self.old.calls) }
-        ensures amount { IfOk result (λ n. n ≡ min self.old.most (min (length buf.old) (length self.old.left))) }
+        ensures amount { IfOk result
+            (λ n. n ≡ min self.old.most (min (length buf.old) (length self.old.left))) }
         ensures rest { IfOk result (λ n. drop n buf.new ≡ drop n buf.old) }
-        ensures after { IfOk result (λ n. self.new ≡ record self.old { left = drop n self.old.left; calls = next_call self.old.calls }) }
+        ensures after { IfOk result (λ n. self.new
+            ≡ record self.old { left = drop n self.old.left; calls = next_call self.old.calls }) }
         ensures untouched { OnErr result (buf.new ≡ buf.old) }
         ensures after_fault { OnErr result (self.new ≡ record self.old { calls = next_call self.old.calls; faults = one_more self.old.faults }) }
     {

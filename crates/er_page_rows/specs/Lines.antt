@@ -17,6 +17,7 @@ list_after None h x = x ∷ h
 list_after (Some cause) h x = h
 
 -- the answer is the first cause against the record, and the page then stands for the list after it
-pub record HasTaken (page : Page) (x : Record) (cause : Option Cause) (h : List Record) : Type 0 where
+pub record HasTaken (page : Page) (x : Record) (cause : Option Cause)
+    (h : List Record) : Type 0 where
   pub said : cause ≡ cause_of h x
   pub stands : IsPage page (list_after cause h x)

@@ -41,9 +41,13 @@ impl Reading {
 
     /// Takes the record of version 3 that the line spells, or answers the first cause against it.
     pub fn read(&mut self, alloc: Global, line: &str) -> Result<Option<Cause>, LineFault>
-        ensures taken { IfOk result (λ cause. (x : Record) → IsRecordOf Three x → line.now ≡ spelling x → (h : List Record) → IsPage self.old.page h → HasTaken self.new.page x cause h) }
-        ensures bad { result ≡ Err LineFault.BadRecord → (x : Record) → IsRecordOf Three x → line.now ≡ spelling x → ⊥ }
-        ensures kept { OnErr result ((h : List Record) → IsPage self.old.page h → IsPage self.new.page h) }
+        ensures taken { IfOk result (λ cause. (x : Record) → IsRecordOf Three x
+            → line.now ≡ spelling x → (h : List Record) → IsPage self.old.page h
+            → HasTaken self.new.page x cause h) }
+        ensures bad { result ≡ Err LineFault.BadRecord → (x : Record) → IsRecordOf Three x
+            → line.now ≡ spelling x → ⊥ }
+        ensures kept { OnErr result
+            ((h : List Record) → IsPage self.old.page h → IsPage self.new.page h) }
     {
         let rec = parse_record(alloc, Version::Three, line.as_bytes())?;
         match self.take(&rec) {
@@ -55,8 +59,10 @@ impl Reading {
     /// Takes the record, or answers the first cause against it.
     #[tactic(auto, using(er_page::proofs::PageLemmas::next_of, er_page::proofs::PageLemmas::after_next, er_page::proofs::PageLemmas::kept_page, crate::proofs::TakenLemmas::misnamed, crate::proofs::TakenLemmas::over, crate::proofs::TakenLemmas::taken))]
     pub fn take(&mut self, rec: &Record) -> Result<Option<Cause>, NoMemory>
-        ensures taken { IfOk result (λ cause. (h : List Record) → IsPage self.old.page h → HasTaken self.new.page rec.now cause h) }
-        ensures kept { OnErr result ((h : List Record) → IsPage self.old.page h → IsPage self.new.page h) }
+        ensures taken { IfOk result (λ cause. (h : List Record) → IsPage self.old.page h
+            → HasTaken self.new.page rec.now cause h) }
+        ensures kept { OnErr result
+            ((h : List Record) → IsPage self.old.page h → IsPage self.new.page h) }
     {
         if let Err(cause) = self.page.check(rec) {
             return Ok(Some(cause));

@@ -9,7 +9,8 @@ is_among k ks = list_any (λ m. m == k) ks
 -- a path leads from i to j: the newest is joined from itself, and from where one of its list is joined
 abbrev pub joins : List (List ℕ) → ℕ → ℕ → Bool
 joins [] i j = false
-joins (p ∷ older) i j = if j == length older then (i == j) || list_any (λ k. joins older i k) p else joins older i j
+joins (p ∷ older) i j =
+    if j == length older then (i == j) || list_any (λ k. joins older i k) p else joins older i j
 
 -- the list of action j
 abbrev pub list_of : List (List ℕ) → ℕ → List ℕ

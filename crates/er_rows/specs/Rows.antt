@@ -24,7 +24,8 @@ causes v [] = []
 causes v (x ∷ h) = cause (rules v) h x ∷ causes v h
 
 -- In this version the records are spelled so, each is legal, they are within the limits, and this is their report.
-pub record Reports (v : Version) (records : List Record) (spelled reported : List ℕ) (none : List (Option Cause)) : Type 0 where
+pub record Reports (v : Version) (records : List Record) (spelled reported : List ℕ)
+    (none : List (Option Cause)) : Type 0 where
   pub text : same_bytes (text v records) spelled ≡ true
   pub legal : causes v (reverse records) ≡ none
   pub within : end_cause v (reverse records) ≡ None
@@ -129,13 +130,16 @@ pub record Causes : Type 0 where
   pub unknown_document : cause (rules One) (step 1 ∷ []) (Parse 1 2 kinds.Plain) ≡ Some Unknown
   pub not_script : cause (rules One) (step 1 ∷ []) (Exec 1) ≡ Some NotScript
   pub script : cause (rules One) (Parse 0 1 kinds.Inline ∷ []) (Exec 1) ≡ None
-  pub element_location : cause (rules One) (step 1 ∷ []) (Access modes.R (Elem 0 (codes "x"))) ≡ None
+  pub element_location : cause (rules One) (step 1 ∷ []) (Access modes.R (Elem 0 (codes "x")))
+      ≡ None
   pub note_first : cause (rules One) [] (Set 1 0) ≡ Some Misplaced
   pub timer_first : cause (rules One) [] (Timer 9) ≡ Some Unknown
   pub handler_first : cause (rules One) [] (On 7) ≡ Some Misplaced
-  pub timer_within : cause (rules One) (Fire 1 1 (codes "x") ∷ Set 1 0 ∷ step 1 ∷ []) (Timer 1) ≡ Some Misplaced
+  pub timer_within : cause (rules One) (Fire 1 1 (codes "x") ∷ Set 1 0 ∷ step 1 ∷ []) (Timer 1)
+      ≡ Some Misplaced
   pub closed : cause (rules One) (Fire 1 1 (codes "x") ∷ step 1 ∷ []) (Close 1) ≡ None
-  pub closed_again : cause (rules One) (Close 1 ∷ Fire 1 1 (codes "x") ∷ step 1 ∷ []) (Close 1) ≡ Some Misplaced
+  pub closed_again : cause (rules One) (Close 1 ∷ Fire 1 1 (codes "x") ∷ step 1 ∷ []) (Close 1)
+      ≡ Some Misplaced
   pub element_again : cause (rules One) (step 1 ∷ []) (step 1) ≡ Some Again
   pub unknown_before_again : cause (rules One) (step 1 ∷ []) (Parse 5 1 kinds.Plain) ≡ Some Unknown
   pub set_again : cause (rules One) (Set 1 5 ∷ step 1 ∷ []) (Set 1 6) ≡ Some Again
@@ -144,10 +148,12 @@ pub record Causes : Type 0 where
 
 -- which records of parsing and scripts come too late
 pub record Orders : Type 0 where
-  pub step_after_deferred : cause (rules One) (Exec 1 ∷ Parse 0 1 kinds.Defer ∷ []) (step 2) ≡ Some OutOfOrder
+  pub step_after_deferred : cause (rules One) (Exec 1 ∷ Parse 0 1 kinds.Defer ∷ []) (step 2)
+      ≡ Some OutOfOrder
   pub step_after_async : cause (rules One) (Exec 1 ∷ Parse 0 1 kinds.Async ∷ []) (step 2) ≡ None
   pub step_before_deferred : cause (rules One) (Parse 0 1 kinds.Defer ∷ []) (step 2) ≡ None
-  pub blocking_after_step : cause (rules One) (step 2 ∷ Parse 0 1 kinds.Sync ∷ []) (Exec 1) ≡ Some OutOfOrder
+  pub blocking_after_step : cause (rules One) (step 2 ∷ Parse 0 1 kinds.Sync ∷ []) (Exec 1)
+      ≡ Some OutOfOrder
   pub blocking_after_step_of_another : cause (rules One) (Parse 1 3 kinds.Plain ∷ Parse 0 2 kinds.Sync ∷ ParseFrame 0 1 1 ∷ []) (Exec 2) ≡ None
   pub blocking_after_deferred : cause (rules One) (Exec 1 ∷ Parse 0 2 kinds.Inline ∷ Parse 0 1 kinds.Defer ∷ []) (Exec 2) ≡ Some OutOfOrder
   pub deferred_after_blocking : cause (rules One) (Exec 2 ∷ Parse 0 2 kinds.Inline ∷ Parse 0 1 kinds.Defer ∷ []) (Exec 1) ≡ None
@@ -157,10 +163,12 @@ pub record Orders : Type 0 where
 
 -- line 3 is the first illegal one of these bytes, whatever is asked
 abbrev pub UnknownTimeout : Type 0
-UnknownTimeout = (asked : Command) → FirstIllegal text_lines asked (codes "webtrace 1\nparse 0 1 plain\ntimer 9\nend\n") 3 Unknown
+UnknownTimeout = (asked : Command)
+    → FirstIllegal text_lines asked (codes "webtrace 1\nparse 0 1 plain\ntimer 9\nend\n") 3 Unknown
 
 abbrev pub NotAScript : Type 0
-NotAScript = (asked : Command) → FirstIllegal text_lines asked (codes "webtrace 1\nparse 0 1 plain\nexec 1\nend\n") 3 NotScript
+NotAScript = (asked : Command)
+    → FirstIllegal text_lines asked (codes "webtrace 1\nparse 0 1 plain\nexec 1\nend\n") 3 NotScript
 
 -- and line 4 of these
 abbrev pub RunTooLate : Type 0

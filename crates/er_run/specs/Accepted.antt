@@ -53,27 +53,33 @@ pub record IsListing (v : Version) (listing : Listing) (h : List Record) : Type 
   pub grouped : AreGrouped v listing.groups h
 
 -- these are the races of these records, and the orders of race number k
-pub record AreOrdersOf (v : Version) (k : ℕ) (found : List Race) (orders : Orders) (h : List Record) : Type 0 where
+pub record AreOrdersOf (v : Version) (k : ℕ) (found : List Race) (orders : Orders)
+    (h : List Record) : Type 0 where
   pub listed : AreListed v found h
   pub has_race : (1 ≤ k) × (k ≤ length found)
   pub are : AreOrders (edges (rules v) (told h).actions) (kept h) found k orders
 
 -- this is why a path leads from action i to action j, which have begun
-pub record IsExplanation (v : Version) (i j : ℕ) (steps : Option (List Step)) (h : List Record) : Type 0 where
+pub record IsExplanation (v : Version) (i j : ℕ) (steps : Option (List Step))
+    (h : List Record) : Type 0 where
   pub first : i < length (told h).actions
   pub second : j < length (told h).actions
   pub is : steps ≡ explanation (rules v) h i j
 
 -- this was found of these records, newest first, by what is asked
 abbrev pub IsFound : Command → Version → Found → List Record → Type 0
-IsFound asked v (findings.Line listing) h = ((input : Input) × (asked ≡ Check true input)) × IsListing v listing h
-IsFound asked v (findings.Report listing) h = ((input : Input) × (asked ≡ Check false input)) × IsListing v listing h
+IsFound asked v (findings.Line listing) h =
+    ((input : Input) × (asked ≡ Check true input)) × IsListing v listing h
+IsFound asked v (findings.Report listing) h =
+    ((input : Input) × (asked ≡ Check false input)) × IsListing v listing h
 IsFound asked v (findings.Summary n listing) h = (asked ≡ Gen n) × IsListing v listing h
-IsFound asked v (findings.Orders k races orders) h = (asked ≡ Schedule k) × AreOrdersOf v k races.items orders h
+IsFound asked v (findings.Orders k races orders) h =
+    (asked ≡ Schedule k) × AreOrdersOf v k races.items orders h
 IsFound asked v (findings.Steps i j steps) h = (asked ≡ Explain i j) × IsExplanation v i j steps h
 
 -- the session stands for these records, newest first, their `end` line has no cause, and this was found of them
-pub record IsJudged (asked : Command) (session : Session) (found : Found) (h : List Record) : Type 0 where
+pub record IsJudged (asked : Command) (session : Session) (found : Found)
+    (h : List Record) : Type 0 where
   pub stands : IsSessionOf session h
   pub within : end_cause_for asked session.graph.version h ≡ None
   pub is_found : IsFound asked session.graph.version found h
@@ -85,14 +91,16 @@ pub record IsJudgement (judged : Judged) : Type 0 where
   pub is_judged : IsJudged asked judged.session judged.found list
 
 -- the bytes are a legal trace, and this is what came of judging its records
-pub record IsAccepted (f : Format) (asked : Command) (bytes : List ℕ) (judged : Judged) : Type 0 where
+pub record IsAccepted (f : Format) (asked : Command) (bytes : List ℕ)
+    (judged : Judged) : Type 0 where
   pub records : List Record
   pub legal : IsLegalTrace f asked judged.session.graph.version bytes records
   pub is_judged : IsJudged asked judged.session judged.found (reverse records)
 
 -- the count of comparisons rose by one for each candidate pair of the records for which the session stands
 abbrev pub IsCompared : Session → ℕ → ℕ → Type 0
-IsCompared session old new = (h : List Record) → IsSessionOf session h → new ≡ old + length (candidates h)
+IsCompared session old new = (h : List Record) → IsSessionOf session h
+    → new ≡ old + length (candidates h)
 
 -- the count of tests rose by four at most for each class and each group of these records
 abbrev pub IsTested : Session → ℕ → ℕ → Type 0
@@ -100,10 +108,12 @@ IsTested session old new = (h : List Record) → IsSessionOf session h → (old 
 
 -- the same by what is asked
 abbrev pub IsComparedFor : Command → Session → ℕ → ℕ → Type 0
-IsComparedFor asked session old new = (h : List Record) → IsSessionOf session h → new ≡ old + compared_for asked h
+IsComparedFor asked session old new = (h : List Record) → IsSessionOf session h
+    → new ≡ old + compared_for asked h
 
 abbrev pub IsTestedFor : Command → Session → ℕ → ℕ → Type 0
-IsTestedFor asked session old new = (h : List Record) → IsSessionOf session h → (old ≤ new) × (new ≤ old + 4 * tested_for asked session.graph.version h)
+IsTestedFor asked session old new = (h : List Record) → IsSessionOf session h
+    → (old ≤ new) × (new ≤ old + 4 * tested_for asked session.graph.version h)
 
 -- the line behind these records, newest first, is refused for this cause; or memory ran out
 abbrev pub IsEndFault : Option Cause → List Record → FeedFault → Type 0
@@ -121,7 +131,8 @@ pub record IsAskable (asked : Asked) : Type 0 where
   pub race : (k : ℕ) → asked.command ≡ Schedule k → 1 ≤ k
 
 -- what came of writing the text that is due for these records, newest first
-abbrev pub ReportsOf : Command → Version → List Record → List ℕ → Outcome → Option (List ℕ) → Option (List ℕ) → Type 0
+abbrev pub ReportsOf : Command → Version → List Record → List ℕ → Outcome → Option (List ℕ)
+    → Option (List ℕ) → Type 0
 ReportsOf asked v h due Clean old new = (outcome_for asked v h ≡ Clean) × Gets old due new
 ReportsOf asked v h due Races old new = (outcome_for asked v h ≡ Races) × Gets old due new
 ReportsOf asked v h due WriteFault old new = GetsPart old due new
@@ -135,7 +146,8 @@ RefusedAs n c due _ old new = ⊥
 
 -- and of writing it where the fault is one
 abbrev pub FailedAs : Command → FeedFault → Outcome → Option (List ℕ) → Option (List ℕ) → Type 0
-FailedAs asked (faults.Refused n c) outcome old new = RefusedAs n c (refusal_for asked n c) outcome old new
+FailedAs asked (faults.Refused n c) outcome old new =
+    RefusedAs n c (refusal_for asked n c) outcome old new
 FailedAs asked faults.NoMemory outcome old new = outcome ≡ NoMemory
 
 -- how a run ends that wrote the text for this outcome, or failed to
@@ -149,7 +161,8 @@ pub record IsListed (session : Session) (listing : Listing) : Type 0 where
   pub stands : IsSessionOf session list
   pub is : IsListing session.graph.version listing list
 
-pub record IsOrdered (session : Session) (k : ℕ) (found : List Race) (orders : Orders) : Type 0 where
+pub record IsOrdered (session : Session) (k : ℕ) (found : List Race)
+    (orders : Orders) : Type 0 where
   pub list : List Record
   pub stands : IsSessionOf session list
   pub are : AreOrdersOf session.graph.version k found orders list
@@ -167,4 +180,5 @@ IsRefusal f asked bytes faults.NoMemory = Unit {0}
 
 -- the bytes are accepted, or refused
 abbrev pub IsVerdict : Format → Command → List ℕ → Result Judged FeedFault → Type 0
-IsVerdict f asked bytes verdict = MatchResult verdict (IsAccepted f asked bytes) (IsRefusal f asked bytes)
+IsVerdict f asked bytes verdict =
+    MatchResult verdict (IsAccepted f asked bytes) (IsRefusal f asked bytes)

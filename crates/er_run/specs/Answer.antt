@@ -35,7 +35,8 @@ abbrev pub format_of : Command → Format
 format_of asked = lines_of (lines_asked asked)
 
 -- the bytes are a trace in that version with these records, oldest first, which is legal for what is asked
-pub record IsLegalTrace (f : Format) (asked : Command) (v : Version) (bytes : List ℕ) (records : List Record) : Type 0 where
+pub record IsLegalTrace (f : Format) (asked : Command) (v : Version) (bytes : List ℕ)
+    (records : List Record) : Type 0 where
   pub is_trace : IsTrace f v bytes records
   pub legal : IsLegal (rules v) (reverse records)
   pub within : end_cause_for asked v (reverse records) ≡ None
@@ -44,10 +45,12 @@ pub record IsLegalTrace (f : Format) (asked : Command) (v : Version) (bytes : Li
 abbrev pub IsLegalBefore : Command → Place → Type 0
 IsLegalBefore asked Start = Unit {0}
 IsLegalBefore asked (After v records) = IsLegal (rules v) (reverse records)
-IsLegalBefore asked (Ended v records) = IsLegal (rules v) (reverse records) × (end_cause_for asked v (reverse records) ≡ None)
+IsLegalBefore asked (Ended v records) =
+    IsLegal (rules v) (reverse records) × (end_cause_for asked v (reverse records) ≡ None)
 
 -- the bytes begin with the line of a record that has the cause after the earlier ones
-pub record HasCause (f : Format) (v : Version) (earlier : List Record) (bytes : List ℕ) (c : Cause) : Type 0 where
+pub record HasCause (f : Format) (v : Version) (earlier : List Record) (bytes : List ℕ)
+    (c : Cause) : Type 0 where
   pub few : length earlier + 2 ≤ most_lines
   pub read : Record
   pub l : List ℕ
@@ -58,7 +61,8 @@ pub record HasCause (f : Format) (v : Version) (earlier : List Record) (bytes : 
   pub cause : legality.cause (rules v) (reverse earlier) read ≡ Some c
 
 -- they begin with a last line that has the cause behind the earlier records
-pub record EndHasCause (f : Format) (asked : Command) (v : Version) (earlier : List Record) (bytes : List ℕ) (c : Cause) : Type 0 where
+pub record EndHasCause (f : Format) (asked : Command) (v : Version) (earlier : List Record)
+    (bytes : List ℕ) (c : Cause) : Type 0 where
   pub few : length earlier + 2 ≤ most_lines
   pub l : List ℕ
   pub short : IsShort f.most l
@@ -71,13 +75,17 @@ pub record EndHasCause (f : Format) (asked : Command) (v : Version) (earlier : L
 -- NoLine: it is no line of a trace
 -- OfRecord: it is the line of a record that has the cause
 -- OfEnd: it is a last line that has the cause for what is asked
-pub data Illegal (f : Format) (asked : Command) (place : Place) (bytes : List ℕ) (c : Cause) : Type 0 where
+pub data Illegal (f : Format) (asked : Command) (place : Place) (bytes : List ℕ)
+    (c : Cause) : Type 0 where
   NoLine : LineCause f place bytes c → Illegal f asked place bytes c
-  OfRecord : (v : Version) (earlier : List Record) → place ≡ After v earlier → HasCause f v earlier bytes c → Illegal f asked place bytes c
-  OfEnd : (v : Version) (earlier : List Record) → place ≡ After v earlier → EndHasCause f asked v earlier bytes c → Illegal f asked place bytes c
+  OfRecord : (v : Version) (earlier : List Record) → place ≡ After v earlier
+      → HasCause f v earlier bytes c → Illegal f asked place bytes c
+  OfEnd : (v : Version) (earlier : List Record) → place ≡ After v earlier
+      → EndHasCause f asked v earlier bytes c → Illegal f asked place bytes c
 
 -- The first line that is illegal has number n and cause c: the lines before it are legal.
-pub record FirstIllegal (f : Format) (asked : Command) (bytes : List ℕ) (n : ℕ) (c : Cause) : Type 0 where
+pub record FirstIllegal (f : Format) (asked : Command) (bytes : List ℕ) (n : ℕ)
+    (c : Cause) : Type 0 where
   pub place : Place
   pub number : n ≡ line_number place
   pub few : line_number place ≤ most_lines + 1
@@ -101,7 +109,12 @@ outcome_for (Explain i j) v h = Clean
 
 -- Where lines are read so, the answer of the bytes to the command is this outcome, and the text is due for it.
 abbrev pub Answers : Format → Command → List ℕ → Outcome → List ℕ → Type 0
-Answers f asked bytes Clean due = (v : Version) × (records : List Record) × IsLegalTrace f asked v bytes records × (outcome_for asked v (reverse records) ≡ Clean) × (due ≡ text_for v asked (reverse records))
-Answers f asked bytes Races due = (v : Version) × (records : List Record) × IsLegalTrace f asked v bytes records × (outcome_for asked v (reverse records) ≡ Races) × (due ≡ text_for v asked (reverse records))
-Answers f asked bytes (Refused n c) due = FirstIllegal f asked bytes n c × (due ≡ refusal_for asked n c)
+Answers f asked bytes Clean due = (v : Version) × (records : List Record)
+    × IsLegalTrace f asked v bytes records × (outcome_for asked v (reverse records) ≡ Clean)
+    × (due ≡ text_for v asked (reverse records))
+Answers f asked bytes Races due = (v : Version) × (records : List Record)
+    × IsLegalTrace f asked v bytes records × (outcome_for asked v (reverse records) ≡ Races)
+    × (due ≡ text_for v asked (reverse records))
+Answers f asked bytes (Refused n c) due =
+    FirstIllegal f asked bytes n c × (due ≡ refusal_for asked n c)
 Answers f asked bytes _ due = ⊥

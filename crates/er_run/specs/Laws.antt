@@ -24,22 +24,26 @@ use Rattle.er_run.specs.Races.{kept, races}
 
 -- to each command a byte string has one outcome, and one text is due for it
 abbrev pub OneAnswer : Type 0
-OneAnswer = (asked : Command) (bytes : List ℕ) (o p : Outcome) (due text : List ℕ) → Answers (format_of asked) asked bytes o due → Answers (format_of asked) asked bytes p text
+OneAnswer = (asked : Command) (bytes : List ℕ) (o p : Outcome) (due text : List ℕ)
+    → Answers (format_of asked) asked bytes o due → Answers (format_of asked) asked bytes p text
     → (o ≡ p) × (due ≡ text)
 
 -- to each command a byte string has an outcome, and a text is due for it; under a double negation, since the words of the definitions decide nothing
 abbrev pub EveryAnswer : Type 0
-EveryAnswer = (asked : Command) (bytes : List ℕ) → ¬ ¬ ((o : Outcome) × (due : List ℕ) × Answers (format_of asked) asked bytes o due)
+EveryAnswer = (asked : Command) (bytes : List ℕ)
+    → ¬ ¬ ((o : Outcome) × (due : List ℕ) × Answers (format_of asked) asked bytes o due)
 
 -- a refusal other than `no-end` is that of every longer input
 abbrev pub LongerInput : Type 0
-LongerInput = (asked : Command) (bytes more : List ℕ) (n : ℕ) (c : Cause) → FirstIllegal (format_of asked) asked bytes n c → c ≢ NoEnd
+LongerInput = (asked : Command) (bytes more : List ℕ) (n : ℕ) (c : Cause)
+    → FirstIllegal (format_of asked) asked bytes n c → c ≢ NoEnd
     → FirstIllegal (format_of asked) asked (bytes ++ more) n c
 
 -- The bytes of a legal trace, without some of the last, are refused for `no-end`, at the line behind their last LF.
 abbrev pub CutTrace : Type 0
 CutTrace = (asked : Command) (v : Version) (records : List Record) (bytes more : List ℕ)
-    → IsTrace (format_of asked) v (bytes ++ more) records → IsLegal (rules v) (reverse records) → 0 < length more
+    → IsTrace (format_of asked) v (bytes ++ more) records → IsLegal (rules v) (reverse records)
+    → 0 < length more
     → Answers (format_of asked) asked bytes (Refused (count_of_lf bytes + 1) NoEnd) (refusal_for asked (count_of_lf bytes + 1) NoEnd)
 
 -- The kept accesses stand in the order of their lines, each once, and so do those of the races.
@@ -55,5 +59,6 @@ pub record AreBothLawful (lists : List (List ℕ)) (i j : ℕ) : Type 0 where
 
 -- so it is of the actions of each race
 abbrev pub OrdersKeepRules : Type 0
-OrdersKeepRules = (v : Version) (h : List Record) (k : ℕ) (race : Kept × Kept) → slice_get (races v h) k ≡ Some race
+OrdersKeepRules = (v : Version) (h : List Record) (k : ℕ) (race : Kept × Kept)
+    → slice_get (races v h) k ≡ Some race
     → AreBothLawful (edges (rules v) (told h).actions) race.0.action race.1.action

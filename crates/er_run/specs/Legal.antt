@@ -20,7 +20,8 @@ is_past_room h x = nat_lt most_accesses (length (kept (x ∷ h)))
 
 -- the first cause for which the record is refused after the earlier ones
 abbrev pub cause : List (ℕ × Rule) → List Record → Record → Option Cause
-cause table h x = or_else (sound.cause table h x) (if is_past_room h x then Some TooManyAccesses else None)
+cause table h x =
+    or_else (sound.cause table h x) (if is_past_room h x then Some TooManyAccesses else None)
 
 -- each record has no cause after those before it
 abbrev pub IsLegal : List (ℕ × Rule) → List Record → Type 0
@@ -49,7 +50,8 @@ schedule_cause k v h = listing_cause v h (race_cause k v h)
 
 -- of an explanation: i or j is no action
 abbrev pub explain_cause : ℕ → ℕ → List Record → Option Cause
-explain_cause i j h = if nat_le (length (told h).actions) i || nat_le (length (told h).actions) j then Some NoAction else None
+explain_cause i j h = if nat_le (length (told h).actions) i
+    || nat_le (length (told h).actions) j then Some NoAction else None
 
 -- the first cause for which the `end` line behind the records is refused, by what is asked
 abbrev pub end_cause_for : Command → Version → List Record → Option Cause

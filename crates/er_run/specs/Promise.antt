@@ -32,7 +32,8 @@ abbrev pub piece_bytes : ℕ
 piece_bytes = 4096
 
 -- without their last piece the bytes are not refused, but for `no-end`, and with it they are refused so
-pub record IsJustRefused (f : Format) (asked : Command) (bytes : List ℕ) (n : ℕ) (c : Cause) : Type 0 where
+pub record IsJustRefused (f : Format) (asked : Command) (bytes : List ℕ) (n : ℕ)
+    (c : Cause) : Type 0 where
   pub before : List ℕ
   pub last : List ℕ
   pub is : bytes ≡ before ++ last
@@ -54,13 +55,15 @@ IsSilent NoMemory = Unit {0}
 IsSilent _ = ⊥
 
 -- the text that is due for the answer of the bytes came to what was got
-pub record IsGiven (f : Format) (asked : Command) (bytes : List ℕ) (outcome : Outcome) (got_old got_new : Option (List ℕ)) : Type 0 where
+pub record IsGiven (f : Format) (asked : Command) (bytes : List ℕ) (outcome : Outcome)
+    (got_old got_new : Option (List ℕ)) : Type 0 where
   pub due : List ℕ
   pub answers : Answers f asked bytes outcome due
   pub gave : Gets got_old due got_new
 
 -- a proper front of that text came
-pub record IsPartGiven (f : Format) (asked : Command) (bytes : List ℕ) (got_old got_new : Option (List ℕ)) : Type 0 where
+pub record IsPartGiven (f : Format) (asked : Command) (bytes : List ℕ)
+    (got_old got_new : Option (List ℕ)) : Type 0 where
   pub outcome : Outcome
   pub due : List ℕ
   pub answers : Answers f asked bytes outcome due
@@ -79,20 +82,29 @@ tested_for _ v h = 0
 
 -- where the trace is legal, the count of comparisons rose by one for each candidate pair that is compared
 abbrev pub Compares : Format → Command → List ℕ → Outcome → ℕ → ℕ → Type 0
-Compares f asked bytes Clean old new = (v : Version) (records : List Record) → IsLegalTrace f asked v bytes records → new ≡ old + compared_for asked (reverse records)
-Compares f asked bytes Races old new = (v : Version) (records : List Record) → IsLegalTrace f asked v bytes records → new ≡ old + compared_for asked (reverse records)
+Compares f asked bytes Clean old new = (v : Version) (records : List Record)
+    → IsLegalTrace f asked v bytes records → new ≡ old + compared_for asked (reverse records)
+Compares f asked bytes Races old new = (v : Version) (records : List Record)
+    → IsLegalTrace f asked v bytes records → new ≡ old + compared_for asked (reverse records)
 Compares f asked bytes _ old new = Unit {0}
 
 -- and the count of tests by four at most for each class and each group
 abbrev pub Tests : Format → Command → List ℕ → Outcome → ℕ → ℕ → Type 0
-Tests f asked bytes Clean old new = (v : Version) (records : List Record) → IsLegalTrace f asked v bytes records → (old ≤ new) × (new ≤ old + 4 * tested_for asked v (reverse records))
-Tests f asked bytes Races old new = (v : Version) (records : List Record) → IsLegalTrace f asked v bytes records → (old ≤ new) × (new ≤ old + 4 * tested_for asked v (reverse records))
+Tests f asked bytes Clean old new = (v : Version) (records : List Record)
+    → IsLegalTrace f asked v bytes records
+    → (old ≤ new) × (new ≤ old + 4 * tested_for asked v (reverse records))
+Tests f asked bytes Races old new = (v : Version) (records : List Record)
+    → IsLegalTrace f asked v bytes records
+    → (old ≤ new) × (new ≤ old + 4 * tested_for asked v (reverse records))
 Tests f asked bytes _ old new = Unit {0}
 
 -- What a command judges for this outcome: a generated trace, for which it takes nothing of the source, or the bytes that the call took of it.
-abbrev pub IsInput : Format → Command → List ℕ → Option (List ℕ) → Option (List ℕ) → Outcome → Type 0
-IsInput f (Gen n) bytes left_old left_new outcome = (bytes ≡ text One (generated n)) × (left_new ≡ left_old)
-IsInput f asked bytes left_old left_new outcome = Gives left_old bytes left_new × IsDecided f asked bytes left_new outcome
+abbrev pub IsInput : Format → Command → List ℕ → Option (List ℕ) → Option (List ℕ) → Outcome
+    → Type 0
+IsInput f (Gen n) bytes left_old left_new outcome =
+    (bytes ≡ text One (generated n)) × (left_new ≡ left_old)
+IsInput f asked bytes left_old left_new outcome =
+    Gives left_old bytes left_new × IsDecided f asked bytes left_new outcome
 
 -- what is seen of a call: what is left of the source, what the sink got, and how many comparisons and tests were made
 pub record Seen : Type 0 where
@@ -102,10 +114,12 @@ pub record Seen : Type 0 where
   pub tested : ℕ
 
 abbrev pub seen : Option (List ℕ) → Option (List ℕ) → ℕ → ℕ → Seen
-seen left got compared tested = record { left = left; got = got; compared = compared; tested = tested }
+seen left got compared tested =
+    record { left = left; got = got; compared = compared; tested = tested }
 
 -- The input of the command answers this outcome, exactly the text that is due came to the sink, and the comparisons and the tests that it needs were made.
-pub record IsAnswered (f : Format) (asked : Command) (old new : Seen) (outcome : Outcome) : Type 0 where
+pub record IsAnswered (f : Format) (asked : Command) (old new : Seen)
+    (outcome : Outcome) : Type 0 where
   pub input : List ℕ
   pub taken : IsInput f asked input old.left new.left outcome
   pub given : IsGiven f asked input outcome old.got new.got

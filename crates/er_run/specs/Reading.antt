@@ -28,23 +28,28 @@ IsBy f v bytes = (w : Version) → BeginsWith f w bytes → v ≡ w
 -- the records before the first line that has a cause, with that line; or those of the whole trace
 abbrev pub IsReading : Format → Version → List ℕ → List Record → Option LineRefusal → Type 0
 IsReading f v bytes records None = IsTrace f v bytes records
-IsReading f v bytes records (Some refused) = (place : Place) × Refuses f bytes place refused.cause × (refused.line ≡ line_number place) × (records ≡ records_before place) × IsBy f v bytes
+IsReading f v bytes records (Some refused) = (place : Place) × Refuses f bytes place refused.cause
+    × (refused.line ≡ line_number place) × (records ≡ records_before place) × IsBy f v bytes
 
 -- what a feed keeps and the session stand for these bytes and for the records of their whole lines
-pub record IsAt (f : Format) (mark : Mark) (kept : List ℕ) (fault : Option FeedFault) (session : Session) (bytes : List ℕ) (records : List Record) : Type 0 where
+pub record IsAt (f : Format) (mark : Mark) (kept : List ℕ) (fault : Option FeedFault)
+    (session : Session) (bytes : List ℕ) (records : List Record) : Type 0 where
   pub fed : Stands f mark kept fault bytes records
   pub stands : IsSessionOf session (reverse records)
   pub by : IsBy f session.graph.version bytes
 
 -- they stand for some bytes, and for the records of their whole lines
-pub record IsSomewhere (f : Format) (mark : Mark) (kept : List ℕ) (fault : Option FeedFault) (session : Session) : Type 0 where
+pub record IsSomewhere (f : Format) (mark : Mark) (kept : List ℕ) (fault : Option FeedFault)
+    (session : Session) : Type 0 where
   pub bytes : List ℕ
   pub records : List Record
   pub at : IsAt f mark kept fault session bytes records
 
 -- they stand for these bytes, and for more records
-abbrev pub GoesOn : Format → Mark → List ℕ → Option FeedFault → Session → List ℕ → List Record → Type 0
-GoesOn f mark kept fault session bytes records = (more : List Record) × IsAt f mark kept fault session bytes (records ++ more)
+abbrev pub GoesOn : Format → Mark → List ℕ → Option FeedFault → Session → List ℕ → List Record
+    → Type 0
+GoesOn f mark kept fault session bytes records =
+    (more : List Record) × IsAt f mark kept fault session bytes (records ++ more)
 
 -- as a feed keeps it
 abbrev pub fault_of : Option LineRefusal → Option FeedFault
@@ -53,7 +58,8 @@ fault_of (Some refused) = Some (faults.Refused refused.line refused.cause)
 
 -- a line of the bytes is refused, whatever is asked, which no further byte changes; or memory ran out
 abbrev pub IsFinalFault : Format → List ℕ → FeedFault → Type 0
-IsFinalFault f bytes (faults.Refused n c) = ((asked : Command) → FirstIllegal f asked bytes n c) × (c ≢ NoEnd)
+IsFinalFault f bytes (faults.Refused n c) =
+    ((asked : Command) → FirstIllegal f asked bytes n c) × (c ≢ NoEnd)
 IsFinalFault f bytes faults.NoMemory = Unit {0}
 
 -- The `end` line was read and nothing behind it; or a line is refused, where the source is at its end or which no further byte changes.
@@ -73,7 +79,8 @@ abbrev pub IsOpen : Format → List ℕ → List Record → Type 0
 IsOpen f bytes records = ¬ IsTraceOf f bytes records
 
 -- With the piece that was read behind these bytes the reading is at its end, and the session stands for its records.
-pub record Ends (f : Format) (left_old left_new : Option (List ℕ)) (session : Session) (refused : Option LineRefusal) (bytes : List ℕ) : Type 0 where
+pub record Ends (f : Format) (left_old left_new : Option (List ℕ)) (session : Session)
+    (refused : Option LineRefusal) (bytes : List ℕ) : Type 0 where
   pub piece : List ℕ
   pub records : List Record
   pub gave : Gives left_old piece left_new
@@ -83,40 +90,46 @@ pub record Ends (f : Format) (left_old left_new : Option (List ℕ)) (session : 
   pub end : IsEnd left_new refused
 
 -- With the piece that was read behind these bytes a record is refused.
-pub record IsRefusedBehind (f : Format) (left_old left_new : Option (List ℕ)) (n : ℕ) (c : Cause) (bytes : List ℕ) : Type 0 where
+pub record IsRefusedBehind (f : Format) (left_old left_new : Option (List ℕ)) (n : ℕ) (c : Cause)
+    (bytes : List ℕ) : Type 0 where
   pub piece : List ℕ
   pub gave : Gives left_old piece left_new
   pub few : length piece ≤ piece_bytes
   pub refused : IsFinalFault f (bytes ++ piece) (faults.Refused n c)
 
 -- the pieces before the last one do not decide
-pub record IsUndecided (f : Format) (left_old left_new : Option (List ℕ)) (bytes : List ℕ) : Type 0 where
+pub record IsUndecided (f : Format) (left_old left_new : Option (List ℕ))
+    (bytes : List ℕ) : Type 0 where
   pub gave : Gives left_old bytes left_new
   pub fresh : (asked : Command) → IsFinal f asked bytes → ⊥
 
 -- A trace was read to its end, or to the piece that decides.
-pub record IsRead (f : Format) (left_old left_new : Option (List ℕ)) (session : Session) (refused : Option LineRefusal) : Type 0 where
+pub record IsRead (f : Format) (left_old left_new : Option (List ℕ)) (session : Session)
+    (refused : Option LineRefusal) : Type 0 where
   pub bytes : List ℕ
   pub left : Option (List ℕ)
   pub before : IsUndecided f left_old left bytes
   pub ends : Ends f left left_new session refused bytes
 
 -- A trace was read to a piece with a record that is refused.
-pub record IsReadTo (f : Format) (left_old left_new : Option (List ℕ)) (n : ℕ) (c : Cause) : Type 0 where
+pub record IsReadTo (f : Format) (left_old left_new : Option (List ℕ)) (n : ℕ)
+    (c : Cause) : Type 0 where
   pub bytes : List ℕ
   pub left : Option (List ℕ)
   pub before : IsUndecided f left_old left bytes
   pub refused : IsRefusedBehind f left left_new n c bytes
 
 -- The bytes that were taken are a legal trace, which was judged, and nothing stands behind it.
-pub record IsAcceptedInput (f : Format) (asked : Command) (left_old left_new : Option (List ℕ)) (judged : Judged) : Type 0 where
+pub record IsAcceptedInput (f : Format) (asked : Command) (left_old left_new : Option (List ℕ))
+    (judged : Judged) : Type 0 where
   pub taken : List ℕ
   pub gave : Gives left_old taken left_new
   pub spent : IsSpent left_new
   pub accepted : IsAccepted f asked taken judged
 
 -- The bytes that were taken are refused.
-pub record IsRefusedInput (f : Format) (asked : Command) (left_old left_new : Option (List ℕ)) (n : ℕ) (c : Cause) : Type 0 where
+pub record IsRefusedInput (f : Format) (asked : Command) (left_old left_new : Option (List ℕ))
+    (n : ℕ) (c : Cause) : Type 0 where
   pub taken : List ℕ
   pub gave : Gives left_old taken left_new
   pub decided : IsDecided f asked taken left_new (Refused n c)

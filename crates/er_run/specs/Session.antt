@@ -53,7 +53,8 @@ pub record IsReady (session : Session) (given : Option Version) : Type 0 where
 
 -- A record after the list is refused for the first cause against it, with its line; or memory ran out.
 abbrev pub IsFaultAfter : Version → List Record → Record → FeedFault → Type 0
-IsFaultAfter v h x (Refused line cause) = (line ≡ length h + 2) × (legality.cause (rules v) h x ≡ Some cause)
+IsFaultAfter v h x (Refused line cause) =
+    (line ≡ length h + 2) × (legality.cause (rules v) h x ≡ Some cause)
 IsFaultAfter v h x NoMemory = Unit {0}
 
 -- The record of the line is the first that has a cause after those before it, which is the one answered; or memory ran out.

@@ -168,7 +168,8 @@ fn of_line(refusal: LineRefusal) -> InputFault
 }
 
 fn of_end(fault: FeedFault) -> InputFault
-    ensures refused { (n : ℕ) (c : Cause) → result ≡ InputFault.Refused n c → fault ≡ FeedFault.Refused n c }
+    ensures refused { (n : ℕ) (c : Cause) → result ≡ InputFault.Refused n c
+        → fault ≡ FeedFault.Refused n c }
     ensures no_failure { result ≢ InputFault.Failed }
 {
     match fault {

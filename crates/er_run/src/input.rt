@@ -102,10 +102,12 @@ fn read_piece<L: Lines, S: Source>(
         → IsAt L.format feed.new.mark feed.new.line.items feed.new.fault session.new bytes records
         → IsOpen L.format bytes records }
     ensures ended { (refused : Option LineRefusal) → result ≡ Ok (Step.Ended refused)
-        → (bytes : List ℕ) (records : List Record) → IsAt L.format feed.old.mark feed.old.line.items feed.old.fault session.old bytes records
+        → (bytes : List ℕ) (records : List Record)
+        → IsAt L.format feed.old.mark feed.old.line.items feed.old.fault session.old bytes records
         → Ends L.format (S.left source.old) (S.left source.new) session.new refused bytes }
     ensures refused { (n : ℕ) (c : Cause) → result ≡ Err (InputFault.Refused n c)
-        → (bytes : List ℕ) (records : List Record) → IsAt L.format feed.old.mark feed.old.line.items feed.old.fault session.old bytes records
+        → (bytes : List ℕ) (records : List Record)
+        → IsAt L.format feed.old.mark feed.old.line.items feed.old.fault session.old bytes records
         → IsRefusedBehind L.format (S.left source.old) (S.left source.new) n c bytes }
     ensures failed { IsErrOf result InputFault.Failed
         → Rose (S.faults source.old) (S.faults source.new) }
@@ -209,11 +211,13 @@ fn judge_all(
 ) -> Result<(), FeedFault>
     requires some { IsReady session.old given }
     requires room { session.old.records + length records.now ≤ most_lines }
-    requires of_version { list_all (has_record (begun session.old.graph.version given)) records.now ≡ true }
+    requires of_version { list_all (has_record (begun session.old.graph.version given)) records.now
+        ≡ true }
     ensures taken { OnOk result ((earlier : List Record) → IsSessionOf session.old (reverse earlier)
         → IsBegun session.old.graph.version given (reverse earlier)
         → IsSessionOf session.new (reverse (earlier ++ records.now))) }
-    ensures version { OnOk result (session.new.graph.version ≡ begun session.old.graph.version given) }
+    ensures version { OnOk result
+        (session.new.graph.version ≡ begun session.old.graph.version given) }
     ensures refused { IfErr result (λ fault. (earlier : List Record)
         → IsSessionOf session.old (reverse earlier)
         → IsBegun session.old.graph.version given (reverse earlier)

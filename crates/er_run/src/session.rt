@@ -77,7 +77,8 @@ impl Session {
     pub(crate) fn begin(&mut self, alloc: Global, given: Option<Version>) -> Result<(), NoMemory>
         ensures begun { OnOk result ((h : List Record) → IsSessionOf self.old h
             → IsBegun self.old.graph.version given h → IsSessionOf self.new h) }
-        ensures version { OnOk result (self.new.graph.version ≡ begun self.old.graph.version given) }
+        ensures version { OnOk result
+            (self.new.graph.version ≡ begun self.old.graph.version given) }
         ensures count { self.new.records ≡ self.old.records }
     {
         let Some(version) = given else {

@@ -30,7 +30,8 @@ pub fn run_surely<R: Threads + Sync, G: Gate + Sync>(
     requires tests { tests.old < 2 ^ 60 }
     ensures { (asked : Asked) → Asks (map string_bytes words.now) asked
         → (bytes : List ℕ) → Holds asked.command (Some source.old) bytes
-        → (result ≡ Outcome.NoMemory) ⊎ ((due : List ℕ) × Answers (format_of asked.command) asked.command bytes result due) }
+        → (result ≡ Outcome.NoMemory)
+        ⊎ ((due : List ℕ) × Answers (format_of asked.command) asked.command bytes result due) }
 {
     run(rt, alloc, words, source, sink, compares, tests, gate)
 }
