@@ -8,10 +8,12 @@ use Rattle.er_clocks.specs.Shared.{row_of}
 
 -- the number of action j at a chain: at its own one more than its place, else that of its row, which is 0 past the end
 abbrev pub number_at : List (List ℕ) → List ℕ → List ℕ → ℕ → ℕ → ℕ
-number_at rows numbers places j c = if c == slice_index numbers j then suc (slice_index places j) else slice_index (row_of rows j) c
+number_at rows numbers places j c =
+    if c == slice_index numbers j then suc (slice_index places j) else slice_index (row_of rows j) c
 
 -- The kept lists are their own links; rows, chains, places, lengths and the count are right of them.
-pub record IsClock (kept rows : List (List ℕ)) (numbers places lengths : List ℕ) (count : ℕ) : Type 0 where
+pub record IsClock (kept rows : List (List ℕ)) (numbers places lengths : List ℕ)
+    (count : ℕ) : Type 0 where
   pub few : length kept ≤ most_actions
   pub least : links kept ≡ kept
   pub rows_long : length rows ≡ length kept
@@ -35,4 +37,5 @@ Tells kept has = (lists : List (List ℕ)) → StandsFor kept lists → has list
 
 -- For whatever list they stood, they stand now for that list with one action more, which has these predecessors.
 abbrev pub StandsForMore : List (List ℕ) → List ℕ → List (List ℕ) → Type 0
-StandsForMore old preds new = (lists : List (List ℕ)) → StandsFor old lists → StandsFor new (preds ∷ lists)
+StandsForMore old preds new = (lists : List (List ℕ)) → StandsFor old lists
+    → StandsFor new (preds ∷ lists)

@@ -7,15 +7,19 @@ use Rattle.er_clocks.specs.Clock.{StandsFor}
 
 -- The actions and the paths over the kept links are those over each list that the clocks stand for.
 abbrev pub ClocksTellPaths : Type 0
-ClocksTellPaths = (kept lists : List (List ℕ)) → StandsFor kept lists → (length kept ≡ length lists) × ((i j : ℕ) → joins kept i j ≡ joins lists i j)
+ClocksTellPaths = (kept lists : List (List ℕ)) → StandsFor kept lists
+    → (length kept ≡ length lists) × ((i j : ℕ) → joins kept i j ≡ joins lists i j)
 
 -- Clocks that stand for a list stand for each other one with the same actions and paths.
 abbrev pub ClocksOfPaths : Type 0
-ClocksOfPaths = (kept lists others : List (List ℕ)) → length lists ≡ length others → ((i j : ℕ) → joins lists i j ≡ joins others i j) → StandsFor kept lists → StandsFor kept others
+ClocksOfPaths = (kept lists others : List (List ℕ)) → length lists ≡ length others
+    → ((i j : ℕ) → joins lists i j ≡ joins others i j) → StandsFor kept lists
+    → StandsFor kept others
 
 -- Where enough of the predecessors were handed, the clocks stand for the whole lists.
 abbrev pub ClocksOfHanded : Type 0
-ClocksOfHanded = (kept handed lists : List (List ℕ)) → IsEnough handed lists → StandsFor kept handed → StandsFor kept lists
+ClocksOfHanded = (kept handed lists : List (List ℕ)) → IsEnough handed lists → StandsFor kept handed
+    → StandsFor kept lists
 
 -- The same of the newest action alone: each handed number is of its list, and from each number of the list a path leads to a handed one.
 abbrev pub ClocksOfNewest : Type 0

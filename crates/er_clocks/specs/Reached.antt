@@ -26,7 +26,8 @@ IsReachFrom count (Own row) = Unit {0}
 
 -- chain by chain, how many members have a path to one of these
 abbrev pub IsReachedBy : List (List ℕ) → Reach → List ℕ → Type 0
-IsReachedBy lists reach p = (c : ℕ) → reach_at lists reach c ≡ count_in (reaches lists p) (members (chains lists) c)
+IsReachedBy lists reach p = (c : ℕ)
+    → reach_at lists reach c ≡ count_in (reaches lists p) (members (chains lists) c)
 
 -- the links that are taken
 abbrev pub links_taken : List (List ℕ) → Taken (List ℕ) → List ℕ
@@ -46,9 +47,12 @@ IsFit lists at x =
 -- the row has the entries of the row of j, with this number at its chain, but for one chain
 abbrev pub IsLikeOff : ℕ → List (List ℕ) → List ℕ → ℕ → ℕ → Taken (List ℕ) → Type 0
 IsLikeOff chain rows numbers j number one =
-    (c : ℕ) → c ≢ chain → slice_index (taken [] rows one) c ≡ (if c == slice_index numbers j then number else slice_index (row_of rows j) c)
+    (c : ℕ) → c ≢ chain
+    → slice_index (taken [] rows one) c
+    ≡ (if c == slice_index numbers j then number else slice_index (row_of rows j) c)
 
 -- the row has the entries, but for one chain
 abbrev pub IsHeldOff : ℕ → List (List ℕ) → List ℕ → Reach → Taken (List ℕ) → Type 0
 IsHeldOff chain rows numbers (Like j number) one = IsLikeOff chain rows numbers j number one
-IsHeldOff chain rows numbers (Own row) one = (c : ℕ) → c ≢ chain → slice_index (taken [] rows one) c ≡ slice_index row c
+IsHeldOff chain rows numbers (Own row) one = (c : ℕ) → c ≢ chain
+    → slice_index (taken [] rows one) c ≡ slice_index row c

@@ -9,7 +9,8 @@ IsRaised old more new = (c : ℕ) → slice_index new c ≡ max (slice_index old
 
 -- the row with this number at one chain
 abbrev pub IsSet : List ℕ → ℕ → ℕ → List ℕ → Type 0
-IsSet old chain number new = (c : ℕ) → slice_index new c ≡ (if c == chain then number else slice_index old c)
+IsSet old chain number new = (c : ℕ)
+    → slice_index new c ≡ (if c == chain then number else slice_index old c)
 
 -- the row has more members of i's chain than come before i
 abbrev pub is_covered : List (List ℕ) → List ℕ → ℕ → Bool

@@ -51,7 +51,12 @@ impl Model for Clocks {
 
     ghost view = { λ c. reverse (shared [] c.links.lists.items c.links.numbers.items) };
 
-    ghost invariant = { λ c. IsClock (reverse (shared [] c.links.lists.items c.links.numbers.items)) (shared [] c.rows.lists.items c.rows.numbers.items) c.numbers.items c.places.items c.chains c.count × AreShared c.rows.lists.items c.rows.numbers.items × AreShared c.links.lists.items c.links.numbers.items };
+    ghost invariant = { λ c.
+        IsClock (reverse (shared [] c.links.lists.items c.links.numbers.items))
+        (shared [] c.rows.lists.items c.rows.numbers.items)
+        c.numbers.items c.places.items c.chains c.count
+        × AreShared c.rows.lists.items c.rows.numbers.items
+        × AreShared c.links.lists.items c.links.numbers.items };
 }
 
 impl Clocks {

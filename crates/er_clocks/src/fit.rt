@@ -44,8 +44,10 @@ fn first_full(chains: &Chains, row: &[Number], from: u32) -> u32
     requires begun { (c : ℕ) → c < length chains.now → 0 < slice_index chains.now c }
     ensures within { result ≤ length chains.now }
     ensures above { result < length chains.now → from ≤ result }
-    ensures lower { (c : ℕ) → from ≤ c → c < result → slice_index row.now c ≢ slice_index chains.now c }
-    ensures full { result < length chains.now → slice_index row.now result ≡ slice_index chains.now result }
+    ensures lower { (c : ℕ) → from ≤ c → c < result
+        → slice_index row.now c ≢ slice_index chains.now c }
+    ensures full { result < length chains.now
+        → slice_index row.now result ≡ slice_index chains.now result }
 {
     let count = chains.count();
     let end = row.len().min(count as usize);

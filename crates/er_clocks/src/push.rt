@@ -74,7 +74,8 @@ fn row_for(
     requires known { IsReachFrom (length numbers.now) reach }
     ensures known { IfOk result (λ row. IsTakenFrom (length numbers.now) row) }
     ensures held { IfOk result
-        (λ row. IsHeldOff chain (shared [] rows.now.lists.items rows.now.numbers.items) numbers.now reach row) }
+        (λ row. IsHeldOff chain (shared [] rows.now.lists.items rows.now.numbers.items)
+        numbers.now reach row) }
 {
     match reach {
         Reach::Like(j, number) => row_like(rows, numbers, alloc, j, number, chain),
@@ -97,7 +98,8 @@ fn row_like(
     requires few { number ≤ most_actions }
     ensures known { IfOk result (λ row. IsTakenFrom (length numbers.now) row) }
     ensures held { IfOk result
-        (λ row. IsLikeOff chain (shared [] rows.now.lists.items rows.now.numbers.items) numbers.now j number row) }
+        (λ row. IsLikeOff chain (shared [] rows.now.lists.items rows.now.numbers.items)
+        numbers.now j number row) }
 {
     let own = numbers[j as usize];
     if own == chain {
@@ -114,7 +116,8 @@ fn row_like(
 fn count_of(links: &Shared<LinkList>, one: &Taken<LinkList>) -> usize
     requires shared { AreShared links.now.lists.items links.now.numbers.items }
     requires known { IsTakenFrom (length links.now.numbers.items) one.now }
-    ensures { result ≡ length (taken [] (shared [] links.now.lists.items links.now.numbers.items) one.now) }
+    ensures { result
+        ≡ length (taken [] (shared [] links.now.lists.items links.now.numbers.items) one.now) }
 {
     match one {
         Taken::As(j) => links.list(*j).numbers().len(),

@@ -108,7 +108,8 @@ pub(crate) fn number_at(numbers: &[Number], chain: u32) -> u32
 /// Writes out zeros up to this length.
 fn widen(numbers: &mut Vec<Number>, len: usize) -> Result<(), NoMemory>
     ensures wide { OnOk result (len ≤ length numbers.new.items) }
-    ensures same { OnOk result ((c : ℕ) → slice_index numbers.new.items c ≡ slice_index numbers.old.items c) }
+    ensures same { OnOk result
+        ((c : ℕ) → slice_index numbers.new.items c ≡ slice_index numbers.old.items c) }
 {
     if numbers.len() < len {
         if numbers.resize(len, 0).is_err() {

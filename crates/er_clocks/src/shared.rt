@@ -47,7 +47,9 @@ impl<T> Shared<T> {
     pub(crate) fn list(&self, j: u32) -> &T
         requires shared { AreShared self.now.lists.items self.now.numbers.items }
         requires known { j < length self.now.numbers.items }
-        ensures { (d : T) → result.now ≡ slice_index_or (shared d self.now.lists.items self.now.numbers.items) j d }
+        ensures { (d : T)
+            → result.now
+            ≡ slice_index_or (shared d self.now.lists.items self.now.numbers.items) j d }
     {
         &self.lists[self.numbers[j as usize] as usize]
     }
@@ -56,7 +58,8 @@ impl<T> Shared<T> {
     pub(crate) fn is_one(&self, i: u32, j: u32) -> bool
         requires first { i < length self.now.numbers.items }
         requires second { j < length self.now.numbers.items }
-        ensures { result ≡ true → (d : T) → slice_index_or (shared d self.now.lists.items self.now.numbers.items) i d
+        ensures { result ≡ true → (d : T)
+            → slice_index_or (shared d self.now.lists.items self.now.numbers.items) i d
             ≡ slice_index_or (shared d self.now.lists.items self.now.numbers.items) j d }
     {
         self.numbers[i as usize] == self.numbers[j as usize]
@@ -67,7 +70,8 @@ impl<T> Shared<T> {
         ensures lists { self.new.lists.items ≡ self.old.lists.items }
         ensures numbers { self.new.numbers.items ≡ self.old.numbers.items }
         ensures lists_room { OnOk result (vec_len self.new.lists < vec_capacity self.new.lists) }
-        ensures numbers_room { OnOk result (vec_len self.new.numbers < vec_capacity self.new.numbers) }
+        ensures numbers_room { OnOk result
+            (vec_len self.new.numbers < vec_capacity self.new.numbers) }
     {
         if self.lists.reserve(1).is_err() {
             return Err(NoMemory);

@@ -100,9 +100,11 @@ impl Clocks {
     /// The links of the newest action and its entries, but for itself.
     fn sources_of_newest(&self) -> Sources
         requires { 0 < length self.now }
-        ensures known { IsTakenFrom (length self.now) result.links × IsReachFrom (length self.now) result.reach }
+        ensures known { IsTakenFrom (length self.now) result.links
+            × IsReachFrom (length self.now) result.reach }
         ensures links { (p : List ℕ) → RepeatsNewest self.now p → LinksAre self.now result.links p }
-        ensures reach { (p : List ℕ) → RepeatsNewest self.now p → IsReachedBy self.now result.reach p }
+        ensures reach { (p : List ℕ) → RepeatsNewest self.now p
+            → IsReachedBy self.now result.reach p }
     {
         let newest = self.numbers.len() as u32 - 1;
         Sources {
@@ -205,7 +207,8 @@ impl Clocks {
         requires known { i < length self.now }
         requires taken { All (λ k. k < length self.now) links.old.items }
         ensures known { OnOk result (All (λ k. k < length self.now) links.new.items) }
-        ensures taken { OnOk result (TakesToo self.now i row.old links.old.items row.new links.new.items) }
+        ensures taken { OnOk result
+            (TakesToo self.now i row.old links.old.items row.new links.new.items) }
     {
         if self.covers(row.numbers(), i) {
             return Ok(());

@@ -20,4 +20,5 @@ GrewFor page due old new = (h : List Record) → IsPage page h → GrewBy old (d
 
 -- and here by a proper front of it
 abbrev pub GrewInPartFor : Page → (History → List ℕ) → List ℕ → List ℕ → Type 0
-GrewInPartFor page due old new = (h : List Record) → IsPage page h → GrewInPart old (due (told h)) new
+GrewInPartFor page due old new = (h : List Record) → IsPage page h
+    → GrewInPart old (due (told h)) new

@@ -5,7 +5,7 @@ ghost use Rattle.er_trace.specs.declared.record.Record.{Record};
 ghost use Rattle.er_history.specs.History.{History, told};
 ghost use Rattle.er_history.specs.Latest.{latest_of};
 ghost use Rattle.er_pieces.specs.Contract.{GrewBy, GrewInPart, listed, latest_of_all};
-ghost use Rattle.er_pieces.specs.HandedPieces.{parsed_handed};
+ghost use Rattle.er_pieces.specs.HandedPieces.{dcl_handed};
 ghost use Rattle.er_page.specs.Page.{IsSomePage};
 ghost use Rattle.er_hand.specs.Handing.{HasEvents, GrewFor, GrewInPartFor};
 
@@ -42,10 +42,10 @@ pub fn hand_latest(
     out: &mut SmallVec<u32, 8>,
 ) -> Result<(), NoMemory>
     requires events { ∥ HasEvents page.now (listed event) ∥₁ }
-    ensures whole { OnOk result
-        (GrewFor page.now (λ (t : History). latest_of event t.actions) out.old.items out.new.items) }
-    ensures part { OnErr result
-        (GrewInPartFor page.now (λ (t : History). latest_of event t.actions) out.old.items out.new.items) }
+    ensures whole { OnOk result (GrewFor page.now
+        (λ (t : History). latest_of event t.actions) out.old.items out.new.items) }
+    ensures part { OnErr result (GrewInPartFor page.now
+        (λ (t : History). latest_of event t.actions) out.old.items out.new.items) }
 {
     match event {
         Some(event) => hand(page.latest_piece(event), out),
@@ -56,10 +56,12 @@ pub fn hand_latest(
 /// Hands the latest pieces of the events, from the last of them to the first.
 pub fn hand_each(page: &Page, events: &[u32], out: &mut SmallVec<u32, 8>) -> Result<(), NoMemory>
     requires events { ∥ HasEvents page.now events.now ∥₁ }
-    ensures whole { OnOk result
-        (GrewFor page.now (λ (t : History). latest_of_all (reverse events.now) t.actions) out.old.items out.new.items) }
-    ensures part { OnErr result
-        (GrewInPartFor page.now (λ (t : History). latest_of_all (reverse events.now) t.actions) out.old.items out.new.items) }
+    ensures whole { OnOk result (GrewFor page.now
+        (λ (t : History). latest_of_all (reverse events.now) t.actions)
+        out.old.items out.new.items) }
+    ensures part { OnErr result (GrewInPartFor page.now
+        (λ (t : History). latest_of_all (reverse events.now) t.actions)
+        out.old.items out.new.items) }
 {
     let count = events.len();
     for back in 0..count {
@@ -72,9 +74,9 @@ pub fn hand_each(page: &Page, events: &[u32], out: &mut SmallVec<u32, 8>) -> Res
 pub fn hand_parsed(page: &Page, doc: u32, out: &mut SmallVec<u32, 8>) -> Result<(), NoMemory>
     requires some { ∥ IsSomePage page.now ∥₁ }
     ensures whole { OnOk result
-        (GrewFor page.now (λ (t : History). parsed_handed t doc) out.old.items out.new.items) }
+        (GrewFor page.now (λ (t : History). dcl_handed t doc) out.old.items out.new.items) }
     ensures part { OnErr result
-        (GrewInPartFor page.now (λ (t : History). parsed_handed t doc) out.old.items out.new.items) }
+        (GrewInPartFor page.now (λ (t : History). dcl_handed t doc) out.old.items out.new.items) }
 {
     hand_latest(page, page.last_parse(doc), out)?;
     hand_latest(page, page.last_blocking_run(doc), out)?;

@@ -33,7 +33,8 @@ is_ruled table joined i j = any_holds table (up_to j.event.number joined) i.even
 
 -- i was begun first, and a rule holds between their events, or one of the two on pieces
 abbrev pub edge : List (ℕ × Rule) → (ℕ → ℕ → Bool) → Action → Action → Bool
-edge table joined i j = nat_lt i.number j.number && (is_ruled table joined i j || (around_inline i j || of_one_event i j))
+edge table joined i j = nat_lt i.number j.number
+    && (is_ruled table joined i j || (around_inline i j || of_one_event i j))
 
 -- the older actions with an edge to j, newest first
 abbrev pub sources : List (ℕ × Rule) → (ℕ → ℕ → Bool) → List Action → Action → List ℕ

@@ -24,7 +24,8 @@ WhatStays entries (ScriptRun e made) = Stays made (first_to (makes_element e) en
 WhatStays entries (TimeoutRun t made) = Stays made (first_to (makes_timeout t) entries)
 WhatStays entries (TickRun i m) = Stays m (maker_by (declares_interval i) entries)
 WhatStays entries (BeginOf d) = DeliveryStays entries d.delivers
-WhatStays entries (HandlerOf d g x m) = DeliveryStays entries d.delivers × Stays m (maker_by (declares_handler x) entries)
+WhatStays entries (HandlerOf d g x m) =
+    DeliveryStays entries d.delivers × Stays m (maker_by (declares_handler x) entries)
 WhatStays entries (CloseOf d) = DeliveryStays entries d.delivers
 WhatStays entries (MessageRun m made) = Stays made (first_to (makes_task (posts_message m)) entries)
 WhatStays entries (AnimRun a made) = Stays made (first_to (makes_task (asks_for_anim a)) entries)
@@ -33,7 +34,8 @@ WhatStays entries Unnamed = Unit {0}
 
 -- What a look-up found when an event began, it finds in the whole list too.
 abbrev pub FactsStay : Type 0
-FactsStay = (h : List Record) (a : Action) → Among a (told h).actions → WhatStays (told h).entries a.event.what
+FactsStay = (h : List Record) (a : Action) → Among a (told h).actions
+    → WhatStays (told h).entries a.event.what
 
 -- Each fact that is kept of a delivery is the one that a look-up in the list gives.
 abbrev pub DeliveryIs : List Entry → Delivery → Type 0
@@ -47,17 +49,24 @@ DeliveryIs entries (ReplyOf r m) = m ≡ maker_by (declares_request r) entries
 
 abbrev pub WhatIs : List Entry → What → Type 0
 WhatIs entries (ParseStep d m) = m ≡ maker_by (declares_document d) entries
-WhatIs entries (ScriptRun e made) = (made ≡ first_to (makes_element e) entries) × (x : Element) × (made ≡ Some x)
-WhatIs entries (TimeoutRun t made) = (made ≡ first_to (makes_timeout t) entries) × (x : Timeout) × (made ≡ Some x)
+WhatIs entries (ScriptRun e made) =
+    (made ≡ first_to (makes_element e) entries) × (x : Element) × (made ≡ Some x)
+WhatIs entries (TimeoutRun t made) =
+    (made ≡ first_to (makes_timeout t) entries) × (x : Timeout) × (made ≡ Some x)
 WhatIs entries (TickRun i m) = m ≡ maker_by (declares_interval i) entries
 WhatIs entries (BeginOf d) = DeliveryIs entries d.delivers
-WhatIs entries (HandlerOf d g x m) = DeliveryIs entries d.delivers × (m ≡ maker_by (declares_handler x) entries)
+WhatIs entries (HandlerOf d g x m) =
+    DeliveryIs entries d.delivers × (m ≡ maker_by (declares_handler x) entries)
 WhatIs entries (CloseOf d) = DeliveryIs entries d.delivers
-WhatIs entries (MessageRun m made) = (made ≡ first_to (makes_task (posts_message m)) entries) × (x : Task) × (made ≡ Some x)
-WhatIs entries (AnimRun a made) = (made ≡ first_to (makes_task (asks_for_anim a)) entries) × (x : Task) × (made ≡ Some x)
-WhatIs entries (JobRun j made within) = (made ≡ first_to (makes_task (queues_job j)) entries) × (x : Task) × (made ≡ Some x)
+WhatIs entries (MessageRun m made) =
+    (made ≡ first_to (makes_task (posts_message m)) entries) × (x : Task) × (made ≡ Some x)
+WhatIs entries (AnimRun a made) =
+    (made ≡ first_to (makes_task (asks_for_anim a)) entries) × (x : Task) × (made ≡ Some x)
+WhatIs entries (JobRun j made within) =
+    (made ≡ first_to (makes_task (queues_job j)) entries) × (x : Task) × (made ≡ Some x)
 WhatIs entries Unnamed = ⊥
 
 -- Where naming refuses no record, each maker, element and timeout that an event kept is what a look-up in the whole list gives.
 abbrev pub FactsAreExact : Type 0
-FactsAreExact = (h : List Record) (a : Action) → IsNamed h → Among a (told h).actions → WhatIs (told h).entries a.event.what
+FactsAreExact = (h : List Record) (a : Action) → IsNamed h → Among a (told h).actions
+    → WhatIs (told h).entries a.event.what

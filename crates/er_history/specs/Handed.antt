@@ -11,34 +11,41 @@ use Rattle.er_history.specs.Laws.{Among}
 
 -- where a rule of the group holds, one of the table does
 abbrev pub HasGroup : List (ℕ × Rule) → List (ℕ × Rule) → Type 0
-HasGroup table group = (joined : ℕ → ℕ → Bool) (u v : Event) → any_holds group joined u v ≡ true → any_holds table joined u v ≡ true
+HasGroup table group = (joined : ℕ → ℕ → Bool) (u v : Event) → any_holds group joined u v ≡ true
+    → any_holds table joined u v ≡ true
 
 -- each of these has an edge of the group to the action that the record begins
 abbrev pub AreSources : List (ℕ × Rule) → (ℕ → ℕ → Bool) → History → Record → List ℕ → Type 0
 AreSources group joined h x handed = (k : ℕ) → is_among k handed ≡ true
-    → (i : Action) × Among i h.actions × (i.number ≡ k) × (is_ruled group joined i (action_begun h x) ≡ true)
+    → (i : Action) × Among i h.actions × (i.number ≡ k)
+    × (is_ruled group joined i (action_begun h x) ≡ true)
 
 -- the source of each such edge has a path to one of them; or, for a piece that `back` begins, to the running action, which is the latest piece of the close
 abbrev pub AreEnough : List (ℕ × Rule) → (ℕ → ℕ → Bool) → History → Record → List ℕ → Type 0
-AreEnough group joined h (Back p) handed = (i c : Action) → Among i h.actions → running h.actions ≡ Some c
+AreEnough group joined h (Back p) handed = (i c : Action) → Among i h.actions
+    → running h.actions ≡ Some c
     → is_ruled group joined i (action_begun h (Back p)) ≡ true → joined i.number c.number ≡ true
 AreEnough group joined h x handed = (i : Action) → Among i h.actions
-    → is_ruled group joined i (action_begun h x) ≡ true → list_any (λ k. joined i.number k) handed ≡ true
+    → is_ruled group joined i (action_begun h x) ≡ true
+    → list_any (λ k. joined i.number k) handed ≡ true
 
 -- sources, and enough of them; a record that begins no action has none
-pub record AreHanded (group : List (ℕ × Rule)) (joined : ℕ → ℕ → Bool) (h : History) (x : Record) (handed : List ℕ) : Type 0 where
+pub record AreHanded (group : List (ℕ × Rule)) (joined : ℕ → ℕ → Bool) (h : History) (x : Record)
+    (handed : List ℕ) : Type 0 where
   pub sources : AreSources group joined h x handed
   pub enough : AreEnough group joined h x handed
   pub none : begins x ≡ false → handed ≡ []
 
 -- numbers have grown by what is handed
-pub record HasHanded (group : List (ℕ × Rule)) (joined : ℕ → ℕ → Bool) (h : History) (x : Record) (old : List ℕ) (new : List ℕ) : Type 0 where
+pub record HasHanded (group : List (ℕ × Rule)) (joined : ℕ → ℕ → Bool) (h : History) (x : Record)
+    (old : List ℕ) (new : List ℕ) : Type 0 where
   pub handed : List ℕ
   pub grown : new ≡ old ++ handed
   pub are_handed : AreHanded group joined h x handed
 
 -- memory ran out: they have grown by some of the sources
-pub record HasHandedSome (group : List (ℕ × Rule)) (joined : ℕ → ℕ → Bool) (h : History) (x : Record) (old : List ℕ) (new : List ℕ) : Type 0 where
+pub record HasHandedSome (group : List (ℕ × Rule)) (joined : ℕ → ℕ → Bool) (h : History)
+    (x : Record) (old : List ℕ) (new : List ℕ) : Type 0 where
   pub handed : List ℕ
   pub grown : new ≡ old ++ handed
   pub sources : AreSources group joined h x handed

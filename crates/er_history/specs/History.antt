@@ -149,7 +149,16 @@ abbrev pub makes_element : ℕ → Entry → Option Element
 makes_element number entry = by entry.action entry.read
   where
     made : ℕ → ℕ → Form → Bool → Action → Option Element
-    made d e form static a = if e == number then Some (record { doc = d; form = form; is_static = static; maker = a.event.number; piece = a.number }) else None
+    made d e form static a =
+        if e == number
+        then Some (record {
+          doc = d;
+          form = form;
+          is_static = static;
+          maker = a.event.number;
+          piece = a.number;
+        })
+        else None
 
     by : Option Action → Record → Option Element
     by (Some a) (Parse d e k) = made d e (Kinded k) true a
@@ -163,7 +172,15 @@ abbrev pub makes_timeout : ℕ → Entry → Option Timeout
 makes_timeout number entry = by entry.action entry.read
   where
     by : Option Action → Record → Option Timeout
-    by (Some a) (Set t n) = if t == number then Some (record { delay = n; place = entry.place; maker = a.event.number; piece = a.number }) else None
+    by (Some a) (Set t n) =
+        if t == number
+        then Some (record {
+          delay = n;
+          place = entry.place;
+          maker = a.event.number;
+          piece = a.number;
+        })
+        else None
     by _ _ = None
 
 abbrev pub declares_document : ℕ → Record → Bool
@@ -200,7 +217,8 @@ abbrev pub makes_task : (Record → Bool) → Entry → Option Task
 makes_task test entry = task_in entry.place entry.action (test entry.read)
   where
     task_in : ℕ → Option Action → Bool → Option Task
-    task_in place (Some a) true = Some (record { place = place; maker = a.event.number; piece = a.number })
+    task_in place (Some a) true =
+        Some (record { place = place; maker = a.event.number; piece = a.number })
     task_in place _ _ = None
 
 -- the event whose piece holds the first record that passes the test while an action runs
@@ -270,7 +288,9 @@ what_begun h x = by x
     by (Close p) = close (find_open p h.stack)
     by (Message m) = MessageRun m (first_to (makes_task (posts_message m)) h.entries)
     by (Anim a) = AnimRun a (first_to (makes_task (asks_for_anim a)) h.entries)
-    by (Job j) = JobRun j (first_to (makes_task (queues_job j)) h.entries) (map (λ (o : Open). o.dispatch.number) h.stack)
+    by (Job j) =
+        JobRun j (first_to (makes_task (queues_job j)) h.entries)
+        (map (λ (o : Open). o.dispatch.number) h.stack)
     by x = begin (dispatch_begun h.entries (length h.actions) x)
 
 -- the event that goes on where inline dispatch p is finished: that of the piece just before its begin
@@ -299,7 +319,10 @@ stack_after stack d (Close p) = closed stack
   where
     closed : List Open → List Open
     closed [] = []
-    closed (o ∷ below) = if is_inline o.dispatch then record { dispatch = o.dispatch; closing = true } ∷ below else below
+    closed (o ∷ below) =
+        if is_inline o.dispatch
+        then record { dispatch = o.dispatch; closing = true } ∷ below
+        else below
 stack_after stack d (Back p) = left stack
   where
     left : List Open → List Open
@@ -319,7 +342,8 @@ actions_after h x = if begins x then action_begun h x ∷ h.actions else h.actio
 -- one record more
 abbrev pub after : History → Record → History
 after h x = record {
-  entries = record { read = x; place = length h.entries; action = running (actions_after h x) } ∷ h.entries;
+  entries = record { read = x; place = length h.entries; action = running (actions_after h x) }
+      ∷ h.entries;
   actions = actions_after h x;
   stack = stack_after h.stack (dispatch_begun h.entries (length h.actions) x) x;
 }

@@ -64,7 +64,8 @@ is_reply_of r _ = false
 
 -- the first load event of a static element of the document that is not plain
 abbrev pub is_static_load_of : ℕ → Delivery → Bool
-is_static_load_of d (EloadOf x made) = of_made (λ e. e.is_static && (not (is_plain e) && (e.doc == d))) made
+is_static_load_of d (EloadOf x made) =
+    of_made (λ e. e.is_static && (not (is_plain e) && (e.doc == d))) made
 is_static_load_of d _ = false
 
 -- the begin of this dispatch

@@ -30,7 +30,9 @@ latest_of (Some u) actions = latest_piece u actions
 -- the latest piece of each event that passes and has its first piece among the second list
 abbrev pub latest_among : (Event → Bool) → List Action → List Action → List ℕ
 latest_among test all [] = []
-latest_among test all (a ∷ older) = if (a.number == a.event.number) && test a.event then latest_piece a.event.number all ++ latest_among test all older else latest_among test all older
+latest_among test all (a ∷ older) = if (a.number == a.event.number)
+    && test a.event then latest_piece a.event.number all
+    ++ latest_among test all older else latest_among test all older
 
 -- the latest piece of each event that passes
 abbrev pub latest_of_each : (Event → Bool) → List Action → List ℕ
@@ -39,7 +41,8 @@ latest_of_each test actions = latest_among test actions actions
 -- the events that pass, newest first: each has its number where its first piece stands
 abbrev pub events_of_each : (Event → Bool) → List Action → List ℕ
 events_of_each test [] = []
-events_of_each test (a ∷ older) = if (a.number == a.event.number) && test a.event then a.event.number ∷ events_of_each test older else events_of_each test older
+events_of_each test (a ∷ older) = if (a.number == a.event.number)
+    && test a.event then a.event.number ∷ events_of_each test older else events_of_each test older
 
 -- the greatest group that passes of the handlers of the dispatch that ran
 
@@ -54,4 +57,5 @@ group_of p test _ = None
 
 abbrev pub greatest_group : ℕ → (ℕ → Bool) → List Action → Option ℕ
 greatest_group p test [] = None
-greatest_group p test (a ∷ older) = greater (group_of p test a.event.what) (greatest_group p test older)
+greatest_group p test (a ∷ older) =
+    greater (group_of p test a.event.what) (greatest_group p test older)

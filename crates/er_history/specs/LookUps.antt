@@ -195,11 +195,13 @@ runs_in h p g = reverse (events_of_each (is_handler_of p (λ k. k == g)) (told h
 
 -- the latest piece of a close of a dispatch of this type at the element, begun by `fire` or `inline`
 abbrev pub last_element_close : List Record → ℕ → List ℕ → Option ℕ
-last_element_close h e n = piece_in (newest_by (closes (λ y. same_target y (FireAt e n None))) (told h).actions)
+last_element_close h e n =
+    piece_in (newest_by (closes (λ y. same_target y (FireAt e n None))) (told h).actions)
 
 -- the same at the window of the document, begun by `wfire`
 abbrev pub last_window_close : List Record → ℕ → List ℕ → Option ℕ
-last_window_close h d n = piece_in (newest_by (closes (λ y. same_target y (WindowFire d n None))) (told h).actions)
+last_window_close h d n =
+    piece_in (newest_by (closes (λ y. same_target y (WindowFire d n None))) (told h).actions)
 
 -- Runs, timeouts, begins and closes answer an event, which the record begins itself; loads and DOMContentLoaded a dispatch.
 

@@ -86,7 +86,8 @@ unknown h (Message m) = not (list_any (posts_message m) h)
 unknown h (Anim a) = not (list_any (asks_for_anim a) h)
 unknown h (Job j) = not (list_any (queues_job j) h)
 unknown h (Reply p r) = not (list_any (declares_request r) h)
-unknown h (Run p g x) = not (list_any (begins_dispatch p) h) || not (list_any (declares_handler x) h)
+unknown h (Run p g x) =
+    not (list_any (begins_dispatch p) h) || not (list_any (declares_handler x) h)
 unknown h (Close p) = not (list_any (begins_dispatch p) h)
 unknown h (Back p) = not (list_any (begins_dispatch p) h)
 unknown h (On x) = false
@@ -129,23 +130,52 @@ again h (Close p) = false
 again h (Back p) = false
 again h (Access m l) = false
 
+abbrev pub is_script_kind : Kind → Bool
+is_script_kind kinds.Plain = false
+is_script_kind kinds.Image = false
+is_script_kind kinds.Inline = true
+is_script_kind kinds.Sync = true
+is_script_kind kinds.Async = true
+is_script_kind kinds.Defer = true
+
 abbrev pub is_script : Option Element → Bool
 is_script None = false
 is_script (Some e) = of e.form
   where
-    kind : Kind → Bool
-    kind kinds.Plain = false
-    kind kinds.Image = false
-    kind _ = true
-
     of : Form → Bool
-    of (Kinded k) = kind k
+    of (Kinded k) = is_script_kind k
     of (Framing f) = false
 
 -- it runs an element that is no script
 abbrev pub not_script : History → Record → Bool
 not_script h (Exec e) = not (is_script (first_to (makes_element e) h.entries))
-not_script h _ = false
+not_script h (Parse d e k) = false
+not_script h (ParseFrame d e f) = false
+not_script h (Timer t) = false
+not_script h (Tick i) = false
+not_script h (Dcl p d) = false
+not_script h (Load p d) = false
+not_script h (Eload p e) = false
+not_script h (Fire p e n) = false
+not_script h (Wfire p d n) = false
+not_script h (Reply p r) = false
+not_script h (Inline p e n) = false
+not_script h (Run p g x) = false
+not_script h (Close p) = false
+not_script h (Back p) = false
+not_script h (Message m) = false
+not_script h (Anim a) = false
+not_script h (Job j) = false
+not_script h (New d e k) = false
+not_script h (NewFrame d e f) = false
+not_script h (On x) = false
+not_script h (Set t n) = false
+not_script h (Every i n) = false
+not_script h (Send r) = false
+not_script h (Post m) = false
+not_script h (Ask a) = false
+not_script h (Queue j) = false
+not_script h (Access m l) = false
 
 abbrev pub has_open : List Open → Bool
 has_open [] = false
@@ -180,14 +210,36 @@ abbrev pub one_runs : Option Action → Bool
 one_runs None = false
 one_runs (Some a) = true
 
--- it is not allowed at this point of the nesting
+-- It is not allowed at this point of the nesting. Most records that begin an action want an empty stack, and a record that begins none wants a running action.
 abbrev pub misplaced : History → Record → Bool
 misplaced h (Inline p e n) = not (may_call (running h.actions))
 misplaced h (Run p g x) = not (is_top false p h.stack)
 misplaced h (Close p) = not (is_top false p h.stack)
 misplaced h (Back p) = not (is_top true p h.stack)
 misplaced h (Job j) = list_any (λ (o : Open). is_inline o.dispatch) h.stack
-misplaced h x = if begins x then has_open h.stack else not (one_runs (running h.actions))
+misplaced h (Parse d e k) = has_open h.stack
+misplaced h (ParseFrame d e f) = has_open h.stack
+misplaced h (Exec e) = has_open h.stack
+misplaced h (Timer t) = has_open h.stack
+misplaced h (Tick i) = has_open h.stack
+misplaced h (Dcl p d) = has_open h.stack
+misplaced h (Load p d) = has_open h.stack
+misplaced h (Eload p e) = has_open h.stack
+misplaced h (Fire p e n) = has_open h.stack
+misplaced h (Wfire p d n) = has_open h.stack
+misplaced h (Reply p r) = has_open h.stack
+misplaced h (Message m) = has_open h.stack
+misplaced h (Anim a) = has_open h.stack
+misplaced h (New d e k) = not (one_runs (running h.actions))
+misplaced h (NewFrame d e f) = not (one_runs (running h.actions))
+misplaced h (On x) = not (one_runs (running h.actions))
+misplaced h (Set t n) = not (one_runs (running h.actions))
+misplaced h (Every i n) = not (one_runs (running h.actions))
+misplaced h (Send r) = not (one_runs (running h.actions))
+misplaced h (Post m) = not (one_runs (running h.actions))
+misplaced h (Ask a) = not (one_runs (running h.actions))
+misplaced h (Queue j) = not (one_runs (running h.actions))
+misplaced h (Access m l) = not (one_runs (running h.actions))
 
 abbrev pub first_cause : List (Bool × Cause) → Option Cause
 first_cause [] = None
@@ -195,7 +247,12 @@ first_cause (c ∷ cs) = if c.0 then Some c.1 else first_cause cs
 
 -- the first cause of naming and nesting
 abbrev pub naming : List Record → Record → Option Cause
-naming h x = first_cause ((unknown h x, Unknown) ∷ (again h x, Again) ∷ (not_script (told h) x, NotScript) ∷ (misplaced (told h) x, Misplaced) ∷ [])
+naming h x = first_cause (
+    (unknown h x, Unknown)
+    ∷ (again h x, Again)
+    ∷ (not_script (told h) x, NotScript)
+    ∷ (misplaced (told h) x, Misplaced)
+    ∷ [])
 
 -- naming refuses no record of the list after those before it
 abbrev pub IsNamed : List Record → Type 0
@@ -205,13 +262,48 @@ IsNamed (x ∷ h) = (naming h x ≡ None) × IsNamed h
 abbrev pub most_inline : ℕ
 most_inline = 256
 
+-- it begins an action that is one too many
 abbrev pub too_many_actions : History → Record → Bool
 too_many_actions h x = begins x && not (nat_lt (length h.actions) most_actions)
 
+-- the inline dispatches of a stack
+abbrev pub inline_open : List Open → List Open
+inline_open stack = filter (λ o. is_inline o.dispatch) stack
+
+-- it begins an inline dispatch that is one too many on the stack
 abbrev pub too_deep : History → Record → Bool
-too_deep h (Inline p e n) = not (nat_lt (length (filter (λ o. is_inline o.dispatch) h.stack)) most_inline)
-too_deep h _ = false
+too_deep h (Inline p e n) = not (nat_lt (length (inline_open h.stack)) most_inline)
+too_deep h (Parse d e k) = false
+too_deep h (ParseFrame d e f) = false
+too_deep h (Exec e) = false
+too_deep h (Timer t) = false
+too_deep h (Tick i) = false
+too_deep h (Dcl p d) = false
+too_deep h (Load p d) = false
+too_deep h (Eload p e) = false
+too_deep h (Fire p e n) = false
+too_deep h (Wfire p d n) = false
+too_deep h (Reply p r) = false
+too_deep h (Run p g x) = false
+too_deep h (Close p) = false
+too_deep h (Back p) = false
+too_deep h (Message m) = false
+too_deep h (Anim a) = false
+too_deep h (Job j) = false
+too_deep h (New d e k) = false
+too_deep h (NewFrame d e f) = false
+too_deep h (On x) = false
+too_deep h (Set t n) = false
+too_deep h (Every i n) = false
+too_deep h (Send r) = false
+too_deep h (Post m) = false
+too_deep h (Ask a) = false
+too_deep h (Queue j) = false
+too_deep h (Access m l) = false
 
 -- the first limit that the record would pass
 abbrev pub room : List Record → Record → Option Cause
-room h x = first_cause ((too_many_actions (told h) x, TooManyActions) ∷ (too_deep (told h) x, TooDeep) ∷ [])
+room h x = first_cause (
+    (too_many_actions (told h) x, TooManyActions)
+    ∷ (too_deep (told h) x, TooDeep)
+    ∷ [])

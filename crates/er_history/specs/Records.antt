@@ -10,5 +10,6 @@ use Rattle.er_history.specs.Laws.{Among}
 -- In a list with no record of tasks none of these rules holds between two events.
 -- So they hold in version 3 alone, which alone has such records.
 abbrev pub TasksAreOfVersionThree : Type 0
-TasksAreOfVersionThree = (h : List Record) (joined : ℕ → ℕ → Bool) (a b : Action) → list_any is_of_task h ≡ false → Among a (told h).actions → Among b (told h).actions
+TasksAreOfVersionThree = (h : List Record) (joined : ℕ → ℕ → Bool) (a b : Action)
+    → list_any is_of_task h ≡ false → Among a (told h).actions → Among b (told h).actions
     → any_holds task_rules joined a.event b.event ≡ false

@@ -15,7 +15,9 @@ use Rattle.er_history.specs.Sound as sound
 
 -- The rules between events have the numbers 1 to 21 and 24 to 31, in this order, in each version.
 abbrev pub RulesAreNumbered : Type 0
-RulesAreNumbered = (v : Version) → map (λ r. r.0) (tables.rules v) ≡ 1 ∷ 2 ∷ 3 ∷ 4 ∷ 5 ∷ 6 ∷ 7 ∷ 8 ∷ 9 ∷ 10 ∷ 11 ∷ 12 ∷ 13 ∷ 14 ∷ 15 ∷ 16 ∷ 17 ∷ 18 ∷ 19 ∷ 20 ∷ 21 ∷ 24 ∷ 25 ∷ 26 ∷ 27 ∷ 28 ∷ 29 ∷ 30 ∷ 31 ∷ []
+RulesAreNumbered = (v : Version) → map (λ r. r.0) (tables.rules v)
+    ≡ 1 ∷ 2 ∷ 3 ∷ 4 ∷ 5 ∷ 6 ∷ 7 ∷ 8 ∷ 9 ∷ 10 ∷ 11 ∷ 12 ∷ 13 ∷ 14 ∷ 15 ∷ 16 ∷ 17 ∷ 18 ∷ 19 ∷ 20 ∷ 21
+    ∷ 24 ∷ 25 ∷ 26 ∷ 27 ∷ 28 ∷ 29 ∷ 30 ∷ 31 ∷ []
 
 -- A record, and the actions with an edge to the action that it begins, newest first; none where it begins none. A row has its lines oldest first.
 abbrev pub Line : Type 0
@@ -237,13 +239,22 @@ JobsInDispatches = IsRowOf Three (
     (Close 6, 21 ∷ []) ∷  -- 22
     [])
 
+-- a list with an inline dispatch on the stack, and a job that its caller queued
+abbrev pub within_inline : List Record
+within_inline = Inline 1 1 (codes "a") ∷ Queue 1 ∷ Exec 1 ∷ Parse 0 1 kinds.Inline ∷ []
+
 -- A job is misplaced while an inline dispatch is on the stack; a close may follow.
 abbrev pub MisplacedJobs : Type 0
-MisplacedJobs = map (sound.cause (tables.rules Three) (Inline 1 1 (codes "a") ∷ Queue 1 ∷ Exec 1 ∷ Parse 0 1 kinds.Inline ∷ [])) (Job 1 ∷ Job 2 ∷ Queue 1 ∷ Message 1 ∷ Close 1 ∷ [])
+MisplacedJobs = map (sound.cause (tables.rules Three) within_inline)
+    (Job 1 ∷ Job 2 ∷ Queue 1 ∷ Message 1 ∷ Close 1 ∷ [])
     ≡ Some Misplaced ∷ Some Unknown ∷ Some Again ∷ Some Unknown ∷ None ∷ []
 
--- After the second of three deferred scripts has run, the first is late, and so is a parse step.
+-- the run of the second of three deferred scripts
+abbrev pub second_ran : List Record
+second_ran = Exec 2 ∷ Parse 0 3 kinds.Defer ∷ Parse 0 2 kinds.Defer ∷ Parse 0 1 kinds.Defer ∷ []
+
+-- Behind it the first is late, and so is a parse step.
 abbrev pub LateRecords : Type 0
-LateRecords = map (sound.cause (tables.rules One) (Exec 2 ∷ Parse 0 3 kinds.Defer ∷ Parse 0 2 kinds.Defer ∷ Parse 0 1 kinds.Defer ∷ []))
+LateRecords = map (sound.cause (tables.rules One) second_ran)
     (Exec 1 ∷ Exec 3 ∷ Parse 0 4 kinds.Plain ∷ Dcl 1 0 ∷ Back 1 ∷ [])
     ≡ Some OutOfOrder ∷ None ∷ Some OutOfOrder ∷ None ∷ Some Unknown ∷ []

@@ -122,7 +122,8 @@ abbrev pub blocking_script_before_later_step : Rule
 blocking_script_before_later_step joined u v = go u.what v.what
   where
     go : What → What → Bool
-    go (ScriptRun e made) (ParseStep d m) = of_made (λ x. is_blocking x && ((x.doc == d) && nat_lt x.piece v.number)) made
+    go (ScriptRun e made) (ParseStep d m) =
+        of_made (λ x. is_blocking x && ((x.doc == d) && nat_lt x.piece v.number)) made
     go _ _ = false
 
 -- 5. A parse step before the run of a deferred script of its document. HTML Standard, "The end".
@@ -138,7 +139,8 @@ abbrev pub blocking_before_deferred_script : Rule
 blocking_before_deferred_script joined u v = go u.what v.what
   where
     go : What → What → Bool
-    go (ScriptRun e made) (ScriptRun f made2) = both_made (λ x y. is_blocking x && (is_deferred y && (x.doc == y.doc))) made made2
+    go (ScriptRun e made) (ScriptRun f made2) =
+        both_made (λ x y. is_blocking x && (is_deferred y && (x.doc == y.doc))) made made2
     go _ _ = false
 
 -- 7. The run of a deferred script before the run of a deferred script of its document that was parsed later. HTML Standard, "The end".
@@ -146,7 +148,10 @@ abbrev pub deferred_scripts_as_parsed : Rule
 deferred_scripts_as_parsed joined u v = go u.what v.what
   where
     go : What → What → Bool
-    go (ScriptRun e made) (ScriptRun f made2) = both_made (λ x y. is_deferred x && (is_deferred y && ((x.doc == y.doc) && nat_lt x.piece y.piece))) made made2
+    go (ScriptRun e made) (ScriptRun f made2) =
+        both_made (λ x y.
+        is_deferred x && (is_deferred y && ((x.doc == y.doc) && nat_lt x.piece y.piece)))
+        made made2
     go _ _ = false
 
 -- 8. A parse step, or the run of a blocking or deferred script, before the begin of DOMContentLoaded of its document. HTML Standard, "The end".
@@ -196,7 +201,8 @@ abbrev pub static_loads_before_load : Rule
 static_loads_before_load joined u v = recorded u v && go u.what v.what
   where
     of : Delivery → Delivery → Bool
-    of (EloadOf x made) (LoadOf d m) = of_made (λ e. e.is_static && (not (is_plain e) && (e.doc == d))) made
+    of (EloadOf x made) (LoadOf d m) =
+        of_made (λ e. e.is_static && (not (is_plain e) && (e.doc == d))) made
     of _ _ = false
 
     go : What → What → Bool
@@ -287,7 +293,10 @@ abbrev pub timers_of_one_event_in_order : Rule
 timers_of_one_event_in_order joined u v = recorded u v && go u.what v.what
   where
     go : What → What → Bool
-    go (TimeoutRun s made) (TimeoutRun t made2) = both_made (λ x y. (x.maker == y.maker) && (nat_lt x.place y.place && nat_le x.delay y.delay)) made made2
+    go (TimeoutRun s made) (TimeoutRun t made2) =
+        both_made (λ x y.
+        (x.maker == y.maker) && (nat_lt x.place y.place && nat_le x.delay y.delay))
+        made made2
     go _ _ = false
 
 -- 19, in versions 2 and 3. The callback of a timeout before that of another that was set later with no lesser delay, in a piece to which a path leads from the piece that set the first (recorded). HTML Standard, "Timers"; that delays alone are compared is this project's own.
@@ -295,7 +304,10 @@ abbrev pub timers_of_joined_pieces_in_order : Rule
 timers_of_joined_pieces_in_order joined u v = recorded u v && go u.what v.what
   where
     go : What → What → Bool
-    go (TimeoutRun s made) (TimeoutRun t made2) = both_made (λ x y. nat_lt x.place y.place && (nat_le x.delay y.delay && joined x.piece y.piece)) made made2
+    go (TimeoutRun s made) (TimeoutRun t made2) =
+        both_made (λ x y.
+        nat_lt x.place y.place && (nat_le x.delay y.delay && joined x.piece y.piece))
+        made made2
     go _ _ = false
 
 -- rule 19 of a version
@@ -338,7 +350,8 @@ replies_in_order joined u v = go v.what
 
 -- two tasks of one kind, the first declared in an earlier record, and in a piece from which a path leads to the other's
 abbrev pub declared_in_order : (ℕ → ℕ → Bool) → Option Task → Option Task → Bool
-declared_in_order joined made made2 = both_made (λ (x : Task) (y : Task). nat_lt x.place y.place && joined x.piece y.piece) made made2
+declared_in_order joined made made2 =
+    both_made (λ (x : Task) (y : Task). nat_lt x.place y.place && joined x.piece y.piece) made made2
 
 -- 24. The event that posted a message before the event of the message. This project's own.
 abbrev pub post_before_message : Rule
@@ -413,16 +426,37 @@ jobs_before_close joined u v = recorded u v && go u.what v.what
 
 -- Each rule between events with its number, in the groups of the crates that ask it. Rule 19 alone differs by version. Rules 22 and 23 speak of pieces (Edges).
 abbrev pub parse_rules : List (ℕ × Rule)
-parse_rules = (1, parse_steps_in_order) ∷ (2, document_before_its_steps) ∷ []
+parse_rules =
+    (1, parse_steps_in_order)
+    ∷ (2, document_before_its_steps)
+    ∷ []
 
 abbrev pub script_rules : List (ℕ × Rule)
-script_rules = (3, script_made_before_run) ∷ (4, blocking_script_before_later_step) ∷ (5, step_before_deferred_script) ∷ (6, blocking_before_deferred_script) ∷ (7, deferred_scripts_as_parsed) ∷ []
+script_rules =
+    (3, script_made_before_run)
+    ∷ (4, blocking_script_before_later_step)
+    ∷ (5, step_before_deferred_script)
+    ∷ (6, blocking_before_deferred_script)
+    ∷ (7, deferred_scripts_as_parsed)
+    ∷ []
 
 abbrev pub load_rules : List (ℕ × Rule)
-load_rules = (8, parsed_before_dcl) ∷ (9, dcl_before_load) ∷ (10, parsed_before_load) ∷ (11, static_loads_before_load) ∷ (12, element_before_its_load) ∷ (13, inner_load_before_frame_load) ∷ []
+load_rules =
+    (8, parsed_before_dcl)
+    ∷ (9, dcl_before_load)
+    ∷ (10, parsed_before_load)
+    ∷ (11, static_loads_before_load)
+    ∷ (12, element_before_its_load)
+    ∷ (13, inner_load_before_frame_load)
+    ∷ []
 
 abbrev pub dispatch_rules : List (ℕ × Rule)
-dispatch_rules = (14, target_before_dispatch) ∷ (15, registered_before_run) ∷ (16, dispatch_in_order) ∷ (17, dispatches_of_one_type_in_order) ∷ []
+dispatch_rules =
+    (14, target_before_dispatch)
+    ∷ (15, registered_before_run)
+    ∷ (16, dispatch_in_order)
+    ∷ (17, dispatches_of_one_type_in_order)
+    ∷ []
 
 abbrev pub timer_rules : Version → List (ℕ × Rule)
 timer_rules v = (18, set_before_timer) ∷ (19, timers_in_order v) ∷ (20, ticks_in_order) ∷ []
@@ -432,12 +466,23 @@ request_rules = (21, replies_in_order) ∷ []
 
 -- These are in the table of each version: they lead from events or to events that records of version 3 alone begin.
 abbrev pub task_rules : List (ℕ × Rule)
-task_rules = (24, post_before_message) ∷ (25, messages_in_order) ∷ (26, ask_before_anim) ∷ (27, anims_in_order) ∷ (28, queue_before_job) ∷ (29, jobs_in_order) ∷ (30, jobs_before_callbacks) ∷ (31, jobs_before_close) ∷ []
+task_rules =
+    (24, post_before_message)
+    ∷ (25, messages_in_order)
+    ∷ (26, ask_before_anim)
+    ∷ (27, anims_in_order)
+    ∷ (28, queue_before_job)
+    ∷ (29, jobs_in_order)
+    ∷ (30, jobs_before_callbacks)
+    ∷ (31, jobs_before_close)
+    ∷ []
 
 -- All rules between events of a version, in the order of their numbers.
 abbrev pub rules : Version → List (ℕ × Rule)
-rules v = parse_rules ++ script_rules ++ load_rules ++ dispatch_rules ++ timer_rules v ++ request_rules ++ task_rules
+rules v = parse_rules ++ script_rules ++ load_rules ++ dispatch_rules ++ timer_rules v
+    ++ request_rules ++ task_rules
 
 -- one of the rules of a table holds between two events
 abbrev pub any_holds : List (ℕ × Rule) → (ℕ → ℕ → Bool) → Event → Event → Bool
-any_holds table joined u v = not (u.number == v.number) && list_any (λ (r : ℕ × Rule). r.1 joined u v) table
+any_holds table joined u v =
+    not (u.number == v.number) && list_any (λ (r : ℕ × Rule). r.1 joined u v) table

@@ -13,14 +13,16 @@ use Rattle.er_history.specs.Naming.{naming, room, IsNamed}
 -- One of the rules holds from the event that the record begins to one that has begun. `back` begins no event.
 abbrev pub leads_back : List (ℕ × Rule) → (ℕ → ℕ → Bool) → History → Record → Bool
 leads_back rules joined h (Back p) = false
-leads_back rules joined h x = begins x && list_any (λ (i : Action). any_holds rules joined (event_begun h x) i.event) h.actions
+leads_back rules joined h x = begins x
+    && list_any (λ (i : Action). any_holds rules joined (event_begun h x) i.event) h.actions
 
 abbrev pub out_of_order : List (ℕ × Rule) → List Record → Record → Bool
 out_of_order table h x = leads_back table (path table h) (told h) x
 
 -- the first cause for which the record is refused after the earlier ones: by naming and nesting, by order, or by room
 abbrev pub cause : List (ℕ × Rule) → List Record → Record → Option Cause
-cause table h x = or_else (naming h x) (if out_of_order table h x then Some OutOfOrder else room h x)
+cause table h x =
+    or_else (naming h x) (if out_of_order table h x then Some OutOfOrder else room h x)
 
 -- each record has no cause after those before it
 abbrev pub IsSound : List (ℕ × Rule) → List Record → Type 0
@@ -33,4 +35,5 @@ SoundListsAreNamed = (table : List (ℕ × Rule)) (h : List Record) → IsSound 
 
 -- By these rules no record is out of order, after any list.
 abbrev pub NeverLeadBack : List (ℕ × Rule) → Type 0
-NeverLeadBack rules = (joined : ℕ → ℕ → Bool) (h : List Record) (x : Record) → leads_back rules joined (told h) x ≡ false
+NeverLeadBack rules = (joined : ℕ → ℕ → Bool) (h : List Record) (x : Record)
+    → leads_back rules joined (told h) x ≡ false

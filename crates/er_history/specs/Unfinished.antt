@@ -40,8 +40,11 @@ begins_back number _ = false
 
 -- an inline dispatch is finished by its `back`, another by its close
 abbrev pub is_finished : List Record → ℕ → Bool
-is_finished h p = if list_any (begins_inline p) h then list_any (begins_back p) h else list_any (begins_close p) h
+is_finished h p =
+    if list_any (begins_inline p) h then list_any (begins_back p) h else list_any (begins_close p) h
 
 -- Where naming refuses no record, the stack has the numbers of the dispatches that have begun and are not finished, the newest on top.
 abbrev pub StackIsUnfinished : Type 0
-StackIsUnfinished = (h : List Record) → IsNamed h → map (λ (o : Open). o.dispatch.number) (told h).stack ≡ filter (λ p. not (is_finished h p)) (dispatches_begun h)
+StackIsUnfinished = (h : List Record) → IsNamed h
+    → map (λ (o : Open). o.dispatch.number) (told h).stack
+    ≡ filter (λ p. not (is_finished h p)) (dispatches_begun h)

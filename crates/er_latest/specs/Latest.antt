@@ -1,7 +1,7 @@
 -- What the tables stand for: what came last among a list of actions. Lists of actions stand newest first.
 use Rattle.std.specs.Prelude.{◌≡◌, ℕ, ◌==◌, Bool, List, Option, None, nat_eq, reverse}
 use Rattle.indexmap.specs.IndexMap.{get}
-use Rattle.er_history.specs.History.{Action, FireAt, WindowFire}
+use Rattle.er_history.specs.History.{Event, Action, FireAt, WindowFire}
 use Rattle.er_history.specs.Rules.{is_blocking, is_deferred, same_target}
 use Rattle.er_history.specs.Latest.{newest_by, events_of_each, greatest_group}
 use Rattle.er_history.specs.Kinds.{is_step_of, is_run_of, is_static_async, is_tick_of, closes, is_reply_of, is_static_load_of, is_handler_of}
@@ -12,33 +12,59 @@ use Rattle.er_latest.specs.declared.role.Now.{Now}
 use Rattle.er_latest.specs.Roles.{Kept, said_by, role_of, step_of, blocking_of, deferred_of, tick_of, reply_of, async_of, static_of, handler_of, dispatch_of, element_of, window_of}
 use Rattle.er_latest.specs.Tables.{by_name, items_of, pair_eq, greatest_in, IsRising, HasPlace, HasPlaceNamed, HasRoomFor}
 
+-- of the newest action whose event passes the event, and the script that it runs
+
+abbrev pub last_event : (Event → Bool) → List Action → Option ℕ
+last_event test actions = event_in (newest_by test actions)
+
+abbrev pub last_script : (Event → Bool) → List Action → Option ℕ
+last_script test actions = script_in (newest_by test actions)
+
+-- the events that pass, oldest first
+abbrev pub events_in_order : (Event → Bool) → List Action → List ℕ
+events_in_order test actions = reverse (events_of_each test actions)
+
 -- the close of a dispatch of this type at the element, or at the window of the document
 
 abbrev pub closes_at_element : ℕ → List ℕ → List Action → Option ℕ
-closes_at_element e n actions = piece_in (newest_by (closes (λ y. same_target y (FireAt e n None))) actions)
+closes_at_element e n actions =
+    piece_in (newest_by (closes (λ y. same_target y (FireAt e n None))) actions)
 
 abbrev pub closes_at_window : ℕ → List ℕ → List Action → Option ℕ
-closes_at_window d n actions = piece_in (newest_by (closes (λ y. same_target y (WindowFire d n None))) actions)
+closes_at_window d n actions =
+    piece_in (newest_by (closes (λ y. same_target y (WindowFire d n None))) actions)
 
 -- each table has what the list of actions says
 pub record LatestAre (latest : Latest) (actions : List Action) : Type 0 where
   pub steps : (d : ℕ) → get nat_eq latest.steps d ≡ event_in (newest_by (is_step_of d) actions)
-  pub blocking : (d : ℕ) → get nat_eq latest.blocking d ≡ event_in (newest_by (is_run_of is_blocking d) actions)
-  pub deferred : (d : ℕ) → get nat_eq latest.deferred d ≡ event_in (newest_by (is_run_of is_deferred d) actions)
-  pub scripts : (d : ℕ) → get nat_eq latest.scripts d ≡ script_in (newest_by (is_run_of is_deferred d) actions)
+  pub blocking : (d : ℕ)
+      → get nat_eq latest.blocking d ≡ event_in (newest_by (is_run_of is_blocking d) actions)
+  pub deferred : (d : ℕ)
+      → get nat_eq latest.deferred d ≡ event_in (newest_by (is_run_of is_deferred d) actions)
+  pub scripts : (d : ℕ)
+      → get nat_eq latest.scripts d ≡ script_in (newest_by (is_run_of is_deferred d) actions)
   pub ticks : (i : ℕ) → get nat_eq latest.ticks i ≡ event_in (newest_by (is_tick_of i) actions)
-  pub replies : (r : ℕ) → get nat_eq latest.replies r ≡ event_in (newest_by (closes (is_reply_of r)) actions)
-  pub asyncs : (d : ℕ) → items_of (get nat_eq latest.asyncs d) ≡ reverse (events_of_each (is_run_of is_static_async d) actions)
-  pub statics : (d : ℕ) → items_of (get nat_eq latest.statics d) ≡ reverse (events_of_each (closes (is_static_load_of d)) actions)
-  pub runs : (p : ℕ × ℕ) → items_of (get pair_eq latest.runs p) ≡ reverse (events_of_each (is_handler_of p.0 (λ k. k == p.1)) actions)
-  pub groups : (p : ℕ) (test : ℕ → Bool) → greatest_in test (items_of (get nat_eq latest.groups p)) ≡ greatest_group p test actions
+  pub replies : (r : ℕ)
+      → get nat_eq latest.replies r ≡ event_in (newest_by (closes (is_reply_of r)) actions)
+  pub asyncs : (d : ℕ)
+      → items_of (get nat_eq latest.asyncs d)
+      ≡ reverse (events_of_each (is_run_of is_static_async d) actions)
+  pub statics : (d : ℕ)
+      → items_of (get nat_eq latest.statics d)
+      ≡ reverse (events_of_each (closes (is_static_load_of d)) actions)
+  pub runs : (p : ℕ × ℕ)
+      → items_of (get pair_eq latest.runs p)
+      ≡ reverse (events_of_each (is_handler_of p.0 (λ k. k == p.1)) actions)
+  pub groups : (p : ℕ) (test : ℕ → Bool)
+      → greatest_in test (items_of (get nat_eq latest.groups p)) ≡ greatest_group p test actions
   pub ordered : (p : ℕ) → IsRising (items_of (get nat_eq latest.groups p))
   pub elements : (e : ℕ) (n : List ℕ) → by_name latest.elements n e ≡ closes_at_element e n actions
   pub windows : (d : ℕ) (n : List ℕ) → by_name latest.windows n d ≡ closes_at_window d n actions
 
 -- for every list that the tables stand for, the answer is what is said of it
 abbrev pub Answers : {A : Type 0} → Latest → (List Action → A) → A → Type 0
-Answers latest said result = (actions : List Action) → LatestAre latest actions → result ≡ said actions
+Answers latest said result = (actions : List Action) → LatestAre latest actions
+    → result ≡ said actions
 
 -- the action is this one, and its event has this role
 pub record IsTold (role : Role) (now : Now) (a : Action) : Type 0 where

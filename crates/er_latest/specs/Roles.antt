@@ -37,7 +37,11 @@ said_by (roles.AtWindow d n) = CloseAtWindow d n.now
 -- the role of the run of a script
 abbrev pub script_role : ℕ → Option Element → Kept
 script_role e None = Nothing
-script_role e (Some x) = if is_blocking x then BlockingIn x.doc else (if is_deferred x then DeferredIn x.doc e else (if is_static_async x then AsyncIn x.doc else Nothing))
+script_role e (Some x) =
+    if is_blocking x then BlockingIn x.doc
+    else (if is_deferred x then DeferredIn x.doc e
+    else (if is_static_async x then AsyncIn x.doc
+    else Nothing))
 
 -- the role of the close of the first load event of an element
 abbrev pub load_role : Option Element → Kept

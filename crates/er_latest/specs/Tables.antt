@@ -33,11 +33,13 @@ by_name tables name k = under (get (pointwise nat_eq) tables name) k
 
 abbrev pub put_named : Option (ℕ × List ℕ) → ℕ → List ℕ → ℕ → Option ℕ → Option ℕ
 put_named None value name k old = old
-put_named (Some p) value name k old = if (p.0 == k) && pointwise nat_eq p.1 name then Some value else old
+put_named (Some p) value name k old =
+    if (p.0 == k) && pointwise nat_eq p.1 name then Some value else old
 
 abbrev pub HasPlaceNamed : Table (List ℕ) (Table ℕ ℕ) → Option (ℕ × List ℕ) → Type 0
 HasPlaceNamed tables None = Unit {0}
-HasPlaceNamed tables (Some p) = IsSomeAnd (get (pointwise nat_eq) tables p.1) (λ table. 0 < spare table)
+HasPlaceNamed tables (Some p) =
+    IsSomeAnd (get (pointwise nat_eq) tables p.1) (λ table. 0 < spare table)
 
 -- Lists by keys.
 
@@ -58,7 +60,8 @@ HasRoomFor eq lists (Some k) = HasRoom (get eq lists k)
 -- the list of key k once this event has been put at the end of that one, if any, where the action is its first piece
 abbrev pub put_first : {K : Type 0} → (K → K → Bool) → Option K → Now → K → List ℕ → List ℕ
 put_first eq None now k old = old
-put_first eq (Some n) now k old = if (now.action == now.event) && eq n k then old ++ now.event ∷ [] else old
+put_first eq (Some n) now k old =
+    if (now.action == now.event) && eq n k then old ++ now.event ∷ [] else old
 
 abbrev pub pair_eq : ℕ × ℕ → ℕ × ℕ → Bool
 pair_eq p q = nat_eq p.0 q.0 && nat_eq p.1 q.1

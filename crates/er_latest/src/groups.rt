@@ -37,8 +37,12 @@ fn before(groups: &[u32], place: usize) -> Option<u32>
 /// Puts a group among those of its dispatch, if there is one.
 pub(crate) fn put(lists: &mut IndexMap<u32, Vec<u32>>, handler: Option<(u32, u32)>)
     requires room { HasRoomFor nat_eq lists.old (first_of handler) }
-    ensures greatest { (p : ℕ) (test : ℕ → Bool) → greatest_in test (items_of (get nat_eq lists.new p)) ≡ greater (group_put handler p test) (greatest_in test (items_of (get nat_eq lists.old p))) }
-    ensures ordered { (p : ℕ) → IsRising (items_of (get nat_eq lists.old p)) → IsRising (items_of (get nat_eq lists.new p)) }
+    ensures greatest { (p : ℕ) (test : ℕ → Bool)
+        → greatest_in test (items_of (get nat_eq lists.new p))
+        ≡ greater (group_put handler p test)
+        (greatest_in test (items_of (get nat_eq lists.old p))) }
+    ensures ordered { (p : ℕ) → IsRising (items_of (get nat_eq lists.old p))
+        → IsRising (items_of (get nat_eq lists.new p)) }
 {
     let Some((dispatch, group)) = handler else {
         return;
@@ -53,7 +57,9 @@ pub(crate) fn put(lists: &mut IndexMap<u32, Vec<u32>>, handler: Option<(u32, u32
 #[tactic(auto, using(crate::proofs::GroupsLemmas::greatest_inserted, crate::proofs::GroupsLemmas::greatest_there, crate::proofs::GroupsLemmas::rising_inserted))]
 fn put_in(groups: &mut Vec<u32>, group: u32)
     requires room { vec_len groups.old < vec_capacity groups.old }
-    ensures greatest { (test : ℕ → Bool) → greatest_in test groups.new.items ≡ greater (if test group then Some group else None) (greatest_in test groups.old.items) }
+    ensures greatest { (test : ℕ → Bool)
+        → greatest_in test groups.new.items
+        ≡ greater (if test group then Some group else None) (greatest_in test groups.old.items) }
     ensures ordered { IsRising groups.old.items → IsRising groups.new.items }
 {
     let place = place_of(groups.as_slice(), group);
@@ -67,8 +73,10 @@ fn put_in(groups: &mut Vec<u32>, group: u32)
 
 /// Whether the group stands at the place.
 fn stands_at(groups: &[u32], place: usize, group: u32) -> bool
-    ensures there { result ≡ true → (place < length groups.now) × (slice_index groups.now place ≡ group) }
-    ensures other { result ≡ false → place < length groups.now → slice_index groups.now place ≢ group }
+    ensures there { result ≡ true
+        → (place < length groups.now) × (slice_index groups.now place ≡ group) }
+    ensures other { result ≡ false → place < length groups.now
+        → slice_index groups.now place ≢ group }
 {
     place < groups.len() && groups[place] == group
 }

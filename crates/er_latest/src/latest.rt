@@ -85,7 +85,8 @@ impl Latest {
 
     /// Makes room for an event of this role. Look-ups answer what they did.
     pub fn make_room(&mut self, role: &Role<'_>) -> Result<(), NoMemory>
-        ensures kept { (actions : List Action) → LatestAre self.old actions → LatestAre self.new actions }
+        ensures kept { (actions : List Action) → LatestAre self.old actions
+            → LatestAre self.new actions }
         ensures room { OnOk result (HasRoomOf self.new (said_by role.now)) }
     {
         newest::make_room(&mut self.steps, role.step())?;
@@ -105,7 +106,8 @@ impl Latest {
     /// Takes an action, with the role of its event.
     pub fn take(&mut self, role: &Role<'_>, now: Now)
         requires room { HasRoomOf self.old (said_by role.now) }
-        ensures { (actions : List Action) (a : Action) → LatestAre self.old actions → IsTold role.now now a → LatestAre self.new (a ∷ actions) }
+        ensures { (actions : List Action) (a : Action) → LatestAre self.old actions
+            → IsTold role.now now a → LatestAre self.new (a ∷ actions) }
     {
         newest::put(&mut self.steps, role.step(), now.event);
         newest::put(&mut self.blocking, role.blocking(), now.event);

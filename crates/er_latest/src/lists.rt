@@ -43,7 +43,9 @@ pub(crate) fn put<K: Eq + Hash + Copy + Drop>(
     now: Now,
 )
     requires room { HasRoomFor K.eq lists.old key }
-    ensures { (k : K) → items_of (get K.eq lists.new k) ≡ put_first K.eq key now k (items_of (get K.eq lists.old k)) }
+    ensures { (k : K)
+        → items_of (get K.eq lists.new k)
+        ≡ put_first K.eq key now k (items_of (get K.eq lists.old k)) }
 {
     if now.action != now.event {
         return;

@@ -46,7 +46,8 @@ pub(crate) fn put(
     value: u32,
 )
     requires room { HasPlaceNamed tables.old (named pair) }
-    ensures { (n : List ℕ) (k : ℕ) → by_name tables.new n k ≡ put_named (named pair.entry) value n k (by_name tables.old n k) }
+    ensures { (n : List ℕ) (k : ℕ)
+        → by_name tables.new n k ≡ put_named (named pair.entry) value n k (by_name tables.old n k) }
 {
     let Some((number, name)) = pair else {
         return;
@@ -79,7 +80,8 @@ fn make_table(
 fn make_place(tables: &mut IndexMap<Name, IndexMap<u32, u32>>, name: &Name) -> Result<(), NoMemory>
     requires there { IsSome (get (pointwise nat_eq) tables.old name.now) }
     ensures kept { (n : List ℕ) (k : ℕ) → by_name tables.new n k ≡ by_name tables.old n k }
-    ensures room { OnOk result (IsSomeAnd (get (pointwise nat_eq) tables.new name.now) (λ table. 0 < spare table)) }
+    ensures room { OnOk result
+        (IsSomeAnd (get (pointwise nat_eq) tables.new name.now) (λ table. 0 < spare table)) }
 {
     let Some(table) = tables.get_mut(name) else {
         unreachable!()

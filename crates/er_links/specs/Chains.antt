@@ -11,12 +11,14 @@ last_passes test (i ∷ chain) = test i
 -- j joins the lowest chain whose last member passes, else it begins a new one
 abbrev pub first_fit : (ℕ → Bool) → ℕ → List (List ℕ) → List (List ℕ)
 first_fit test j [] = (j ∷ []) ∷ []
-first_fit test j (chain ∷ rest) = if last_passes test chain then (j ∷ chain) ∷ rest else chain ∷ first_fit test j rest
+first_fit test j (chain ∷ rest) =
+    if last_passes test chain then (j ∷ chain) ∷ rest else chain ∷ first_fit test j rest
 
 -- the chains of all actions, lowest first
 abbrev pub chains : List (List ℕ) → List (List ℕ)
 chains [] = []
-chains (p ∷ older) = first_fit (λ i. joins (p ∷ older) i (length older)) (length older) (chains older)
+chains (p ∷ older) =
+    first_fit (λ i. joins (p ∷ older) i (length older)) (length older) (chains older)
 
 -- the members of a chain: none past the last chain
 abbrev pub members : List (List ℕ) → ℕ → List ℕ

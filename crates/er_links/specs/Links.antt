@@ -14,7 +14,8 @@ is_between joined i j k = (not (k == i) && not (k == j)) && (joined i k && joine
 
 -- there is a path from i to j, and no third of the n actions is on any
 abbrev pub link_among : (ℕ → ℕ → Bool) → ℕ → ℕ → ℕ → Bool
-link_among joined n i j = (not (i == j) && joined i j) && not (list_any (is_between joined i j) (numbers_below n))
+link_among joined n i j =
+    (not (i == j) && joined i j) && not (list_any (is_between joined i j) (numbers_below n))
 
 -- i and j are a link
 abbrev pub is_link : List (List ℕ) → ℕ → ℕ → Bool

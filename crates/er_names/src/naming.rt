@@ -100,7 +100,33 @@ impl Names {
     {
         match rec {
             Record::Exec { element } => !is_script(self.element(*element)),
-            _ => false,
+            Record::Parse { .. } => false,
+            Record::ParseFrame { .. } => false,
+            Record::Timer { .. } => false,
+            Record::Tick { .. } => false,
+            Record::Dcl { .. } => false,
+            Record::Load { .. } => false,
+            Record::Eload { .. } => false,
+            Record::Fire { .. } => false,
+            Record::Wfire { .. } => false,
+            Record::Reply { .. } => false,
+            Record::Inline { .. } => false,
+            Record::Run { .. } => false,
+            Record::Close { .. } => false,
+            Record::Back { .. } => false,
+            Record::Message { .. } => false,
+            Record::Anim { .. } => false,
+            Record::Job { .. } => false,
+            Record::New { .. } => false,
+            Record::NewFrame { .. } => false,
+            Record::On { .. } => false,
+            Record::Set { .. } => false,
+            Record::Every { .. } => false,
+            Record::Send { .. } => false,
+            Record::Post { .. } => false,
+            Record::Ask { .. } => false,
+            Record::Queue { .. } => false,
+            Record::Access { .. } => false,
         }
     }
 
@@ -142,12 +168,23 @@ fn is_script(element: Option<Element>) -> bool
     ensures { result ≡ naming.is_script (option_map element_of element) }
 {
     match element {
-        Some(
-            Element {
-                form: Form::Kinded(kind),
-                ..
-            },
-        ) => !matches!(kind, Kind::Plain | Kind::Image),
-        _ => false,
+        Some(element) => match element.form {
+            Form::Kinded(kind) => is_script_kind(kind),
+            Form::Framing(_) => false,
+        },
+        None => false,
+    }
+}
+
+fn is_script_kind(kind: Kind) -> bool
+    ensures { result ≡ naming.is_script_kind kind }
+{
+    match kind {
+        Kind::Plain => false,
+        Kind::Image => false,
+        Kind::Inline => true,
+        Kind::Sync => true,
+        Kind::Async => true,
+        Kind::Defer => true,
     }
 }

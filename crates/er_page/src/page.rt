@@ -106,7 +106,8 @@ impl Page {
     /// Takes the next record, which `check` and `room` accept. After `NoMemory` the page stands for what it did.
     pub fn apply(&mut self, rec: &Record) -> Result<(), NoMemory>
         requires next { ∥ IsNext self.old rec.now ∥₁ }
-        ensures taken { OnOk result ((h : List Record) → IsPage self.old h → naming h rec.now ≡ None → room h rec.now ≡ None → IsPage self.new (rec.now ∷ h)) }
+        ensures taken { OnOk result ((h : List Record) → IsPage self.old h → naming h rec.now ≡ None
+            → room h rec.now ≡ None → IsPage self.new (rec.now ∷ h)) }
         ensures kept { OnErr result ((h : List Record) → IsPage self.old h → IsPage self.new h) }
     {
         // An access declares, starts and finishes nothing.
@@ -138,7 +139,8 @@ impl Page {
         requires next { ∥ IsNext self.old rec.now ∥₁ }
         requires names { HasRoomFor self.old.names rec.now }
         requires tasks { HaveRoomFor self.old.tasks rec.now }
-        ensures taken { OnOk result ((h : List Record) → IsPage self.old h → IsNextOf h rec.now → Some (about_start start) ≡ about_begun h rec.now → IsPage self.new (rec.now ∷ h)) }
+        ensures taken { OnOk result ((h : List Record) → IsPage self.old h → IsNextOf h rec.now
+            → Some (about_start start) ≡ about_begun h rec.now → IsPage self.new (rec.now ∷ h)) }
         ensures kept { OnErr result ((h : List Record) → IsPage self.old h → IsPage self.new h) }
     {
         let begin = rec.copy()?;
@@ -164,7 +166,8 @@ impl Page {
     fn note(&mut self, rec: &Record)
         requires names { HasRoomFor self.old.names rec.now }
         requires tasks { HaveRoomFor self.old.tasks rec.now }
-        ensures { (h : List Record) → IsPage self.old h → IsNextOf h rec.now → None ≡ about_begun h rec.now → IsPage self.new (rec.now ∷ h) }
+        ensures { (h : List Record) → IsPage self.old h → IsNextOf h rec.now
+            → None ≡ about_begun h rec.now → IsPage self.new (rec.now ∷ h) }
     {
         if let Some(now) = self.pieces.now() {
             self.names.take(rec, now);

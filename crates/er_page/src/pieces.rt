@@ -47,8 +47,12 @@ impl Pieces {
         requires few { length self.old.list.items + 1 < 2 ^ 32 }
         requires room { vec_len self.old.list < vec_capacity self.old.list }
         requires place { 0 < spare self.old.latest }
-        ensures list { self.new.list.items ≡ self.old.list.items ++ record { begin = begin; start = start } ∷ [] }
-        ensures latest { (u : ℕ) → get nat_eq self.new.latest u ≡ (if start.event == u then Some (length self.old.list.items) else get nat_eq self.old.latest u) }
+        ensures list { self.new.list.items
+            ≡ self.old.list.items ++ record { begin = begin; start = start } ∷ [] }
+        ensures latest { (u : ℕ) → get nat_eq self.new.latest u
+            ≡ (if start.event == u
+            then Some (length self.old.list.items)
+            else get nat_eq self.old.latest u) }
     {
         let action = self.list.len() as u32;
         let Ok(_) = self.latest.insert(start.event, action) else {
@@ -75,7 +79,8 @@ impl Pieces {
 
     /// The event of the piece just before this action.
     pub(crate) fn before(&self, action: u32) -> Option<Start>
-        ensures { (n : ℕ) → action ≡ n + 1 → result ≡ option_map start_in (slice_get self.now.list.items n) }
+        ensures { (n : ℕ) → action ≡ n + 1
+            → result ≡ option_map start_in (slice_get self.now.list.items n) }
     {
         let last = action.checked_sub(1)?;
         let piece = self.list.get(last as usize)?;
@@ -110,7 +115,8 @@ impl Pieces {
 
     /// Whether the running action can call an inline dispatch: its event is a script run, a timeout, a tick, a handler, a close, a message, an animation callback or a job.
     pub(crate) fn may_call(&self) -> bool
-        ensures { (h : List Record) → PiecesAre self.now h → result ≡ may_call (running (told h).actions) }
+        ensures { (h : List Record) → PiecesAre self.now h
+            → result ≡ may_call (running (told h).actions) }
     {
         match self.newest() {
             Some(start) => calls(start.begun),

@@ -32,7 +32,8 @@ pub(crate) fn served_of<'a>(pieces: &'a Pieces, start: Start) -> Option<&'a Reco
 
 /// The role of an event that this record began, which serves the dispatch that the other record began, if one.
 pub(crate) fn role_by<'a>(names: &Names, first: &'a Record, served: Option<&'a Record>) -> Role<'a>
-    ensures { (h : List Record) → NamesAre names.now h → said_by result ≡ role_by h first.now (read served.entry) }
+    ensures { (h : List Record) → NamesAre names.now h
+        → said_by result ≡ role_by h first.now (read served.entry) }
 {
     match first {
         Record::Parse { doc, .. } => Role::Step { doc: *doc },

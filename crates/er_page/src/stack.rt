@@ -79,7 +79,8 @@ impl Stack {
 
     /// Whether this dispatch is on top, and its close has or has not begun.
     pub(crate) fn is_top(&self, closing: bool, dispatch: u32) -> bool
-        ensures { (h : List Record) → StackIs self.now h → result ≡ naming.is_top closing dispatch (told h).stack }
+        ensures { (h : List Record) → StackIs self.now h
+            → result ≡ naming.is_top closing dispatch (told h).stack }
     {
         match self.top_level() {
             Some(level) => level.number == dispatch && level.closing == closing,
@@ -89,7 +90,8 @@ impl Stack {
 
     /// Whether there is none.
     pub(crate) fn is_empty(&self) -> bool
-        ensures { (h : List Record) → StackIs self.now h → not result ≡ naming.has_open (told h).stack }
+        ensures { (h : List Record) → StackIs self.now h
+            → not result ≡ naming.has_open (told h).stack }
     {
         self.levels.is_empty()
     }
@@ -109,7 +111,8 @@ impl Stack {
     pub(crate) fn take(&mut self, rec: &Record, action: u32)
         requires room { vec_len self.old.levels < vec_capacity self.old.levels }
         requires depth { HasDepth (reverse self.old.levels.items) rec.now }
-        ensures { reverse self.new.levels.items ≡ levels_after (reverse self.old.levels.items) action rec.now }
+        ensures { reverse self.new.levels.items
+            ≡ levels_after (reverse self.old.levels.items) action rec.now }
     {
         match rec {
             Record::Dcl { dispatch, .. } => self.put(*dispatch, action),
@@ -127,7 +130,8 @@ impl Stack {
 
     fn put(&mut self, number: u32, begin: u32)
         requires room { vec_len self.old.levels < vec_capacity self.old.levels }
-        ensures { reverse self.new.levels.items ≡ put false (reverse self.old.levels.items) number begin }
+        ensures { reverse self.new.levels.items
+            ≡ put false (reverse self.old.levels.items) number begin }
     {
         let level = Level {
             number,
@@ -142,7 +146,8 @@ impl Stack {
     fn put_inline(&mut self, number: u32, begin: u32)
         requires room { vec_len self.old.levels < vec_capacity self.old.levels }
         requires depth { depth_on (reverse self.old.levels.items) + 1 < 2 ^ 32 }
-        ensures { reverse self.new.levels.items ≡ put true (reverse self.old.levels.items) number begin }
+        ensures { reverse self.new.levels.items
+            ≡ put true (reverse self.old.levels.items) number begin }
     {
         let level = Level {
             number,

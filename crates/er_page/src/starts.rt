@@ -14,7 +14,8 @@ use er_trace::record::Record;
 
 /// The event that a record begins, or goes on with, where naming accepts the record. A note does neither.
 pub(crate) fn start_of(stack: &Stack, pieces: &Pieces, rec: &Record) -> Option<Start>
-    ensures { (h : List Record) → StackIs stack.now h → PiecesAre pieces.now h → IsNamed (rec.now ∷ h) → option_map about_start result ≡ about_begun h rec.now }
+    ensures { (h : List Record) → StackIs stack.now h → PiecesAre pieces.now h
+        → IsNamed (rec.now ∷ h) → option_map about_start result ≡ about_begun h rec.now }
 {
     if let Record::Back { .. } = rec {
         return resumed(stack, pieces);
@@ -47,7 +48,8 @@ fn top_begin(stack: &Stack) -> Option<u32>
 
 /// The event of the piece just before the begin of the dispatch on top.
 fn resumed(stack: &Stack, pieces: &Pieces) -> Option<Start>
-    ensures { (n : ℕ) (l : Level) (below : List Level) → reverse stack.now.levels.items ≡ l ∷ below → l.begin ≡ n + 1 → result ≡ option_map start_in (slice_get pieces.now.list.items n) }
+    ensures { (n : ℕ) (l : Level) (below : List Level) → reverse stack.now.levels.items ≡ l ∷ below
+        → l.begin ≡ n + 1 → result ≡ option_map start_in (slice_get pieces.now.list.items n) }
 {
     let begin = top_begin(stack)?;
     pieces.before(begin)

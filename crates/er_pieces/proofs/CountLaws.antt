@@ -10,7 +10,7 @@ use Rattle.er_history.specs.Rules.{Rule, rules, is_blocking, is_deferred, is_dcl
 use Rattle.er_history.specs.Edges.{up_to, path}
 use Rattle.er_history.specs.Latest.{newest, number_of, latest_piece, latest_of, latest_of_each, events_of_each, greatest_group}
 use Rattle.er_history.specs.Kinds.{is_step_of, is_run_of, is_static_async, runs_element, is_tick_of, closes, is_load_of, is_reply_of, is_static_load_of, is_begin_of, is_handler_of}
-use Rattle.er_pieces.specs.HandedPieces.{step_handed, parsed_handed, run_handed, inner_close, eload_handed, timeout_handed, runs_or_begin}
+use Rattle.er_pieces.specs.HandedPieces.{step_handed, dcl_handed, run_handed, inner_close, eload_handed, timeout_handed, runs_or_begin}
 use Rattle.er_pieces.specs.Counts.{run_count, ParseHandsAtMost, ScriptHandsAtMost, LoadHandsAtMost, TimerHandsAtMost, RequestHandsAtMost, DispatchHandsAtMost}
 use Rattle.er_pieces.proofs.CountLemmas.{newest_short, latest_short, made_short, number_short, both_short, each_short}
 
@@ -28,7 +28,7 @@ parse_hands_at_most h (Parse d e k) = step_short (told h) d
 parse_hands_at_most h (ParseFrame d e f) = step_short (told h) d
 parse_hands_at_most h _ = nothing 0
 
-parsed_short : (t : History) (d : ℕ) → length (parsed_handed t d) ≤ 3
+parsed_short : (t : History) (d : ℕ) → length (dcl_handed t d) ≤ 3
 parsed_short t d =
     let step = newest (is_step_of d) t.actions in
     let run = newest (is_run_of is_blocking d) t.actions in
@@ -38,9 +38,9 @@ parsed_short t d =
 
 run_short : (t : History) (o : Option Element) → length (run_handed t o) ≤ 4
 run_short t None = nothing 4
-run_short t (Some x) = both_short (latest_piece x.maker t.actions) (if is_deferred x then parsed_handed t x.doc else []) 1 3 (latest_short x.maker t.actions) (some (is_deferred x))
+run_short t (Some x) = both_short (latest_piece x.maker t.actions) (if is_deferred x then dcl_handed t x.doc else []) 1 3 (latest_short x.maker t.actions) (some (is_deferred x))
   where
-    some : (b : Bool) → length (if b then parsed_handed t x.doc else []) ≤ 3
+    some : (b : Bool) → length (if b then dcl_handed t x.doc else []) ≤ 3
     some true = parsed_short t x.doc
     some false = nothing 3
 
@@ -63,15 +63,15 @@ eload_short t e (Some x) =
     let run = newest (runs_element e) t.actions in
     both_short (maker ++ run) (inner_close t x.form) 2 1 (both_short maker run 1 1 (latest_short x.maker t.actions) (newest_short (runs_element e) t.actions)) (inner_short t x.form)
 
-load_short : (t : History) (d : ℕ) → length (newest (closes (is_dcl_of d)) t.actions ++ parsed_handed t d ++ latest_of_each (is_run_of is_static_async d) t.actions ++ latest_of_each (closes (is_static_load_of d)) t.actions)
+load_short : (t : History) (d : ℕ) → length (newest (closes (is_dcl_of d)) t.actions ++ dcl_handed t d ++ latest_of_each (is_run_of is_static_async d) t.actions ++ latest_of_each (closes (is_static_load_of d)) t.actions)
     ≤ 4 + length (reverse (events_of_each (is_run_of is_static_async d) t.actions)) + length (reverse (events_of_each (closes (is_static_load_of d)) t.actions))
 load_short t d =
     let dcl = newest (closes (is_dcl_of d)) t.actions in
     let runs = latest_of_each (is_run_of is_static_async d) t.actions in
     let a = length (reverse (events_of_each (is_run_of is_static_async d) t.actions)) in
     let l = length (reverse (events_of_each (closes (is_static_load_of d)) t.actions)) in
-    both_short (dcl ++ parsed_handed t d ++ runs) (latest_of_each (closes (is_static_load_of d)) t.actions) (4 + a) l
-    (both_short (dcl ++ parsed_handed t d) runs 4 a (both_short dcl (parsed_handed t d) 1 3 (newest_short (closes (is_dcl_of d)) t.actions) (parsed_short t d)) (each_short (is_run_of is_static_async d) t.actions))
+    both_short (dcl ++ dcl_handed t d ++ runs) (latest_of_each (closes (is_static_load_of d)) t.actions) (4 + a) l
+    (both_short (dcl ++ dcl_handed t d) runs 4 a (both_short dcl (dcl_handed t d) 1 3 (newest_short (closes (is_dcl_of d)) t.actions) (parsed_short t d)) (each_short (is_run_of is_static_async d) t.actions))
     (each_short (closes (is_static_load_of d)) t.actions)
 
 pub load_hands_at_most : LoadHandsAtMost

@@ -11,7 +11,7 @@ use Rattle.er_history.specs.Laws.{Among}
 use Rattle.er_history.specs.Naming.{has_open}
 use Rattle.er_history.specs.Latest.{newest, latest_piece, latest_of_each}
 use Rattle.er_history.specs.Kinds.{is_run_of, is_static_async, runs_element, closes, is_load_of, is_static_load_of}
-use Rattle.er_pieces.specs.HandedPieces.{parsed_handed, inner_close, eload_handed}
+use Rattle.er_pieces.specs.HandedPieces.{dcl_handed, inner_close, eload_handed}
 use Rattle.er_pieces.specs.Enough.{IsSteady, EnoughLoad}
 use Rattle.er_history.proofs.HistoryLemmas.{actions_are_numbered}
 use Rattle.er_history.proofs.NamedLemmas.{none_holds}
@@ -61,10 +61,10 @@ reach_dcl table h steady none d i among is =
 -- a static script
 
 reach_static : (table : List (ℕ × Rule)) (h : List Record) → IsSteady table h → (d : ℕ) (i : Action) → Among i (told h).actions → is_run_of (λ e. e.is_static) d i.event ≡ true
-    → Reaches (path table h) i.number (parsed_handed (told h) d ++ latest_of_each (is_run_of is_static_async d) (told h).actions)
+    → Reaches (path table h) i.number (dcl_handed (told h) d ++ latest_of_each (is_run_of is_static_async d) (told h).actions)
 reach_static table h steady d i among e =
     let run = run_is h steady.named (λ x. x.is_static) d i among e in
-    let parsed : List ℕ = parsed_handed (told h) d in
+    let parsed : List ℕ = dcl_handed (told h) d in
     let async : List ℕ = latest_of_each (is_run_of is_static_async d) (told h).actions in
     elim (static_script run.made run.passes (ran_script h steady.named i run.element (Some run.made) among run.is)) [
       | inl blocks ↦ reach_left (path table h) i.number parsed async (reach_parsed table h steady d i among (inr (inl (runs_as is_blocking d run.element run.made i.event run.is blocks run.doc))))
@@ -161,7 +161,7 @@ enough_load table facts h (Load p d) steady named ordered = λ i among ruled.
     let acts = (told h).actions in
     let joined = path table h in
     let dcl : List ℕ = newest (closes (is_dcl_of d)) acts in
-    let parsed : List ℕ = parsed_handed (told h) d in
+    let parsed : List ℕ = dcl_handed (told h) d in
     let async : List ℕ = latest_of_each (is_run_of is_static_async d) acts in
     let loads : List ℕ = latest_of_each (closes (is_static_load_of d)) acts in
     elim (to_load (up_to (length acts) (path table h)) i.event (length acts) p (length acts) (LoadOf d (maker_by (declares_document d) (told h).entries)) (and_right _ _ ruled)) [

@@ -12,7 +12,7 @@ use Rattle.er_history.specs.Edges.{path, up_to}
 use Rattle.er_history.specs.Laws.{Among}
 use Rattle.er_history.specs.Latest.{latest_piece}
 use Rattle.er_history.specs.Kinds.{is_run_of}
-use Rattle.er_pieces.specs.HandedPieces.{parsed_handed, run_handed}
+use Rattle.er_pieces.specs.HandedPieces.{dcl_handed, run_handed}
 use Rattle.er_pieces.specs.Enough.{IsSteady, EnoughScript}
 use Rattle.er_history.proofs.EventLemmas.{IsOther, form_begun}
 use Rattle.er_pieces.proofs.PathLemmas.{and_right, Reaches, reach_left, reach_right, reach_latest}
@@ -134,9 +134,9 @@ reach_run table h steady joined n s None i among e = absurd (no_element joined i
 reach_run table h steady joined n s (Some y) i among e =
     let acts = (told h).actions in
     elim (to_run joined i.event n s y e) [
-      | inl maker ↦ reach_left (path table h) i.number (latest_piece y.maker acts) (if is_deferred y then parsed_handed (told h) y.doc else []) (reach_latest table h i y.maker among (sym maker))
-      | inr parsed ↦ reach_right (path table h) i.number (latest_piece y.maker acts) (if is_deferred y then parsed_handed (told h) y.doc else [])
-          (ap (λ b. list_any (λ k. path table h i.number k) (if b then parsed_handed (told h) y.doc else [])) parsed.0 ∙ reach_parsed table h steady y.doc i among parsed.1)
+      | inl maker ↦ reach_left (path table h) i.number (latest_piece y.maker acts) (if is_deferred y then dcl_handed (told h) y.doc else []) (reach_latest table h i y.maker among (sym maker))
+      | inr parsed ↦ reach_right (path table h) i.number (latest_piece y.maker acts) (if is_deferred y then dcl_handed (told h) y.doc else [])
+          (ap (λ b. list_any (λ k. path table h i.number k) (if b then dcl_handed (told h) y.doc else [])) parsed.0 ∙ reach_parsed table h steady y.doc i among parsed.1)
     ]
 
 pub enough_script : EnoughScript

@@ -12,7 +12,7 @@ use Rattle.er_history.specs.Laws.{Among}
 use Rattle.er_history.specs.Handed.{AreSources}
 use Rattle.er_history.specs.Latest.{newest, latest_piece, latest_of_each}
 use Rattle.er_history.specs.Kinds.{is_step_of, is_run_of, is_static_async, runs_element, closes, is_load_of, is_static_load_of}
-use Rattle.er_pieces.specs.HandedPieces.{parsed_handed, inner_close, eload_handed, load_handed}
+use Rattle.er_pieces.specs.HandedPieces.{dcl_handed, inner_close, eload_handed, load_handed}
 use Rattle.er_pieces.specs.Hands.{HandsLoad}
 use Rattle.er_history.proofs.HistoryLemmas.{and_left, told_before, event_below}
 use Rattle.er_pieces.proofs.PathLemmas.{both, and_right, less_is}
@@ -120,7 +120,7 @@ holds h joined v number i among e = one_holds load_rules joined i.event v (λ sa
 
 parsed_sources : (h : List Record) (joined : ℕ → ℕ → Bool) (v : Event) (d : ℕ) → v.number ≡ length (told h).actions
     → ((u : Event) → is_step_of d u ≡ true → Holds joined u v) → ((u : Event) → is_run_of is_blocking d u ≡ true → Holds joined u v) → ((u : Event) → is_run_of is_deferred d u ≡ true → Holds joined u v)
-    → Each (To joined v) (told h).actions (parsed_handed (told h) d)
+    → Each (To joined v) (told h).actions (dcl_handed (told h) d)
 parsed_sources h joined v d number steps blocking deferred =
     let acts = (told h).actions in
     each_both (To joined v) acts (newest (is_step_of d) acts ++ newest (is_run_of is_blocking d) acts) (newest (is_run_of is_deferred d) acts)
@@ -129,7 +129,7 @@ parsed_sources h joined v d number steps blocking deferred =
     (each_newest (To joined v) (is_run_of is_blocking d) acts (λ i among e. holds h joined v number i among (blocking i.event e))))
     (each_newest (To joined v) (is_run_of is_deferred d) acts (λ i among e. holds h joined v number i among (deferred i.event e)))
 
-dcl_sources : (h : List Record) (joined : ℕ → ℕ → Bool) (p d : ℕ) (m : Option ℕ) → Each (To joined (begin_with (length (told h).actions) p (length (told h).actions) (DclOf d m))) (told h).actions (parsed_handed (told h) d)
+dcl_sources : (h : List Record) (joined : ℕ → ℕ → Bool) (p d : ℕ) (m : Option ℕ) → Each (To joined (begin_with (length (told h).actions) p (length (told h).actions) (DclOf d m))) (told h).actions (dcl_handed (told h) d)
 dcl_sources h joined p d m =
     let n = length (told h).actions in
     let v : Event = begin_with n p n (DclOf d m) in
@@ -139,14 +139,14 @@ dcl_sources h joined p d m =
     (λ u e. or_left (parsed_before_dcl joined u v) _ (run_to_dcl is_deferred (λ x is. or_right (is_blocking x) _ is) joined u n p n d m e))
 
 loads_sources : (h : List Record) (joined : ℕ → ℕ → Bool) (p d : ℕ) (m : Option ℕ) → Each (To joined (begin_with (length (told h).actions) p (length (told h).actions) (LoadOf d m))) (told h).actions
-    (newest (closes (is_dcl_of d)) (told h).actions ++ parsed_handed (told h) d ++ latest_of_each (is_run_of is_static_async d) (told h).actions ++ latest_of_each (closes (is_static_load_of d)) (told h).actions)
+    (newest (closes (is_dcl_of d)) (told h).actions ++ dcl_handed (told h) d ++ latest_of_each (is_run_of is_static_async d) (told h).actions ++ latest_of_each (closes (is_static_load_of d)) (told h).actions)
 loads_sources h joined p d m =
     let acts = (told h).actions in
     let n = length acts in
     let v : Event = begin_with n p n (LoadOf d m) in
     let S : Action → Type 0 = To joined v in
     let dcl : List ℕ = newest (closes (is_dcl_of d)) acts in
-    let parsed : List ℕ = parsed_handed (told h) d in
+    let parsed : List ℕ = dcl_handed (told h) d in
     let async : List ℕ = latest_of_each (is_run_of is_static_async d) acts in
     let loads : List ℕ = latest_of_each (closes (is_static_load_of d)) acts in
     each_both S acts (dcl ++ parsed ++ async) loads

@@ -15,7 +15,7 @@ use Rattle.er_history.specs.Sound.{out_of_order}
 use Rattle.er_history.specs.Handed.{AreSources}
 use Rattle.er_history.specs.Latest.{newest, latest_piece}
 use Rattle.er_history.specs.Kinds.{is_step_of, is_run_of}
-use Rattle.er_pieces.specs.HandedPieces.{parsed_handed, run_handed, script_handed}
+use Rattle.er_pieces.specs.HandedPieces.{dcl_handed, run_handed, script_handed}
 use Rattle.er_pieces.specs.Enough.{IsSteady}
 use Rattle.er_pieces.specs.Hands.{HandsScript}
 use Rattle.er_history.proofs.HistoryLemmas.{told_before, event_below}
@@ -69,7 +69,7 @@ run_sources : (table : List (ℕ × Rule)) (h : List Record) (e : ℕ) → IsSte
     → Each (λ i. any_holds script_rules joined i.event (event_with (length (told h).actions) (ScriptRun e o)) ≡ true) (told h).actions (run_handed (told h) o)
 run_sources table h e steady named ordered joined None found = each_none (λ i. any_holds script_rules joined i.event (event_with (length (told h).actions) (ScriptRun e None)) ≡ true) (told h).actions
 run_sources table h e steady named ordered joined (Some y) found =
-    each_both S acts (latest_piece y.maker acts) (if is_deferred y then parsed_handed (told h) y.doc else [])
+    each_both S acts (latest_piece y.maker acts) (if is_deferred y then dcl_handed (told h) y.doc else [])
     (each_latest S y.maker acts (λ i among same. made_leads i.event v e y (apart i among) refl (sym same) joined))
     (step (is_deferred y) refl)
   where
@@ -110,7 +110,7 @@ run_sources table h e steady named ordered joined (Some y) found =
             let begun = subst (λ (w : What). BegunBy w first.first.begin) run.is first.begun in
             clash (list_any (runs_script e) h) (none_holds h (Exec e) named).new (begun_in (runs_script e) h first.first first.among (subst (λ n. runs_script n first.first.begin ≡ true) same begun))
 
-    parsed : is_deferred y ≡ true → Each S acts (parsed_handed (told h) y.doc)
+    parsed : is_deferred y ≡ true → Each S acts (dcl_handed (told h) y.doc)
     parsed defers =
         each_both S acts (newest (is_step_of y.doc) acts ++ newest (is_run_of is_blocking y.doc) acts) (newest (is_run_of is_deferred y.doc) acts)
         (each_both S acts (newest (is_step_of y.doc) acts) (newest (is_run_of is_blocking y.doc) acts)
@@ -122,7 +122,7 @@ run_sources table h e steady named ordered joined (Some y) found =
         let run = run_is h steady.named is_deferred y.doc i among is in
         deferred_leads i.event v run.element e run.made y (apart i among) run.is refl run.passes defers run.doc (later defers i among run) joined))
 
-    step : (b : Bool) → is_deferred y ≡ b → Each S acts (if b then parsed_handed (told h) y.doc else [])
+    step : (b : Bool) → is_deferred y ≡ b → Each S acts (if b then dcl_handed (told h) y.doc else [])
     step true defers = parsed defers
     step false not_deferred = each_none S acts
 

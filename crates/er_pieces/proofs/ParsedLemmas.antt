@@ -7,7 +7,7 @@ use Rattle.er_history.specs.Edges.{path}
 use Rattle.er_history.specs.Laws.{Among}
 use Rattle.er_history.specs.Latest.{newest}
 use Rattle.er_history.specs.Kinds.{is_step_of, is_run_of}
-use Rattle.er_pieces.specs.HandedPieces.{parsed_handed}
+use Rattle.er_pieces.specs.HandedPieces.{dcl_handed}
 use Rattle.er_pieces.specs.Enough.{IsSteady}
 use Rattle.er_pieces.proofs.PathLemmas.{Reaches, reach_left, reach_right}
 use Rattle.er_pieces.proofs.EnoughParse.{reach_step}
@@ -17,7 +17,7 @@ use Rattle.er_pieces.proofs.RunLemmas.{reach_blocking, reach_deferred}
 abbrev pub IsParsed : ℕ → Event → Type 0
 IsParsed d u = (is_step_of d u ≡ true) ⊎ ((is_run_of is_blocking d u ≡ true) ⊎ (is_run_of is_deferred d u ≡ true))
 
-pub reach_parsed : (table : List (ℕ × Rule)) (h : List Record) → IsSteady table h → (d : ℕ) (i : Action) → Among i (told h).actions → IsParsed d i.event → Reaches (path table h) i.number (parsed_handed (told h) d)
+pub reach_parsed : (table : List (ℕ × Rule)) (h : List Record) → IsSteady table h → (d : ℕ) (i : Action) → Among i (told h).actions → IsParsed d i.event → Reaches (path table h) i.number (dcl_handed (told h) d)
 reach_parsed table h steady d i among is =
     let steps : List ℕ = newest (is_step_of d) (told h).actions in
     let blocking : List ℕ = newest (is_run_of is_blocking d) (told h).actions in

@@ -37,28 +37,38 @@ GrewInPart old due new = (n : ℕ) × (n < length due) × (new ≡ old ++ take n
 abbrev pub GrewForEach : (List Record → Type 0) → (List Record → List ℕ) → List ℕ → List ℕ → Type 0
 GrewForEach stands due old new = (h : List Record) → stands h → GrewBy old (due h) new
 
-abbrev pub GrewInPartForEach : (List Record → Type 0) → (List Record → List ℕ) → List ℕ → List ℕ → Type 0
+abbrev pub GrewInPartForEach : (List Record → Type 0) → (List Record → List ℕ) → List ℕ → List ℕ
+    → Type 0
 GrewInPartForEach stands due old new = (h : List Record) → stands h → GrewInPart old (due h) new
 
 -- what is handed for the record
 
-abbrev pub HandsExactly : (List Record → Type 0) → (History → Record → List ℕ) → Record → List ℕ → List ℕ → Type 0
-HandsExactly stands handed x old new = (h : List Record) → stands h → GrewBy old (handed (told h) x) new
+abbrev pub HandsExactly : (List Record → Type 0) → (History → Record → List ℕ) → Record → List ℕ
+    → List ℕ → Type 0
+HandsExactly stands handed x old new = (h : List Record) → stands h
+    → GrewBy old (handed (told h) x) new
 
-abbrev pub HandsFront : (List Record → Type 0) → (History → Record → List ℕ) → Record → List ℕ → List ℕ → Type 0
-HandsFront stands handed x old new = (h : List Record) → stands h → GrewInPart old (handed (told h) x) new
+abbrev pub HandsFront : (List Record → Type 0) → (History → Record → List ℕ) → Record → List ℕ
+    → List ℕ → Type 0
+HandsFront stands handed x old new = (h : List Record) → stands h
+    → GrewInPart old (handed (told h) x) new
 
 -- what it is, by the rules of the group
 
-abbrev pub HandsEnough : (List Record → Type 0) → List (ℕ × Rule) → Record → List ℕ → List ℕ → Type 0
-HandsEnough stands group x old new = (table : List (ℕ × Rule)) (h : List Record) → stands h → ComesNext table h x → HasHanded group (path table h) (told h) x old new
+abbrev pub HandsEnough : (List Record → Type 0) → List (ℕ × Rule) → Record → List ℕ → List ℕ
+    → Type 0
+HandsEnough stands group x old new = (table : List (ℕ × Rule)) (h : List Record) → stands h
+    → ComesNext table h x → HasHanded group (path table h) (told h) x old new
 
-abbrev pub HandsSources : (List Record → Type 0) → List (ℕ × Rule) → Record → List ℕ → List ℕ → Type 0
-HandsSources stands group x old new = (table : List (ℕ × Rule)) (h : List Record) → stands h → ComesNext table h x → HasHandedSome group (path table h) (told h) x old new
+abbrev pub HandsSources : (List Record → Type 0) → List (ℕ × Rule) → Record → List ℕ → List ℕ
+    → Type 0
+HandsSources stands group x old new = (table : List (ℕ × Rule)) (h : List Record) → stands h
+    → ComesNext table h x → HasHandedSome group (path table h) (told h) x old new
 
 -- how many they are
 
-abbrev pub HandsFew : (List Record → Type 0) → (List Record → Record → ℕ) → Record → List ℕ → List ℕ → Type 0
+abbrev pub HandsFew : (List Record → Type 0) → (List Record → Record → ℕ) → Record → List ℕ → List ℕ
+    → Type 0
 HandsFew stands most x old new = (h : List Record) → stands h → length new ≤ length old + most h x
 
 -- the numbers of an option, and the latest pieces of these events

@@ -23,7 +23,9 @@ abbrev pub fired_count : Version → List Record → ℕ → ℕ
 fired_count v h t = by (event_begun (told h) (Timer t))
   where
     by : Event → ℕ
-    by e = length (events_of_each (λ (u : Event). timers_in_order v (up_to e.number (path (rules v) h)) u e) (told h).actions)
+    by e = length
+        (events_of_each (λ (u : Event). timers_in_order v (up_to e.number (path (rules v) h)) u e)
+        (told h).actions)
 
 -- the handlers of the dispatch that ran in the group, where there is one
 abbrev pub run_count : List Record → ℕ → Option ℕ → ℕ
@@ -88,7 +90,8 @@ abbrev pub LoadHandsAtMost : Type 0
 LoadHandsAtMost = HandsAtMost load_handed most_load
 
 abbrev pub TimerHandsAtMost : Type 0
-TimerHandsAtMost = (v : Version) (h : List Record) (x : Record) → length (timer_handed v (path (rules v) h) (told h) x) ≤ most_timer v h x
+TimerHandsAtMost = (v : Version) (h : List Record) (x : Record)
+    → length (timer_handed v (path (rules v) h) (told h) x) ≤ most_timer v h x
 
 abbrev pub RequestHandsAtMost : Type 0
 RequestHandsAtMost = HandsAtMost request_handed most_request

@@ -37,7 +37,8 @@ pub record IsSteady (table : List (ℕ × Rule)) (h : List Record) : Type 0 wher
 
 -- The source of an edge of the table to the piece that `back` begins has a path to the running action.
 abbrev pub BackFollowsClose : List (ℕ × Rule) → Type 0
-BackFollowsClose table = (h : List Record) (p : ℕ) (i c : Action) → IsSteady table h → naming h (Back p) ≡ None
+BackFollowsClose table = (h : List Record) (p : ℕ) (i c : Action) → IsSteady table h
+    → naming h (Back p) ≡ None
     → Among i (told h).actions → running (told h).actions ≡ Some c
     → is_ruled table (path table h) i (action_begun (told h) (Back p)) ≡ true
     → path table h i.number c.number ≡ true
@@ -81,7 +82,8 @@ EnoughLoad = (table : List (ℕ × Rule)) → NestedFacts table
 
 -- And for those of timers of a version, where the table has them all. What is handed by them may rest on the paths.
 abbrev pub EnoughTimer : Type 0
-EnoughTimer = (v : Version) (table : List (ℕ × Rule)) → HasGroup table (timer_rules v) → NestedFacts table
+EnoughTimer = (v : Version) (table : List (ℕ × Rule)) → HasGroup table (timer_rules v)
+    → NestedFacts table
     → (h : List Record) (x : Record)
     → IsSteady table h → naming h x ≡ None → out_of_order table h x ≡ false
     → AreEnough (timer_rules v) (path table h) (told h) x (timer_handed v (path table h) (told h) x)

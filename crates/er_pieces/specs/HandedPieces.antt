@@ -21,8 +21,8 @@ parse_handed h (ParseFrame d e f) = step_handed h d
 parse_handed h _ = []
 
 -- the latest parse step of the document, its latest blocking run and its latest deferred run
-abbrev pub parsed_handed : History → ℕ → List ℕ
-parsed_handed h d =
+abbrev pub dcl_handed : History → ℕ → List ℕ
+dcl_handed h d =
     newest (is_step_of d) h.actions
     ++ newest (is_run_of is_blocking d) h.actions
     ++ newest (is_run_of is_deferred d) h.actions
@@ -32,7 +32,7 @@ abbrev pub run_handed : History → Option Element → List ℕ
 run_handed h None = []
 run_handed h (Some x) =
     latest_piece x.maker h.actions
-    ++ (if is_deferred x then parsed_handed h x.doc else [])
+    ++ (if is_deferred x then dcl_handed h x.doc else [])
 
 -- before a parse step the latest blocking run
 abbrev pub script_handed : History → Record → List ℕ
@@ -55,10 +55,10 @@ eload_handed h e (Some x) =
     ++ inner_close h x.form
 
 abbrev pub load_handed : History → Record → List ℕ
-load_handed h (Dcl p d) = parsed_handed h d
+load_handed h (Dcl p d) = dcl_handed h d
 load_handed h (Load p d) =
     newest (closes (is_dcl_of d)) h.actions
-    ++ parsed_handed h d
+    ++ dcl_handed h d
     ++ latest_of_each (is_run_of is_static_async d) h.actions
     ++ latest_of_each (closes (is_static_load_of d)) h.actions
 load_handed h (Eload p e) = eload_handed h e (first_to (makes_element e) h.entries)
@@ -93,7 +93,8 @@ request_handed h _ = []
 
 -- the latest piece of each event from which a rule of tasks leads to the event that the record begins
 abbrev pub tasks_before : (ℕ → ℕ → Bool) → History → Event → List ℕ
-tasks_before joined h v = latest_of_each (λ (u : Event). any_holds task_rules (up_to v.number joined) u v) h.actions
+tasks_before joined h v =
+    latest_of_each (λ (u : Event). any_holds task_rules (up_to v.number joined) u v) h.actions
 
 abbrev pub task_handed : (ℕ → ℕ → Bool) → History → Record → List ℕ
 task_handed joined h (Message m) = tasks_before joined h (event_begun h (Message m))

@@ -32,7 +32,8 @@ HandsLoad = (table : List (ℕ × Rule)) → NestedFacts table
     → Hands table load_rules load_handed
 
 abbrev pub HandsTimer : Type 0
-HandsTimer = (v : Version) (table : List (ℕ × Rule)) → HasGroup table (timer_rules v) → NestedFacts table
+HandsTimer = (v : Version) (table : List (ℕ × Rule)) → HasGroup table (timer_rules v)
+    → NestedFacts table
     → (h : List Record) (x : Record)
     → IsSteady table h → naming h x ≡ None → out_of_order table h x ≡ false
     → AreHanded (timer_rules v) (path table h) (told h) x (timer_handed v (path table h) (told h) x)
@@ -49,12 +50,14 @@ HandsTask = (table : List (ℕ × Rule)) → NestedFacts table
 
 -- For dispatches, each is the source of an edge by a rule of the group, or by one of the two on pieces.
 abbrev pub DispatchHandsSources : Type 0
-DispatchHandsSources = (table : List (ℕ × Rule)) (h : List Record) (x : Record) (joined : ℕ → ℕ → Bool)
+DispatchHandsSources =
+    (table : List (ℕ × Rule)) (h : List Record) (x : Record) (joined : ℕ → ℕ → Bool)
     → IsSteady table h → naming h x ≡ None
     → (k : ℕ) → is_among k (dispatch_handed (told h) x) ≡ true
     → (i : Action) × Among i (told h).actions × (i.number ≡ k)
     × ((is_ruled dispatch_rules joined i (action_begun (told h) x)
-    || (around_inline i (action_begun (told h) x) || of_one_event i (action_begun (told h) x))) ≡ true)
+    || (around_inline i (action_begun (told h) x)
+    || of_one_event i (action_begun (told h) x))) ≡ true)
 
 -- and a record that begins no action has none
 abbrev pub DispatchHandsNothing : Type 0

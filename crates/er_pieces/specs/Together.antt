@@ -18,7 +18,8 @@ abbrev pub SoundListsAreSteady : Type 0
 SoundListsAreSteady = (v : Version) (h : List Record) → IsSound (rules v) h → IsSteady (rules v) h
 
 -- each group has handed behind those before it
-pub record HandInTurn (v : Version) (joined : ℕ → ℕ → Bool) (h : List Record) (x : Record) (old new : List ℕ) : Type 0 where
+pub record HandInTurn (v : Version) (joined : ℕ → ℕ → Bool) (h : List Record) (x : Record)
+    (old new : List ℕ) : Type 0 where
   pub steps : List ℕ
   pub runs : List ℕ
   pub loads : List ℕ
@@ -35,19 +36,27 @@ pub record HandInTurn (v : Version) (joined : ℕ → ℕ → Bool) (h : List Re
 
 -- Then all that is handed are sources of edges by all rules, and enough of them.
 abbrev pub AllHand : Type 0
-AllHand = (v : Version) (h : List Record) (x : Record) (old new : List ℕ) → IsSteady (rules v) h → naming h x ≡ None
-    → HandInTurn v (path (rules v) h) h x old new → HasHandedPieces (rules v) (path (rules v) h) (told h) x old new
+AllHand = (v : Version) (h : List Record) (x : Record) (old new : List ℕ) → IsSteady (rules v) h
+    → naming h x ≡ None
+    → HandInTurn v (path (rules v) h) h x old new
+    → HasHandedPieces (rules v) (path (rules v) h) (told h) x old new
 
 -- Beside the lists of the actions before it, the handed numbers are enough for the list of the action that the record begins.
 abbrev pub HandedStayEnough : Type 0
-HandedStayEnough = (table : List (ℕ × Rule)) (h : List Record) (x : Record) (handed : List ℕ) (lists : List (List ℕ)) → begins x ≡ true → ArePiecesHanded table (path table h) (told h) x handed
-    → IsEnough lists (edges table (told h).actions) → IsEnough (handed ∷ lists) (edges table (told (x ∷ h)).actions)
+HandedStayEnough = (table : List (ℕ × Rule)) (h : List Record) (x : Record)
+    (handed : List ℕ) (lists : List (List ℕ))
+    → begins x ≡ true → ArePiecesHanded table (path table h) (told h) x handed
+    → IsEnough lists (edges table (told h).actions)
+    → IsEnough (handed ∷ lists) (edges table (told (x ∷ h)).actions)
 
 -- They are numbers of actions.
 abbrev pub HandedAreBelow : Type 0
-HandedAreBelow = (table : List (ℕ × Rule)) (h : List Record) (x : Record) (handed : List ℕ) → ArePiecesHanded table (path table h) (told h) x handed → All (λ k. k < length (told h).actions) handed
+HandedAreBelow = (table : List (ℕ × Rule)) (h : List Record) (x : Record) (handed : List ℕ)
+    → ArePiecesHanded table (path table h) (told h) x handed
+    → All (λ k. k < length (told h).actions) handed
 
 -- The pieces that the rules of dispatches hand are sources by them, and enough.
 abbrev pub HandsDispatches : Type 0
-HandsDispatches = (table : List (ℕ × Rule)) (h : List Record) (x : Record) → IsSteady table h → naming h x ≡ None → out_of_order table h x ≡ false
+HandsDispatches = (table : List (ℕ × Rule)) (h : List Record) (x : Record) → IsSteady table h
+    → naming h x ≡ None → out_of_order table h x ≡ false
     → ArePiecesHanded dispatch_rules (path table h) (told h) x (dispatch_handed (told h) x)

@@ -26,16 +26,19 @@ pub record IsRunTo (xs : List BegunTask) (task : Task) (place : ℕ) : Type 0 wh
 -- each goes on behind all before it from the place of its run on
 pub record AreRuns (xs : List BegunTask) : Type 0 where
   pub within : (i : ℕ) (d : BegunTask) → i < length xs → (get_or xs i d).run ≤ i
-  pub each : (i j : ℕ) (d : BegunTask) → i < length xs → (get_or xs i d).run ≤ j → j < i → GoesOn (get_or xs j d).task (get_or xs i d).task
+  pub each : (i j : ℕ) (d : BegunTask) → i < length xs → (get_or xs i d).run ≤ j → j < i
+      → GoesOn (get_or xs j d).task (get_or xs i d).task
 
 -- each is as it is found, and they stand in runs
-pub record AreBegun (found : ℕ → Option Task) (started : ℕ → Option ℕ) (tasks : List BegunTask) : Type 0 where
+pub record AreBegun (found : ℕ → Option Task) (started : ℕ → Option ℕ)
+    (tasks : List BegunTask) : Type 0 where
   pub each : All (IsBegun found started) tasks
   pub runs : AreRuns tasks
 
 -- the lists have room for one task more
 abbrev pub HasPlace : Begun → Type 0
-HasPlace begun = (vec_len begun.listed < vec_capacity begun.listed) × (vec_len begun.tasks < vec_capacity begun.tasks)
+HasPlace begun = (vec_len begun.listed < vec_capacity begun.listed)
+    × (vec_len begun.tasks < vec_capacity begun.tasks)
 
 -- by the event that queued them; no list is as an empty one
 

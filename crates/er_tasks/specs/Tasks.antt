@@ -34,14 +34,17 @@ abbrev pub task_rank : Task → ℕ
 task_rank x = x.rank
 
 -- under each number stands what the first record that declares it says
-pub record TasksDeclared (kind : TaskKind) (found : ℕ → Option Task) (h : List Record) : Type 0 where
+pub record TasksDeclared (kind : TaskKind) (found : ℕ → Option Task)
+    (h : List Record) : Type 0 where
   pub made : (k : ℕ) → option_map declared_of (found k) ≡ option_map declared (task_made kind h k)
   pub known : (k : ℕ) → is_some (found k) ≡ list_any (declares_task kind k) h
 
 -- the pair is the task that the record declares where this action runs, but for its place
-pub record TaskGiven (kind : TaskKind) (pair : Option (ℕ × Task)) (x : Record) (a : Action) : Type 0 where
+pub record TaskGiven (kind : TaskKind) (pair : Option (ℕ × Task)) (x : Record)
+    (a : Action) : Type 0 where
   pub placed : (k place : ℕ)
-      → option_map (λ (t : history.Task). t.place) (makes_task (declares_task kind k) (entry_of x place a))
+      → option_map (λ (t : history.Task). t.place)
+      (makes_task (declares_task kind k) (entry_of x place a))
       ≡ option_map (λ (t : Task). place) (noted_in k pair)
   pub made : (k place : ℕ)
       → option_map declared_of (noted_in k pair)
@@ -50,7 +53,9 @@ pub record TaskGiven (kind : TaskKind) (pair : Option (ℕ × Task)) (x : Record
 
 -- tasks of a kind are ranked in the order of the places of their records
 abbrev pub TasksAreRanked : TaskKind → (ℕ → Option Task) → ℕ → List Record → Type 0
-TasksAreRanked kind found count h = IsRanked (λ k. option_map task_rank (found k)) (task_place kind h) count (length (told h).entries)
+TasksAreRanked kind found count h =
+    IsRanked (λ k. option_map task_rank (found k)) (task_place kind h) count
+    (length (told h).entries)
 
 -- the tables of a kind of tasks answer what the list says
 pub record TaskTableIs (kind : TaskKind) (table : TaskTable) (h : List Record) : Type 0 where
@@ -59,11 +64,13 @@ pub record TaskTableIs (kind : TaskKind) (table : TaskTable) (h : List Record) :
   pub events : MakersAre (starts_task kind) (get nat_eq table.started) h
   pub numbers : table.begun.listed.items ≡ tasks_begun kind h
   pub same : map task_number table.begun.tasks.items ≡ tasks_begun kind h
-  pub begun : AreBegun (get nat_eq table.declared) (get nat_eq table.started) table.begun.tasks.items
+  pub begun :
+      AreBegun (get nat_eq table.declared) (get nat_eq table.started) table.begun.tasks.items
 
 -- the record declares the one number and begins the event of the other, if there are such
 abbrev pub IsNoted : TaskKind → Record → Option ℕ → Option ℕ → Type 0
-IsNoted kind x posted begun = ((k : ℕ) → is_number k posted ≡ declares_task kind k x) × (begun ≡ task_started kind x)
+IsNoted kind x posted begun =
+    ((k : ℕ) → is_number k posted ≡ declares_task kind k x) × (begun ≡ task_started kind x)
 
 -- each of them has room for one number more
 abbrev pub HaveRoom : TaskTable → Type 0
@@ -88,7 +95,8 @@ pub record QueuedAre (queued : Queued) (h : List Record) : Type 0 where
 
 -- the event that queued the job whose event the record begins
 abbrev pub queuer_of : (ℕ → Option Task) → Record → Option ℕ
-queuer_of found x = option_map (λ (p : ℕ × Task). p.1.maker) (with_task found (task_started OfJob x))
+queuer_of found x =
+    option_map (λ (p : ℕ × Task). p.1.maker) (with_task found (task_started OfJob x))
 
 -- what is said of a job, where this event queued it
 abbrev pub under : {X : Type 0} → ℕ → Task → X → List X
@@ -114,7 +122,9 @@ pub record TasksAre (tasks : Tasks) (h : List Record) : Type 0 where
   pub anims : TaskTableIs OfAnim tasks.anims h
   pub jobs : TaskTableIs OfJob tasks.jobs h
   pub queued : QueuedAre tasks.queued h
-  pub begun : (u : ℕ) → AreBegun (get nat_eq tasks.jobs.declared) (get nat_eq tasks.jobs.started) (tasks_at tasks.queued u)
+  pub begun : (u : ℕ)
+      → AreBegun (get nat_eq tasks.jobs.declared) (get nat_eq tasks.jobs.started)
+      (tasks_at tasks.queued u)
 
 -- and there is room for what the record declares or begins
 pub record HaveRoomFor (tasks : Tasks) (x : Record) : Type 0 where
@@ -135,7 +145,9 @@ task_at kind tasks number = get nat_eq (table_of kind tasks).declared number
 
 -- these have begun, each as the tables have it, and they stand in runs
 abbrev pub HaveBegun : TaskKind → Tasks → List BegunTask → Type 0
-HaveBegun kind tasks begun = AreBegun (get nat_eq (table_of kind tasks).declared) (get nat_eq (table_of kind tasks).started) begun
+HaveBegun kind tasks begun =
+    AreBegun (get nat_eq (table_of kind tasks).declared) (get nat_eq (table_of kind tasks).started)
+    begun
 
 -- What naming asks of records that declare or begin a task, and of no other.
 

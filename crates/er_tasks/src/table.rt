@@ -77,7 +77,8 @@ impl TaskTable {
     ) -> Option<Started>
         requires room { HaveRoom self.old }
         ensures taken { (kind : TaskKind) (h : List Record) (x : Record)
-            → IsNoted kind x posted begun → TaskTableIs kind self.old h → IsNow h x now → TaskTableIs kind self.new (x ∷ h) }
+            → IsNoted kind x posted begun → TaskTableIs kind self.old h → IsNow h x now
+            → TaskTableIs kind self.new (x ∷ h) }
         ensures declared { KeepsEach (get nat_eq self.old.declared) (get nat_eq self.new.declared) }
         ensures started { KeepsEach (get nat_eq self.old.started) (get nat_eq self.new.started) }
         ensures answers { option_map task_of result
