@@ -31,7 +31,8 @@ AreOf v [] = Unit {0}
 AreOf v (x ∷ older) = (has_record v x ≡ true) × AreOf v older
 
 -- a page and lines say what the accepted records say, all of the version
-pub record IsTold (v : Version) (shown : Page) (kept : List ℕ) (accepted : List Accepted) : Type 0 where
+pub record IsTold (v : Version) (shown : Page) (kept : List ℕ)
+    (accepted : List Accepted) : Type 0 where
   pub page : IsPage shown (records accepted)
   pub of_version : AreOf v (records accepted)
   pub sound : IsSound (rules v) (records accepted)
@@ -50,14 +51,16 @@ abbrev pub cause_now : Version → List Accepted → Record → Option Cause
 cause_now v accepted x = cause (rules v) (records accepted) x
 
 -- the parts of a graph are those of some accepted records, after which the record is accepted
-pub record IsNext (v : Version) (shown : Page) (links : List (List ℕ)) (kept : List ℕ) (x : Record) : Type 0 where
+pub record IsNext (v : Version) (shown : Page) (links : List (List ℕ)) (kept : List ℕ)
+    (x : Record) : Type 0 where
   pub accepted : List Accepted
   pub told : IsTold v shown kept accepted
   pub timed : AreTimed v links accepted
   pub legal : cause_now v accepted x ≡ None
 
 -- the parts of a graph are those of some accepted records; after want of memory without the clocks
-pub record IsSomeGraph (v : Version) (shown : Page) (links : List (List ℕ)) (kept : List ℕ) (has_failed : Bool) : Type 0 where
+pub record IsSomeGraph (v : Version) (shown : Page) (links : List (List ℕ)) (kept : List ℕ)
+    (has_failed : Bool) : Type 0 where
   pub accepted : List Accepted
   pub told : IsTold v shown kept accepted
   pub timed : has_failed ≡ false → AreTimed v links accepted

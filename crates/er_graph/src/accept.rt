@@ -39,7 +39,9 @@ impl Graph {
     /// The version has the record. Naming and nesting are asked first, then order, then room. After `NoMemory` every later call answers `NoMemory`.
     pub fn accept(&mut self, line: u32, rec: &Record) -> Result<(), GraphFault>
         requires of_version { has_record self.old.version rec.now ≡ true }
-        ensures accepted { OnOk result ((accepted : List Accepted) → IsGraph self.old accepted → (cause_now self.old.version accepted rec.now ≡ None) × IsGraph self.new (record { line = line; read = rec.now } ∷ accepted)) }
+        ensures accepted { OnOk result ((accepted : List Accepted) → IsGraph self.old accepted
+            → (cause_now self.old.version accepted rec.now ≡ None)
+            × IsGraph self.new (record { line = line; read = rec.now } ∷ accepted)) }
         ensures refused { IfErr result (λ fault. IsFault fault line rec.now self.old self.new) }
         ensures failed { HasFailed self.old → result ≡ Err (GraphFault.NoMemory) }
         ensures version { self.new.version ≡ self.old.version }
@@ -65,7 +67,8 @@ impl Graph {
 
     /// The page of the accepted records.
     pub fn page(&self) -> &Page
-        ensures { (accepted : List Accepted) → IsListed self.now accepted → IsPage result.now (records accepted) }
+        ensures { (accepted : List Accepted) → IsListed self.now accepted
+            → IsPage result.now (records accepted) }
     {
         &self.page
     }
@@ -73,21 +76,24 @@ impl Graph {
     /// The line that was handed in with the record that began the action.
     pub fn line_of(&self, action: u32) -> u32
         requires begun { ∥ HasBegun self.now action ∥₁ }
-        ensures { (accepted : List Accepted) → IsListed self.now accepted → slice_get (lines_of accepted) action ≡ Some result }
+        ensures { (accepted : List Accepted) → IsListed self.now accepted
+            → slice_get (lines_of accepted) action ≡ Some result }
     {
         self.lines[action as usize]
     }
 
     /// The clocks of the actions: which paths lead between them, their chains and their links.
     pub fn clocks(&self) -> &Clocks
-        ensures { (accepted : List Accepted) → IsGraph self.now accepted → AreTimed self.now.version result.now accepted }
+        ensures { (accepted : List Accepted) → IsGraph self.now accepted
+            → AreTimed self.now.version result.now accepted }
     {
         &self.clocks
     }
 
     /// The first cause against the record, if there is one.
     fn check(&self, rec: &Record) -> Result<(), Cause>
-        ensures { (accepted : List Accepted) → IsListed self.now accepted → result ≡ result_of (cause_now self.now.version accepted rec.now) }
+        ensures { (accepted : List Accepted) → IsListed self.now accepted
+            → result ≡ result_of (cause_now self.now.version accepted rec.now) }
     {
         // An access names nothing, no rule orders it, and it needs no room.
         if let Record::Access { .. } = rec {
@@ -108,12 +114,16 @@ impl Graph {
 
     /// Takes a record that `check` accepts. The graph is marked as failed first, so that it stays so where memory runs out.
     fn take(&mut self, line: u32, rec: &Record) -> Result<(), NoMemory>
-        requires next { ∥ IsNext self.old.version self.old.page self.old.clocks self.old.lines.items rec.now ∥₁ }
+        requires next { ∥ IsNext self.old.version self.old.page self.old.clocks
+            self.old.lines.items rec.now ∥₁ }
         requires of_version { has_record self.old.version rec.now ≡ true }
-        ensures taken { OnOk result ((accepted : List Accepted) → IsGraph self.old accepted → cause_now self.old.version accepted rec.now ≡ None → IsGraph self.new (record { line = line; read = rec.now } ∷ accepted)) }
+        ensures taken { OnOk result ((accepted : List Accepted) → IsGraph self.old accepted
+            → cause_now self.old.version accepted rec.now ≡ None
+            → IsGraph self.new (record { line = line; read = rec.now } ∷ accepted)) }
         ensures failed { OnErr result (HasFailed self.new) }
         ensures version { self.new.version ≡ self.old.version }
-        ensures kept { OnErr result ((accepted : List Accepted) → IsListed self.old accepted → IsListed self.new accepted) }
+        ensures kept { OnErr result
+            ((accepted : List Accepted) → IsListed self.old accepted → IsListed self.new accepted) }
     {
         self.has_failed = true;
         grow(

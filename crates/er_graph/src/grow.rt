@@ -24,9 +24,18 @@ pub(crate) fn grow(
 ) -> Result<(), NoMemory>
     requires next { ∥ IsNext version page.old clocks.old lines.old.items rec.now ∥₁ }
     requires of_version { has_record version rec.now ≡ true }
-    ensures told { OnOk result ((accepted : List Accepted) → IsTold version page.old lines.old.items accepted → cause_now version accepted rec.now ≡ None → IsTold version page.new lines.new.items (record { line = line; read = rec.now } ∷ accepted)) }
-    ensures timed { OnOk result ((accepted : List Accepted) → IsTold version page.old lines.old.items accepted → AreTimed version clocks.old accepted → cause_now version accepted rec.now ≡ None → AreTimed version clocks.new (record { line = line; read = rec.now } ∷ accepted)) }
-    ensures kept { OnErr result ((accepted : List Accepted) → IsTold version page.old lines.old.items accepted → IsTold version page.new lines.new.items accepted) }
+    ensures told { OnOk result ((accepted : List Accepted)
+        → IsTold version page.old lines.old.items accepted
+        → cause_now version accepted rec.now ≡ None
+        → IsTold version page.new lines.new.items
+        (record { line = line; read = rec.now } ∷ accepted)) }
+    ensures timed { OnOk result ((accepted : List Accepted)
+        → IsTold version page.old lines.old.items accepted → AreTimed version clocks.old accepted
+        → cause_now version accepted rec.now ≡ None
+        → AreTimed version clocks.new (record { line = line; read = rec.now } ∷ accepted)) }
+    ensures kept { OnErr result ((accepted : List Accepted)
+        → IsTold version page.old lines.old.items accepted
+        → IsTold version page.new lines.new.items accepted) }
 {
     if begins(rec) {
         return begin(version, page, clocks, lines, line, rec);
@@ -46,9 +55,18 @@ fn begin(
     requires next { ∥ IsNext version page.old clocks.old lines.old.items rec.now ∥₁ }
     requires of_version { has_record version rec.now ≡ true }
     requires begins { history.begins rec.now ≡ true }
-    ensures told { OnOk result ((accepted : List Accepted) → IsTold version page.old lines.old.items accepted → cause_now version accepted rec.now ≡ None → IsTold version page.new lines.new.items (record { line = line; read = rec.now } ∷ accepted)) }
-    ensures timed { OnOk result ((accepted : List Accepted) → IsTold version page.old lines.old.items accepted → AreTimed version clocks.old accepted → cause_now version accepted rec.now ≡ None → AreTimed version clocks.new (record { line = line; read = rec.now } ∷ accepted)) }
-    ensures kept { OnErr result ((accepted : List Accepted) → IsTold version page.old lines.old.items accepted → IsTold version page.new lines.new.items accepted) }
+    ensures told { OnOk result ((accepted : List Accepted)
+        → IsTold version page.old lines.old.items accepted
+        → cause_now version accepted rec.now ≡ None
+        → IsTold version page.new lines.new.items
+        (record { line = line; read = rec.now } ∷ accepted)) }
+    ensures timed { OnOk result ((accepted : List Accepted)
+        → IsTold version page.old lines.old.items accepted → AreTimed version clocks.old accepted
+        → cause_now version accepted rec.now ≡ None
+        → AreTimed version clocks.new (record { line = line; read = rec.now } ∷ accepted)) }
+    ensures kept { OnErr result ((accepted : List Accepted)
+        → IsTold version page.old lines.old.items accepted
+        → IsTold version page.new lines.new.items accepted) }
 {
     let alloc = *lines.allocator();
     let sources = sources(alloc, page, clocks, version, rec)?;

@@ -91,7 +91,8 @@ fn task_sources(
     requires timed { ∥ IsSomeTimed version page.now clocks.now ∥₁ }
     ensures { OnOk result ((h : List Record) → IsTimed version page.now clocks.now h
         → AreOf version (rec.now ∷ h) → ComesNext (rules version) h rec.now
-        → HasHanded task_rules (path (rules version) h) (told h) rec.now out.old.items out.new.items) }
+        → HasHanded task_rules (path (rules version) h) (told h) rec.now
+        out.old.items out.new.items) }
 {
     match version {
         Version::One => Ok(()),

@@ -20,4 +20,5 @@ is_late h _ = false
 
 -- So it is, after each list that naming accepts.
 abbrev pub LateHandlersLeadBack : Type 0
-LateHandlersLeadBack = (table : List (ℕ × Rule)) (h : List Record) (x : Record) → IsNamed h → naming h x ≡ None → leads_back dispatch_rules (path table h) (told h) x ≡ is_late h x
+LateHandlersLeadBack = (table : List (ℕ × Rule)) (h : List Record) (x : Record) → IsNamed h
+    → naming h x ≡ None → leads_back dispatch_rules (path table h) (told h) x ≡ is_late h x

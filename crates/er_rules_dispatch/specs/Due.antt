@@ -30,4 +30,5 @@ in_piece h e n = at_element h e n ++ number_of (running (told h).actions)
 
 -- before the run of a handler
 abbrev pub before_run : List Record → ℕ → ℕ → ℕ → List ℕ
-before_run h p g x = latest_of (maker_of_handler h x) (told h).actions ++ group_handed p (λ k. nat_lt k g) (told h).actions
+before_run h p g x = latest_of (maker_of_handler h x) (told h).actions
+    ++ group_handed p (λ k. nat_lt k g) (told h).actions

@@ -5,9 +5,8 @@ ghost use Rattle.er_trace.specs.declared.record.Record.{Record};
 ghost use Rattle.er_history.specs.History.{told};
 ghost use Rattle.er_history.specs.Rules.{Rule, dispatch_rules};
 ghost use Rattle.er_history.specs.Edges.{path};
-ghost use Rattle.er_history.specs.Naming.{naming};
-ghost use Rattle.er_history.specs.Sound.{IsSound, leads_back};
-ghost use Rattle.er_pieces.specs.Enough.{HasSteady};
+ghost use Rattle.er_history.specs.Naming.{IsNamed, naming};
+ghost use Rattle.er_history.specs.Sound.{leads_back};
 ghost use Rattle.er_page.specs.Page.{IsPage};
 ghost use Rattle.er_rules_dispatch.specs.Against as says;
 
@@ -18,8 +17,8 @@ use er_trace::record::Record;
 ///
 /// Only rule 16 ever does, from a handler of a smaller group to one of a greater: what made a target or registered a handler has begun, and dispatches are ordered as they are recorded.
 pub fn against(page: &Page, rec: &Record) -> bool
-    ensures { (table : List (ℕ × Rule)) (h : List Record) → IsPage page.now h → HasSteady table
-        → IsSound table h → naming h rec.now ≡ None
+    ensures { (table : List (ℕ × Rule)) (h : List Record) → IsPage page.now h
+        → IsNamed h → naming h rec.now ≡ None
         → result ≡ leads_back dispatch_rules (path table h) (told h) rec.now }
 {
     is_late(page, rec)

@@ -60,6 +60,7 @@ fn hand(page: &Page, rec: &Record, out: &mut SmallVec<u32, 8>) -> Result<(), NoM
         Record::Close { dispatch } => {
             hand_group(page, *dispatch, page.last_group(*dispatch), out)
         }
+        // It is the latest piece of the close: the law `BackEndsClose` of er_stack_laws.
         Record::Back { .. } => hand_some(page.running(), out),
         _ => Ok(()),
     }

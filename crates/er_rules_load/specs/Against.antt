@@ -48,5 +48,6 @@ is_late h _ = false
 
 -- In a sound list these are the records from whose event a rule leads back.
 abbrev pub LateLoadsLeadBack : Type 0
-LateLoadsLeadBack = (table : List (ℕ × Rule)) (h : List Record) (x : Record) → HasGroup table load_rules → IsSound table h → naming h x ≡ None
+LateLoadsLeadBack = (table : List (ℕ × Rule)) (h : List Record) (x : Record)
+    → HasGroup table load_rules → IsSound table h → naming h x ≡ None
     → leads_back load_rules (path table h) (told h) x ≡ is_late h x

@@ -6,7 +6,7 @@ use Rattle.er_history.specs.Rules.{is_dcl_of}
 use Rattle.er_history.specs.Latest.{newest, latest_of, latest_of_each}
 use Rattle.er_history.specs.Kinds.{is_run_of, is_static_async, runs_element, closes, is_static_load_of}
 use Rattle.er_history.specs.LookUps.{close_event, load_of, inner_of}
-use Rattle.er_pieces.specs.HandedPieces.{parsed_handed, inner_close}
+use Rattle.er_pieces.specs.HandedPieces.{dcl_handed, inner_close}
 
 -- Before load of the window: the close of DOMContentLoaded, what was parsed and run, the async runs, and the closes of first load events.
 
@@ -20,7 +20,7 @@ abbrev pub static_part : ℕ → History → List ℕ
 static_part d h = latest_of_each (closes (is_static_load_of d)) h.actions
 
 abbrev pub window_parts : ℕ → History → List ℕ
-window_parts d h = dcl_part d h ++ parsed_handed h d ++ async_part d h ++ static_part d h
+window_parts d h = dcl_part d h ++ dcl_handed h d ++ async_part d h ++ static_part d h
 
 -- Before the first load event of an element: its maker, the run of it, and the close of load of its inner document.
 

@@ -19,7 +19,8 @@ use er_trace::record::{Kind, Record};
 ///
 /// Rules 11 and 13 never do: they go by the order of the records. Nor does rule 12 from the event that made an element, which has begun.
 pub fn against(page: &Page, rec: &Record) -> bool
-    ensures { (table : List (ℕ × Rule)) (h : List Record) → IsPage page.now h → HasGroup table load_rules → IsSound table h → naming h rec.now ≡ None
+    ensures { (table : List (ℕ × Rule)) (h : List Record) → IsPage page.now h
+        → HasGroup table load_rules → IsSound table h → naming h rec.now ≡ None
         → result ≡ leads_back load_rules (path table h) (told h) rec.now }
 {
     is_late(page, rec)
@@ -61,14 +62,16 @@ fn is_step_late(page: &Page, doc: u32) -> bool
 
 /// Whether the run of the script comes too late: in its document, or behind its own load event (rule 12).
 fn is_run_late(page: &Page, element: u32) -> bool
-    ensures { (h : List Record) → IsPage page.now h → result ≡ says.is_run_late h element (element_made h element) }
+    ensures { (h : List Record) → IsPage page.now h
+        → result ≡ says.is_run_late h element (element_made h element) }
 {
     is_late_in_document(page, element) || page.eload_of(element).is_some()
 }
 
 /// Whether it comes too late in its document.
 fn is_late_in_document(page: &Page, element: u32) -> bool
-    ensures { (h : List Record) → IsPage page.now h → result ≡ of_made (says.is_script_late h) (element_made h element) }
+    ensures { (h : List Record) → IsPage page.now h
+        → result ≡ of_made (says.is_script_late h) (element_made h element) }
 {
     let Some(doc) = page.document_of(element) else {
         return false;
@@ -79,7 +82,8 @@ fn is_late_in_document(page: &Page, element: u32) -> bool
 
 /// Whether it is a blocking or a deferred script: a parse step made it, and it is of the kind `inline`, `sync` or `defer`.
 fn runs_before_dcl(page: &Page, element: u32) -> bool
-    ensures { (h : List Record) → IsPage page.now h → result ≡ of_made says.runs_before_dcl (element_made h element) }
+    ensures { (h : List Record) → IsPage page.now h
+        → result ≡ of_made says.runs_before_dcl (element_made h element) }
 {
     page.is_static(element)
         && matches!(

@@ -24,8 +24,8 @@ pub(crate) fn hand_due(
     requires some { ∥ IsSomePage page.now ∥₁ }
     ensures whole { OnOk result
         (GrewFor page.now (λ (t : History). load_handed t rec.now) out.old.items out.new.items) }
-    ensures part { OnErr result
-        (GrewInPartFor page.now (λ (t : History). load_handed t rec.now) out.old.items out.new.items) }
+    ensures part { OnErr result (GrewInPartFor page.now
+        (λ (t : History). load_handed t rec.now) out.old.items out.new.items) }
 {
     match rec {
         Record::Dcl { doc, .. } => hand_parsed(page, *doc, out),
@@ -39,7 +39,8 @@ pub(crate) fn hand_due(
 fn hand_before_load(page: &Page, doc: u32, out: &mut SmallVec<u32, 8>) -> Result<(), NoMemory>
     requires some { ∥ IsSomePage page.now ∥₁ }
     ensures whole { OnOk result (GrewFor page.now (window_parts doc) out.old.items out.new.items) }
-    ensures part { OnErr result (GrewInPartFor page.now (window_parts doc) out.old.items out.new.items) }
+    ensures part { OnErr result
+        (GrewInPartFor page.now (window_parts doc) out.old.items out.new.items) }
 {
     hand_dcl(page, doc, out)?;
     hand_parsed(page, doc, out)?;
@@ -51,7 +52,8 @@ fn hand_before_load(page: &Page, doc: u32, out: &mut SmallVec<u32, 8>) -> Result
 fn hand_dcl(page: &Page, doc: u32, out: &mut SmallVec<u32, 8>) -> Result<(), NoMemory>
     requires some { ∥ IsSomePage page.now ∥₁ }
     ensures whole { OnOk result (GrewFor page.now (dcl_part doc) out.old.items out.new.items) }
-    ensures part { OnErr result (GrewInPartFor page.now (dcl_part doc) out.old.items out.new.items) }
+    ensures part { OnErr result
+        (GrewInPartFor page.now (dcl_part doc) out.old.items out.new.items) }
 {
     hand_latest(page, dcl_close(page, doc), out)
 }
@@ -60,7 +62,8 @@ fn hand_dcl(page: &Page, doc: u32, out: &mut SmallVec<u32, 8>) -> Result<(), NoM
 fn hand_async(page: &Page, doc: u32, out: &mut SmallVec<u32, 8>) -> Result<(), NoMemory>
     requires some { ∥ IsSomePage page.now ∥₁ }
     ensures whole { OnOk result (GrewFor page.now (async_part doc) out.old.items out.new.items) }
-    ensures part { OnErr result (GrewInPartFor page.now (async_part doc) out.old.items out.new.items) }
+    ensures part { OnErr result
+        (GrewInPartFor page.now (async_part doc) out.old.items out.new.items) }
 {
     hand_each(page, page.async_runs(doc), out)
 }
@@ -69,7 +72,8 @@ fn hand_async(page: &Page, doc: u32, out: &mut SmallVec<u32, 8>) -> Result<(), N
 fn hand_static(page: &Page, doc: u32, out: &mut SmallVec<u32, 8>) -> Result<(), NoMemory>
     requires some { ∥ IsSomePage page.now ∥₁ }
     ensures whole { OnOk result (GrewFor page.now (static_part doc) out.old.items out.new.items) }
-    ensures part { OnErr result (GrewInPartFor page.now (static_part doc) out.old.items out.new.items) }
+    ensures part { OnErr result
+        (GrewInPartFor page.now (static_part doc) out.old.items out.new.items) }
 {
     hand_each(page, page.static_closes(doc), out)
 }
@@ -77,8 +81,10 @@ fn hand_static(page: &Page, doc: u32, out: &mut SmallVec<u32, 8>) -> Result<(), 
 /// Hands what is due before the first load event of the element.
 fn hand_before_eload(page: &Page, element: u32, out: &mut SmallVec<u32, 8>) -> Result<(), NoMemory>
     requires some { ∥ IsSomePage page.now ∥₁ }
-    ensures whole { OnOk result (GrewFor page.now (eload_parts element) out.old.items out.new.items) }
-    ensures part { OnErr result (GrewInPartFor page.now (eload_parts element) out.old.items out.new.items) }
+    ensures whole { OnOk result
+        (GrewFor page.now (eload_parts element) out.old.items out.new.items) }
+    ensures part { OnErr result
+        (GrewInPartFor page.now (eload_parts element) out.old.items out.new.items) }
 {
     hand_maker(page, element, out)?;
     hand_run(page, element, out)?;
@@ -88,8 +94,10 @@ fn hand_before_eload(page: &Page, element: u32, out: &mut SmallVec<u32, 8>) -> R
 /// Hands the event that made the element (rule 12).
 fn hand_maker(page: &Page, element: u32, out: &mut SmallVec<u32, 8>) -> Result<(), NoMemory>
     requires some { ∥ IsSomePage page.now ∥₁ }
-    ensures whole { OnOk result (GrewFor page.now (maker_part element) out.old.items out.new.items) }
-    ensures part { OnErr result (GrewInPartFor page.now (maker_part element) out.old.items out.new.items) }
+    ensures whole { OnOk result
+        (GrewFor page.now (maker_part element) out.old.items out.new.items) }
+    ensures part { OnErr result
+        (GrewInPartFor page.now (maker_part element) out.old.items out.new.items) }
 {
     hand_latest(page, page.maker_of_element(element), out)
 }
@@ -98,7 +106,8 @@ fn hand_maker(page: &Page, element: u32, out: &mut SmallVec<u32, 8>) -> Result<(
 fn hand_run(page: &Page, element: u32, out: &mut SmallVec<u32, 8>) -> Result<(), NoMemory>
     requires some { ∥ IsSomePage page.now ∥₁ }
     ensures whole { OnOk result (GrewFor page.now (run_part element) out.old.items out.new.items) }
-    ensures part { OnErr result (GrewInPartFor page.now (run_part element) out.old.items out.new.items) }
+    ensures part { OnErr result
+        (GrewInPartFor page.now (run_part element) out.old.items out.new.items) }
 {
     hand_latest(page, page.run_of(element), out)
 }
@@ -106,8 +115,10 @@ fn hand_run(page: &Page, element: u32, out: &mut SmallVec<u32, 8>) -> Result<(),
 /// Hands the close of load of the document in the frame element (rule 13).
 fn hand_inner(page: &Page, element: u32, out: &mut SmallVec<u32, 8>) -> Result<(), NoMemory>
     requires some { ∥ IsSomePage page.now ∥₁ }
-    ensures whole { OnOk result (GrewFor page.now (inner_part element) out.old.items out.new.items) }
-    ensures part { OnErr result (GrewInPartFor page.now (inner_part element) out.old.items out.new.items) }
+    ensures whole { OnOk result
+        (GrewFor page.now (inner_part element) out.old.items out.new.items) }
+    ensures part { OnErr result
+        (GrewInPartFor page.now (inner_part element) out.old.items out.new.items) }
 {
     hand_latest(page, inner_load_close(page, element), out)
 }

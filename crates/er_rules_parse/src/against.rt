@@ -1,14 +1,10 @@
 //! Whether a record comes too late: a rule leads from its event back to one that has begun.
 
-ghost use Rattle.std.specs.Prelude.{◌≡◌, ℕ, List, None};
+ghost use Rattle.std.specs.Prelude.{◌≡◌, ℕ, Bool, List};
 ghost use Rattle.er_trace.specs.declared.record.Record.{Record};
 ghost use Rattle.er_history.specs.History.{told};
-ghost use Rattle.er_history.specs.Rules.{Rule, parse_rules};
-ghost use Rattle.er_history.specs.Edges.{path};
-ghost use Rattle.er_history.specs.Naming.{naming};
-ghost use Rattle.er_history.specs.Handed.{HasGroup};
-ghost use Rattle.er_history.specs.Sound.{IsSound, leads_back};
-ghost use Rattle.er_page.specs.Page.{IsPage};
+ghost use Rattle.er_history.specs.Rules.{parse_rules};
+ghost use Rattle.er_history.specs.Sound.{leads_back};
 
 use er_page::page::Page;
 use er_trace::record::Record;
@@ -18,8 +14,8 @@ use er_trace::record::Record;
 /// Neither ever does: rule 1 goes by the order of the records, and the event that declared a document has begun.
 #[tactic(auto, using(er_history::proofs::OrderLemmas::parse_rules_never_lead_back))]
 pub fn against(page: &Page, rec: &Record) -> bool
-    ensures { (table : List (ℕ × Rule)) (h : List Record) → IsPage page.now h → HasGroup table parse_rules → IsSound table h → naming h rec.now ≡ None
-        → result ≡ leads_back parse_rules (path table h) (told h) rec.now }
+    ensures { (joined : ℕ → ℕ → Bool) (h : List Record)
+        → result ≡ leads_back parse_rules joined (told h) rec.now }
 {
     false
 }

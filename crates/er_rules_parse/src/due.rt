@@ -21,8 +21,8 @@ pub(crate) fn hand_due(
     requires some { ∥ IsSomePage page.now ∥₁ }
     ensures whole { OnOk result
         (GrewFor page.now (λ (t : History). parse_handed t rec.now) out.old.items out.new.items) }
-    ensures part { OnErr result
-        (GrewInPartFor page.now (λ (t : History). parse_handed t rec.now) out.old.items out.new.items) }
+    ensures part { OnErr result (GrewInPartFor page.now
+        (λ (t : History). parse_handed t rec.now) out.old.items out.new.items) }
 {
     match rec {
         Record::Parse { doc, .. } => hand_step(page, *doc, out),

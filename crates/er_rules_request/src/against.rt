@@ -1,14 +1,10 @@
 //! Whether a record comes too late: a rule leads from its event back to one that has begun.
 
-ghost use Rattle.std.specs.Prelude.{◌≡◌, ℕ, List, None};
+ghost use Rattle.std.specs.Prelude.{◌≡◌, ℕ, Bool, List};
 ghost use Rattle.er_trace.specs.declared.record.Record.{Record};
 ghost use Rattle.er_history.specs.History.{told};
-ghost use Rattle.er_history.specs.Rules.{Rule, request_rules};
-ghost use Rattle.er_history.specs.Edges.{path};
-ghost use Rattle.er_history.specs.Naming.{naming};
-ghost use Rattle.er_history.specs.Sound.{IsSound, leads_back};
-ghost use Rattle.er_pieces.specs.Enough.{HasSteady};
-ghost use Rattle.er_page.specs.Page.{IsPage};
+ghost use Rattle.er_history.specs.Rules.{request_rules};
+ghost use Rattle.er_history.specs.Sound.{leads_back};
 
 use er_page::page::Page;
 use er_trace::record::Record;
@@ -18,9 +14,8 @@ use er_trace::record::Record;
 /// It never does: the event that sent a request has begun, and replies are ordered as they are recorded.
 #[tactic(auto, using(er_history::proofs::OrderLemmas::request_rules_never_lead_back))]
 pub fn against(page: &Page, rec: &Record) -> bool
-    ensures { (table : List (ℕ × Rule)) (h : List Record) → IsPage page.now h → HasSteady table
-        → IsSound table h → naming h rec.now ≡ None
-        → result ≡ leads_back request_rules (path table h) (told h) rec.now }
+    ensures { (joined : ℕ → ℕ → Bool) (h : List Record)
+        → result ≡ leads_back request_rules joined (told h) rec.now }
 {
     false
 }

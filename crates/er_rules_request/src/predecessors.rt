@@ -55,8 +55,8 @@ fn hand_for_reply(page: &Page, request: u32, out: &mut SmallVec<u32, 8>) -> Resu
     requires some { ∥ IsSomePage page.now ∥₁ }
     ensures whole { OnOk result
         (GrewFor page.now (λ (t : History). reply_handed t request) out.old.items out.new.items) }
-    ensures part { OnErr result
-        (GrewInPartFor page.now (λ (t : History). reply_handed t request) out.old.items out.new.items) }
+    ensures part { OnErr result (GrewInPartFor page.now
+        (λ (t : History). reply_handed t request) out.old.items out.new.items) }
 {
     hand_latest(page, page.maker_of_request(request), out)?;
     hand_latest(page, page.last_reply_close(request), out)

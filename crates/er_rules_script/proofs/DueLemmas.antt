@@ -4,7 +4,7 @@ use Rattle.std.specs.Prelude.{if◌then◌else◌}
 use Rattle.er_history.specs.History.{Element, History, element_maker, first_to, makes_element}
 use Rattle.er_history.specs.Latest.{latest_piece, latest_of}
 use Rattle.er_history.specs.Rules.{is_deferred}
-use Rattle.er_pieces.specs.HandedPieces.{parsed_handed, run_handed}
+use Rattle.er_pieces.specs.HandedPieces.{dcl_handed, run_handed}
 use Rattle.er_rules_script.specs.Scripts.{before_deferred}
 
 pub run_parts : (t : History) (e : ℕ) → latest_of (element_maker t.entries e) t.actions ++ before_deferred t (first_to (makes_element e) t.entries) ≡ run_handed t (first_to (makes_element e) t.entries)
@@ -16,9 +16,9 @@ run_parts t e = of (first_to (makes_element e) t.entries)
 
     by : Option ℕ → List ℕ
     by None = []
-    by (Some d) = parsed_handed t d
+    by (Some d) = dcl_handed t d
 
-    deferred : (x : Element) (b : Bool) → latest_piece x.maker t.actions ++ by (if b then Some x.doc else None) ≡ latest_piece x.maker t.actions ++ (if b then parsed_handed t x.doc else [])
+    deferred : (x : Element) (b : Bool) → latest_piece x.maker t.actions ++ by (if b then Some x.doc else None) ≡ latest_piece x.maker t.actions ++ (if b then dcl_handed t x.doc else [])
     deferred x true = refl
     deferred x false = refl
 

@@ -17,11 +17,15 @@ has_deferred_run h d = is_some (last_deferred_run h d)
 
 -- a parse step made it, and the latest parse step of the document is a later one
 abbrev pub is_parsed_past : List Record → ℕ → Option Element → Bool
-is_parsed_past h d y = of_made (λ (x : Element). x.is_static && of_made (λ (last : ℕ). nat_lt x.piece last) (last_parse h d)) y
+is_parsed_past h d y =
+    of_made (λ (x : Element).
+    x.is_static && of_made (λ (last : ℕ). nat_lt x.piece last) (last_parse h d))
+    y
 
 -- the last deferred script of the document that ran was parsed after it
 abbrev pub is_passed : List Record → ℕ → Option Element → Bool
-is_passed h d y = of_made (λ (last : ℕ). is_parsed_before y (element_made h last)) (last_deferred_element h d)
+is_passed h d y =
+    of_made (λ (last : ℕ). is_parsed_before y (element_made h last)) (last_deferred_element h d)
 
 -- the run of a blocking script comes too late: the document was parsed on, or one of its deferred scripts has run
 abbrev pub is_blocking_late : List Record → ℕ → Option Element → Bool
@@ -32,7 +36,8 @@ abbrev pub is_deferred_late : List Record → ℕ → Option Element → Bool
 is_deferred_late h d y = defers y && is_passed h d y
 
 abbrev pub is_run_late : List Record → Option Element → Bool
-is_run_late h y = of_made (λ (x : Element). is_blocking_late h x.doc y || is_deferred_late h x.doc y) y
+is_run_late h y =
+    of_made (λ (x : Element). is_blocking_late h x.doc y || is_deferred_late h x.doc y) y
 
 -- record by record
 abbrev pub is_late : List Record → Record → Bool
@@ -43,5 +48,6 @@ is_late h _ = false
 
 -- In a sound list these are the records from whose event a rule leads back.
 abbrev pub LateRecordsLeadBack : Type 0
-LateRecordsLeadBack = (table : List (ℕ × Rule)) (h : List Record) (x : Record) → HasGroup table script_rules → IsSound table h → naming h x ≡ None
+LateRecordsLeadBack = (table : List (ℕ × Rule)) (h : List Record) (x : Record)
+    → HasGroup table script_rules → IsSound table h → naming h x ≡ None
     → leads_back script_rules (path table h) (told h) x ≡ is_late h x

@@ -2,7 +2,7 @@
 use Rattle.std.specs.Prelude.{ℕ, Bool, ◌&&◌, nat_lt, if◌then◌else◌, List, [], Option, Some, None}
 use Rattle.er_history.specs.History.{Element, History}
 use Rattle.er_history.specs.Rules.{of_made, both_made, is_blocking, is_deferred}
-use Rattle.er_pieces.specs.HandedPieces.{parsed_handed}
+use Rattle.er_pieces.specs.HandedPieces.{dcl_handed}
 
 -- it was made, and is a blocking or a deferred script
 
@@ -14,7 +14,9 @@ defers = of_made is_deferred
 
 -- parse steps made both, the first before the second
 abbrev pub is_parsed_before : Option Element → Option Element → Bool
-is_parsed_before = both_made (λ (x : Element) (y : Element). x.is_static && (y.is_static && nat_lt x.piece y.piece))
+is_parsed_before =
+    both_made (λ (x : Element) (y : Element).
+    x.is_static && (y.is_static && nat_lt x.piece y.piece))
 
 -- the document of a deferred script
 abbrev pub deferred_document : Option Element → Option ℕ
@@ -27,4 +29,4 @@ before_deferred t made = by (deferred_document made)
   where
     by : Option ℕ → List ℕ
     by None = []
-    by (Some d) = parsed_handed t d
+    by (Some d) = dcl_handed t d

@@ -20,7 +20,8 @@ use er_trace::record::Record;
 ///
 /// Rule 3 never does: the event that made a script has begun.
 pub fn against(page: &Page, rec: &Record) -> bool
-    ensures { (table : List (ℕ × Rule)) (h : List Record) → IsPage page.now h → HasGroup table script_rules → IsSound table h → naming h rec.now ≡ None
+    ensures { (table : List (ℕ × Rule)) (h : List Record) → IsPage page.now h
+        → HasGroup table script_rules → IsSound table h → naming h rec.now ≡ None
         → result ≡ leads_back script_rules (path table h) (told h) rec.now }
 {
     is_late(page, rec)
@@ -47,7 +48,8 @@ fn has_deferred_run(page: &Page, doc: u32) -> bool
 
 /// Whether the run of the script comes too late.
 fn is_run_late(page: &Page, element: u32) -> bool
-    ensures { (h : List Record) → IsPage page.now h → result ≡ says.is_run_late h (element_made h element) }
+    ensures { (h : List Record) → IsPage page.now h
+        → result ≡ says.is_run_late h (element_made h element) }
 {
     let Some(doc) = page.document_of(element) else {
         return false;
@@ -57,7 +59,8 @@ fn is_run_late(page: &Page, element: u32) -> bool
 
 /// Whether it is a blocking script, and its run comes too late in the document: behind a later parse step (rule 4) or the run of a deferred script (rule 6).
 fn is_blocking_late(page: &Page, element: u32, doc: u32) -> bool
-    ensures { (h : List Record) → IsPage page.now h → result ≡ says.is_blocking_late h doc (element_made h element) }
+    ensures { (h : List Record) → IsPage page.now h
+        → result ≡ says.is_blocking_late h doc (element_made h element) }
 {
     is_blocking(page, element)
         && (is_parsed_past(page, element, doc) || has_deferred_run(page, doc))
@@ -65,14 +68,16 @@ fn is_blocking_late(page: &Page, element: u32, doc: u32) -> bool
 
 /// Whether it is a deferred script, and its run comes too late in the document: behind that of one which was parsed after it (rule 7).
 fn is_deferred_late(page: &Page, element: u32, doc: u32) -> bool
-    ensures { (h : List Record) → IsPage page.now h → result ≡ says.is_deferred_late h doc (element_made h element) }
+    ensures { (h : List Record) → IsPage page.now h
+        → result ≡ says.is_deferred_late h doc (element_made h element) }
 {
     is_deferred(page, element) && is_passed(page, element, doc)
 }
 
 /// Whether the document was parsed on behind the parse step that made the script.
 fn is_parsed_past(page: &Page, element: u32, doc: u32) -> bool
-    ensures { (h : List Record) → IsPage page.now h → result ≡ says.is_parsed_past h doc (element_made h element) }
+    ensures { (h : List Record) → IsPage page.now h
+        → result ≡ says.is_parsed_past h doc (element_made h element) }
 {
     match (page.parse_action(element), page.last_parse(doc)) {
         (Some(step), Some(last)) => step < last,
@@ -84,7 +89,8 @@ fn is_parsed_past(page: &Page, element: u32, doc: u32) -> bool
 ///
 /// They ran as they were parsed, so the last one that ran was parsed last.
 fn is_passed(page: &Page, element: u32, doc: u32) -> bool
-    ensures { (h : List Record) → IsPage page.now h → result ≡ says.is_passed h doc (element_made h element) }
+    ensures { (h : List Record) → IsPage page.now h
+        → result ≡ says.is_passed h doc (element_made h element) }
 {
     match page.last_deferred_element(doc) {
         Some(last) => is_parsed_before(page, element, last),

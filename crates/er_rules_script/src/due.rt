@@ -28,8 +28,8 @@ pub(crate) fn hand_due(
     requires some { ∥ IsSomePage page.now ∥₁ }
     ensures whole { OnOk result
         (GrewFor page.now (λ (t : History). script_handed t rec.now) out.old.items out.new.items) }
-    ensures part { OnErr result
-        (GrewInPartFor page.now (λ (t : History). script_handed t rec.now) out.old.items out.new.items) }
+    ensures part { OnErr result (GrewInPartFor page.now
+        (λ (t : History). script_handed t rec.now) out.old.items out.new.items) }
 {
     match rec {
         Record::Parse { doc, .. } => hand_blocking(page, *doc, out),
@@ -42,10 +42,12 @@ pub(crate) fn hand_due(
 /// Hands the latest run of a blocking script of the document.
 fn hand_blocking(page: &Page, doc: u32, out: &mut SmallVec<u32, 8>) -> Result<(), NoMemory>
     requires some { ∥ IsSomePage page.now ∥₁ }
-    ensures whole { OnOk result
-        (GrewFor page.now (λ (t : History). newest (is_run_of is_blocking doc) t.actions) out.old.items out.new.items) }
-    ensures part { OnErr result
-        (GrewInPartFor page.now (λ (t : History). newest (is_run_of is_blocking doc) t.actions) out.old.items out.new.items) }
+    ensures whole { OnOk result (GrewFor page.now
+        (λ (t : History). newest (is_run_of is_blocking doc) t.actions)
+        out.old.items out.new.items) }
+    ensures part { OnErr result (GrewInPartFor page.now
+        (λ (t : History). newest (is_run_of is_blocking doc) t.actions)
+        out.old.items out.new.items) }
 {
     hand_latest(page, page.last_blocking_run(doc), out)
 }
@@ -53,10 +55,12 @@ fn hand_blocking(page: &Page, doc: u32, out: &mut SmallVec<u32, 8>) -> Result<()
 /// Hands what is due before the run of the script.
 fn hand_before_run(page: &Page, element: u32, out: &mut SmallVec<u32, 8>) -> Result<(), NoMemory>
     requires some { ∥ IsSomePage page.now ∥₁ }
-    ensures whole { OnOk result
-        (GrewFor page.now (λ (t : History). run_handed t (first_to (makes_element element) t.entries)) out.old.items out.new.items) }
-    ensures part { OnErr result
-        (GrewInPartFor page.now (λ (t : History). run_handed t (first_to (makes_element element) t.entries)) out.old.items out.new.items) }
+    ensures whole { OnOk result (GrewFor page.now
+        (λ (t : History). run_handed t (first_to (makes_element element) t.entries))
+        out.old.items out.new.items) }
+    ensures part { OnErr result (GrewInPartFor page.now
+        (λ (t : History). run_handed t (first_to (makes_element element) t.entries))
+        out.old.items out.new.items) }
 {
     hand_latest(page, page.maker_of_element(element), out)?;
     hand_before_deferred(page, element, out)
@@ -69,10 +73,12 @@ fn hand_before_deferred(
     out: &mut SmallVec<u32, 8>,
 ) -> Result<(), NoMemory>
     requires some { ∥ IsSomePage page.now ∥₁ }
-    ensures whole { OnOk result
-        (GrewFor page.now (λ (t : History). before_deferred t (first_to (makes_element element) t.entries)) out.old.items out.new.items) }
-    ensures part { OnErr result
-        (GrewInPartFor page.now (λ (t : History). before_deferred t (first_to (makes_element element) t.entries)) out.old.items out.new.items) }
+    ensures whole { OnOk result (GrewFor page.now
+        (λ (t : History). before_deferred t (first_to (makes_element element) t.entries))
+        out.old.items out.new.items) }
+    ensures part { OnErr result (GrewInPartFor page.now
+        (λ (t : History). before_deferred t (first_to (makes_element element) t.entries))
+        out.old.items out.new.items) }
 {
     match document_if_deferred(page, element) {
         Some(doc) => hand_parsed(page, doc, out),
@@ -82,7 +88,8 @@ fn hand_before_deferred(
 
 /// The document of a deferred script.
 fn document_if_deferred(page: &Page, element: u32) -> Option<u32>
-    ensures { (h : List Record) → IsPage page.now h → result ≡ deferred_document (element_made h element) }
+    ensures { (h : List Record) → IsPage page.now h
+        → result ≡ deferred_document (element_made h element) }
 {
     if is_deferred(page, element) {
         page.document_of(element)

@@ -55,8 +55,10 @@ comes_before joined kind made u = is_maker (maker_of made) u || is_earlier joine
 
 -- Before a message or an animation callback come besides the jobs of the event that declared it, and before a timeout and a tick these alone; before a close the jobs that began while the dispatch was on the stack.
 abbrev pub due : (ℕ → ℕ → Bool) → List Record → Record → Event → Bool
-due joined h (records.Message m) u = comes_before joined OfMessage (task_made OfMessage h m) u || is_job_of (maker_of (task_made OfMessage h m)) u
-due joined h (records.Anim a) u = comes_before joined OfAnim (task_made OfAnim h a) u || is_job_of (maker_of (task_made OfAnim h a)) u
+due joined h (records.Message m) u = comes_before joined OfMessage (task_made OfMessage h m) u
+    || is_job_of (maker_of (task_made OfMessage h m)) u
+due joined h (records.Anim a) u = comes_before joined OfAnim (task_made OfAnim h a) u
+    || is_job_of (maker_of (task_made OfAnim h a)) u
 due joined h (records.Job j) u = comes_before joined OfJob (task_made OfJob h j) u
 due joined h (records.Timer t) u = is_job_of (maker_of_timeout h t) u
 due joined h (records.Tick i) u = is_job_of (maker_of_interval h i) u

@@ -9,7 +9,9 @@ use Rattle.er_history.specs.Handed.{HasHanded, HasHandedSome}
 use Rattle.er_pieces.specs.Contract.{ComesNext}
 
 abbrev pub HandsEnoughTasks : (List Record → Type 0) → Record → List ℕ → List ℕ → Type 0
-HandsEnoughTasks stands x old new = (h : List Record) → stands h → ComesNext (rules Three) h x → HasHanded task_rules (path (rules Three) h) (told h) x old new
+HandsEnoughTasks stands x old new = (h : List Record) → stands h → ComesNext (rules Three) h x
+    → HasHanded task_rules (path (rules Three) h) (told h) x old new
 
 abbrev pub HandsSourceTasks : (List Record → Type 0) → Record → List ℕ → List ℕ → Type 0
-HandsSourceTasks stands x old new = (h : List Record) → stands h → ComesNext (rules Three) h x → HasHandedSome task_rules (path (rules Three) h) (told h) x old new
+HandsSourceTasks stands x old new = (h : List Record) → stands h → ComesNext (rules Three) h x
+    → HasHandedSome task_rules (path (rules Three) h) (told h) x old new

@@ -10,21 +10,29 @@ use Rattle.er_history.specs.Edges.{path}
 use Rattle.er_history.specs.Laws.{Among}
 
 -- numbers have grown by so many pieces at most of events that pass
-pub record HandsSomeEvents (actions : List Action) (test : Event → Bool) (most : ℕ) (old new : List ℕ) : Type 0 where
+pub record HandsSomeEvents (actions : List Action) (test : Event → Bool) (most : ℕ)
+    (old new : List ℕ) : Type 0 where
   pub handed : List ℕ
   pub grown : new ≡ old ++ handed
-  pub sources : (k : ℕ) → is_among k handed ≡ true → (i : Action) × Among i actions × (i.number ≡ k) × (test i.event ≡ true)
+  pub sources : (k : ℕ) → is_among k handed ≡ true
+      → (i : Action) × Among i actions × (i.number ≡ k) × (test i.event ≡ true)
   pub few : length handed ≤ most
 
 -- and each piece of such an event has a path to one of them
-pub record HandsEvents (joined : ℕ → ℕ → Bool) (actions : List Action) (test : Event → Bool) (most : ℕ) (old new : List ℕ) : Type 0 where
+pub record HandsEvents (joined : ℕ → ℕ → Bool) (actions : List Action) (test : Event → Bool)
+    (most : ℕ) (old new : List ℕ) : Type 0 where
   pub some : HandsSomeEvents actions test most old new
-  pub enough : (i : Action) → Among i actions → test i.event ≡ true → list_any (λ k. joined i.number k) some.handed ≡ true
+  pub enough : (i : Action) → Among i actions → test i.event ≡ true
+      → list_any (λ k. joined i.number k) some.handed ≡ true
 
 -- for each list that stands
 
-abbrev pub Hands : (List Record → Type 0) → (List Record → Event → Bool) → (List Record → ℕ) → List ℕ → List ℕ → Type 0
-Hands stands test most old new = (h : List Record) → stands h → HandsEvents (path (rules Three) h) (told h).actions (test h) (most h) old new
+abbrev pub Hands : (List Record → Type 0) → (List Record → Event → Bool) → (List Record → ℕ)
+    → List ℕ → List ℕ → Type 0
+Hands stands test most old new = (h : List Record) → stands h
+    → HandsEvents (path (rules Three) h) (told h).actions (test h) (most h) old new
 
-abbrev pub HandsSome : (List Record → Type 0) → (List Record → Event → Bool) → (List Record → ℕ) → List ℕ → List ℕ → Type 0
-HandsSome stands test most old new = (h : List Record) → stands h → HandsSomeEvents (told h).actions (test h) (most h) old new
+abbrev pub HandsSome : (List Record → Type 0) → (List Record → Event → Bool) → (List Record → ℕ)
+    → List ℕ → List ℕ → Type 0
+HandsSome stands test most old new = (h : List Record) → stands h
+    → HandsSomeEvents (told h).actions (test h) (most h) old new

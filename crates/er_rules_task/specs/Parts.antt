@@ -20,7 +20,9 @@ abbrev pub task_due : TaskKind → ℕ → List Record → Event → Bool
 task_due kind number h u = comes_before (path (rules Three) h) kind (task_made kind h number) u
 
 abbrev pub earlier_tasks : TaskKind → ℕ → List Record → ℕ
-earlier_tasks kind number h = length (events_of_each (is_earlier (path (rules Three) h) kind (task_made kind h number)) (told h).actions)
+earlier_tasks kind number h = length
+    (events_of_each (is_earlier (path (rules Three) h) kind (task_made kind h number))
+    (told h).actions)
 
 abbrev pub task_count : TaskKind → ℕ → List Record → ℕ
 task_count kind number h = 1 + earlier_tasks kind number h
@@ -32,7 +34,9 @@ jobs_due queuer h u = is_job_of queuer u
 -- before a task that is no job
 
 abbrev pub callback_due : TaskKind → ℕ → List Record → Event → Bool
-callback_due kind number h u = task_due kind number h u || jobs_due (maker_of (task_made kind h number)) h u
+callback_due kind number h u =
+    task_due kind number h u || jobs_due (maker_of (task_made kind h number)) h u
 
 abbrev pub callback_count : TaskKind → ℕ → List Record → ℕ
-callback_count kind number h = task_count kind number h + queued_count h (maker_of (task_made kind h number))
+callback_count kind number h =
+    task_count kind number h + queued_count h (maker_of (task_made kind h number))

@@ -85,7 +85,8 @@ fn walk_on(
         → AreJoined (path (rules Three) h) (told h).actions begun.now }
     ensures less { IfOk result (λ next. next.left < walk.left) }
     ensures walked { IfOk result (λ next. (h : List Record) → IsTimed Three page.now clocks.now h
-        → WalksOn (path (rules Three) h) (told h).actions asked begun.now walk next out.old.items out.new.items) }
+        → WalksOn (path (rules Three) h) (told h).actions asked begun.now walk next
+        out.old.items out.new.items) }
     ensures same { OnErr result (out.new.items ≡ out.old.items) }
 {
     let task = begun[walk.left - 1];
@@ -121,9 +122,11 @@ pub(crate) fn hand_before(
     requires joined { (h : List Record) → IsTimed Three page.now clocks.now h
         → AreJoined (path (rules Three) h) (told h).actions begun.now }
     ensures whole { OnOk result ((h : List Record) → IsTimed Three page.now clocks.now h
-        → HandsOf (path (rules Three) h) (told h).actions asked begun.now 0 out.old.items out.new.items) }
+        → HandsOf (path (rules Three) h) (told h).actions asked begun.now 0
+        out.old.items out.new.items) }
     ensures part { OnErr result ((h : List Record) → IsTimed Three page.now clocks.now h
-        → HandsSomeOf (path (rules Three) h) (told h).actions asked begun.now 0 out.old.items out.new.items) }
+        → HandsSomeOf (path (rules Three) h) (told h).actions asked begun.now 0
+        out.old.items out.new.items) }
 {
     let mut walk = Walk {
         left: begun.len(),

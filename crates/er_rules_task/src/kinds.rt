@@ -33,7 +33,8 @@ pub(crate) fn made(page: &Page, kind: Kind, number: u32) -> Option<Task>
 
 /// The event that declared the task.
 pub(crate) fn maker(page: &Page, kind: Kind, number: u32) -> Option<u32>
-    ensures { result ≡ option_map (λ (x : Task). x.maker) (task_at (shown kind) page.now.tasks number) }
+    ensures { result
+        ≡ option_map (λ (x : Task). x.maker) (task_at (shown kind) page.now.tasks number) }
 {
     let made = made(page, kind, number)?;
     Some(made.maker)
@@ -42,7 +43,8 @@ pub(crate) fn maker(page: &Page, kind: Kind, number: u32) -> Option<u32>
 /// The tasks that have begun, in order.
 pub(crate) fn begun(page: &Page, kind: Kind) -> &[BegunTask]
     ensures numbers { Answers page.now (tasks_begun (shown kind)) (map task_number result.now) }
-    ensures begun { (h : List Record) → IsPage page.now h → HaveBegun (shown kind) page.now.tasks result.now }
+    ensures begun { (h : List Record) → IsPage page.now h
+        → HaveBegun (shown kind) page.now.tasks result.now }
 {
     match kind {
         Kind::Message => page.begun_messages(),

@@ -146,9 +146,11 @@ fn hand_jobs_of(
 fn hand_jobs_in(page: &Page, dispatch: u32, out: &mut SmallVec<u32, 8>) -> Result<(), NoMemory>
     requires some { ∥ IsSomePage page.now ∥₁ }
     ensures whole { OnOk result (Hands (IsPage page.now)
-        (λ h. is_job_within dispatch) (λ h. length (jobs_in h dispatch)) out.old.items out.new.items) }
+        (λ h. is_job_within dispatch) (λ h. length (jobs_in h dispatch))
+        out.old.items out.new.items) }
     ensures part { OnErr result (HandsSome (IsPage page.now)
-        (λ h. is_job_within dispatch) (λ h. length (jobs_in h dispatch)) out.old.items out.new.items) }
+        (λ h. is_job_within dispatch) (λ h. length (jobs_in h dispatch))
+        out.old.items out.new.items) }
 {
     hand_each(page, page.jobs_in(dispatch), out)
 }
