@@ -29,9 +29,5 @@ pub record HasBegun (graph : Graph) (action : ℕ) : Type 0 where
 
 -- What a fault says. A refusal has the line that was handed in and the first cause against the record, and changes nothing; after want of memory the graph is marked, and its page and lines are as they were.
 abbrev pub IsFault : GraphFault → ℕ → Record → Graph → Graph → Type 0
-IsFault (Refused l c) line x old new =
-    (l ≡ line) × (new ≡ old)
-    × ((accepted : List Accepted) → IsListed old accepted
-    → cause_now old.version accepted x ≡ Some c)
-IsFault NoMemory line x old new =
-    HasFailed new × ((accepted : List Accepted) → IsListed old accepted → IsListed new accepted)
+IsFault (Refused l c) line x old new = (l ≡ line) × (new ≡ old) × ((accepted : List Accepted) → IsListed old accepted → cause_now old.version accepted x ≡ Some c)
+IsFault NoMemory line x old new = HasFailed new × ((accepted : List Accepted) → IsListed old accepted → IsListed new accepted)

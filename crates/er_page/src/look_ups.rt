@@ -306,8 +306,7 @@ impl Page {
     /// All timeouts that have fired, in order of firing, as they were set.
     pub fn fired_timeouts(&self) -> &[SetTimeout]
         ensures numbers { Answers self.now (λ h. says.fired h) (map number_of result.now) }
-        ensures set { (h : List Record) → IsPage self.now h
-            → All (IsSet self.now.names) result.now }
+        ensures set { (h : List Record) → IsPage self.now h → All (IsSet self.now.names) result.now }
     {
         self.names.fired_timeouts()
     }
@@ -315,8 +314,7 @@ impl Page {
     /// The timeouts set in the event that have fired, in order of firing, as they were set.
     pub fn fired_timeouts_with(&self, event: u32) -> &[SetTimeout]
         ensures numbers { Answers self.now (λ h. says.fired_with h event) (map number_of result.now) }
-        ensures set { (h : List Record) → IsPage self.now h
-            → All (IsSet self.now.names) result.now }
+        ensures set { (h : List Record) → IsPage self.now h → All (IsSet self.now.names) result.now }
     {
         self.names.fired_timeouts_with(event)
     }
