@@ -40,7 +40,7 @@ use Rattle.er_run.specs.Promise.{piece_bytes, IsFinal, IsJustRefused, IsDecided}
 use Rattle.er_run.specs.Session.{IsSessionOf, IsFaultOf, IsBegun, begun}
 use Rattle.er_outside.specs.Ends.{Gives, IsSpent}
 use Rattle.er_outside.proofs.Puts.{gives_again, gives_nothing_back}
-use Rattle.er_run.specs.Reading.{IsAt, IsBy, IsOpen, IsRead, IsReadTo, IsAcceptedInput, IsRefusedInput, IsReading, IsEnd, GoesOn, Ends, IsRefusedBehind, IsFinalFault, fault_of}
+use Rattle.er_run.specs.Reading.{IsAt, IsBy, IsOpen, IsRead, IsReadTo, IsAcceptedInput, IsRefusedInput, IsReading, IsEnd, GoesOn, Ends, IsRefusedBehind, IsFinalFault, CountsReads, fault_of}
 use Rattle.er_run.proofs.AcceptLemmas.{few_before, few_read, illegal_before, legal_read, refused_line, refused_end, refused_fault, IsOf, place_of}
 
 -- a record is refused for no missing end
@@ -369,6 +369,16 @@ refused_limit f asked first left session n c r fault =
     let bytes = r.bytes ++ r.ends.piece in
     let refused : FirstIllegal f asked bytes n c = refused_end f asked session.graph.version bytes r.ends.records None n c r.ends.reading tt r.ends.stands.legal (omega (arith, fault.0, length-reverse r.ends.records)) fault.1 in
     record { taken = bytes; gave = all_given f first left session None r; decided = inr (just f asked first left session None n c r refused (end_cause_other asked session.graph.version (reverse r.ends.records) c fault.1)); refused = refused }
+
+-- a call that does not fail leaves the count of faults as it was
+pub reads_stand : {X : Type 0} (result : Result X InputFault) (old new : ℕ) → result ≢ Err input_faults.Failed → new ≡ old → CountsReads result old new
+reads_stand {X} (Ok x) old new other same = record { rose = λ failed. absurd (cc); once = λ failed. absurd (cc); stands = λ _. same; count = omega (arith, same) }
+reads_stand {X} (Err fault) old new other same = record {
+  rose = λ failed. absurd (other (cc));
+  once = λ failed. absurd (other (cc));
+  stands = λ _. same;
+  count = omega (arith, same);
+}
 
 none_given : (old new : Option (List ℕ)) (n : ℕ) (buffer : List ℕ) → Gives old (take n buffer) new → n ≡ 0 → Gives old [] new
 none_given old new zero buffer gave none = gave

@@ -11,7 +11,7 @@ use Rattle.er_run.specs.declared.outcome.Outcome.TheVariants.{Clean, Races, Refu
 use Rattle.er_words.specs.declared.commands.Command.{Command}
 use Rattle.er_run.specs.Answer.{outcome_for, outcome_of}
 use Rattle.er_run.specs.Races.{races}
-use Rattle.er_run.specs.Promise.{IsAnswer}
+use Rattle.er_run.specs.Promise.{IsAnswer, CountsWrites}
 use Rattle.er_run.specs.Accepted.{AreListed, EndsAs, ReportsOf, RefusedAs}
 use Rattle.er_run.proofs.AnswerLemmas.{ends_so}
 use Rattle.er_run.proofs.JudgedLemmas.{as_many_found}
@@ -36,9 +36,8 @@ outcome_some v h found k l least within = outcome_found v h found l ∙ some_out
 
 -- what came of a text that was put
 pub record Ends (old new : ℕ) (result : Outcome) : Type 0 where
-  pub write_fault : result ≡ WriteFault → Rose old new
+  pub faults : CountsWrites result old new
   pub no_memory : result ≢ NoMemory
-  pub stands : IsAnswer result → new ≡ old
 
 no_answer : (result : Outcome) (P : Type 0) → result ≡ WriteFault → IsAnswer result → P
 no_answer result P is answer = absurd (subst IsAnswer is answer)
@@ -46,12 +45,12 @@ no_answer result P is answer = absurd (subst IsAnswer is answer)
 -- a report
 
 pub ends_report : {E : Type 0} (asked : Command) (v : Version) (h : List Record) (due : Outcome) (old new : ℕ) (written : Result Unit E) (result : Outcome) → due ≡ outcome_for asked v h → EndsAs due written result
-    → OnOk written (new ≡ old) → OnErr written (Rose old new) → Ends old new result
-ends_report {E} asked v h due old new (Ok done) result is ends stands cause = elim (ends_so asked v h) [
-  | inl clean ↦ let e : result ≡ Clean = ends ∙ (is ∙ clean) in record { write_fault = λ w. absurd (cc); no_memory = λ w. cc; stands = λ _. stands }
-  | inr some ↦ let e : result ≡ Races = ends ∙ (is ∙ some) in record { write_fault = λ w. absurd (cc); no_memory = λ w. cc; stands = λ _. stands }
+    → OnOk written (new ≡ old) → OnErr written (Rose old new) → old ≤ new → Ends old new result
+ends_report {E} asked v h due old new (Ok done) result is ends stands cause count = elim (ends_so asked v h) [
+  | inl clean ↦ let e : result ≡ Clean = ends ∙ (is ∙ clean) in record { faults = record { rose = λ w. absurd (cc); stands = λ _. stands; count = count }; no_memory = λ w. cc }
+  | inr some ↦ let e : result ≡ Races = ends ∙ (is ∙ some) in record { faults = record { rose = λ w. absurd (cc); stands = λ _. stands; count = count }; no_memory = λ w. cc }
 ]
-ends_report {E} asked v h due old new (Err fault) result is ends stands cause = record { write_fault = λ _. cause; no_memory = λ w. cc; stands = no_answer result (new ≡ old) ends }
+ends_report {E} asked v h due old new (Err fault) result is ends stands cause count = record { faults = record { rose = λ _. cause; stands = no_answer result (new ≡ old) ends; count = count }; no_memory = λ w. cc }
 
 pub reports : {E : Type 0} (asked : Command) (v : Version) (h : List Record) (text : List ℕ) (due : Outcome) (written : Result Unit E) (result : Outcome) (old new : Option (List ℕ)) → outcome_for asked v h ≡ due → EndsAs due written result
     → OnOk written (Gets old text new) → OnErr written (GetsPart old text new) → ReportsOf asked v h text result old new
@@ -63,9 +62,9 @@ reports {E} asked v h text due (Err fault) result old new same ends whole part =
 
 -- a refusal
 
-pub ends_refusal : {E : Type 0} (n : ℕ) (c : Cause) (old new : ℕ) (written : Result Unit E) (result : Outcome) → EndsAs (Refused n c) written result → OnOk written (new ≡ old) → OnErr written (Rose old new) → Ends old new result
-ends_refusal {E} n c old new (Ok done) result ends stands cause = record { write_fault = λ e. absurd (cc); no_memory = λ e. cc; stands = λ _. stands }
-ends_refusal {E} n c old new (Err fault) result ends stands cause = record { write_fault = λ _. cause; no_memory = λ e. cc; stands = no_answer result (new ≡ old) ends }
+pub ends_refusal : {E : Type 0} (n : ℕ) (c : Cause) (old new : ℕ) (written : Result Unit E) (result : Outcome) → EndsAs (Refused n c) written result → OnOk written (new ≡ old) → OnErr written (Rose old new) → old ≤ new → Ends old new result
+ends_refusal {E} n c old new (Ok done) result ends stands cause count = record { faults = record { rose = λ e. absurd (cc); stands = λ _. stands; count = count }; no_memory = λ e. cc }
+ends_refusal {E} n c old new (Err fault) result ends stands cause count = record { faults = record { rose = λ _. cause; stands = no_answer result (new ≡ old) ends; count = count }; no_memory = λ e. cc }
 
 pub refuses : {E : Type 0} (n : ℕ) (c : Cause) (due : List ℕ) (written : Result Unit E) (result : Outcome) (old new : Option (List ℕ)) → EndsAs (Refused n c) written result
     → OnOk written (Gets old due new) → OnErr written (GetsPart old due new) → RefusedAs n c due result old new

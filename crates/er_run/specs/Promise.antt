@@ -2,7 +2,7 @@
 use Rattle.std.specs.Prelude.{◌≡◌, ◌≢◌, ◌⊎◌, ℕ, ◌+◌, ◌*◌, ◌≤◌, List, ◌++◌, length, reverse, Option, Some}
 use Rattle.er_outside.specs.Ends.{Gives, Gets, GetsPart, IsSpent, Rose}
 use Rattle.er_run.specs.declared.outcome.Outcome.{Outcome}
-use Rattle.er_run.specs.declared.outcome.Outcome.TheVariants.{Clean, Races, Refused, Usage, ReadFault, NoMemory}
+use Rattle.er_run.specs.declared.outcome.Outcome.TheVariants.{Clean, Races, Refused, Usage, ReadFault, WriteFault, NoMemory}
 use Rattle.er_trace.specs.declared.record.Record.{Record}
 use Rattle.er_trace.specs.declared.version.Version.{Version}
 use Rattle.er_trace.specs.declared.version.Version.TheVariants.{One}
@@ -53,6 +53,12 @@ IsSilent Usage = Unit {0}
 IsSilent ReadFault = Unit {0}
 IsSilent NoMemory = Unit {0}
 IsSilent _ = ⊥
+
+-- How a call with this outcome leaves the count of a sink's faults: it rose where a write failed, stands at an answer, and never falls.
+pub record CountsWrites (outcome : Outcome) (old new : ℕ) : Type 0 where
+  pub rose : outcome ≡ WriteFault → Rose old new
+  pub stands : IsAnswer outcome → new ≡ old
+  pub count : old ≤ new
 
 -- the text that is due for the answer of the bytes came to what was got
 pub record IsGiven (f : Format) (asked : Command) (bytes : List ℕ) (outcome : Outcome)

@@ -1,6 +1,6 @@
 -- What is read of a source, piece by piece. Lists of records stand oldest first, but for those that a session stands for.
-use Rattle.std.specs.Prelude.{◌≡◌, ◌≢◌, ◌⊎◌, ℕ, ◌<◌, ◌≤◌, List, ◌++◌, reverse, length, Option, Some, None}
-use Rattle.er_outside.specs.Ends.{Gives, IsSpent}
+use Rattle.std.specs.Prelude.{◌≡◌, ◌≢◌, ◌⊎◌, ℕ, ◌<◌, ◌≤◌, List, ◌++◌, reverse, length, Option, Some, None, Result, Err, IsErrOf}
+use Rattle.er_outside.specs.Ends.{Gives, IsSpent, Rose, one_more}
 use Rattle.er_text.specs.declared.causes.Cause.{Cause}
 use Rattle.er_text.specs.declared.causes.Cause.TheVariants.{NoEnd}
 use Rattle.er_trace.specs.declared.record.Record.{Record}
@@ -12,6 +12,8 @@ use Rattle.er_lines.specs.Format.{Format}
 use Rattle.er_lines.specs.Lines.{Place, line_number, records_before, IsTrace, IsTraceOf, BeginsWith, Refuses}
 use Rattle.er_lines.specs.Feed.{Stands}
 use Rattle.er_words.specs.declared.commands.Command.{Command}
+use Rattle.er_run.specs.declared.input.InputFault.{InputFault}
+use Rattle.er_run.specs.declared.input.InputFault.TheVariants.{Failed}
 use Rattle.er_run.specs.declared.input.LineRefusal.{LineRefusal}
 use Rattle.er_run.specs.declared.session.Session.{Session}
 use Rattle.er_run.specs.Answer.{FirstIllegal}
@@ -102,6 +104,13 @@ pub record IsUndecided (f : Format) (left_old left_new : Option (List ℕ))
     (bytes : List ℕ) : Type 0 where
   pub gave : Gives left_old bytes left_new
   pub fresh : (asked : Command) → IsFinal f asked bytes → ⊥
+
+-- How a call that may fail leaves the count of a source's faults: one more where it failed, and else as it was.
+pub record CountsReads {X : Type 0} (result : Result X InputFault) (old new : ℕ) : Type 0 where
+  pub rose : IsErrOf result Failed → Rose old new
+  pub once : IsErrOf result Failed → new ≡ one_more old
+  pub stands : result ≢ Err Failed → new ≡ old
+  pub count : old ≤ new
 
 -- A trace was read to its end, or to the piece that decides.
 pub record IsRead (f : Format) (left_old left_new : Option (List ℕ)) (session : Session)

@@ -1,7 +1,6 @@
 //! What an input comes to, at its end: the trace that was read, or a generated one.
 
 ghost use Rattle.std.specs.Prelude.{◌≡◌, ◌≢◌, ℕ, ◌<◌, ◌≤◌, ◌^◌, List, Option, Some, None, Err, reverse, IfOk, IfErr, IsErrOf};
-ghost use Rattle.er_outside.specs.Ends.{Rose, one_more};
 ghost use Rattle.er_text.specs.declared.causes.Cause.{Cause};
 ghost use Rattle.er_trace.specs.declared.record.Record.{Record};
 ghost use Rattle.er_trace.specs.declared.version.Version.TheVariants.{One};
@@ -11,7 +10,7 @@ ghost use Rattle.er_gen.specs.Generated.{generated, most_rounds};
 ghost use Rattle.er_run.specs.Session.{IsSessionOf};
 ghost use Rattle.er_run.specs.Answer.{FirstIllegal};
 ghost use Rattle.er_run.specs.Legal.{end_cause_for};
-ghost use Rattle.er_run.specs.Reading.{IsRead, IsReading, IsAcceptedInput, IsRefusedInput};
+ghost use Rattle.er_run.specs.Reading.{IsRead, IsReading, IsAcceptedInput, IsRefusedInput, CountsReads};
 ghost use Rattle.er_run.specs.Accepted.{IsAskable, IsComparedFor, IsTestedFor, IsJudged, IsJudgement, IsEndFault, IsReportable, IsVerdict};
 
 use crate::end::found_within;
@@ -52,12 +51,7 @@ pub(crate) fn accept_input<L: Lines, R: Threads + Sync, S: Source, G: Gate + Syn
         IsComparedFor asked.command judged.session compares.old compares.new) }
     ensures tested { IfOk result (λ judged.
         IsTestedFor asked.command judged.session tests.old tests.new) }
-    ensures failed { IsErrOf result InputFault.Failed
-        → Rose (S.faults source.old) (S.faults source.new) }
-    ensures once { IsErrOf result InputFault.Failed
-        → S.faults source.new ≡ one_more (S.faults source.old) }
-    ensures stands { result ≢ Err InputFault.Failed → S.faults source.new ≡ S.faults source.old }
-    ensures count { S.faults source.old ≤ S.faults source.new }
+    ensures reads { CountsReads result (S.faults source.old) (S.faults source.new) }
     ensures compares_rise { compares.old ≤ compares.new }
     ensures tests_rise { tests.old ≤ tests.new }
 {
@@ -100,12 +94,7 @@ fn accept_end<L: Lines, R: Threads + Sync, S: Source, G: Gate + Sync>(
         IsComparedFor asked.command judged.session compares.old compares.new) }
     ensures tested { IfOk result (λ judged.
         IsTestedFor asked.command judged.session tests.old tests.new) }
-    ensures failed { IsErrOf result InputFault.Failed
-        → Rose (S.faults source.old) (S.faults source.new) }
-    ensures once { IsErrOf result InputFault.Failed
-        → S.faults source.new ≡ one_more (S.faults source.old) }
-    ensures stands { result ≢ Err InputFault.Failed → S.faults source.new ≡ S.faults source.old }
-    ensures count { S.faults source.old ≤ S.faults source.new }
+    ensures reads { CountsReads result (S.faults source.old) (S.faults source.new) }
     ensures compares_rise { compares.old ≤ compares.new }
     ensures tests_rise { tests.old ≤ tests.new }
 {

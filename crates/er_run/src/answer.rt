@@ -1,8 +1,7 @@
 //! The answer of an input, with the text that is due for it.
 
 ghost use Rattle.std.specs.Prelude.{◌≡◌, ◌≢◌, ◌≤◌, ℕ, List, IfOk};
-ghost use Rattle.er_outside.specs.Ends.{Rose};
-ghost use Rattle.er_run.specs.Promise.{IsAnswer, IsGiven, IsPartGiven, Compares, Tests};
+ghost use Rattle.er_run.specs.Promise.{IsAnswer, IsGiven, IsPartGiven, Compares, CountsWrites, Tests};
 ghost use Rattle.er_run.specs.Accepted.{IsComparedFor, IsTestedFor, IsJudgement, IsVerdict};
 
 use crate::findings::Judged;
@@ -28,16 +27,13 @@ pub(crate) fn answer<L: Lines, K: Sink>(
     ensures tested { (bytes : List ℕ) (old new : ℕ) → IsVerdict L.format asked bytes verdict
         → IfOk verdict (λ judged. IsTestedFor asked judged.session old new)
         → Tests L.format asked bytes result old new }
-    ensures write_fault { result ≡ Outcome.WriteFault
-        → Rose (K.faults sink.old) (K.faults sink.new) }
     ensures cut_short { (bytes : List ℕ) → IsVerdict L.format asked bytes verdict
         → result ≡ Outcome.WriteFault
         → IsPartGiven L.format asked bytes (K.got sink.old) (K.got sink.new) }
     ensures kept { result ≡ Outcome.NoMemory → sink.new ≡ sink.old }
-    ensures stands { IsAnswer result → K.faults sink.new ≡ K.faults sink.old }
     ensures no_usage { result ≢ Outcome.Usage }
     ensures no_read_fault { result ≢ Outcome.ReadFault }
-    ensures writes { K.faults sink.old ≤ K.faults sink.new }
+    ensures faults { CountsWrites result (K.faults sink.old) (K.faults sink.new) }
 {
     match verdict {
         Ok(judged) => tell(&judged, sink),

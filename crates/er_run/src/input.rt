@@ -2,14 +2,13 @@
 
 ghost use Rattle.std.specs.Prelude.{◌≡◌, ◌≢◌, true, ℕ, ◌+◌, ◌<◌, ◌≤◌, List, [], ◌++◌, length, reverse, Option, Ok, Err, Some, None, IfOk, OnOk, IfErr, IsErrOf};
 ghost use Rattle.std.specs.List.{list_all};
-ghost use Rattle.er_outside.specs.Ends.{Rose, one_more};
 ghost use Rattle.er_trace.specs.Trace.{most_lines};
 ghost use Rattle.er_trace.specs.Versions.{has_record};
 ghost use Rattle.er_lines.specs.Lines.{IsTraceOf};
 ghost use Rattle.er_lines.specs.Feed.{Stands};
 ghost use Rattle.er_trace.specs.declared.version.Version.{Version};
 ghost use Rattle.er_run.specs.Session.{IsSessionOf, IsReady, IsFaultOf, IsBegun, begun};
-ghost use Rattle.er_run.specs.Reading.{IsAt, IsBy, IsSomewhere, IsOpen, IsRead, IsReadTo, IsReading, GoesOn, Advances, Ends, IsRefusedBehind, IsFinalFault, fault_of};
+ghost use Rattle.er_run.specs.Reading.{IsAt, IsBy, IsSomewhere, IsOpen, IsRead, IsReadTo, IsReading, GoesOn, Advances, Ends, IsRefusedBehind, IsFinalFault, CountsReads, fault_of};
 
 use crate::session::Session;
 use er_lines::feed::LineFeed;
@@ -59,12 +58,7 @@ pub(crate) fn read<L: Lines, S: Source>(
         IsRead L.format (S.left source.old) (S.left source.new) read.0 read.1) }
     ensures refused { (n : ℕ) (c : Cause) → result ≡ Err (InputFault.Refused n c)
         → IsReadTo L.format (S.left source.old) (S.left source.new) n c }
-    ensures failed { IsErrOf result InputFault.Failed
-        → Rose (S.faults source.old) (S.faults source.new) }
-    ensures once { IsErrOf result InputFault.Failed
-        → S.faults source.new ≡ one_more (S.faults source.old) }
-    ensures stands { result ≢ Err InputFault.Failed → S.faults source.new ≡ S.faults source.old }
-    ensures count { S.faults source.old ≤ S.faults source.new }
+    ensures reads { CountsReads result (S.faults source.old) (S.faults source.new) }
 {
     let Ok(mut session) = Session::new(alloc, Version::One) else {
         return Err(InputFault::NoMemory);
@@ -109,12 +103,7 @@ fn read_piece<L: Lines, S: Source>(
         → (bytes : List ℕ) (records : List Record)
         → IsAt L.format feed.old.mark feed.old.line.items feed.old.fault session.old bytes records
         → IsRefusedBehind L.format (S.left source.old) (S.left source.new) n c bytes }
-    ensures failed { IsErrOf result InputFault.Failed
-        → Rose (S.faults source.old) (S.faults source.new) }
-    ensures once { IsErrOf result InputFault.Failed
-        → S.faults source.new ≡ one_more (S.faults source.old) }
-    ensures stands { result ≢ Err InputFault.Failed → S.faults source.new ≡ S.faults source.old }
-    ensures count { S.faults source.old ≤ S.faults source.new }
+    ensures reads { CountsReads result (S.faults source.old) (S.faults source.new) }
 {
     let mut buffer = [0u8; PIECE];
     let Ok(n) = source.read(&mut buffer) else {

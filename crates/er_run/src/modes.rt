@@ -8,7 +8,7 @@ ghost use Rattle.er_gen.specs.Generated.{generated, most_rounds};
 ghost use Rattle.er_words.specs.Words.{most_shards};
 ghost use Rattle.er_lines.specs.Text.{text as text_lines};
 ghost use Rattle.er_run.specs.Answer.{Answers, format_of, lines_asked};
-ghost use Rattle.er_run.specs.Promise.{IsAnswer, IsAnswered, IsCutShort, IsGiven, IsPartGiven, IsSilent, Compares, Tests, seen};
+ghost use Rattle.er_run.specs.Promise.{IsAnswer, IsAnswered, IsCutShort, IsGiven, IsPartGiven, IsSilent, Compares, CountsWrites, Tests, seen};
 ghost use Rattle.er_run.specs.Accepted.{IsAskable};
 
 use crate::accept::{accept_generated, accept_input};
@@ -50,14 +50,11 @@ pub(crate) fn judge_input<R: Threads + Sync, S: Source, K: Sink, G: Gate + Sync>
         → Rose (S.faults source.old) (S.faults source.new) }
     ensures once { result ≡ Outcome.ReadFault
         → S.faults source.new ≡ one_more (S.faults source.old) }
-    ensures write_fault { result ≡ Outcome.WriteFault
-        → Rose (K.faults sink.old) (K.faults sink.new) }
     ensures cut_short { result ≡ Outcome.WriteFault
         → IsCutShort (format_of asked.command) asked.command
         (seen (S.left source.old) (K.got sink.old) compares.old tests.old)
         (seen (S.left source.new) (K.got sink.new) compares.new tests.new) }
-    ensures no_fault { IsAnswer result
-        → (S.faults source.new ≡ S.faults source.old) × (K.faults sink.new ≡ K.faults sink.old) }
+    ensures no_read { IsAnswer result → S.faults source.new ≡ S.faults source.old }
     ensures unwritten { IsSilent result → sink.new ≡ sink.old }
     ensures complete { ¬ Rose (S.faults source.old) (S.faults source.new)
         → ¬ Rose (K.faults sink.old) (K.faults sink.new)
@@ -65,7 +62,7 @@ pub(crate) fn judge_input<R: Threads + Sync, S: Source, K: Sink, G: Gate + Sync>
         → (result ≡ Outcome.NoMemory)
         ⊎ ((due : List ℕ) × Answers (format_of asked.command) asked.command bytes result due) }
     ensures reads { S.faults source.old ≤ S.faults source.new }
-    ensures writes { K.faults sink.old ≤ K.faults sink.new }
+    ensures faults { CountsWrites result (K.faults sink.old) (K.faults sink.new) }
     ensures compares_rise { compares.old ≤ compares.new }
     ensures tests_rise { tests.old ≤ tests.new }
 {
@@ -113,14 +110,11 @@ fn judge_lines<L: Lines, R: Threads + Sync, S: Source, K: Sink, G: Gate + Sync>(
         → Rose (S.faults source.old) (S.faults source.new) }
     ensures once { result ≡ Outcome.ReadFault
         → S.faults source.new ≡ one_more (S.faults source.old) }
-    ensures write_fault { result ≡ Outcome.WriteFault
-        → Rose (K.faults sink.old) (K.faults sink.new) }
     ensures cut_short { result ≡ Outcome.WriteFault
         → IsCutShort L.format asked.command
         (seen (S.left source.old) (K.got sink.old) compares.old tests.old)
         (seen (S.left source.new) (K.got sink.new) compares.new tests.new) }
-    ensures no_fault { IsAnswer result
-        → (S.faults source.new ≡ S.faults source.old) × (K.faults sink.new ≡ K.faults sink.old) }
+    ensures no_read { IsAnswer result → S.faults source.new ≡ S.faults source.old }
     ensures unwritten { IsSilent result → sink.new ≡ sink.old }
     ensures complete { ¬ Rose (S.faults source.old) (S.faults source.new)
         → ¬ Rose (K.faults sink.old) (K.faults sink.new)
@@ -128,7 +122,7 @@ fn judge_lines<L: Lines, R: Threads + Sync, S: Source, K: Sink, G: Gate + Sync>(
         → (result ≡ Outcome.NoMemory)
         ⊎ ((due : List ℕ) × Answers L.format asked.command bytes result due) }
     ensures reads { S.faults source.old ≤ S.faults source.new }
-    ensures writes { K.faults sink.old ≤ K.faults sink.new }
+    ensures faults { CountsWrites result (K.faults sink.old) (K.faults sink.new) }
     ensures compares_rise { compares.old ≤ compares.new }
     ensures tests_rise { tests.old ≤ tests.new }
 {
@@ -168,14 +162,11 @@ pub(crate) fn judge_generated<R: Threads + Sync, K: Sink, G: Gate + Sync>(
         tests.old tests.new }
     ensures no_usage { result ≢ Outcome.Usage }
     ensures no_read_fault { result ≢ Outcome.ReadFault }
-    ensures write_fault { result ≡ Outcome.WriteFault
-        → Rose (K.faults sink.old) (K.faults sink.new) }
     ensures cut_short { result ≡ Outcome.WriteFault
         → IsPartGiven text_lines (Command.Gen number) (text One (generated number))
         (K.got sink.old) (K.got sink.new) }
-    ensures stands { IsAnswer result → K.faults sink.new ≡ K.faults sink.old }
     ensures kept { result ≡ Outcome.NoMemory → sink.new ≡ sink.old }
-    ensures writes { K.faults sink.old ≤ K.faults sink.new }
+    ensures faults { CountsWrites result (K.faults sink.old) (K.faults sink.new) }
     ensures compares_rise { compares.old ≤ compares.new }
     ensures tests_rise { tests.old ≤ tests.new }
 {

@@ -1,11 +1,11 @@
 //! The text that is due: that of what was found of a legal trace, or a refusal, as the command asks for it.
 
 ghost use Rattle.std.specs.Prelude.{◌≡◌, ◌≢◌, ◌≤◌, List};
-ghost use Rattle.er_outside.specs.Ends.{Puts, Rose};
+ghost use Rattle.er_outside.specs.Ends.{Puts};
 ghost use Rattle.er_trace.specs.declared.record.Record.{Record};
 ghost use Rattle.er_trace.specs.declared.version.Version.{Version};
 ghost use Rattle.er_run.specs.Answer.{outcome_of, outcome_for};
-ghost use Rattle.er_run.specs.Promise.{IsAnswer};
+ghost use Rattle.er_run.specs.Promise.{CountsWrites};
 ghost use Rattle.er_run.specs.Report.{report, json_report, summary, schedule, is_json, text_for, refusal_for};
 ghost use Rattle.er_run.specs.Session.{IsSessionOf};
 ghost use Rattle.er_run.specs.Accepted.{EndsAs, IsFound, IsJudged, IsJudgement, IsListed, IsOrdered, AreOrdersOf};
@@ -32,11 +32,8 @@ pub(crate) fn tell<K: Sink>(judged: &Judged, sink: &mut K) -> Outcome
         → ReportsOf asked judged.now.session.graph.version h
         (text_for judged.now.session.graph.version asked h) result
         (K.got sink.old) (K.got sink.new) }
-    ensures write_fault { result ≡ Outcome.WriteFault
-        → Rose (K.faults sink.old) (K.faults sink.new) }
     ensures no_memory { result ≢ Outcome.NoMemory }
-    ensures stands { IsAnswer result → K.faults sink.new ≡ K.faults sink.old }
-    ensures writes { K.faults sink.old ≤ K.faults sink.new }
+    ensures faults { CountsWrites result (K.faults sink.old) (K.faults sink.new) }
 {
     let written = put_found(judged, sink);
     ends_as(outcome_found(&judged.found), written)
@@ -169,11 +166,8 @@ fn put_orders<K: Sink>(
 /// Writes the refusal where the fault is one.
 pub(crate) fn tell_fault<K: Sink>(asked: Command, fault: FeedFault, sink: &mut K) -> Outcome
     ensures failed { FailedAs asked fault result (K.got sink.old) (K.got sink.new) }
-    ensures write_fault { result ≡ Outcome.WriteFault
-        → Rose (K.faults sink.old) (K.faults sink.new) }
     ensures kept { result ≡ Outcome.NoMemory → sink.new ≡ sink.old }
-    ensures stands { IsAnswer result → K.faults sink.new ≡ K.faults sink.old }
-    ensures writes { K.faults sink.old ≤ K.faults sink.new }
+    ensures faults { CountsWrites result (K.faults sink.old) (K.faults sink.new) }
 {
     match fault {
         FeedFault::Refused { line, cause } => refuse(asked, line, cause, sink),
@@ -185,11 +179,8 @@ pub(crate) fn tell_fault<K: Sink>(asked: Command, fault: FeedFault, sink: &mut K
 fn refuse<K: Sink>(asked: Command, line: u32, cause: Cause, sink: &mut K) -> Outcome
     ensures refused { RefusedAs line cause (refusal_for asked line cause) result
         (K.got sink.old) (K.got sink.new) }
-    ensures write_fault { result ≡ Outcome.WriteFault
-        → Rose (K.faults sink.old) (K.faults sink.new) }
     ensures no_memory { result ≢ Outcome.NoMemory }
-    ensures stands { IsAnswer result → K.faults sink.new ≡ K.faults sink.old }
-    ensures writes { K.faults sink.old ≤ K.faults sink.new }
+    ensures faults { CountsWrites result (K.faults sink.old) (K.faults sink.new) }
 {
     let written = put_refusal(asked, line, cause, sink);
     ends_as(Outcome::Refused { line, cause }, written)

@@ -73,7 +73,7 @@ pub returns-in-Gen-clause-complete : goal.returns-in-Gen-clause-complete
 returns-in-Gen-clause-complete g c = λ asked asks no_read no_write bytes held.
     let same : asked.command ≡ Gen c.in-Gen.number = same_command _ c.in-Ok.asked (Gen c.in-Gen.number) asked c.in-Ok.is c.in-Gen.is (c.read_words.ensures.exact asked asks) in
     let all : bytes ≡ text One (generated c.in-Gen.number) = rw same at held in
-    rw (same, all) (answered_or_none _ _ _ _ _ c.judge_generated.result c.judge_generated.ensures.answered (λ w. no_write (c.judge_generated.ensures.write_fault w)) c.judge_generated.ensures.no_usage c.judge_generated.ensures.no_read_fault)
+    rw (same, all) (answered_or_none _ _ _ _ _ c.judge_generated.result c.judge_generated.ensures.answered (λ w. no_write (c.judge_generated.ensures.faults.rose w)) c.judge_generated.ensures.no_usage c.judge_generated.ensures.no_read_fault)
 
 -- words that ask for no command, and want of memory
 

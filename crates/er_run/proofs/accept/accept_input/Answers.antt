@@ -1,4 +1,4 @@
-use Rattle.std.proofs.Common.{◌≡◌, ◌++◌, ◌∙◌}
+use Rattle.std.proofs.Common.{◌≡◌, ◌++◌, ◌∙◌, arith}
 use Rattle.std.proofs.lemmas.Result.{IfOk-weaker}
 use Rattle.er_run.specs.declared.input.InputFault.TheVariants.{Refused}
 use Rattle.er_run.proofs.ReadingLemmas.{refused_input, refused_record}
@@ -14,11 +14,16 @@ returns-in-None-clause-refused g c = λ n cause is.
     let r = rw c.in-None.is at c.in-Ok.ensures.read in
     c.accept_end.ensures.refused n cause is (g.S.Source.left c.args.source.now) r
 
-pub returns-in-None-clause-stands : goal.returns-in-None-clause-stands
-returns-in-None-clause-stands g c = λ other. c.accept_end.ensures.stands other ∙ c.in-Ok.ensures.stands (λ e. cc)
-
-pub returns-in-None-clause-once : goal.returns-in-None-clause-once
-returns-in-None-clause-once g c = λ is. rw (c.in-Ok.ensures.stands (λ e. cc)) at (c.accept_end.ensures.once is)
+pub returns-in-None-clause-reads : goal.returns-in-None-clause-reads
+returns-in-None-clause-reads g c =
+    let before = c.in-Ok.ensures.reads.stands (λ e. cc) in
+    let reads = c.accept_end.ensures.reads in
+    record {
+      rose = λ is. rw before at (reads.rose is);
+      once = λ is. rw before at (reads.once is);
+      stands = λ other. reads.stands other ∙ before;
+      count = omega (arith, reads.count, before);
+    }
 
 pub returns-in-Some-clause-refused : goal.returns-in-Some-clause-refused
 returns-in-Some-clause-refused g c = λ n cause is.

@@ -1,6 +1,6 @@
 use Rattle.std.proofs.Common.{[], ◌++◌, refl, sym, ◌∙◌, arith, length-append}
 use Rattle.er_outside.proofs.Puts.{gives_again, gives_nothing}
-use Rattle.er_run.proofs.ReadingLemmas.{none_begins, none_open, going_short, undecided}
+use Rattle.er_run.proofs.ReadingLemmas.{none_begins, none_open, going_short, reads_stand, undecided}
 use Rattle.er_run.proofs.input.read.Goals as goal
 
 pub loop-turn-init : goal.loop-turn-init
@@ -24,7 +24,7 @@ loop-turn-preserved g c =
       gave = gives_again _ _ _ h.bytes a.piece c.loop-turn.invariant.gave a.gave;
       going = c.in-Ok-GoesOn.ensures.going (cc);
       long = omega (arith, before, a.some, length-append h.bytes a.piece);
-      stands = c.in-Ok-GoesOn.ensures.stands (λ e. cc) ∙ c.loop-turn.invariant.stands;
+      stands = c.in-Ok-GoesOn.ensures.reads.stands (λ e. cc) ∙ c.loop-turn.invariant.stands;
     }
 
 pub returns-in-Ok-Ended-clause-read : goal.returns-in-Ok-Ended-clause-read
@@ -47,14 +47,19 @@ returns-in-Err-clause-refused g c = λ n cause is.
       refused = c.in-Err.ensures.refused n cause (cc) i.here.bytes i.here.records i.here.at;
     }
 
-pub returns-in-Err-clause-failed : goal.returns-in-Err-clause-failed
-returns-in-Err-clause-failed g c = λ is. rw c.loop-turn.invariant.stands at (c.in-Err.ensures.failed (cc))
+pub returns-in-Ok-Ended-clause-reads : goal.returns-in-Ok-Ended-clause-reads
+returns-in-Ok-Ended-clause-reads g c = reads_stand _ _ _ (λ e. cc) (c.in-Ok-Ended.ensures.reads.stands (λ e. cc) ∙ c.loop-turn.invariant.stands)
 
-pub returns-in-Err-clause-once : goal.returns-in-Err-clause-once
-returns-in-Err-clause-once g c = λ is. rw c.loop-turn.invariant.stands at (c.in-Err.ensures.once (cc))
-
-pub returns-in-Err-clause-stands : goal.returns-in-Err-clause-stands
-returns-in-Err-clause-stands g c = λ other. c.in-Err.ensures.stands (λ e. other (cc)) ∙ c.loop-turn.invariant.stands
+pub returns-in-Err-clause-reads : goal.returns-in-Err-clause-reads
+returns-in-Err-clause-reads g c =
+    let before = c.loop-turn.invariant.stands in
+    let reads = c.in-Err.ensures.reads in
+    record {
+      rose = λ is. rw before at (reads.rose (cc));
+      once = λ is. rw before at (reads.once (cc));
+      stands = λ other. reads.stands (λ e. other (cc)) ∙ before;
+      count = omega (arith, reads.count, before);
+    }
 
 pub unreachable-requires : goal.unreachable-requires
 unreachable-requires g c =

@@ -23,10 +23,10 @@ returns-in-Ok-clause-cut_short g c = λ is.
 pub returns-in-Ok-clause-complete : goal.returns-in-Ok-clause-complete
 returns-in-Ok-clause-complete g c = λ no_read no_write bytes held.
     let a = c.in-Ok.ensures.accepted in
-    complete g.L.Lines.format _ bytes a.taken _ _ _ c.answer.result (sym held ∙ a.gave) (λ due is. spent_decided g.L.Lines.format c.args.asked.command a.taken _ c.answer.result a.spent) (c.answer.ensures.answered a.taken a.accepted) (λ w. no_write (c.answer.ensures.write_fault w)) c.answer.ensures.no_usage c.answer.ensures.no_read_fault
+    complete g.L.Lines.format _ bytes a.taken _ _ _ c.answer.result (sym held ∙ a.gave) (λ due is. spent_decided g.L.Lines.format c.args.asked.command a.taken _ c.answer.result a.spent) (c.answer.ensures.answered a.taken a.accepted) (λ w. no_write (c.answer.ensures.faults.rose w)) c.answer.ensures.no_usage c.answer.ensures.no_read_fault
 
-pub returns-in-Ok-clause-no_fault : goal.returns-in-Ok-clause-no_fault
-returns-in-Ok-clause-no_fault g c = λ answer. (c.in-Ok.ensures.stands (λ e. cc), c.answer.ensures.stands answer)
+pub returns-in-Ok-clause-no_read : goal.returns-in-Ok-clause-no_read
+returns-in-Ok-clause-no_read g c = λ answer. c.in-Ok.ensures.reads.stands (λ e. cc)
 
 pub returns-in-Ok-clause-unwritten : goal.returns-in-Ok-clause-unwritten
 returns-in-Ok-clause-unwritten g c = λ silent. c.answer.ensures.kept (only_memory c.answer.result silent c.answer.ensures.no_usage c.answer.ensures.no_read_fault)
@@ -55,4 +55,4 @@ pub returns-in-Err-Refused-clause-complete : goal.returns-in-Err-Refused-clause-
 returns-in-Err-Refused-clause-complete g c = λ no_read no_write bytes held.
     let r = c.in-Err-Refused.ensures.refused c.in-Err-Refused.line c.in-Err-Refused.cause (cc) in
     complete g.L.Lines.format _ bytes r.taken _ _ _ c.answer-in-Err-Refused.result (sym held ∙ r.gave)
-    (λ due is. refused_decided g.L.Lines.format g.met.L.Lines.is_format c.args.asked.command r.taken _ _ _ c.answer-in-Err-Refused.result due r.decided r.refused is) (c.answer-in-Err-Refused.ensures.answered r.taken r.refused) (λ w. no_write (c.answer-in-Err-Refused.ensures.write_fault w)) c.answer-in-Err-Refused.ensures.no_usage c.answer-in-Err-Refused.ensures.no_read_fault
+    (λ due is. refused_decided g.L.Lines.format g.met.L.Lines.is_format c.args.asked.command r.taken _ _ _ c.answer-in-Err-Refused.result due r.decided r.refused is) (c.answer-in-Err-Refused.ensures.answered r.taken r.refused) (λ w. no_write (c.answer-in-Err-Refused.ensures.faults.rose w)) c.answer-in-Err-Refused.ensures.no_usage c.answer-in-Err-Refused.ensures.no_read_fault

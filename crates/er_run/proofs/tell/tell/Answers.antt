@@ -9,25 +9,14 @@ returns-clause-reported g c = λ asked h j.
 
 -- whatever was asked for
 
-pub returns-clause-write_fault : goal.returns-clause-write_fault
-returns-clause-write_fault g c =
+pub returns-clause-faults : goal.returns-clause-faults
+returns-clause-faults g c =
     let r = c.requires in
     let put = c.put_found-written.ensures r.asked r.list r.is_judged in
-    (ends_report r.asked _ r.list _ _ _ _ _ (c.outcome_found.ensures r.asked _ r.list r.is_judged.is_found) c.ends_as.ensures put.stands put.cause).write_fault
+    (ends_report r.asked _ r.list _ _ _ _ _ (c.outcome_found.ensures r.asked _ r.list r.is_judged.is_found) c.ends_as.ensures put.stands put.cause put.count).faults
 
 pub returns-clause-no_memory : goal.returns-clause-no_memory
 returns-clause-no_memory g c =
     let r = c.requires in
     let put = c.put_found-written.ensures r.asked r.list r.is_judged in
-    (ends_report r.asked _ r.list _ _ _ _ _ (c.outcome_found.ensures r.asked _ r.list r.is_judged.is_found) c.ends_as.ensures put.stands put.cause).no_memory
-
-pub returns-clause-stands : goal.returns-clause-stands
-returns-clause-stands g c =
-    let r = c.requires in
-    let put = c.put_found-written.ensures r.asked r.list r.is_judged in
-    (ends_report r.asked _ r.list _ _ _ _ _ (c.outcome_found.ensures r.asked _ r.list r.is_judged.is_found) c.ends_as.ensures put.stands put.cause).stands
-
-pub returns-clause-writes : goal.returns-clause-writes
-returns-clause-writes g c =
-    let r = c.requires in
-    (c.put_found-written.ensures r.asked r.list r.is_judged).count
+    (ends_report r.asked _ r.list _ _ _ _ _ (c.outcome_found.ensures r.asked _ r.list r.is_judged.is_found) c.ends_as.ensures put.stands put.cause put.count).no_memory
