@@ -346,7 +346,7 @@ few_pairs [] most few = omega arith
 few_pairs (a ∷ rest) most few = omega (arith, few_pairs rest most (omega arith), length-append (map (λ b. (a, b)) rest) (pairs_of rest), length-map {B = Access × Access} rest (λ b. (a, b)))
 
 pub few_candidates : (places : List Seen) (accesses : List Access) (pairs : ℕ) → IsHeld places accesses pairs → pairs < 2 ^ 50
-few_candidates places accesses pairs held = omega (arith, held.counted, held.few, few_pairs accesses 1048576 held.few, filter_short (λ p. is_candidate_by_number p.0 p.1) (pairs_of accesses))
+few_candidates places accesses pairs held = omega (arith, held.counted, held.few, few_pairs accesses most_accesses held.few, filter_short (λ p. is_candidate_by_number p.0 p.1) (pairs_of accesses))
 
 others_small : (t : Tally) (a : ℕ) → others t a ≤ t.count
 others_small t a = by (is_last t a)

@@ -55,7 +55,8 @@ IsFull x accesses = (repeats_any x accesses ≡ false) × (length accesses ≡ m
 
 -- one location, different actions, at least one write
 abbrev pub is_candidate : Kept → Kept → Bool
-is_candidate a b = same_loc a.loc b.loc && (not (a.action == b.action) && (is_write a.mode || is_write b.mode))
+is_candidate a b =
+    same_loc a.loc b.loc && (not (a.action == b.action) && (is_write a.mode || is_write b.mode))
 
 -- the pairs of an earlier and a later member, in order
 abbrev pub pairs_of : {A : Type 0} → List A → List (A × A)

@@ -1,4 +1,5 @@
 pub mod ByNumber
+pub mod InPlace
 pub mod Kept
 pub mod Numbers
 pub mod Place

@@ -9,7 +9,8 @@ use Rattle.er_access.specs.Kept.{Kept, access_of, same_loc}
 
 -- a location that is not there yet goes last
 abbrev pub with_location : Loc → List Loc → List Loc
-with_location loc locations = if list_any (same_loc loc) locations then locations else locations ++ loc ∷ []
+with_location loc locations =
+    if list_any (same_loc loc) locations then locations else locations ++ loc ∷ []
 
 abbrev pub locations_from : List Loc → List Kept → List Loc
 locations_from locations [] = locations
@@ -24,7 +25,12 @@ number_of loc locations = position_or_len (same_loc loc) locations
 
 -- the access with the number of its location
 abbrev pub by_number : List Loc → Kept → Access
-by_number locations x = record { line = x.line; action = x.action; mode = x.mode; location = number_of x.loc locations }
+by_number locations x = record {
+  line = x.line;
+  action = x.action;
+  mode = x.mode;
+  location = number_of x.loc locations;
+}
 
 abbrev pub accesses_of : List Kept → List Access
 accesses_of kept = map (by_number (locations_of kept)) kept
@@ -47,4 +53,6 @@ access_at accesses n = get_or accesses n (record { line = 0; action = 0; mode = 
 
 -- number n is the access, at the location of its number
 abbrev pub IsKeptAt : List Kept → ℕ → Access → Type 0
-IsKeptAt kept n x = (loc : Loc) → slice_get (locations_of kept) x.location ≡ Some loc → slice_get kept n ≡ Some (access_of x.line x.action x.mode loc)
+IsKeptAt kept n x =
+    (loc : Loc) → slice_get (locations_of kept) x.location ≡ Some loc
+    → slice_get kept n ≡ Some (access_of x.line x.action x.mode loc)

@@ -14,7 +14,11 @@ pub record Seen : Type 0 where
   pub writes : Tally
 
 abbrev pub nothing : Seen
-nothing = record { rows = []; reads = record { count = 0; last = None }; writes = record { count = 0; last = None } }
+nothing = record {
+  rows = [];
+  reads = record { count = 0; last = None };
+  writes = record { count = 0; last = None };
+}
 
 abbrev pub tally_of : Seen → Mode → Tally
 tally_of seen mode = cond (is_write mode) seen.writes seen.reads
@@ -33,7 +37,8 @@ abbrev pub counted : Tally → ℕ → Tally
 counted tally action = record { count = tally.count + 1; last = Some action }
 
 abbrev pub partners : Seen → ℕ → Mode → ℕ
-partners seen action mode = others seen.writes action + cond (is_write mode) (others seen.reads action) 0
+partners seen action mode =
+    others seen.writes action + cond (is_write mode) (others seen.reads action) 0
 
 abbrev pub noted : Seen → ℕ → ℕ → Mode → Seen
 noted seen n action mode = record {
@@ -44,11 +49,17 @@ noted seen n action mode = record {
 
 -- the actions of the accesses of one location and mode
 abbrev pub actions_at : List Access → ℕ → Mode → List ℕ
-actions_at accesses k m = map (λ (x : Access). x.action) (filter (λ (x : Access). (x.location == k) && same_mode m x.mode) accesses)
+actions_at accesses k m =
+    map (λ (x : Access). x.action)
+    (filter (λ (x : Access). (x.location == k) && same_mode m x.mode) accesses)
 
 abbrev pub tally : List ℕ → Tally
 tally actions = record { count = length actions; last = last_or None actions }
 
 -- what these accesses come to at location k
 abbrev pub seen_at : List Access → ℕ → Seen
-seen_at accesses k = record { rows = rows_of accesses k; reads = tally (actions_at accesses k R); writes = tally (actions_at accesses k W) }
+seen_at accesses k = record {
+  rows = rows_of accesses k;
+  reads = tally (actions_at accesses k R);
+  writes = tally (actions_at accesses k W);
+}

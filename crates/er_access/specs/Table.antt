@@ -16,7 +16,12 @@ location_at locations k = get_or locations k (Var 0 [])
 
 -- the access with its location in place of the number
 abbrev pub with_loc : List Loc → Access → Kept
-with_loc locations x = record { line = x.line; action = x.action; mode = x.mode; loc = location_at locations x.location }
+with_loc locations x = record {
+  line = x.line;
+  action = x.action;
+  mode = x.mode;
+  loc = location_at locations x.location;
+}
 
 abbrev pub kept_by : List Loc → List Access → List Kept
 kept_by locations accesses = map (with_loc locations) accesses
@@ -34,7 +39,9 @@ AreDistinct (l ∷ ls) = (list_any (same_loc l) ls ≡ false) × AreDistinct ls
 -- no later access is of a lesser action, and none repeats an earlier one
 abbrev pub AreInOrder : List Access → Type 0
 AreInOrder [] = Unit {0}
-AreInOrder (x ∷ later) = AllByRecursion (λ (y : Access). (x.action ≤ y.action) × (repeats_by_number y x ≡ false)) later × AreInOrder later
+AreInOrder (x ∷ later) =
+    AllByRecursion (λ (y : Access). (x.action ≤ y.action) × (repeats_by_number y x ≡ false)) later
+    × AreInOrder later
 
 -- the places are those of the accesses, which are of no others, and repeat nothing
 pub record IsHeld (places : List Seen) (accesses : List Access) (pairs : ℕ) : Type 0 where
@@ -45,7 +52,8 @@ pub record IsHeld (places : List Seen) (accesses : List Access) (pairs : ℕ) : 
   pub ordered : AreInOrder accesses
   pub counted : pairs ≡ length (candidates_by_number accesses)
 
-pub record IsTable (locations : List Loc) (places : List Seen) (accesses : List Access) (pairs : ℕ) : Type 0 where
+pub record IsTable (locations : List Loc) (places : List Seen) (accesses : List Access)
+    (pairs : ℕ) : Type 0 where
   pub used : length locations ≤ length accesses
   pub as_many : length places ≡ length locations
   pub distinct : AreDistinct locations

@@ -12,5 +12,6 @@ pub fn locations_are_told_apart()
 
 #[tactic(auto, using(crate::proofs::LocatedLemmas::repeats_decides))]
 pub fn repeats_are_told()
-    ensures { (x y : spec.Kept) → Decides (spec.repeats x y) (((x.loc ≡ y.loc) × (x.mode ≡ y.mode)) × (y.action ≡ x.action)) }
+    ensures { (x y : spec.Kept) → Decides (spec.repeats x y)
+        (((x.loc ≡ y.loc) × (x.mode ≡ y.mode)) × (y.action ≡ x.action)) }
 {}

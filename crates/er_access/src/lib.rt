@@ -6,6 +6,7 @@ mod add;
 mod fault;
 pub mod laws;
 mod place;
+mod row_list;
 pub mod sharing;
 mod table;
 

@@ -4,6 +4,7 @@ ghost use Rattle.std.specs.Prelude.{◌≡◌, ◌+◌, ◌<◌, ◌≤◌, ◌^
 ghost use Rattle.er_access.specs.Place as spec;
 
 use crate::access::is_write;
+use crate::row_list::RowList;
 use er_outside::NoMemory;
 use er_trace::record::Mode;
 use std::alloc::Global;
@@ -48,7 +49,7 @@ impl Tally {
 /// The numbers of the accesses of a location, and how many read and write.
 #[derive(Drop)]
 pub(crate) struct Place {
-    rows: Vec<u32>,
+    rows: RowList,
     reads: Tally,
     writes: Tally,
 }
@@ -58,7 +59,7 @@ impl Model for Place {
 
     ghost Value = { Seen };
 
-    ghost view = { λ p. record { rows = p.rows.items; reads = p.reads; writes = p.writes } };
+    ghost view = { λ p. record { rows = p.rows; reads = p.reads; writes = p.writes } };
 }
 
 impl Place {
@@ -71,7 +72,7 @@ impl Place {
             last: None,
         };
         let mut place = Place {
-            rows: Vec::new(alloc),
+            rows: RowList::new(alloc),
             reads: none,
             writes: none,
         };
@@ -116,9 +117,7 @@ impl Place {
         ensures noted { OnOk result (self.new ≡ spec.noted self.old n action mode) }
         ensures unchanged { OnErr result (self.new ≡ self.old) }
     {
-        let Ok(()) = self.rows.push(n) else {
-            return Err(NoMemory);
-        };
+        self.rows.push(n)?;
         if is_write(mode) {
             self.writes.note(action);
         } else {

@@ -85,11 +85,15 @@ impl Table {
     pub fn add(&mut self, line: u32, action: u32, mode: Mode, loc: &Loc) -> Result<bool, AddFault>
         requires line { All (λ x. x.line < line) self.old }
         requires action { All (λ x. x.action ≤ action) self.old }
-        ensures kept { IfOk result (λ kept. kept ≡ is_new (access_of line action mode loc.now) self.old) }
-        ensures accesses { OnOk result (self.new ≡ with_access (access_of line action mode loc.now) self.old) }
+        ensures kept { IfOk result (λ kept. kept
+            ≡ is_new (access_of line action mode loc.now) self.old) }
+        ensures accesses { OnOk result (self.new
+            ≡ with_access (access_of line action mode loc.now) self.old) }
         ensures unchanged { OnErr result (self.new ≡ self.old) }
-        ensures full { result ≡ Err AddFault.Full → IsFull (access_of line action mode loc.now) self.old }
-        ensures exact { IsFull (access_of line action mode loc.now) self.old → result ≡ Err AddFault.Full }
+        ensures full { result ≡ Err AddFault.Full
+            → IsFull (access_of line action mode loc.now) self.old }
+        ensures exact { IsFull (access_of line action mode loc.now) self.old
+            → result ≡ Err AddFault.Full }
     {
         let Some(k) = find(&self.keys, self.last, loc) else {
             let next = self.places.len();

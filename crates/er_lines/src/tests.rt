@@ -223,6 +223,22 @@ fn names_of_any_length(rt: HostRuntime) {
     }
 }
 
+/// Whether an access whose name has so many letters is read, wherever the text is cut.
+fn is_long_name_read(alloc: Global, letters: usize) -> Result<bool, AllocError> {
+    let mut line = joined(alloc, &[b"r var 0 "])?;
+    line.resize(line.len().saturating_add(letters), b'a')?;
+    line.extend_from_slice(b"\n")?;
+    is_read(alloc, line.as_slice())
+}
+
+#[test]
+fn longest_name(rt: HostRuntime) {
+    for (letters, wanted) in [(255, true), (256, false)] {
+        let read = is_long_name_read(rt.alloc(), letters);
+        assert!(rt; read == Ok(wanted), "{letters}");
+    }
+}
+
 /// What one call answers, and how many records it hands on.
 fn fed(alloc: Global, feed: &mut TextFeed, piece: &str) -> (Result<(), FeedFault>, usize) {
     let mut out = Vec::new(alloc);

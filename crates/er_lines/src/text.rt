@@ -50,11 +50,7 @@ impl Lines for TextLines {
         }
     }
 
-    fn front<'a>(
-        alloc: Global,
-        version: Version,
-        piece: &'a [u8],
-    ) -> Option<(Record, &'a [u8])>
+    fn front<'a>(alloc: Global, version: Version, piece: &'a [u8]) -> Option<(Record, &'a [u8])>
         ensures { IfSome result (λ pair. IsFront most_line_bytes (IsSpelled version) piece.now
             pair.0 pair.1.now) }
     {

@@ -158,3 +158,15 @@ length_of_spelling (b ∷ name) =
     let earlier : (length name ≤ length (name_spelling name)) × (length (name_spelling name) ≤ 3 * length name) = length_of_spelling name in
     let one : (1 ≤ length (byte_spelling b)) × (length (byte_spelling b) ≤ 3) = length_of_byte_spelling b in
     (omega (arith, length-append (byte_spelling b) (name_spelling name)), omega (arith, length-append (byte_spelling b) (name_spelling name)))
+
+-- a name as long as its spelling is spelled as itself
+plain_spelling : (name : List ℕ) → length (name_spelling name) ≡ length name → name_spelling name ≡ name
+plain_spelling [] h = refl
+plain_spelling (b ∷ name) h =
+    let one : length (byte_spelling b) ≡ 1 = omega (arith, h, length-append (byte_spelling b) (name_spelling name), (length_of_spelling name).0, (length_of_byte_spelling b).0) in
+    let later : length (name_spelling name) ≡ length name = omega (arith, h, one, length-append (byte_spelling b) (name_spelling name)) in
+    grind (arith, common_steps, nat_tests, one, plain_spelling name later)
+
+pub plain_word : (word : List ℕ) (count : ℕ) → IsNameWord word count → count ≡ length word → word ≡ spelled word
+plain_word word count h e =
+    h.spelling.same ∙ plain_spelling (spelled word) (sym (ap length h.spelling.same) ∙ (sym e ∙ sym h.counted))

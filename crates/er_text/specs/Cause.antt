@@ -1,4 +1,4 @@
--- The name and the number of each cause of a refusal.
+-- The name of each cause of a refusal.
 use Rattle.std.specs.Prelude.{ℕ, List, codes}
 use Rattle.er_text.specs.declared.causes.Cause.{Cause}
 use Rattle.er_text.specs.declared.causes.Cause.TheVariants.{BadHeader, LongLine, BadRecord, NoEnd, AfterEnd, TooManyLines, Unknown, Again, NotScript, Misplaced, OutOfOrder, TooManyActions, TooDeep, TooManyAccesses, TooManyPairs, TooManyRaces, TooManyClasses, NoRace, NoAction}
@@ -23,24 +23,3 @@ cause_name TooManyRaces = codes "too-many-races"
 cause_name TooManyClasses = codes "too-many-classes"
 cause_name NoRace = codes "no-race"
 cause_name NoAction = codes "no-action"
-
-abbrev pub cause_number : Cause → ℕ
-cause_number BadHeader = 1
-cause_number LongLine = 2
-cause_number BadRecord = 3
-cause_number NoEnd = 4
-cause_number AfterEnd = 5
-cause_number TooManyLines = 6
-cause_number Unknown = 7
-cause_number Again = 8
-cause_number NotScript = 9
-cause_number Misplaced = 10
-cause_number OutOfOrder = 11
-cause_number TooManyActions = 12
-cause_number TooDeep = 13
-cause_number TooManyAccesses = 14
-cause_number TooManyPairs = 15
-cause_number TooManyRaces = 16
-cause_number TooManyClasses = 17
-cause_number NoRace = 18
-cause_number NoAction = 19

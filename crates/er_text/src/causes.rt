@@ -1,7 +1,7 @@
 //! Why a trace is refused.
 
 ghost use Rattle.std.specs.Prelude.{◌≡◌};
-ghost use Rattle.er_text.specs.Cause.{cause_name, cause_number};
+ghost use Rattle.er_text.specs.Cause.{cause_name};
 
 /// The cause of a refusal.
 #[derive(Clone, Copy, Debug, PartialEq, Eq)]
@@ -51,32 +51,6 @@ impl Cause {
             Cause::TooManyClasses => "too-many-classes",
             Cause::NoRace => "no-race",
             Cause::NoAction => "no-action",
-        }
-    }
-
-    pub fn number(self) -> u32
-        ensures { result ≡ cause_number self }
-    {
-        match self {
-            Cause::BadHeader => 1,
-            Cause::LongLine => 2,
-            Cause::BadRecord => 3,
-            Cause::NoEnd => 4,
-            Cause::AfterEnd => 5,
-            Cause::TooManyLines => 6,
-            Cause::Unknown => 7,
-            Cause::Again => 8,
-            Cause::NotScript => 9,
-            Cause::Misplaced => 10,
-            Cause::OutOfOrder => 11,
-            Cause::TooManyActions => 12,
-            Cause::TooDeep => 13,
-            Cause::TooManyAccesses => 14,
-            Cause::TooManyPairs => 15,
-            Cause::TooManyRaces => 16,
-            Cause::TooManyClasses => 17,
-            Cause::NoRace => 18,
-            Cause::NoAction => 19,
         }
     }
 }

@@ -1,7 +1,7 @@
 //! Names: 1 to `MOST_NAME` bytes. A byte from 0x21 to 0x7E other than `%` is spelt as itself, and
 //! every other one as `%` and two hexadecimal digits, A to F in upper case.
 
-ghost use Rattle.std.specs.Prelude.{◌≡◌, ◌≢◌, ℕ, ◌+◌, ◌*◌, ◌≤◌, ◌<◌, List, ◌∷◌, ◌++◌, length, take, IfOk, IsOkAnd, MatchOption, IfSome, Some, OnOk, OnErr, slice_index};
+ghost use Rattle.std.specs.Prelude.{◌≡◌, ◌≢◌, ℕ, ◌+◌, ◌*◌, ◌≤◌, ◌<◌, List, ◌∷◌, ◌++◌, length, take, IfOk, IsOkAnd, MatchOption, IfSome, Some, OnOk, OnErr};
 ghost use Rattle.std.specs.Iterator.{YieldsFirst, item_count};
 ghost use Rattle.er_outside.specs.Ends.{Puts};
 ghost use Rattle.er_text.specs.Name.{IsName, most_name, stands_for_itself, hex_digit, byte_spelling, name_spelling};
@@ -121,15 +121,17 @@ impl<'a> NameWord<'a> {
         }
     }
 
-    /// The byte at a place. It is found by reading the spelling from its start.
-    pub fn byte(&self, k: usize) -> u8
-        requires { k < length self.now }
-        ensures { result ≡ slice_index self.now k }
+    /// Its bytes as they stand in the spelling, where each is spelled as itself.
+    #[tactic(auto, using(crate::proofs::NameLaws::plain_word))]
+    pub fn plain(&self) -> Option<&[u8]>
+        ensures bytes { IfSome result (λ bytes. bytes.now ≡ self.now) }
+        ensures some { IfSome result (λ bytes. 1 ≤ length bytes.now) }
+        ensures few { IfSome result (λ bytes. length bytes.now ≤ most_name) }
     {
-        let Some(byte) = self.bytes().nth(k) else {
-            unreachable!();
-        };
-        byte
+        if self.count != self.spelling.len() {
+            return None;
+        }
+        Some(self.spelling)
     }
 }
 

@@ -81,11 +81,15 @@ cut_drop (b ∷ bytes) (suc k) d h =
     let one : suc (k + 1) ≡ suc k + 1 = omega arith in
     ap (λ l. b ∷ l) (cut_drop bytes k d (omega (arith, h))) ∙ ap (λ n. b ∷ (take k bytes ++ get_or bytes k d ∷ drop n (b ∷ bytes))) one
 
-pub take_fewer : (k n : ℕ) (bytes : List ℕ) → k ≤ n → take k (take n bytes) ≡ take k bytes
+take_fewer : (k n : ℕ) (bytes : List ℕ) → k ≤ n → take k (take n bytes) ≡ take k bytes
 take_fewer zero n bytes h = refl
 take_fewer (suc k) zero bytes h = absurd (omega (arith, h))
 take_fewer (suc k) (suc n) [] h = refl
 take_fewer (suc k) (suc n) (b ∷ bytes) h = ap (λ l. b ∷ l) (take_fewer k n bytes (omega (arith, h)))
+
+-- the first bytes, by a longer front
+pub same_front : (k n : ℕ) (bytes place : List ℕ) → k ≤ n → place ≡ take n bytes → take k place ≡ take k bytes
+same_front k n bytes place h e = ap (take k) e ∙ take_fewer k n bytes h
 
 pub spelling_of_access : (m : Mode) (f : Form) (n : ℕ) (name : List ℕ)
     → spelling (Access m (loc_of f n name)) ≡ mode_word m ++ space ∷ form_word f ++ space ∷ decimal n ++ space ∷ name_spelling name

@@ -115,12 +115,7 @@ impl Head {
         ensures { result ≡ begins_task self }
     {
         match self {
-            Head::Post
-            | Head::Ask
-            | Head::Queue
-            | Head::Message
-            | Head::Anim
-            | Head::Job => true,
+            Head::Post | Head::Ask | Head::Queue | Head::Message | Head::Anim | Head::Job => true,
             _ => false,
         }
     }

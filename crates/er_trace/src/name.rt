@@ -1,11 +1,10 @@
 //! Names: of variables, of event types, of handler slots.
 
-ghost use Rattle.std.specs.Prelude.{◌≡◌, ℕ, List, length, take, IfOk, ◌≤◌};
+ghost use Rattle.std.specs.Prelude.{◌≡◌, ℕ, List, [], ◌∷◌, length, take, IfOk, ◌≤◌};
 ghost use Rattle.std.specs.Prelude.{nat_eq};
 ghost use Rattle.std.proofs.Common.{rules};
 ghost use Rattle.std.specs.Cmp.Lexicographic.{pointwise};
 ghost use Rattle.std.specs.Cmp.Rules.{comparing, hashing};
-ghost use Rattle.std.specs.Hash as fed;
 ghost use Rattle.er_text.specs.Name.{most_name, IsName};
 
 use er_outside::NoMemory;
@@ -83,6 +82,9 @@ impl Name {
     pub fn of_word(alloc: Global, word: &NameWord<'_>) -> Result<Name, NoMemory>
         ensures { IfOk result (λ name. name ≡ word.now) }
     {
+        if let Some(bytes) = word.plain() {
+            return Name::new(alloc, bytes);
+        }
         let mut bytes: SmallVec<u8, MOST_IN_PLACE> = SmallVec::new(alloc);
         for byte in word.bytes() {
             bytes.push(byte)?;
@@ -135,11 +137,12 @@ impl Eq for Name {
 }
 
 impl Hash for Name {
-    ghost hash_input = { fed.slice fed.u8 };
+    // all bytes in one write, which is many times as quick as one for each
+    ghost hash_input = { λ name. name ∷ [] };
 
     ghost respects_eq = { Prim.search (hashing, rules) };
 
     fn hash<H: Hasher>(&self, state: &mut H) {
-        self.bytes().hash(state);
+        state.write(self.bytes());
     }
 }

@@ -1,4 +1,4 @@
-//! Accesses whose names are short and have no byte that is spelled by digits: most lines of a trace.
+//! Accesses whose names have no byte that is spelled by digits: most lines of a trace.
 
 ghost use Rattle.std.specs.Prelude.{◌≡◌, ◌<◌, ◌≤◌, ◌+◌, ◌^◌, ◌∷◌, ◌++◌, ◌==◌, not, length, take, drop, position, IfSome, decimal};
 ghost use Rattle.er_text.specs.Bytes.{space, line_end};
@@ -11,7 +11,7 @@ ghost use Rattle.er_trace.specs.Forms.{form_word, loc_of};
 use crate::head::is_word;
 use crate::name::{MOST_IN_PLACE, Name};
 use crate::record::{Loc, Mode, Record};
-use er_text::read_number;
+use er_text::{MOST_NAME, read_number};
 use std::alloc::Global;
 
 /// What stands behind that text.
@@ -57,9 +57,9 @@ fn front_number(bytes: &[u8]) -> Option<(u32, &[u8])>
     Some((number, &bytes[end + 1..]))
 }
 
-/// Where the name at the front ends, before an LF, if it needs no memory and is spelled as itself.
+/// Where the name at the front ends, before an LF, if it is spelled as itself.
 fn plain_end(bytes: &[u8]) -> Option<usize>
-    ensures few { IfSome result (λ k. (k ≤ MOST_IN_PLACE) × (k < length bytes.now)) }
+    ensures within { IfSome result (λ k. k < length bytes.now) }
     ensures name { IfSome result (λ k. IsName (take k bytes.now)
         × (bytes.now ≡ name_spelling (take k bytes.now) ++ line_end ∷ drop (k + 1) bytes.now)) }
 {
@@ -67,7 +67,7 @@ fn plain_end(bytes: &[u8]) -> Option<usize>
     if end == 0 {
         return None;
     }
-    if end > MOST_IN_PLACE {
+    if end > MOST_NAME {
         return None;
     }
     if bytes[end] != b'\n' {
@@ -76,14 +76,27 @@ fn plain_end(bytes: &[u8]) -> Option<usize>
     Some(end)
 }
 
-/// That name, and what stands behind the LF. Enough bytes must follow for a copy of a fixed length.
+/// The name of so many bytes at the front. For one that needs no memory enough bytes must follow for a
+/// copy of a fixed length.
+fn name_of_front(alloc: Global, bytes: &[u8], end: usize) -> Option<Name>
+    requires within { end < length bytes.now }
+    requires name { IsName (take end bytes.now) }
+    ensures { IfSome result (λ name. name ≡ take end bytes.now) }
+{
+    if end > MOST_IN_PLACE {
+        return Name::new(alloc, &bytes[..end]).ok();
+    }
+    let place = bytes.first_chunk::<MOST_IN_PLACE>()?;
+    Some(Name::in_place(alloc, place, end))
+}
+
+/// That name, and what stands behind the LF.
 fn front_name(alloc: Global, bytes: &[u8]) -> Option<(Name, &[u8])>
     ensures { IfSome result (λ pair. IsName pair.0 × (bytes.now ≡ name_spelling pair.0 ++ line_end ∷ pair.1.now)) }
 {
     let end = plain_end(bytes)?;
-    let later = &bytes[end + 1..];
-    let place = bytes.first_chunk::<MOST_IN_PLACE>()?;
-    Some((Name::in_place(alloc, place, end), later))
+    let name = name_of_front(alloc, bytes, end)?;
+    Some((name, &bytes[end + 1..]))
 }
 
 /// What a location is of.
@@ -136,8 +149,8 @@ fn front_mode(line: &[u8]) -> Option<(Mode, &[u8])>
     }
 }
 
-/// The access whose line stands at the front, and what stands behind the LF, where its name is short and
-/// spelled as itself. `None` says nothing.
+/// The access whose line stands at the front, and what stands behind the LF, where its name is spelled as
+/// itself. `None` says nothing.
 #[tactic(auto, using(crate::proofs::PlainLaws::spelling_of_access))]
 pub fn plain_line(alloc: Global, bytes: &[u8]) -> Option<(Record, &[u8])>
     ensures { IfSome result (λ pair. ((v : Version) → IsRecordOf v pair.0)

@@ -46,7 +46,14 @@ static RECORDS: [&str; 32] = [
 ];
 
 /// The forms of version 3 alone.
-static TASKS: [&str; 6] = ["post 1", "ask 2", "queue 3", "message 4", "anim 5", "job 4294967295"];
+static TASKS: [&str; 6] = [
+    "post 1",
+    "ask 2",
+    "queue 3",
+    "message 4",
+    "anim 5",
+    "job 4294967295",
+];
 
 /// Lines that are no record.
 static OTHERS: [&str; 32] = [
@@ -156,7 +163,12 @@ fn records(rt: HostRuntime) {
 fn tasks(rt: HostRuntime) {
     for line in &TASKS {
         let alloc = rt.alloc();
-        let same = is_record(alloc, Version::Three, line, |rec| is_copied(alloc, rec, line));
+        let same = is_record(
+            alloc,
+            Version::Three,
+            line,
+            |rec| is_copied(alloc, rec, line),
+        );
         assert!(rt; same, "{line}");
         assert!(rt; is_refused(alloc, Version::One, line), "{line}");
         assert!(rt; is_refused(alloc, Version::Two, line), "{line}");
@@ -195,8 +207,12 @@ fn is_made(rec: &Record) -> bool {
 #[test]
 fn fields(rt: HostRuntime) {
     assert!(rt; is_record(rt.alloc(), Version::Two, "parse 3 4 defer", is_made));
-    let written =
-        is_record(rt.alloc(), Version::Three, "w var 5 a%0A", |rec| writes(rec, 5, b"a\n"));
+    let written = is_record(
+        rt.alloc(),
+        Version::Three,
+        "w var 5 a%0A",
+        |rec| writes(rec, 5, b"a\n"),
+    );
     assert!(rt; written);
 }
 

@@ -15,6 +15,6 @@ returns-clause-name c =
     let count : length (take k bytes) ≡ k = grind (arith, common_steps) in
     let plain : list_all stands_for_itself (take k bytes) ≡ true = plain_before bytes k found in
     let all = rw c.if-bytes-end-ne10.false at (cut_drop bytes k 0 within) in (
-      plain_is_name (take k bytes) (omega (arith, count, c.if-end-eq0.false)) (omega (arith, count, c.if-end-gt-MOST_IN_PLACE.false)) plain,
+      plain_is_name (take k bytes) (omega (arith, count, c.if-end-eq0.false)) (omega (arith, count, c.if-end-gt-MOST_NAME.false)) plain,
       rw (sym (plain_name (take k bytes) plain)) at all,
     )
