@@ -8,7 +8,7 @@ use Rattle.er_firsts.specs.Taken.{KeepsEach}
 use Rattle.er_names.specs.declared.fired.Fired.{Fired}
 use Rattle.er_names.specs.declared.names.SetTimeout.{SetTimeout}
 use Rattle.er_names.specs.declared.names.Timeout.{Timeout}
-use Rattle.er_names.specs.Fired.{AreFound, IsFound, numbered, timer_found, timeouts_at}
+use Rattle.er_names.specs.Fired.{AreFound, IsFound, numbered, sets, sets_at, timer_found}
 
 is_still_found : (old new : ℕ → Option Timeout) (x : SetTimeout) → KeepsEach old new → IsFound old x → IsFound new x
 is_still_found old new x keeps is = by (old x.timeout) refl is
@@ -19,8 +19,10 @@ is_still_found old new x keeps is = by (old x.timeout) refl is
 
 pub are_still_found : (old new : ℕ → Option Timeout) (fired : Fired) → KeepsEach old new → AreFound old fired → AreFound new fired
 are_still_found old new fired keeps are = record {
-  all = All-weaker (IsFound old) (IsFound new) (λ x is. is_still_found old new x keeps is) fired.all.timeouts.items are.all;
-  each = λ u. All-weaker (IsFound old) (IsFound new) (λ x is. is_still_found old new x keeps is) (timeouts_at fired u) (are.each u);
+  all = All-weaker (IsFound old) (IsFound new) (λ x is. is_still_found old new x keeps is) (sets fired.all.timeouts.items) are.all;
+  each = λ u. All-weaker (IsFound old) (IsFound new) (λ x is. is_still_found old new x keeps is) (sets_at fired u) (are.each u);
+  all_counted = are.all_counted;
+  each_counted = are.each_counted;
 }
 
 -- the timeout of a timer is found

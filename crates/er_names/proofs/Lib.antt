@@ -1,3 +1,4 @@
+pub mod CountedLemmas
 pub mod AccessLemmas
 pub mod FoundLemmas
 pub mod NamesLemmas

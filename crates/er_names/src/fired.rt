@@ -6,9 +6,10 @@ ghost use Rattle.indexmap.specs.IndexMap.{get};
 ghost use Rattle.er_trace.specs.declared.record.Record.{Record};
 ghost use Rattle.er_history.specs.LookUps as says;
 ghost use Rattle.er_names.specs.declared.names.Timeout.{Timeout};
-ghost use Rattle.er_names.specs.Fired.{FiredAre, AreFound, HasPlace, ListHasPlace, HasPlaceFor, IsFound, number_of, numbers_at, timeouts_at, timer_listed, timers_of};
+ghost use Rattle.er_names.specs.Fired.{AreCounted, FiredAre, AreFound, HasPlace, ListHasPlace, HasPlaceFor, IsFound, number_of, numbers_at, sets, sets_at, timeouts_at, timer_listed, timers_of};
 
-use crate::names::SetTimeout;
+use crate::counted::counted;
+use crate::names::{FiredTimeout, SetTimeout};
 use er_outside::NoMemory;
 use indexmap::IndexMap;
 use std::alloc::Global;
@@ -16,7 +17,7 @@ use std::alloc::Global;
 /// Timeouts in order of firing: their numbers, and beside them what was set of each.
 pub(crate) struct Firings {
     pub(crate) numbers: Vec<u32>,
-    pub(crate) timeouts: Vec<SetTimeout>,
+    pub(crate) timeouts: Vec<FiredTimeout>,
 }
 
 impl Drop for Firings {
@@ -53,12 +54,14 @@ impl Firings {
     fn push(&mut self, fired: SetTimeout)
         requires room { HasPlace self.old }
         ensures numbers { self.new.numbers.items ≡ self.old.numbers.items ++ fired.timeout ∷ [] }
-        ensures timeouts { self.new.timeouts.items ≡ self.old.timeouts.items ++ fired ∷ [] }
+        ensures timeouts { sets self.new.timeouts.items ≡ sets self.old.timeouts.items ++ fired ∷ [] }
+        ensures counted { AreCounted self.old.timeouts.items → AreCounted self.new.timeouts.items }
     {
+        let timeout = counted(&self.timeouts, fired);
         let Ok(()) = self.numbers.push(fired.timeout) else {
             unreachable!()
         };
-        let Ok(()) = self.timeouts.push(fired) else {
+        let Ok(()) = self.timeouts.push(timeout) else {
             unreachable!()
         };
     }
@@ -112,18 +115,23 @@ impl Fired {
     }
 
     /// What was set of all that have fired.
-    pub(crate) fn all_timeouts(&self) -> &[SetTimeout]
-        ensures numbers { (h : List Record) → FiredAre self.now h → map number_of result.now ≡ says.fired h }
-        ensures found { (found : ℕ → Option Timeout) → AreFound found self.now → All (IsFound found) result.now }
+    pub(crate) fn all_timeouts(&self) -> &[FiredTimeout]
+        ensures numbers { (h : List Record) → FiredAre self.now h
+            → map number_of (sets result.now) ≡ says.fired h }
+        ensures found { (found : ℕ → Option Timeout) → AreFound found self.now
+            → All (IsFound found) (sets result.now) }
+        ensures counted { (found : ℕ → Option Timeout) → AreFound found self.now → AreCounted result.now }
     {
         self.all.timeouts.as_slice()
     }
 
     /// What was set of those that the event set and that have fired.
-    pub(crate) fn timeouts_with(&self, event: u32) -> &[SetTimeout]
+    pub(crate) fn timeouts_with(&self, event: u32) -> &[FiredTimeout]
         ensures numbers { (h : List Record) → FiredAre self.now h
-            → map number_of result.now ≡ says.fired_with h event }
-        ensures found { (found : ℕ → Option Timeout) → AreFound found self.now → All (IsFound found) result.now }
+            → map number_of (sets result.now) ≡ says.fired_with h event }
+        ensures found { (found : ℕ → Option Timeout) → AreFound found self.now
+            → All (IsFound found) (sets result.now) }
+        ensures counted { (found : ℕ → Option Timeout) → AreFound found self.now → AreCounted result.now }
     {
         match self.lists.get(&event) {
             Some(list) => list.timeouts.as_slice(),
@@ -197,8 +205,9 @@ impl Fired {
         requires room { ListHasPlace self.old timeout.maker }
         ensures numbers { (u : ℕ) → numbers_at self.new u
             ≡ numbers_at self.old u ++ map number_of (timers_of u (Some timeout)) }
-        ensures timeouts { (u : ℕ) → timeouts_at self.new u
-            ≡ timeouts_at self.old u ++ timers_of u (Some timeout) }
+        ensures timeouts { (u : ℕ) → sets_at self.new u
+            ≡ sets_at self.old u ++ timers_of u (Some timeout) }
+        ensures counted { (u : ℕ) → AreCounted (timeouts_at self.old u) → AreCounted (timeouts_at self.new u) }
         ensures others { self.new.all ≡ self.old.all }
     {
         let Some(list) = self.lists.get_mut(&timeout.maker) else {

@@ -18,6 +18,7 @@
 //! `take` needs the room and the action that runs when the record has been read, with its event (`Now`), and can't fail.
 #![tactic(auto)]
 
+mod counted;
 mod fired;
 pub mod look_ups;
 mod made;

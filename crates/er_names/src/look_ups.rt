@@ -5,10 +5,10 @@ ghost use Rattle.std.specs.List.{All};
 ghost use Rattle.indexmap.specs.IndexMap.{get};
 ghost use Rattle.er_trace.specs.declared.record.Record.{Record};
 ghost use Rattle.er_history.specs.LookUps as says;
-ghost use Rattle.er_names.specs.Fired.{number_of};
+ghost use Rattle.er_names.specs.Fired.{AreCounted, number_of, sets};
 ghost use Rattle.er_names.specs.Names.{Answers, NamesAre, IsSet, rank_of, timeout_at};
 
-use crate::names::{Form, Names, SetTimeout};
+use crate::names::{FiredTimeout, Form, Names, SetTimeout};
 use crate::tables::numbered;
 use er_trace::record::Kind;
 
@@ -202,17 +202,19 @@ impl Names {
     }
 
     /// All timeouts that have fired, in order of firing, as they were set.
-    pub fn fired_timeouts(&self) -> &[SetTimeout]
-        ensures numbers { Answers self.now (λ h. says.fired h) (map number_of result.now) }
-        ensures set { (h : List Record) → NamesAre self.now h → All (IsSet self.now) result.now }
+    pub fn fired_timeouts(&self) -> &[FiredTimeout]
+        ensures numbers { Answers self.now (λ h. says.fired h) (map number_of (sets result.now)) }
+        ensures set { (h : List Record) → NamesAre self.now h → All (IsSet self.now) (sets result.now) }
+        ensures counted { (h : List Record) → NamesAre self.now h → AreCounted result.now }
     {
         self.fired.all_timeouts()
     }
 
     /// The timeouts set in the event that have fired, in order of firing, as they were set.
-    pub fn fired_timeouts_with(&self, event: u32) -> &[SetTimeout]
-        ensures numbers { Answers self.now (λ h. says.fired_with h event) (map number_of result.now) }
-        ensures set { (h : List Record) → NamesAre self.now h → All (IsSet self.now) result.now }
+    pub fn fired_timeouts_with(&self, event: u32) -> &[FiredTimeout]
+        ensures numbers { Answers self.now (λ h. says.fired_with h event) (map number_of (sets result.now)) }
+        ensures set { (h : List Record) → NamesAre self.now h → All (IsSet self.now) (sets result.now) }
+        ensures counted { (h : List Record) → NamesAre self.now h → AreCounted result.now }
     {
         self.fired.timeouts_with(event)
     }

@@ -48,6 +48,17 @@ pub struct SetTimeout {
     pub rank: usize,
 }
 
+/// A timeout that has fired, and of those that fired right before it how many were set in its piece before it with
+/// no greater delay (`run`), how many have no lesser delay (`longer`), and how many were set no earlier (`later`).
+/// Where there are more, as many as a number of two bytes can tell.
+#[derive(Clone, Copy)]
+pub struct FiredTimeout {
+    pub set: SetTimeout,
+    pub run: u16,
+    pub longer: u16,
+    pub later: u16,
+}
+
 /// What the records have declared, started and finished, by number.
 pub struct Names {
     pub(crate) tables: Tables,

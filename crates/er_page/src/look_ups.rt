@@ -24,14 +24,14 @@ ghost use Rattle.std.specs.List.{All};
 ghost use Rattle.er_trace.specs.declared.record.Record.{Record};
 ghost use Rattle.er_history.specs.History.{told};
 ghost use Rattle.er_history.specs.LookUps as says;
-ghost use Rattle.er_names.specs.Fired.{number_of};
+ghost use Rattle.er_names.specs.Fired.{AreCounted, number_of, sets};
 ghost use Rattle.er_names.specs.Names.{IsSet, element_of, timeout_at};
 ghost use Rattle.er_page.specs.LookUps.{begun_of, suspended_at};
 ghost use Rattle.er_page.specs.Page.{Answers, HasBegun, HasEvent, IsPage};
 
 use crate::page::Page;
 use crate::piece::Begun;
-use er_names::names::{Element, SetTimeout};
+use er_names::names::{Element, FiredTimeout, SetTimeout};
 use er_trace::name::Name;
 use er_trace::record::{Kind, Record};
 
@@ -304,19 +304,22 @@ impl Page {
     }
 
     /// All timeouts that have fired, in order of firing, as they were set.
-    pub fn fired_timeouts(&self) -> &[SetTimeout]
-        ensures numbers { Answers self.now (λ h. says.fired h) (map number_of result.now) }
+    pub fn fired_timeouts(&self) -> &[FiredTimeout]
+        ensures numbers { Answers self.now (λ h. says.fired h) (map number_of (sets result.now)) }
         ensures set { (h : List Record) → IsPage self.now h
-            → All (IsSet self.now.names) result.now }
+            → All (IsSet self.now.names) (sets result.now) }
+        ensures counted { (h : List Record) → IsPage self.now h → AreCounted result.now }
     {
         self.names.fired_timeouts()
     }
 
     /// The timeouts set in the event that have fired, in order of firing, as they were set.
-    pub fn fired_timeouts_with(&self, event: u32) -> &[SetTimeout]
-        ensures numbers { Answers self.now (λ h. says.fired_with h event) (map number_of result.now) }
+    pub fn fired_timeouts_with(&self, event: u32) -> &[FiredTimeout]
+        ensures numbers {
+            Answers self.now (λ h. says.fired_with h event) (map number_of (sets result.now)) }
         ensures set { (h : List Record) → IsPage self.now h
-            → All (IsSet self.now.names) result.now }
+            → All (IsSet self.now.names) (sets result.now) }
+        ensures counted { (h : List Record) → IsPage self.now h → AreCounted result.now }
     {
         self.names.fired_timeouts_with(event)
     }

@@ -69,7 +69,7 @@ fires_are Two u h x = all_fire h x
 fires_are Three u h x = all_fire h x
 fires_are One u h _ = refl
 
-fired_are : (v : Version) (u : ℕ) (h : List Record) → fired_before v h u ≡ fired_by (picks v u) h
+pub fired_are : (v : Version) (u : ℕ) (h : List Record) → fired_before v h u ≡ fired_by (picks v u) h
 fired_are One u [] = refl
 fired_are Two u [] = refl
 fired_are Three u [] = refl
@@ -226,7 +226,7 @@ joined_rule joined u n t x earlier set = by u.what
     by (TimeoutRun s None) = not_both (nat_lt u.number n) false refl
     by _ = not_both (nat_lt u.number n) false refl
 
-rule_is : (v : Version) (joined : ℕ → ℕ → Bool) (u : Event) (n t : ℕ) (x : Timeout) → nat_lt u.number n ≡ true → x.piece < n
+pub rule_is : (v : Version) (joined : ℕ → ℕ → Bool) (u : Event) (n t : ℕ) (x : Timeout) → nat_lt u.number n ≡ true → x.piece < n
     → timers_in_order v (up_to n joined) u (event_with n (TimeoutRun t (Some x))) ≡ callback_of (picks v x.maker) (set_so v joined x) u
 rule_is One joined u n t x earlier set = by u.what
   where
@@ -268,7 +268,7 @@ joined_is joined h s t x is =
     by None = refl
     by (Some y) = refl
 
-before_is : (v : Version) (h : List Record) (s t : ℕ) (x : Timeout) → timeout_made h t ≡ Some x → goes_before v h s t ≡ of_made (set_so v (path (rules v) h) x) (timeout_made h s)
+pub before_is : (v : Version) (h : List Record) (s t : ℕ) (x : Timeout) → timeout_made h t ≡ Some x → goes_before v h s t ≡ of_made (set_so v (path (rules v) h) x) (timeout_made h s)
 before_is One h s t x is = first_is h s t x is
 before_is Two h s t x is = joined_is (path (rules Two) h) h s t x is
 before_is Three h s t x is = joined_is (path (rules Three) h) h s t x is
@@ -305,11 +305,11 @@ rule_handed v h t x tell is =
 
 -- the look-ups tell so
 
-timer_once : (s : ℕ) → IsOnce (fires_timeout s)
+pub timer_once : (s : ℕ) → IsOnce (fires_timeout s)
 timer_once s h (Timer k) new is = subst (λ n. list_any (fires_timeout n) h ≡ false) (eqb-true k s is) new
 timer_once s h _ new is = absurd (cc)
 
-timer_begins : (s : ℕ) (x : Record) → fires_timeout s x ≡ true → begins x ≡ true
+pub timer_begins : (s : ℕ) (x : Record) → fires_timeout s x ≡ true → begins x ≡ true
 timer_begins s (Timer k) is = refl
 timer_begins s _ is = absurd (cc)
 

@@ -1,3 +1,6 @@
+pub mod CallbackLemmas
 pub mod FiredLemmas
-pub mod TimersLemmas
+pub mod GrownLemmas
 pub mod SetLemmas
+pub mod TimersLemmas
+pub mod WalkLemmas

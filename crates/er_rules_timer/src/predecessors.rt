@@ -1,11 +1,10 @@
 //! The pieces that come before the action that a record would begin.
 
 ghost use Rattle.std.specs.Prelude.{◌≡◌, List, [], ◌∷◌, ◌++◌, length, map, take, OnOk, OnErr};
-ghost use Rattle.std.specs.List.{All};
 ghost use Rattle.er_trace.specs.declared.record.Record.{Record};
 ghost use Rattle.er_history.specs.History.{told};
 ghost use Rattle.er_history.specs.Latest.{latest_piece};
-ghost use Rattle.er_names.specs.Fired.{number_of};
+ghost use Rattle.er_names.specs.Fired.{number_of, sets};
 ghost use Rattle.er_names.specs.Names.{IsSet};
 ghost use Rattle.er_page.specs.Page.{IsPage, IsSomePage};
 ghost use Rattle.er_pieces.specs.Contract.{GrewForEach, GrewInPartForEach, HandsFew};
@@ -14,19 +13,23 @@ ghost use Rattle.er_hand.specs.Handing.{HasEvents};
 ghost use Rattle.er_rules_timer.specs.Fired.{fired_handed, due_for, tick_handed};
 ghost use Rattle.er_rules_timer.specs.Fired as says;
 ghost use Rattle.er_rules_timer.specs.Enough.{HandsEnoughTimers, HandsSourceTimers, timer_due};
+ghost use Rattle.er_rules_timer.specs.Grown.{GrewEnoughFor, GrewSomeFor};
 ghost use Rattle.er_rules_timer.specs.Timed.{IsTimed, IsSomeTimed};
+ghost use Rattle.er_rules_timer.specs.Walk.{AreFired};
 
 use crate::fired::hand_fired;
 use er_clocks::Clocks;
 use er_hand::handing::hand_latest;
-use er_names::names::SetTimeout;
+use er_names::names::{FiredTimeout, SetTimeout};
 use er_outside::NoMemory;
 use er_page::page::Page;
 use er_trace::record::Record;
 use er_trace::version::Version;
 use smallvec::SmallVec;
 
-/// Hands the latest pieces of the events that come before a callback: of the one that set its timeout, and of the callbacks of timeouts from which rule 19 of the version leads; or of the one that set its interval, and of the latest callback of that. Any other record is handed nothing. The clocks are those of the page's actions in this version.
+/// Hands the latest pieces of the events that come before a callback: of the one that set its timeout, and of callbacks of timeouts from which rule 19 of the version leads; or of the one that set its interval, and of the latest callback of that. Any other record is handed nothing. The clocks are those of the page's actions in this version.
+///
+/// Of callbacks that come one before the other the last may be handed alone.
 pub fn predecessors(
     page: &Page,
     clocks: &Clocks,
@@ -35,16 +38,10 @@ pub fn predecessors(
     out: &mut SmallVec<u32, 8>,
 ) -> Result<(), NoMemory>
     requires timed { ∥ IsSomeTimed version page.now clocks.now ∥₁ }
-    ensures exact { OnOk result
-        (GrewForEach (IsTimed version page.now clocks.now) (timer_due version rec.now)
-        out.old.items out.new.items) }
-    // Memory ran out.
-    ensures front { OnErr result
-        (GrewInPartForEach (IsTimed version page.now clocks.now) (timer_due version rec.now)
-        out.old.items out.new.items) }
     ensures enough { OnOk result
         (HandsEnoughTimers version (IsTimed version page.now clocks.now) rec.now
         out.old.items out.new.items) }
+    // Memory ran out.
     ensures sources { OnErr result
         (HandsSourceTimers version (IsTimed version page.now clocks.now) rec.now
         out.old.items out.new.items) }
@@ -65,12 +62,10 @@ fn hand(
     out: &mut SmallVec<u32, 8>,
 ) -> Result<(), NoMemory>
     requires some { ∥ IsSomePage page.now ∥₁ }
-    ensures exact { OnOk result
-        (GrewForEach (IsTimed version page.now clocks.now) (timer_due version rec.now)
-        out.old.items out.new.items) }
-    ensures front { OnErr result
-        (GrewInPartForEach (IsTimed version page.now clocks.now) (timer_due version rec.now)
-        out.old.items out.new.items) }
+    ensures whole { OnOk result (GrewEnoughFor version page.now clocks.now
+        (timer_due version rec.now) out.old.items out.new.items) }
+    ensures part { OnErr result (GrewSomeFor version page.now clocks.now
+        (timer_due version rec.now) out.old.items out.new.items) }
 {
     match rec {
         Record::Timer { timeout } => hand_for_timer(page, clocks, version, *timeout, out),
@@ -88,9 +83,9 @@ fn hand_for_timer(
     out: &mut SmallVec<u32, 8>,
 ) -> Result<(), NoMemory>
     requires some { ∥ IsSomePage page.now ∥₁ }
-    ensures whole { OnOk result (GrewForEach (IsTimed version page.now clocks.now)
+    ensures whole { OnOk result (GrewEnoughFor version page.now clocks.now
         (λ h. due_for version h timeout) out.old.items out.new.items) }
-    ensures part { OnErr result (GrewInPartForEach (IsTimed version page.now clocks.now)
+    ensures part { OnErr result (GrewSomeFor version page.now clocks.now
         (λ h. due_for version h timeout) out.old.items out.new.items) }
 {
     match page.timeout(timeout) {
@@ -100,10 +95,10 @@ fn hand_for_timer(
 }
 
 /// The timeouts that have fired and may come before one that this event set: in version 1 those that it set itself.
-fn fired_before(page: &Page, version: Version, setter: u32) -> &[SetTimeout]
+fn fired_before(page: &Page, version: Version, setter: u32) -> &[FiredTimeout]
     ensures numbers { (h : List Record) → IsPage page.now h
-        → map number_of result.now ≡ says.fired_before version h setter }
-    ensures set { (h : List Record) → IsPage page.now h → All (IsSet page.now.names) result.now }
+        → map number_of (sets result.now) ≡ says.fired_before version h setter }
+    ensures fired { (h : List Record) → IsPage page.now h → AreFired page.now.names result.now }
 {
     match version {
         Version::One => page.fired_timeouts_with(setter),
@@ -123,10 +118,10 @@ fn hand_set_by(
     requires some { ∥ IsSomePage page.now ∥₁ }
     requires next { IsSet page.now.names next }
     requires events { ∥ HasEvents page.now (next.maker ∷ []) ∥₁ }
-    ensures whole { OnOk result (GrewForEach (IsTimed version page.now clocks.now)
+    ensures whole { OnOk result (GrewEnoughFor version page.now clocks.now
         (λ h. latest_piece next.maker (told h).actions ++ fired_handed version h next.timeout next.maker)
         out.old.items out.new.items) }
-    ensures part { OnErr result (GrewInPartForEach (IsTimed version page.now clocks.now)
+    ensures part { OnErr result (GrewSomeFor version page.now clocks.now
         (λ h. latest_piece next.maker (told h).actions ++ fired_handed version h next.timeout next.maker)
         out.old.items out.new.items) }
 {

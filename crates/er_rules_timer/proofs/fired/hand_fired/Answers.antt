@@ -1,21 +1,36 @@
 use Rattle.std.proofs.Common.{arith}
-use Rattle.er_rules_timer.specs.Timed.{IsTimed}
-use Rattle.er_pieces.proofs.ContractLemmas.{grew_nothing}
-use Rattle.er_rules_timer.proofs.SetLemmas.{no_timeout}
-use Rattle.er_rules_timer.proofs.TimersLemmas.{set_more, set_part, set_done}
+use Rattle.er_rules_timer.proofs.WalkLemmas.{walk_begun, walk_ended, walk_stopped, on_err}
 use Rattle.er_rules_timer.proofs.fired.hand_fired.Goals as goal
 
-pub loop-back-init : goal.loop-back-init
-loop-back-init c = record { handed = λ h is. grew_nothing c.args.out.now.items }
+pub loop-walk-init : goal.loop-walk-init
+loop-walk-init c = record {
+  within = omega arith;
+  walks = λ h timed. walk_begun c.args.version h c.args.next.timeout c.args.fired.now c.args.out.now.items;
+}
 
-pub hand_earlier-requires : goal.hand_earlier-requires
-hand_earlier-requires c = record { some = c.requires.some; next = c.requires.next; earlier = λ h is. c.requires.fired h is _ _ (omega arith) }
+pub walk_on-requires : goal.walk_on-requires
+walk_on-requires c = record {
+  some = omega (arith, c.loop-walk-test.true);
+  within = c.loop-walk.invariant.within;
+  page = c.requires.page;
+  next = c.requires.next;
+  fired = c.requires.fired;
+  joined = c.requires.joined;
+}
 
-pub returns-in_err-hand_earlier-clause-part : goal.returns-in_err-hand_earlier-clause-part
-returns-in_err-hand_earlier-clause-part c = set_part c.args.version (IsTimed c.args.version c.args.page.now c.args.clocks.now) c.args.next.timeout c.args.fired.now c.loop-back.back no_timeout c.from_residual.result c.args.out.now.items c.loop-back.out.items c.hand_earlier.new.out.items c.loop-back-test.true c.loop-back.invariant.handed c.in_err-hand_earlier.ensures.part
+pub returns-in_err-walk-clause-part : goal.returns-in_err-walk-clause-part
+returns-in_err-walk-clause-part c = on_err c.from_residual.result (λ h timed.
+    walk_stopped c.args.version h c.args.next.timeout c.args.fired.now c.loop-walk.walk c.args.out.now.items c.loop-walk.out.items c.walk_on.new.out.items c.in_err-walk.ensures.same (c.loop-walk.invariant.walks h timed))
 
-pub loop-back-preserved : goal.loop-back-preserved
-loop-back-preserved c = record { handed = set_more c.args.version (IsTimed c.args.version c.args.page.now c.args.clocks.now) c.args.next.timeout c.args.fired.now c.loop-back.back no_timeout c.args.out.now.items c.loop-back.out.items c.hand_earlier.new.out.items c.loop-back-test.true c.loop-back.invariant.handed c.in_ok-hand_earlier.ensures.whole }
+pub loop-walk-smaller : goal.loop-walk-smaller
+loop-walk-smaller c = c.in_ok-walk.ensures.less
+
+pub loop-walk-preserved : goal.loop-walk-preserved
+loop-walk-preserved c = record {
+  within = omega (arith, c.loop-walk.invariant.within, c.in_ok-walk.ensures.less);
+  walks = λ h timed. c.in_ok-walk.ensures.walked h timed c.args.out.now.items (c.loop-walk.invariant.walks h timed);
+}
 
 pub returns-clause-whole : goal.returns-clause-whole
-returns-clause-whole c = set_done c.args.version (IsTimed c.args.version c.args.page.now c.args.clocks.now) c.args.next.timeout c.args.fired.now c.loop-back.back c.args.out.now.items c.loop-back.out.items c.loop-back-test.false c.loop-back.invariant.handed
+returns-clause-whole c = λ h timed.
+    walk_ended c.args.version h c.args.next.timeout c.args.fired.now c.loop-walk.walk c.args.out.now.items c.loop-walk.out.items (omega (arith, c.loop-walk-test.false)) (c.loop-walk.invariant.walks h timed)

@@ -1,12 +1,14 @@
-use Rattle.std.proofs.Common.{reverse, take}
-use Rattle.std.specs.Prelude.{map}
-use Rattle.er_names.specs.Fired.{number_of}
+use Rattle.std.proofs.Common.{◌≤◌, List, length}
+use Rattle.er_trace.specs.declared.record.Record.{Record}
 use Rattle.er_rules_timer.specs.Timed.{IsTimed}
-use Rattle.er_pieces.specs.Contract.{GrewForEach}
-use Rattle.er_rules_timer.specs.Fired.{handed_for_each}
+use Rattle.er_rules_timer.specs.Walk.{IsWalk}
 use Rattle.er_rules_timer.proofs.fired.hand_fired.Given as goal
 
-abbrev pub invariant-loop-back : goal.invariant-loop-back
-invariant-loop-back l = record {
-  handed : GrewForEach (IsTimed l.fn.version l.fn.page l.fn.clocks) (λ h. handed_for_each l.fn.version h l.fn.next.timeout (take l.back (reverse (map number_of l.fn.fired)))) l.fn.out.items l.out.items;
+abbrev pub invariant-loop-walk : goal.invariant-loop-walk
+invariant-loop-walk l = record {
+  within : l.walk.left ≤ length l.fn.fired;
+  walks : (h : List Record) → IsTimed l.fn.version l.fn.page l.fn.clocks h → IsWalk l.fn.version h l.fn.next.timeout l.fn.fired l.walk l.fn.out.items l.out.items;
 }
+
+abbrev pub decreases-loop-walk : goal.decreases-loop-walk
+decreases-loop-walk l = l.walk.left

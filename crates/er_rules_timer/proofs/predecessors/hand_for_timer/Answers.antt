@@ -1,10 +1,10 @@
 use Rattle.std.proofs.Common.{ℕ, List, ◌++◌, Some, sym, ◌∙◌, subst}
 use Rattle.er_history.specs.History.{told}
 use Rattle.er_history.specs.Latest.{latest_piece}
-use Rattle.er_rules_timer.specs.Timed.{IsTimed}
-use Rattle.er_pieces.specs.Contract.{GrewBy}
-use Rattle.er_pieces.proofs.ContractLemmas.{grew_nothing}
-use Rattle.er_pieces.proofs.SequenceLemmas.{whole_of, part_of}
+use Rattle.er_history.specs.Rules.{rules}
+use Rattle.er_history.specs.Edges.{path}
+use Rattle.er_rules_timer.specs.Grown.{GrewEnough}
+use Rattle.er_rules_timer.proofs.GrownLemmas.{grew_none, enough_as, some_as}
 use Rattle.er_rules_timer.specs.Fired.{fired_handed, due_for}
 use Rattle.er_rules_timer.proofs.SetLemmas.{is_set, maker_told, due_by, none_due}
 use Rattle.er_rules_timer.proofs.TimersLemmas.{setter_events}
@@ -21,12 +21,13 @@ hand_set_by-requires c =
     }
 
 pub returns-in-Some-clause-whole : goal.returns-in-Some-clause-whole
-returns-in-Some-clause-whole c = whole_of (IsTimed c.args.version c.args.page.now c.args.clocks.now) (λ h. latest_piece c.in-Some.next.maker (told h).actions ++ fired_handed c.args.version h c.in-Some.next.timeout c.in-Some.next.maker) (λ h. due_for c.args.version h c.args.timeout)
-    c.args.out.now.items c.hand_set_by.new.out.items c.hand_set_by.result (λ h is. due_by c.args.page.now.names c.args.version h c.args.timeout c.in-Some.next is.page.names (sym c.timeout.ensures ∙ c.in-Some.is)) c.hand_set_by.ensures.whole
+returns-in-Some-clause-whole c = enough_as c.args.version c.args.page.now c.args.clocks.now (λ h. latest_piece c.in-Some.next.maker (told h).actions ++ fired_handed c.args.version h c.in-Some.next.timeout c.in-Some.next.maker) (λ h. due_for c.args.version h c.args.timeout)
+    c.hand_set_by.result c.args.out.now.items c.hand_set_by.new.out.items (λ h is. due_by c.args.page.now.names c.args.version h c.args.timeout c.in-Some.next is.page.names (sym c.timeout.ensures ∙ c.in-Some.is)) c.hand_set_by.ensures.whole
 
 pub returns-in-Some-clause-part : goal.returns-in-Some-clause-part
-returns-in-Some-clause-part c = part_of (IsTimed c.args.version c.args.page.now c.args.clocks.now) (λ h. latest_piece c.in-Some.next.maker (told h).actions ++ fired_handed c.args.version h c.in-Some.next.timeout c.in-Some.next.maker) (λ h. due_for c.args.version h c.args.timeout)
-    c.args.out.now.items c.hand_set_by.new.out.items c.hand_set_by.result (λ h is. due_by c.args.page.now.names c.args.version h c.args.timeout c.in-Some.next is.page.names (sym c.timeout.ensures ∙ c.in-Some.is)) c.hand_set_by.ensures.part
+returns-in-Some-clause-part c = some_as c.args.version c.args.page.now c.args.clocks.now (λ h. latest_piece c.in-Some.next.maker (told h).actions ++ fired_handed c.args.version h c.in-Some.next.timeout c.in-Some.next.maker) (λ h. due_for c.args.version h c.args.timeout)
+    c.hand_set_by.result c.args.out.now.items c.hand_set_by.new.out.items (λ h is. due_by c.args.page.now.names c.args.version h c.args.timeout c.in-Some.next is.page.names (sym c.timeout.ensures ∙ c.in-Some.is)) c.hand_set_by.ensures.part
 
 pub returns-in-None-clause-whole : goal.returns-in-None-clause-whole
-returns-in-None-clause-whole c = λ h is. subst (λ (l : List ℕ). GrewBy c.args.out.now.items l c.args.out.now.items) (none_due c.args.page.now.names c.args.version h c.args.timeout is.page.names (sym c.timeout.ensures ∙ c.in-None.is)) (grew_nothing c.args.out.now.items)
+returns-in-None-clause-whole c = λ h is. subst (λ (l : List ℕ). GrewEnough (path (rules c.args.version) h) l c.args.out.now.items c.args.out.now.items) (none_due c.args.page.now.names c.args.version h c.args.timeout is.page.names (sym c.timeout.ensures ∙ c.in-None.is))
+    (grew_none (path (rules c.args.version) h) c.args.out.now.items)
