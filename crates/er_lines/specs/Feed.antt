@@ -19,11 +19,13 @@ IsUnfinished f (Ended v records) line = line ≡ []
 
 -- the line that begins there is refused, and for another cause than `no-end`
 abbrev pub IsRefusedAt : Format → Place → List ℕ → FeedFault → Type 0
-IsRefusedAt f place rest (Refused n c) = (n ≡ line_number place) × LineCause f place rest c × (c ≢ NoEnd)
+IsRefusedAt f place rest (Refused n c) =
+    (n ≡ line_number place) × LineCause f place rest c × (c ≢ NoEnd)
 IsRefusedAt f place rest NoMemory = ⊥
 
 -- The bytes are the lines before the place of the mark, and a line that is not at its end yet and is kept, or that is refused for the fault.
-pub record Stands (f : Format) (mark : Mark) (line : List ℕ) (fault : Option FeedFault) (bytes : List ℕ) (records : List Record) : Type 0 where
+pub record Stands (f : Format) (mark : Mark) (line : List ℕ) (fault : Option FeedFault)
+    (bytes : List ℕ) (records : List Record) : Type 0 where
   pub place : Place
   pub before : List ℕ
   pub rest : List ℕ
@@ -35,13 +37,18 @@ pub record Stands (f : Format) (mark : Mark) (line : List ℕ) (fault : Option F
   pub kept : MatchOption fault (IsUnfinished f place rest × (line ≡ rest)) (IsRefusedAt f place rest)
 
 -- more records came to the list, and with them what is kept stands for the bytes
-abbrev pub IsFed : Format → Mark → List ℕ → Option FeedFault → List ℕ → List Record → List Record → List Record → Type 0
-IsFed f mark line fault bytes earlier old new = (more : List Record) × Stands f mark line fault bytes (earlier ++ more) × (new ≡ old ++ more)
+abbrev pub IsFed : Format → Mark → List ℕ → Option FeedFault → List ℕ → List Record → List Record
+    → List Record → Type 0
+IsFed f mark line fault bytes earlier old new =
+    (more : List Record) × Stands f mark line fault bytes (earlier ++ more) × (new ≡ old ++ more)
 
 -- the line of that number has the cause, which is not `no-end`, and more records before it came to the list
-abbrev pub IsFedUntil : Format → List ℕ → ℕ → Cause → List Record → List Record → List Record → Type 0
-IsFedUntil f bytes n c earlier old new = (c ≢ NoEnd) × ((more : List Record) × ReadsUntil f bytes n c (earlier ++ more) × (new ≡ old ++ more))
+abbrev pub IsFedUntil : Format → List ℕ → ℕ → Cause → List Record → List Record → List Record
+    → Type 0
+IsFedUntil f bytes n c earlier old new = (c ≢ NoEnd)
+    × ((more : List Record) × ReadsUntil f bytes n c (earlier ++ more) × (new ≡ old ++ more))
 
 -- more records of lines came to the list
 abbrev pub IsFedPart : Format → List ℕ → List Record → List Record → List Record → Type 0
-IsFedPart f bytes earlier old new = (more : List Record) × ReadsPart f bytes (earlier ++ more) × (new ≡ old ++ more)
+IsFedPart f bytes earlier old new =
+    (more : List Record) × ReadsPart f bytes (earlier ++ more) × (new ≡ old ++ more)

@@ -14,7 +14,8 @@ pub record Format : Type 1 where
 -- a first line gives at most one version, a line spells at most one record, which the version has, and the last line spells none
 pub record IsFormat (f : Format) : Type 0 where
   pub one_version : (l : List ℕ) (v w : Version) → f.IsHeader v l → f.IsHeader w l → v ≡ w
-  pub one_record : (v : Version) (l : List ℕ) (x y : Record) → f.Spells v l x → f.Spells v l y → x ≡ y
+  pub one_record : (v : Version) (l : List ℕ) (x y : Record) → f.Spells v l x → f.Spells v l y
+      → x ≡ y
   pub of_version : (v : Version) (l : List ℕ) (x : Record) → f.Spells v l x → has_record v x ≡ true
   pub not_end : (v : Version) (l : List ℕ) (x : Record) → f.Spells v l x → f.IsEnd l → ⊥
 

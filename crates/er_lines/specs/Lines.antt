@@ -42,10 +42,12 @@ pub record IsShort (most : ℕ) (bytes : List ℕ) : Type 0 where
 -- the bytes are lines that spell the records in a trace of the version
 abbrev pub AreLines : Format → Version → List ℕ → List Record → Type 0
 AreLines f v bytes [] = bytes ≡ []
-AreLines f v bytes (x ∷ records) = (l : List ℕ) × (later : List ℕ) × IsShort f.most l × f.Spells v l x × (bytes ≡ line l ++ later) × AreLines f v later records
+AreLines f v bytes (x ∷ records) = (l : List ℕ) × (later : List ℕ) × IsShort f.most l
+    × f.Spells v l x × (bytes ≡ line l ++ later) × AreLines f v later records
 
 -- the bytes are a first line of the version, and lines that spell the records
-pub record AreBehind (f : Format) (v : Version) (bytes : List ℕ) (records : List Record) : Type 0 where
+pub record AreBehind (f : Format) (v : Version) (bytes : List ℕ)
+    (records : List Record) : Type 0 where
   pub first : List ℕ
   pub short : IsShort f.most first
   pub header : f.IsHeader v first
@@ -54,7 +56,8 @@ pub record AreBehind (f : Format) (v : Version) (bytes : List ℕ) (records : Li
   pub lines : AreLines f v later records
 
 -- the bytes are a first line of the version, lines that spell the records, and a last line
-pub record AreWhole (f : Format) (v : Version) (bytes : List ℕ) (records : List Record) : Type 0 where
+pub record AreWhole (f : Format) (v : Version) (bytes : List ℕ)
+    (records : List Record) : Type 0 where
   pub front : List ℕ
   pub behind : AreBehind f v front records
   pub last : List ℕ
@@ -86,7 +89,8 @@ SpellsNone f v l = (x : Record) → f.Spells v l x → ⊥
 
 -- Why the first line, with these bytes from it on, is no header.
 abbrev pub StartCause : Format → List ℕ → Cause → Type 0
-StartCause f rest c = MatchResult (whole_line f.most rest) (λ l. IsNoHeader f l.0 × (c ≡ BadHeader)) (λ why. c ≡ why)
+StartCause f rest c =
+    MatchResult (whole_line f.most rest) (λ l. IsNoHeader f l.0 × (c ≡ BadHeader)) (λ why. c ≡ why)
 
 -- Why the line of that number, with these bytes from it on, is neither a record of the version nor the end: the first cause that applies.
 abbrev pub RecordCause : Format → Version → ℕ → List ℕ → Cause → Type 0
@@ -110,7 +114,8 @@ LineCause f (After v records) rest c = RecordCause f v (length records + 2) rest
 LineCause f (Ended v records) rest c = (rest ≢ []) × (c ≡ AfterEnd)
 
 -- the bytes are a whole trace of that version with these records
-pub record IsTrace (f : Format) (v : Version) (bytes : List ℕ) (records : List Record) : Type 0 where
+pub record IsTrace (f : Format) (v : Version) (bytes : List ℕ)
+    (records : List Record) : Type 0 where
   pub whole : AreWhole f v bytes records
   pub few : length records + 2 ≤ most_lines
 
@@ -137,11 +142,14 @@ pub record Refuses (f : Format) (bytes : List ℕ) (place : Place) (c : Cause) :
 
 -- the line of that number has the cause, and these are the records before it
 abbrev pub ReadsUntil : Format → List ℕ → ℕ → Cause → List Record → Type 0
-ReadsUntil f bytes number c records = (place : Place) × Refuses f bytes place c × (number ≡ line_number place) × (records ≡ records_before place)
+ReadsUntil f bytes number c records = (place : Place) × Refuses f bytes place c
+    × (number ≡ line_number place) × (records ≡ records_before place)
 
 -- the bytes begin with some lines of a trace, and these are their records
 abbrev pub ReadsPart : Format → List ℕ → List Record → Type 0
-ReadsPart f bytes records = (place : Place) × (before rest : List ℕ) × AreBefore f place before × (line_number place ≤ most_lines + 1) × (bytes ≡ before ++ rest) × (records ≡ records_before place)
+ReadsPart f bytes records = (place : Place) × (before rest : List ℕ) × AreBefore f place before
+    × (line_number place ≤ most_lines + 1) × (bytes ≡ before ++ rest)
+    × (records ≡ records_before place)
 
 -- the first line, or the one behind some of the records
 abbrev pub IsWithin : Version → List Record → Place → Type 0
@@ -151,4 +159,5 @@ IsWithin v records (Ended w front) = ⊥
 
 -- a trace of these records was cut: its bytes end within the first line, or within the one behind some of the records
 abbrev pub IsCutTrace : Format → Version → List Record → List ℕ → Type 0
-IsCutTrace f v records bytes = (place : Place) × Refuses f bytes place NoEnd × IsWithin v records place
+IsCutTrace f v records bytes =
+    (place : Place) × Refuses f bytes place NoEnd × IsWithin v records place

@@ -68,7 +68,8 @@ impl<L: Lines> LineFeed<L> {
         ensures refuses { (bytes : List ℕ) (earlier : List Record) (place : Place) (c : Cause)
             → Stands L.format self.old.mark self.old.line.items self.old.fault bytes earlier
             → Refuses L.format (bytes ++ piece.now) place c → c ≢ NoEnd
-            → (result ≡ Err (FeedFault.Refused (line_number place) c)) ⊎ (result ≡ Err FeedFault.NoMemory) }
+            → (result ≡ Err (FeedFault.Refused (line_number place) c))
+            ⊎ (result ≡ Err FeedFault.NoMemory) }
         ensures no_memory { result ≡ Err FeedFault.NoMemory → (bytes : List ℕ) (earlier : List Record)
             → Stands L.format self.old.mark self.old.line.items self.old.fault bytes earlier
             → IsFedPart L.format (bytes ++ piece.now) earlier out.old.items out.new.items }
@@ -246,9 +247,11 @@ impl<L: Lines> LineFeed<L> {
             → result ≡ Ok tt }
         ensures refuses { (bytes : List ℕ) (records : List Record) (place : Place) (c : Cause)
             → Stands L.format self.now.mark self.now.line.items self.now.fault bytes records
-            → Refuses L.format bytes place c → result ≡ Err (FeedFault.Refused (line_number place) c) }
+            → Refuses L.format bytes place c
+            → result ≡ Err (FeedFault.Refused (line_number place) c) }
         ensures answered { (fault : FeedFault) → self.now.fault ≡ Some fault → result ≡ Err fault }
-        ensures no_memory { result ≡ Err FeedFault.NoMemory → self.now.fault ≡ Some FeedFault.NoMemory }
+        ensures no_memory { result ≡ Err FeedFault.NoMemory
+            → self.now.fault ≡ Some FeedFault.NoMemory }
     {
         if let Some(answered) = self.fault {
             return Err(answered);

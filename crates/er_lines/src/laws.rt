@@ -70,7 +70,8 @@ pub fn longer_input<L: Lines>()
 /// some of its records.
 pub fn cut_trace<L: Lines>()
     ensures { (v : Version) (records : List Record) (bytes more : List ℕ)
-        → IsTrace L.format v (bytes ++ more) records → 0 < length more → IsCutTrace L.format v records bytes }
+        → IsTrace L.format v (bytes ++ more) records → 0 < length more
+        → IsCutTrace L.format v records bytes }
 {}
 
 /// The line of `no-end` is one more than the LFs of the bytes.

@@ -25,7 +25,8 @@ pub fn read_line<L: Lines>(
     ensures read { IfOk result (λ next. (came : List Record) × IsLine L.format mark line.now next came
         × (out.new.items ≡ out.old.items ++ came)) }
     ensures refused { (n : ℕ) (c : Cause) → result ≡ Err (FeedFault.Refused n c)
-        → (n ≡ number_at mark) × IsBadLine L.format mark line.now c × (out.new.items ≡ out.old.items) }
+        → (n ≡ number_at mark) × IsBadLine L.format mark line.now c
+        × (out.new.items ≡ out.old.items) }
     ensures no_memory { result ≡ Err FeedFault.NoMemory → out.new.items ≡ out.old.items }
 {
     let Mark::After(version, records) = mark else {

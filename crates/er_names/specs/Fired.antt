@@ -49,8 +49,10 @@ abbrev pub IsNoEarlier : SetTimeout → SetTimeout → Type 0
 IsNoEarlier x y = y.rank ≤ x.rank
 
 -- so many right before a place stand so to the timeout
-abbrev pub StandSo : (SetTimeout → SetTimeout → Type 0) → List FiredTimeout → ℕ → SetTimeout → ℕ → Type 0
-StandSo so xs place x count = (j : ℕ) (d : FiredTimeout) → j < place → place ≤ j + count → so (get_or xs j d).set x
+abbrev pub StandSo : (SetTimeout → SetTimeout → Type 0) → List FiredTimeout → ℕ → SetTimeout → ℕ
+    → Type 0
+StandSo so xs place x count = (j : ℕ) (d : FiredTimeout) → j < place → place ≤ j + count
+    → so (get_or xs j d).set x
 
 -- so many as it counts stand right before its place
 pub record IsCounted (xs : List FiredTimeout) (place : ℕ) (x : FiredTimeout) : Type 0 where

@@ -81,7 +81,8 @@ rank_of t = t.rank
 
 -- timeouts are ranked in the order of the places of their records
 abbrev pub IsRankedByPlace : (ℕ → Option Timeout) → ℕ → List Record → Type 0
-IsRankedByPlace found count h = IsRanked (λ k. option_map rank_of (found k)) (place_of h) count (length (told h).entries)
+IsRankedByPlace found count h =
+    IsRanked (λ k. option_map rank_of (found k)) (place_of h) count (length (told h).entries)
 
 -- each table answers what the list says
 pub record TablesAre (tables : Tables) (h : List Record) : Type 0 where

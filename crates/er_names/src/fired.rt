@@ -54,7 +54,8 @@ impl Firings {
     fn push(&mut self, fired: SetTimeout)
         requires room { HasPlace self.old }
         ensures numbers { self.new.numbers.items ≡ self.old.numbers.items ++ fired.timeout ∷ [] }
-        ensures timeouts { sets self.new.timeouts.items ≡ sets self.old.timeouts.items ++ fired ∷ [] }
+        ensures timeouts { sets self.new.timeouts.items
+            ≡ sets self.old.timeouts.items ++ fired ∷ [] }
         ensures counted { AreCounted self.old.timeouts.items → AreCounted self.new.timeouts.items }
     {
         let timeout = counted(&self.timeouts, fired);
@@ -120,7 +121,8 @@ impl Fired {
             → map number_of (sets result.now) ≡ says.fired h }
         ensures found { (found : ℕ → Option Timeout) → AreFound found self.now
             → All (IsFound found) (sets result.now) }
-        ensures counted { (found : ℕ → Option Timeout) → AreFound found self.now → AreCounted result.now }
+        ensures counted { (found : ℕ → Option Timeout) → AreFound found self.now
+            → AreCounted result.now }
     {
         self.all.timeouts.as_slice()
     }
@@ -131,7 +133,8 @@ impl Fired {
             → map number_of (sets result.now) ≡ says.fired_with h event }
         ensures found { (found : ℕ → Option Timeout) → AreFound found self.now
             → All (IsFound found) (sets result.now) }
-        ensures counted { (found : ℕ → Option Timeout) → AreFound found self.now → AreCounted result.now }
+        ensures counted { (found : ℕ → Option Timeout) → AreFound found self.now
+            → AreCounted result.now }
     {
         match self.lists.get(&event) {
             Some(list) => list.timeouts.as_slice(),
@@ -142,7 +145,8 @@ impl Fired {
     /// Makes room for a timeout that fires, if there is one.
     pub(crate) fn make_room(&mut self, timer: Option<SetTimeout>) -> Result<(), NoMemory>
         ensures kept { (h : List Record) → FiredAre self.old h → FiredAre self.new h }
-        ensures found { (found : ℕ → Option Timeout) → AreFound found self.old → AreFound found self.new }
+        ensures found { (found : ℕ → Option Timeout) → AreFound found self.old
+            → AreFound found self.new }
         ensures room { OnOk result (HasPlaceFor self.new timer) }
     {
         let Some(timeout) = timer else {
@@ -207,7 +211,8 @@ impl Fired {
             ≡ numbers_at self.old u ++ map number_of (timers_of u (Some timeout)) }
         ensures timeouts { (u : ℕ) → sets_at self.new u
             ≡ sets_at self.old u ++ timers_of u (Some timeout) }
-        ensures counted { (u : ℕ) → AreCounted (timeouts_at self.old u) → AreCounted (timeouts_at self.new u) }
+        ensures counted { (u : ℕ) → AreCounted (timeouts_at self.old u)
+            → AreCounted (timeouts_at self.new u) }
         ensures others { self.new.all ≡ self.old.all }
     {
         let Some(list) = self.lists.get_mut(&timeout.maker) else {

@@ -14,7 +14,9 @@ abbrev pub timer_due : Version → Record → List Record → List ℕ
 timer_due v x h = timer_handed v (path (rules v) h) (told h) x
 
 abbrev pub HandsEnoughTimers : Version → (List Record → Type 0) → Record → List ℕ → List ℕ → Type 0
-HandsEnoughTimers v stands x old new = (h : List Record) → stands h → ComesNext (rules v) h x → HasHanded (timer_rules v) (path (rules v) h) (told h) x old new
+HandsEnoughTimers v stands x old new = (h : List Record) → stands h → ComesNext (rules v) h x
+    → HasHanded (timer_rules v) (path (rules v) h) (told h) x old new
 
 abbrev pub HandsSourceTimers : Version → (List Record → Type 0) → Record → List ℕ → List ℕ → Type 0
-HandsSourceTimers v stands x old new = (h : List Record) → stands h → ComesNext (rules v) h x → HasHandedSome (timer_rules v) (path (rules v) h) (told h) x old new
+HandsSourceTimers v stands x old new = (h : List Record) → stands h → ComesNext (rules v) h x
+    → HasHandedSome (timer_rules v) (path (rules v) h) (told h) x old new

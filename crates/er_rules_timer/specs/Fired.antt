@@ -30,8 +30,10 @@ asks_for_path Three = true
 -- in versions 2 and 3 a path must lead to it besides; in version 1 one event set both
 abbrev pub goes_before : Version → List Record → ℕ → ℕ → Bool
 goes_before One h s t = goes_off_first h s t
-goes_before Two h s t = goes_off_first h s t && is_joined (path (rules Two) h) (setting_piece h s) (setting_piece h t)
-goes_before Three h s t = goes_off_first h s t && is_joined (path (rules Three) h) (setting_piece h s) (setting_piece h t)
+goes_before Two h s t =
+    goes_off_first h s t && is_joined (path (rules Two) h) (setting_piece h s) (setting_piece h t)
+goes_before Three h s t =
+    goes_off_first h s t && is_joined (path (rules Three) h) (setting_piece h s) (setting_piece h t)
 
 -- the timeouts that have fired and that may come before one that this event set
 abbrev pub fired_before : Version → List Record → ℕ → List ℕ
@@ -41,7 +43,8 @@ fired_before Three h u = fired h
 
 -- the latest piece of the callback of s, if it is to come before that of t
 abbrev pub handed_for : Version → List Record → ℕ → ℕ → List ℕ
-handed_for v h t s = if goes_before v h s t then latest_of (timer_event h s) (told h).actions else []
+handed_for v h t s =
+    if goes_before v h s t then latest_of (timer_event h s) (told h).actions else []
 
 -- and those of each of these timeouts
 abbrev pub handed_for_each : Version → List Record → ℕ → List ℕ → List ℕ
@@ -62,4 +65,5 @@ due_for v h t = set_by v h t (maker_of_timeout h t)
 
 -- what comes before a callback of an interval
 abbrev pub tick_handed : List Record → ℕ → List ℕ
-tick_handed h i = latest_of (maker_of_interval h i) (told h).actions ++ newest (is_tick_of i) (told h).actions
+tick_handed h i =
+    latest_of (maker_of_interval h i) (told h).actions ++ newest (is_tick_of i) (told h).actions

@@ -33,8 +33,12 @@ pub record GrewEnough (joined : ℕ → ℕ → Bool) (due old new : List ℕ) :
 
 -- for each list that page and clocks stand for
 
-abbrev pub GrewSomeFor : Version → Page → List (List ℕ) → (List Record → List ℕ) → List ℕ → List ℕ → Type 0
-GrewSomeFor v page links due old new = (h : List Record) → IsTimed v page links h → GrewSome (due h) old new
+abbrev pub GrewSomeFor : Version → Page → List (List ℕ) → (List Record → List ℕ) → List ℕ → List ℕ
+    → Type 0
+GrewSomeFor v page links due old new = (h : List Record) → IsTimed v page links h
+    → GrewSome (due h) old new
 
-abbrev pub GrewEnoughFor : Version → Page → List (List ℕ) → (List Record → List ℕ) → List ℕ → List ℕ → Type 0
-GrewEnoughFor v page links due old new = (h : List Record) → IsTimed v page links h → GrewEnough (path (rules v) h) (due h) old new
+abbrev pub GrewEnoughFor : Version → Page → List (List ℕ) → (List Record → List ℕ) → List ℕ → List ℕ
+    → Type 0
+GrewEnoughFor v page links due old new = (h : List Record) → IsTimed v page links h
+    → GrewEnough (path (rules v) h) (due h) old new

@@ -10,7 +10,8 @@ use Rattle.er_page.specs.declared.page.Page.{Page}
 use Rattle.er_page.specs.Page.{IsPage}
 
 -- the page stands for the list, and the clocks for the edges of the version between its actions
-pub record IsTimed (v : Version) (shown : Page) (links : List (List ℕ)) (h : List Record) : Type 0 where
+pub record IsTimed (v : Version) (shown : Page) (links : List (List ℕ))
+    (h : List Record) : Type 0 where
   pub page : IsPage shown h
   pub clocks : StandsFor links (edges (rules v) (told h).actions)
 

@@ -38,11 +38,13 @@ pub record AreFired (names : Names) (xs : List FiredTimeout) : Type 0 where
 
 -- a path leads from each piece that is handed of the timeout to one of these
 abbrev pub IsReached : Version → List Record → ℕ → List ℕ → Type 0
-IsReached v h s handed = (k : ℕ) → is_among k (latest_of (timer_event h s) (told h).actions) ≡ true → list_any (λ m. path (rules v) h k m) handed ≡ true
+IsReached v h s handed = (k : ℕ) → is_among k (latest_of (timer_event h s) (told h).actions) ≡ true
+    → list_any (λ m. path (rules v) h k m) handed ≡ true
 
 -- of two of these of which the first goes before the other, a path leads so to what is handed of the other
 abbrev pub AreJoined : Version → List Record → List FiredTimeout → Type 0
-AreJoined v h xs = (i j : ℕ) (x y : FiredTimeout) → i < j → StandsAt xs i x → StandsAt xs j y → goes_before v h x.set.timeout y.set.timeout ≡ true
+AreJoined v h xs = (i j : ℕ) (x y : FiredTimeout) → i < j → StandsAt xs i x → StandsAt xs j y
+    → goes_before v h x.set.timeout y.set.timeout ≡ true
     → IsReached v h x.set.timeout (latest_of (timer_event h y.set.timeout) (told h).actions)
 
 -- what is due of the timeouts from this place on
@@ -50,7 +52,8 @@ abbrev pub due_from : Version → List Record → ℕ → List FiredTimeout → 
 due_from v h t xs left = handed_for_each v h t (reverse (map number_of (sets (drop left xs))))
 
 -- it is one of these from this place on, and is reached so
-pub record IsHanded (v : Version) (h : List Record) (xs : List FiredTimeout) (left : ℕ) (handed : List ℕ) (x : SetTimeout) : Type 0 where
+pub record IsHanded (v : Version) (h : List Record) (xs : List FiredTimeout) (left : ℕ)
+    (handed : List ℕ) (x : SetTimeout) : Type 0 where
   pub place : ℕ
   pub found : FiredTimeout
   pub behind : left ≤ place
@@ -59,12 +62,15 @@ pub record IsHanded (v : Version) (h : List Record) (xs : List FiredTimeout) (le
   pub reached : IsReached v h x.timeout handed
 
 -- the walk has come so far
-pub record IsWalk (v : Version) (h : List Record) (t : ℕ) (xs : List FiredTimeout) (walk : Walk) (old new : List ℕ) : Type 0 where
+pub record IsWalk (v : Version) (h : List Record) (t : ℕ) (xs : List FiredTimeout) (walk : Walk)
+    (old new : List ℕ) : Type 0 where
   pub handed : List ℕ
   pub grown : new ≡ old ++ handed
   pub suffice : Suffice (path (rules v) h) (due_from v h t xs walk.left) handed
   pub last : IfSome walk.handed (IsHanded v h xs walk.left handed)
 
 -- from wherever it began, it goes on so
-abbrev pub WalksOn : Version → List Record → ℕ → List FiredTimeout → Walk → Walk → List ℕ → List ℕ → Type 0
-WalksOn v h t xs walk next old new = (start : List ℕ) → IsWalk v h t xs walk start old → IsWalk v h t xs next start new
+abbrev pub WalksOn : Version → List Record → ℕ → List FiredTimeout → Walk → Walk → List ℕ → List ℕ
+    → Type 0
+WalksOn v h t xs walk next old new = (start : List ℕ) → IsWalk v h t xs walk start old
+    → IsWalk v h t xs next start new

@@ -22,7 +22,8 @@ hex_digit n = if nat_lt n 10 then 48 + n else 55 + n
 
 -- the byte itself, or `%` and two digits
 abbrev pub byte_spelling : ℕ → List ℕ
-byte_spelling b = if stands_for_itself b then b ∷ [] else 37 ∷ hex_digit (b / 16) ∷ hex_digit (b % 16) ∷ []
+byte_spelling b =
+    if stands_for_itself b then b ∷ [] else 37 ∷ hex_digit (b / 16) ∷ hex_digit (b % 16) ∷ []
 
 abbrev pub name_spelling : List ℕ → List ℕ
 name_spelling name = flat_map byte_spelling name

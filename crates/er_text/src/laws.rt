@@ -10,12 +10,15 @@ ghost use Rattle.er_text.specs.Number.{IsNumber};
 ghost use Rattle.er_text.specs.Name.{IsName, most_name, name_spelling};
 
 pub fn line_and_rest()
-    ensures { (line rest : List ℕ) → has_no_lf line ≡ true → first_line (line ++ 10 ∷ rest) ≡ Some (line, rest) }
+    ensures { (line rest : List ℕ) → has_no_lf line ≡ true
+        → first_line (line ++ 10 ∷ rest) ≡ Some (line, rest) }
 {}
 
 pub fn parts_of_first_line()
-    ensures line { (bytes line rest : List ℕ) → first_line bytes ≡ Some (line, rest) → has_no_lf line ≡ true }
-    ensures bytes { (bytes line rest : List ℕ) → first_line bytes ≡ Some (line, rest) → bytes ≡ line ++ 10 ∷ rest }
+    ensures line { (bytes line rest : List ℕ) → first_line bytes ≡ Some (line, rest)
+        → has_no_lf line ≡ true }
+    ensures bytes { (bytes line rest : List ℕ) → first_line bytes ≡ Some (line, rest)
+        → bytes ≡ line ++ 10 ∷ rest }
 {}
 
 pub fn no_first_line()
@@ -27,11 +30,13 @@ pub fn joined_words()
 {}
 
 pub fn words_of_joined()
-    ensures { (word : List ℕ) (later : List (List ℕ)) → list_all has_no_space (word ∷ later) ≡ true → words (joined (word ∷ later)) ≡ word ∷ later }
+    ensures { (word : List ℕ) (later : List (List ℕ)) → list_all has_no_space (word ∷ later) ≡ true
+        → words (joined (word ∷ later)) ≡ word ∷ later }
 {}
 
 pub fn joined_line()
-    ensures { (parts : List (List ℕ)) → list_all has_no_lf parts ≡ true → has_no_lf (joined parts) ≡ true }
+    ensures { (parts : List (List ℕ)) → list_all has_no_lf parts ≡ true
+        → has_no_lf (joined parts) ≡ true }
 {}
 
 pub fn number_word()

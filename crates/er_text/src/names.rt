@@ -139,7 +139,8 @@ impl<'a> NameWord<'a> {
 #[tactic(auto, using(crate::proofs::NameLaws::reads_none, crate::proofs::NameLaws::reads_more, crate::proofs::NameLaws::reads_all, crate::proofs::NameLaws::no_name_at, crate::proofs::NameLaws::no_long_name, crate::proofs::NameLaws::no_empty_name, crate::proofs::NameLaws::name_word, crate::proofs::NameLaws::name_of_word))]
 pub fn read_name(word: &[u8]) -> Result<NameWord<'_>, BadToken>
     ensures read { IfOk result (λ name. IsName name × (word.now ≡ name_spelling name)) }
-    ensures exact { (name : List ℕ) → IsName name → word.now ≡ name_spelling name → IsOkAnd result (λ read. read ≡ name) }
+    ensures exact { (name : List ℕ) → IsName name → word.now ≡ name_spelling name
+        → IsOkAnd result (λ read. read ≡ name) }
 {
     let mut rest = word;
     let mut count = 0;

@@ -40,7 +40,11 @@ head_word heads.W = codes "w"
 
 -- every first word, in the order of the table
 abbrev pub head_list : List Head
-head_list = heads.R ∷ heads.W ∷ heads.Run ∷ heads.Close ∷ heads.Parse ∷ heads.Exec ∷ heads.Timer ∷ heads.Tick ∷ heads.Dcl ∷ heads.Load ∷ heads.Eload ∷ heads.Fire ∷ heads.Wfire ∷ heads.Reply ∷ heads.Inline ∷ heads.Back ∷ heads.New ∷ heads.On ∷ heads.Set ∷ heads.Every ∷ heads.Send ∷ heads.Post ∷ heads.Ask ∷ heads.Queue ∷ heads.Message ∷ heads.Anim ∷ heads.Job ∷ []
+head_list =
+    heads.R ∷ heads.W ∷ heads.Run ∷ heads.Close ∷ heads.Parse ∷ heads.Exec ∷ heads.Timer
+    ∷ heads.Tick ∷ heads.Dcl ∷ heads.Load ∷ heads.Eload ∷ heads.Fire ∷ heads.Wfire ∷ heads.Reply
+    ∷ heads.Inline ∷ heads.Back ∷ heads.New ∷ heads.On ∷ heads.Set ∷ heads.Every ∷ heads.Send
+    ∷ heads.Post ∷ heads.Ask ∷ heads.Queue ∷ heads.Message ∷ heads.Anim ∷ heads.Job ∷ []
 
 abbrev pub mode_head : Mode → Head
 mode_head modes.R = heads.R

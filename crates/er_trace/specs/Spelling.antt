@@ -37,7 +37,8 @@ loc_items (Slot e n) = Word (codes "slot") ∷ Number e ∷ Named n ∷ []
 
 abbrev pub record_items : Record → List Item
 record_items (Parse d e k) = Word (codes "parse") ∷ Number d ∷ Number e ∷ Word (kind_word k) ∷ []
-record_items (ParseFrame d e f) = Word (codes "parse") ∷ Number d ∷ Number e ∷ Word (codes "frame") ∷ Number f ∷ []
+record_items (ParseFrame d e f) =
+    Word (codes "parse") ∷ Number d ∷ Number e ∷ Word (codes "frame") ∷ Number f ∷ []
 record_items (Exec e) = Word (codes "exec") ∷ Number e ∷ []
 record_items (Timer t) = Word (codes "timer") ∷ Number t ∷ []
 record_items (Tick i) = Word (codes "tick") ∷ Number i ∷ []
@@ -52,7 +53,8 @@ record_items (Run p g h) = Word (codes "run") ∷ Number p ∷ Number g ∷ Numb
 record_items (Close p) = Word (codes "close") ∷ Number p ∷ []
 record_items (Back p) = Word (codes "back") ∷ Number p ∷ []
 record_items (New d e k) = Word (codes "new") ∷ Number d ∷ Number e ∷ Word (new_kind_word k) ∷ []
-record_items (NewFrame d e f) = Word (codes "new") ∷ Number d ∷ Number e ∷ Word (codes "frame") ∷ Number f ∷ []
+record_items (NewFrame d e f) =
+    Word (codes "new") ∷ Number d ∷ Number e ∷ Word (codes "frame") ∷ Number f ∷ []
 record_items (On h) = Word (codes "on") ∷ Number h ∷ []
 record_items (Set t n) = Word (codes "set") ∷ Number t ∷ Number n ∷ []
 record_items (Every i n) = Word (codes "every") ∷ Number i ∷ Number n ∷ []

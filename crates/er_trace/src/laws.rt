@@ -15,5 +15,6 @@ pub fn one_record()
 
 /// One text has one version and one list of records, however many they are.
 pub fn one_trace()
-    ensures { (v w : Version) (a b : List Record) → AllByRecursion IsRecord a → AllByRecursion IsRecord b → text v a ≡ text w b → (v ≡ w) × (a ≡ b) }
+    ensures { (v w : Version) (a b : List Record) → AllByRecursion IsRecord a
+        → AllByRecursion IsRecord b → text v a ≡ text w b → (v ≡ w) × (a ≡ b) }
 {}

@@ -16,7 +16,8 @@ use std::alloc::Global;
 
 pub fn fire_form(alloc: Global, words: &mut Words) -> Result<Record, LineFault>
     ensures read { IfOk result (λ x. GoesOn Head.Fire x words.old) }
-    ensures exact { (x : Record) → GoesOn Head.Fire x words.old → (result ≡ Ok x) ⊎ (result ≡ Err LineFault.NoMemory) }
+    ensures exact { (x : Record) → GoesOn Head.Fire x words.old
+        → (result ≡ Ok x) ⊎ (result ≡ Err LineFault.NoMemory) }
 {
     let (dispatch, element, name) = two_numbers_and_name(alloc, words)?;
     Ok(Record::Fire {
@@ -28,7 +29,8 @@ pub fn fire_form(alloc: Global, words: &mut Words) -> Result<Record, LineFault>
 
 pub fn wfire_form(alloc: Global, words: &mut Words) -> Result<Record, LineFault>
     ensures read { IfOk result (λ x. GoesOn Head.Wfire x words.old) }
-    ensures exact { (x : Record) → GoesOn Head.Wfire x words.old → (result ≡ Ok x) ⊎ (result ≡ Err LineFault.NoMemory) }
+    ensures exact { (x : Record) → GoesOn Head.Wfire x words.old
+        → (result ≡ Ok x) ⊎ (result ≡ Err LineFault.NoMemory) }
 {
     let (dispatch, doc, name) = two_numbers_and_name(alloc, words)?;
     Ok(Record::Wfire {
@@ -40,7 +42,8 @@ pub fn wfire_form(alloc: Global, words: &mut Words) -> Result<Record, LineFault>
 
 pub fn inline_form(alloc: Global, words: &mut Words) -> Result<Record, LineFault>
     ensures read { IfOk result (λ x. GoesOn Head.Inline x words.old) }
-    ensures exact { (x : Record) → GoesOn Head.Inline x words.old → (result ≡ Ok x) ⊎ (result ≡ Err LineFault.NoMemory) }
+    ensures exact { (x : Record) → GoesOn Head.Inline x words.old
+        → (result ≡ Ok x) ⊎ (result ≡ Err LineFault.NoMemory) }
 {
     let (dispatch, element, name) = two_numbers_and_name(alloc, words)?;
     Ok(Record::Inline {
@@ -52,8 +55,10 @@ pub fn inline_form(alloc: Global, words: &mut Words) -> Result<Record, LineFault
 
 /// The location that is all that is left.
 fn location(alloc: Global, words: &mut Words) -> Result<Loc, LineFault>
-    ensures read { IfOk result (λ loc. IsLoc loc × (words.old ≡ map item_spelling (loc_items loc))) }
-    ensures exact { (loc : Loc) → IsLoc loc → words.old ≡ map item_spelling (loc_items loc) → (result ≡ Ok loc) ⊎ (result ≡ Err LineFault.NoMemory) }
+    ensures read { IfOk result
+        (λ loc. IsLoc loc × (words.old ≡ map item_spelling (loc_items loc))) }
+    ensures exact { (loc : Loc) → IsLoc loc → words.old ≡ map item_spelling (loc_items loc)
+        → (result ≡ Ok loc) ⊎ (result ≡ Err LineFault.NoMemory) }
 {
     let Some(word) = words.next() else {
         return Err(LineFault::BadRecord);
@@ -73,7 +78,8 @@ fn location(alloc: Global, words: &mut Words) -> Result<Loc, LineFault>
 
 pub fn access_form(alloc: Global, mode: Mode, words: &mut Words) -> Result<Record, LineFault>
     ensures read { IfOk result (λ x. GoesOn (mode_head mode) x words.old) }
-    ensures exact { (x : Record) → GoesOn (mode_head mode) x words.old → (result ≡ Ok x) ⊎ (result ≡ Err LineFault.NoMemory) }
+    ensures exact { (x : Record) → GoesOn (mode_head mode) x words.old
+        → (result ≡ Ok x) ⊎ (result ≡ Err LineFault.NoMemory) }
 {
     let loc = location(alloc, words)?;
     Ok(Record::Access { mode, loc })

@@ -30,7 +30,8 @@ fn without_names(form: Option<Record>) -> Result<Record, LineFault>
 /// The record that begins with that word, and goes on with those that are left.
 fn read_form(alloc: Global, head: Head, words: &mut Words) -> Result<Record, LineFault>
     ensures read { IfOk result (λ x. GoesOn head x words.old) }
-    ensures exact { (x : Record) → GoesOn head x words.old → (result ≡ Ok x) ⊎ (result ≡ Err LineFault.NoMemory) }
+    ensures exact { (x : Record) → GoesOn head x words.old
+        → (result ≡ Ok x) ⊎ (result ≡ Err LineFault.NoMemory) }
 {
     match head {
         Head::Parse => without_names(parse_form(words)),

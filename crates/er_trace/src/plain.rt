@@ -50,7 +50,8 @@ fn first_other(bytes: &[u8]) -> Option<usize>
 /// The number at the front, and what stands behind the space after it.
 #[tactic(auto, using(crate::proofs::PlainLaws::cut_at_space))]
 fn front_number(bytes: &[u8]) -> Option<(u32, &[u8])>
-    ensures { IfSome result (λ pair. (pair.0 < 2 ^ 32) × (bytes.now ≡ decimal pair.0 ++ space ∷ pair.1.now)) }
+    ensures { IfSome result
+        (λ pair. (pair.0 < 2 ^ 32) × (bytes.now ≡ decimal pair.0 ++ space ∷ pair.1.now)) }
 {
     let end = first_space(bytes)?;
     let number = read_number(&bytes[..end]).ok()?;
@@ -92,7 +93,8 @@ fn name_of_front(alloc: Global, bytes: &[u8], end: usize) -> Option<Name>
 
 /// That name, and what stands behind the LF.
 fn front_name(alloc: Global, bytes: &[u8]) -> Option<(Name, &[u8])>
-    ensures { IfSome result (λ pair. IsName pair.0 × (bytes.now ≡ name_spelling pair.0 ++ line_end ∷ pair.1.now)) }
+    ensures { IfSome result
+        (λ pair. IsName pair.0 × (bytes.now ≡ name_spelling pair.0 ++ line_end ∷ pair.1.now)) }
 {
     let end = plain_end(bytes)?;
     let name = name_of_front(alloc, bytes, end)?;
