@@ -88,4 +88,5 @@ what_read h k _ = Unnamed
 
 -- Where naming refuses no record, an event is what the record of its first piece and the whole list say.
 abbrev pub EventsAreAsRead : Type 0
-EventsAreAsRead = (h : List Record) (a : Action) → IsNamed h → Among a (told h).actions → a.event.number ≡ a.number → a.event.what ≡ what_read h a.number a.begin
+EventsAreAsRead = (h : List Record) (a : Action) → IsNamed h → Among a (told h).actions
+    → a.event.number ≡ a.number → a.event.what ≡ what_read h a.number a.begin

@@ -1,10 +1,12 @@
 -- What an event that is read off a page stands for. A timeout and a task are shown by their numbers: the list says what set or declared them, and under which dispatches a job began.
-use Rattle.std.specs.Prelude.{List, option_map}
+use Rattle.std.specs.Prelude.{ℕ, Bool, List, Option, option_map}
 use Rattle.er_trace.specs.declared.record.Record.{Record}
 use Rattle.er_history.specs.History as history
 use Rattle.er_history.specs.LookUps.{timeout_made}
 use Rattle.er_history.specs.Tasks.{OfMessage, OfAnim, OfJob, task_made}
+use Rattle.er_history.specs.Rules.{Rule}
 use Rattle.er_names.specs.Names.{element_of}
+use Rattle.er_steps.specs.Steps.{least_rule, rule_of_events}
 use Rattle.er_reasons.specs.Read.{within_of}
 use Rattle.er_reasons.specs.declared.event.Event.{Event}
 use Rattle.er_reasons.specs.declared.event.Dispatch.{Dispatch}
@@ -40,3 +42,15 @@ what_shown h Unnamed = history.Unnamed
 
 abbrev pub event_shown : List Record → Event → history.Event
 event_shown h e = record { number = e.number; what = what_shown h e.what }
+
+-- the rule holds between these events
+abbrev pub holds : Rule → (ℕ → ℕ → Bool) → List Record → Event → Event → Bool
+holds rule joined h u v = rule joined (event_shown h u) (event_shown h v)
+
+-- the least number of a rule of the table that does
+abbrev pub least : List (ℕ × Rule) → (ℕ → ℕ → Bool) → List Record → Event → Event → Option ℕ
+least table joined h u v = least_rule table joined (event_shown h u) (event_shown h v)
+
+-- that of the table, where they are two events
+abbrev pub rule_shown : List (ℕ × Rule) → (ℕ → ℕ → Bool) → List Record → Event → Event → Option ℕ
+rule_shown table joined h u v = rule_of_events table joined (event_shown h u) (event_shown h v)

@@ -3,8 +3,7 @@
 ghost use Rattle.std.specs.Prelude.{◌≡◌, ℕ, Bool, ◌&&◌, ◌==◌, nat_lt, List};
 ghost use Rattle.er_trace.specs.declared.record.Record.{Record};
 ghost use Rattle.er_history.specs.Rules as rules;
-ghost use Rattle.er_steps.specs.Steps.{least_rule};
-ghost use Rattle.er_reasons.specs.Shown.{delivered, event_shown};
+ghost use Rattle.er_reasons.specs.Shown.{delivered, holds, least};
 ghost use Rattle.er_reasons.specs.Words.{is_at};
 
 use crate::elements::{made_by, recorded};
@@ -14,7 +13,8 @@ use er_trace::name::Name;
 
 /// The least number of a rule on dispatches that holds from u to v.
 pub(crate) fn dispatch_rule(u: &Event<'_>, v: &Event<'_>) -> Option<u32>
-    ensures { (joined : ℕ → ℕ → Bool) (h : List Record) → result ≡ least_rule rules.dispatch_rules joined (event_shown h u.now) (event_shown h v.now) }
+    ensures { (joined : ℕ → ℕ → Bool) (h : List Record)
+        → result ≡ least rules.dispatch_rules joined h u.now v.now }
 {
     least_from(
         14,
@@ -28,7 +28,8 @@ pub(crate) fn dispatch_rule(u: &Event<'_>, v: &Event<'_>) -> Option<u32>
 }
 
 fn target_before_dispatch(u: &Event<'_>, v: &Event<'_>) -> bool
-    ensures { (joined : ℕ → ℕ → Bool) (h : List Record) → result ≡ rules.target_before_dispatch joined (event_shown h u.now) (event_shown h v.now) }
+    ensures { (joined : ℕ → ℕ → Bool) (h : List Record)
+        → result ≡ holds rules.target_before_dispatch joined h u.now v.now }
 {
     match v.what {
         What::BeginOf { dispatch } => match dispatch.delivers {
@@ -44,7 +45,8 @@ fn target_before_dispatch(u: &Event<'_>, v: &Event<'_>) -> bool
 }
 
 fn registered_before_run(u: &Event<'_>, v: &Event<'_>) -> bool
-    ensures { (joined : ℕ → ℕ → Bool) (h : List Record) → result ≡ rules.registered_before_run joined (event_shown h u.now) (event_shown h v.now) }
+    ensures { (joined : ℕ → ℕ → Bool) (h : List Record)
+        → result ≡ holds rules.registered_before_run joined h u.now v.now }
 {
     match v.what {
         What::HandlerOf { maker, .. } => made_by(maker, u),
@@ -53,7 +55,8 @@ fn registered_before_run(u: &Event<'_>, v: &Event<'_>) -> bool
 }
 
 fn dispatch_in_order(u: &Event<'_>, v: &Event<'_>) -> bool
-    ensures { (joined : ℕ → ℕ → Bool) (h : List Record) → result ≡ rules.dispatch_in_order joined (event_shown h u.now) (event_shown h v.now) }
+    ensures { (joined : ℕ → ℕ → Bool) (h : List Record)
+        → result ≡ holds rules.dispatch_in_order joined h u.now v.now }
 {
     match u.what {
         What::BeginOf { dispatch } => match v.what {
@@ -82,7 +85,8 @@ fn dispatch_in_order(u: &Event<'_>, v: &Event<'_>) -> bool
 }
 
 fn dispatches_of_one_type_in_order(u: &Event<'_>, v: &Event<'_>) -> bool
-    ensures { (joined : ℕ → ℕ → Bool) (h : List Record) → result ≡ rules.dispatches_of_one_type_in_order joined (event_shown h u.now) (event_shown h v.now) }
+    ensures { (joined : ℕ → ℕ → Bool) (h : List Record)
+        → result ≡ holds rules.dispatches_of_one_type_in_order joined h u.now v.now }
 {
     let first = recorded(u, v);
     match u.what {

@@ -9,7 +9,7 @@ ghost use Rattle.er_clocks.specs.Clock.{StandsFor};
 ghost use Rattle.er_page.specs.Page.{IsPage, HasBegun};
 ghost use Rattle.er_rules_timer.specs.Timed.{IsTimed};
 ghost use Rattle.er_steps.specs.Steps.{least_rule, rule_of_events, rule_of};
-ghost use Rattle.er_reasons.specs.Shown.{event_shown};
+ghost use Rattle.er_reasons.specs.Shown.{least, rule_shown};
 
 use crate::dispatch::dispatch_rule;
 use crate::event::Event;
@@ -52,8 +52,9 @@ fn event_rule(
     u: &Event<'_>,
     v: &Event<'_>,
 ) -> Option<u32>
-    ensures { (h : List Record) (lists : List (List ℕ)) → IsPage page.now h → StandsFor clocks.now lists
-        → result ≡ rule_of_events (rules version) (up_to v.now.number (joins lists)) (event_shown h u.now) (event_shown h v.now) }
+    ensures { (h : List Record) (lists : List (List ℕ)) → IsPage page.now h
+        → StandsFor clocks.now lists
+        → result ≡ rule_shown (rules version) (up_to v.now.number (joins lists)) h u.now v.now }
 {
     if u.number == v.number {
         return None;
@@ -69,8 +70,9 @@ fn any_rule(
     u: &Event<'_>,
     v: &Event<'_>,
 ) -> Option<u32>
-    ensures { (h : List Record) (lists : List (List ℕ)) → IsPage page.now h → StandsFor clocks.now lists
-        → result ≡ least_rule (rules version) (up_to v.now.number (joins lists)) (event_shown h u.now) (event_shown h v.now) }
+    ensures { (h : List Record) (lists : List (List ℕ)) → IsPage page.now h
+        → StandsFor clocks.now lists
+        → result ≡ least (rules version) (up_to v.now.number (joins lists)) h u.now v.now }
 {
     let parse = parse_rule(u, v);
     let script = lesser(parse, script_rule(u, v));

@@ -4,8 +4,7 @@ ghost use Rattle.std.specs.Prelude.{◌≡◌, ℕ, Bool, ◌&&◌, ◌||◌, �
 ghost use Rattle.er_trace.specs.declared.record.Record.{Record};
 ghost use Rattle.er_history.specs.Rules as rules;
 ghost use Rattle.er_names.specs.Names.{element_of};
-ghost use Rattle.er_steps.specs.Steps.{least_rule};
-ghost use Rattle.er_reasons.specs.Shown.{delivered, what_shown, event_shown};
+ghost use Rattle.er_reasons.specs.Shown.{delivered, holds, least, what_shown};
 ghost use Rattle.er_reasons.specs.Words.{is_inner_load_before, is_static_load_before, runs_element};
 
 use crate::elements::{declares, is_blocking, is_deferred, is_maker, is_plain, recorded};
@@ -15,7 +14,8 @@ use er_names::names::Element;
 
 /// The least number of a rule on loads that holds from u to v.
 pub(crate) fn load_rule(u: &Event<'_>, v: &Event<'_>) -> Option<u32>
-    ensures { (joined : ℕ → ℕ → Bool) (h : List Record) → result ≡ least_rule rules.load_rules joined (event_shown h u.now) (event_shown h v.now) }
+    ensures { (joined : ℕ → ℕ → Bool) (h : List Record)
+        → result ≡ least rules.load_rules joined h u.now v.now }
 {
     least_from(
         8,
@@ -31,7 +31,8 @@ pub(crate) fn load_rule(u: &Event<'_>, v: &Event<'_>) -> Option<u32>
 }
 
 fn parsed_before_dcl(u: &Event<'_>, v: &Event<'_>) -> bool
-    ensures { (joined : ℕ → ℕ → Bool) (h : List Record) → result ≡ rules.parsed_before_dcl joined (event_shown h u.now) (event_shown h v.now) }
+    ensures { (joined : ℕ → ℕ → Bool) (h : List Record)
+        → result ≡ holds rules.parsed_before_dcl joined h u.now v.now }
 {
     match v.what {
         What::BeginOf { dispatch } => match dispatch.delivers {
@@ -43,7 +44,8 @@ fn parsed_before_dcl(u: &Event<'_>, v: &Event<'_>) -> bool
 }
 
 fn dcl_before_load(u: &Event<'_>, v: &Event<'_>) -> bool
-    ensures { (joined : ℕ → ℕ → Bool) (h : List Record) → result ≡ rules.dcl_before_load joined (event_shown h u.now) (event_shown h v.now) }
+    ensures { (joined : ℕ → ℕ → Bool) (h : List Record)
+        → result ≡ holds rules.dcl_before_load joined h u.now v.now }
 {
     match v.what {
         What::BeginOf { dispatch } => match dispatch.delivers {
@@ -60,7 +62,8 @@ fn dcl_before_load(u: &Event<'_>, v: &Event<'_>) -> bool
 }
 
 fn parsed_before_load(u: &Event<'_>, v: &Event<'_>) -> bool
-    ensures { (joined : ℕ → ℕ → Bool) (h : List Record) → result ≡ rules.parsed_before_load joined (event_shown h u.now) (event_shown h v.now) }
+    ensures { (joined : ℕ → ℕ → Bool) (h : List Record)
+        → result ≡ holds rules.parsed_before_load joined h u.now v.now }
 {
     match v.what {
         What::BeginOf { dispatch } => match dispatch.delivers {
@@ -72,7 +75,8 @@ fn parsed_before_load(u: &Event<'_>, v: &Event<'_>) -> bool
 }
 
 fn static_loads_before_load(u: &Event<'_>, v: &Event<'_>) -> bool
-    ensures { (joined : ℕ → ℕ → Bool) (h : List Record) → result ≡ rules.static_loads_before_load joined (event_shown h u.now) (event_shown h v.now) }
+    ensures { (joined : ℕ → ℕ → Bool) (h : List Record)
+        → result ≡ holds rules.static_loads_before_load joined h u.now v.now }
 {
     let first = recorded(u, v);
     match u.what {
@@ -87,7 +91,8 @@ fn static_loads_before_load(u: &Event<'_>, v: &Event<'_>) -> bool
 }
 
 fn element_before_its_load(u: &Event<'_>, v: &Event<'_>) -> bool
-    ensures { (joined : ℕ → ℕ → Bool) (h : List Record) → result ≡ rules.element_before_its_load joined (event_shown h u.now) (event_shown h v.now) }
+    ensures { (joined : ℕ → ℕ → Bool) (h : List Record)
+        → result ≡ holds rules.element_before_its_load joined h u.now v.now }
 {
     match v.what {
         What::BeginOf { dispatch } => match dispatch.delivers {
@@ -99,7 +104,8 @@ fn element_before_its_load(u: &Event<'_>, v: &Event<'_>) -> bool
 }
 
 fn inner_load_before_frame_load(u: &Event<'_>, v: &Event<'_>) -> bool
-    ensures { (joined : ℕ → ℕ → Bool) (h : List Record) → result ≡ rules.inner_load_before_frame_load joined (event_shown h u.now) (event_shown h v.now) }
+    ensures { (joined : ℕ → ℕ → Bool) (h : List Record)
+        → result ≡ holds rules.inner_load_before_frame_load joined h u.now v.now }
 {
     let first = recorded(u, v);
     match u.what {
@@ -115,7 +121,10 @@ fn inner_load_before_frame_load(u: &Event<'_>, v: &Event<'_>) -> bool
 
 /// Whether it is a parse step of the document, or the run of a blocking or deferred script of it.
 fn is_parsed_before_dcl(what: What<'_>, doc: u32) -> bool
-    ensures { (h : List Record) → result ≡ rules.step_or_script (λ e. rules.is_blocking e || rules.is_deferred e) doc (what_shown h what.entry) }
+    ensures { (h : List Record)
+        → result
+        ≡ rules.step_or_script (λ e. rules.is_blocking e || rules.is_deferred e) doc
+        (what_shown h what.entry) }
 {
     match what {
         What::ParseStep { doc: parsed, .. } => parsed == doc,
@@ -128,7 +137,8 @@ fn is_parsed_before_dcl(what: What<'_>, doc: u32) -> bool
 
 /// Whether it is a parse step of the document, or the run of a static script of it.
 fn is_parsed_before_load(what: What<'_>, doc: u32) -> bool
-    ensures { (h : List Record) → result ≡ rules.step_or_script (λ e. e.is_static) doc (what_shown h what.entry) }
+    ensures { (h : List Record)
+        → result ≡ rules.step_or_script (λ e. e.is_static) doc (what_shown h what.entry) }
 {
     match what {
         What::ParseStep { doc: parsed, .. } => parsed == doc,

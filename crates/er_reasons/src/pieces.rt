@@ -21,7 +21,10 @@ pub(crate) fn piece_rule(
     begin: &Record,
 ) -> Option<u32>
     requires { i < j }
-    ensures { (h : List Record) (x : Record) → result ≡ rule_of_pieces (piece i x (event_shown h u.now)) (piece j begin.now (event_shown h v.now)) }
+    ensures { (h : List Record) (x : Record)
+        → result
+        ≡ rule_of_pieces (piece i x (event_shown h u.now))
+        (piece j begin.now (event_shown h v.now)) }
 {
     lesser(
         given(is_around_inline(i, u, j, begin), 22),
@@ -38,7 +41,8 @@ fn given(holds: bool, number: u32) -> Option<u32>
 /// Whether the piece was suspended by the inline dispatch that the record begins, or is one of its close, and the record its `back`.
 fn is_around_inline(i: u32, u: &Event<'_>, j: u32, begin: &Record) -> bool
     requires { i < j }
-    ensures { (h : List Record) (x : Record) (e : history.Event) → result ≡ around_inline (piece i x (event_shown h u.now)) (piece j begin.now e) }
+    ensures { (h : List Record) (x : Record) (e : history.Event)
+        → result ≡ around_inline (piece i x (event_shown h u.now)) (piece j begin.now e) }
 {
     match begin {
         Record::Inline { .. } => i + 1 == j,

@@ -15,7 +15,8 @@ use er_trace::record::Record;
 /// The event that the action is a piece of.
 pub(crate) fn event_at<'a>(page: &'a Page, action: u32) -> Event<'a>
     requires begun { ∥ HasBegun page.now action ∥₁ }
-    ensures { (h : List Record) (a : Action) → IsPage page.now h → action_at action (told h).actions ≡ Some a → event_shown h result ≡ a.event }
+    ensures { (h : List Record) (a : Action) → IsPage page.now h
+        → action_at action (told h).actions ≡ Some a → event_shown h result ≡ a.event }
 {
     let number = page.event_of(action);
     let begin = page.begin_of(number);
@@ -28,7 +29,8 @@ pub(crate) fn event_at<'a>(page: &'a Page, action: u32) -> Event<'a>
 /// What the event is that this record began as this action.
 fn what_of<'a>(page: &'a Page, action: u32, begin: &'a Record) -> What<'a>
     requires some { ∥ IsSomePage page.now ∥₁ }
-    ensures { (h : List Record) → IsPage page.now h → what_shown h result ≡ what_read h action begin.now }
+    ensures { (h : List Record) → IsPage page.now h
+        → what_shown h result ≡ what_read h action begin.now }
 {
     match begin {
         Record::Parse { doc, .. } => What::ParseStep {
@@ -74,7 +76,9 @@ fn what_of<'a>(page: &'a Page, action: u32, begin: &'a Record) -> What<'a>
 /// A handler of the dispatch of this number.
 fn handler_of<'a>(page: &'a Page, dispatch: u32, group: u32, handler: u32) -> What<'a>
     requires some { ∥ IsSomePage page.now ∥₁ }
-    ensures { (h : List Record) → IsPage page.now h → what_shown h result ≡ handler_what group handler (maker_of_handler h handler) (dispatch_read h dispatch) }
+    ensures { (h : List Record) → IsPage page.now h
+        → what_shown h result
+        ≡ handler_what group handler (maker_of_handler h handler) (dispatch_read h dispatch) }
 {
     let maker = page.maker_of_handler(handler);
     match dispatch_at(page, dispatch) {
@@ -91,7 +95,8 @@ fn handler_of<'a>(page: &'a Page, dispatch: u32, group: u32, handler: u32) -> Wh
 /// The close of the dispatch of this number.
 fn close_of<'a>(page: &'a Page, dispatch: u32) -> What<'a>
     requires some { ∥ IsSomePage page.now ∥₁ }
-    ensures { (h : List Record) → IsPage page.now h → what_shown h result ≡ close_what (dispatch_read h dispatch) }
+    ensures { (h : List Record) → IsPage page.now h
+        → what_shown h result ≡ close_what (dispatch_read h dispatch) }
 {
     match dispatch_at(page, dispatch) {
         Some(dispatch) => What::CloseOf { dispatch },
@@ -101,7 +106,8 @@ fn close_of<'a>(page: &'a Page, dispatch: u32) -> What<'a>
 
 /// The begin of the dispatch that this record began as this action.
 fn begin_of<'a>(page: &'a Page, dispatch: u32, action: u32, begin: &'a Record) -> What<'a>
-    ensures { (h : List Record) → IsPage page.now h → what_shown h result ≡ begun_what (dispatch_by h dispatch action begin.now) }
+    ensures { (h : List Record) → IsPage page.now h
+        → what_shown h result ≡ begun_what (dispatch_by h dispatch action begin.now) }
 {
     match dispatch_by(page, dispatch, action, begin) {
         Some(dispatch) => What::BeginOf { dispatch },
@@ -112,7 +118,8 @@ fn begin_of<'a>(page: &'a Page, dispatch: u32, action: u32, begin: &'a Record) -
 /// The dispatch of this number.
 fn dispatch_at<'a>(page: &'a Page, number: u32) -> Option<Dispatch<'a>>
     requires some { ∥ IsSomePage page.now ∥₁ }
-    ensures { (h : List Record) → IsPage page.now h → option_map dispatched result ≡ dispatch_read h number }
+    ensures { (h : List Record) → IsPage page.now h
+        → option_map dispatched result ≡ dispatch_read h number }
 {
     let begin = page.begin_event(number)?;
     let rec = page.begin_of(begin);
@@ -121,7 +128,8 @@ fn dispatch_at<'a>(page: &'a Page, number: u32) -> Option<Dispatch<'a>>
 
 /// The dispatch of this number that the record began as this action.
 fn dispatch_by<'a>(page: &'a Page, number: u32, begin: u32, rec: &'a Record) -> Option<Dispatch<'a>>
-    ensures { (h : List Record) → IsPage page.now h → option_map dispatched result ≡ dispatch_by h number begin rec.now }
+    ensures { (h : List Record) → IsPage page.now h
+        → option_map dispatched result ≡ dispatch_by h number begin rec.now }
 {
     let delivers = delivery_of(page, rec)?;
     Some(Dispatch {
@@ -133,7 +141,8 @@ fn dispatch_by<'a>(page: &'a Page, number: u32, begin: u32, rec: &'a Record) -> 
 
 /// What the record delivers where it begins a dispatch.
 fn delivery_of<'a>(page: &'a Page, rec: &'a Record) -> Option<Delivery<'a>>
-    ensures { (h : List Record) → IsPage page.now h → option_map delivered result ≡ delivery_read h rec.now }
+    ensures { (h : List Record) → IsPage page.now h
+        → option_map delivered result ≡ delivery_read h rec.now }
 {
     match rec {
         Record::Dcl { doc, .. } => Some(Delivery::DclOf {

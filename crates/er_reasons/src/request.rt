@@ -3,8 +3,7 @@
 ghost use Rattle.std.specs.Prelude.{◌≡◌, ℕ, Bool, List};
 ghost use Rattle.er_trace.specs.declared.record.Record.{Record};
 ghost use Rattle.er_history.specs.Rules as rules;
-ghost use Rattle.er_steps.specs.Steps.{least_rule};
-ghost use Rattle.er_reasons.specs.Shown.{what_shown, event_shown};
+ghost use Rattle.er_reasons.specs.Shown.{holds, least, what_shown};
 ghost use Rattle.er_reasons.specs.Words.{closes_reply};
 
 use crate::elements::{made_by, recorded};
@@ -13,13 +12,15 @@ use crate::numbers::least_from;
 
 /// The number of the rule on requests, where it holds from u to v.
 pub(crate) fn request_rule(u: &Event<'_>, v: &Event<'_>) -> Option<u32>
-    ensures { (joined : ℕ → ℕ → Bool) (h : List Record) → result ≡ least_rule rules.request_rules joined (event_shown h u.now) (event_shown h v.now) }
+    ensures { (joined : ℕ → ℕ → Bool) (h : List Record)
+        → result ≡ least rules.request_rules joined h u.now v.now }
 {
     least_from(21, &[replies_in_order(u, v)])
 }
 
 fn replies_in_order(u: &Event<'_>, v: &Event<'_>) -> bool
-    ensures { (joined : ℕ → ℕ → Bool) (h : List Record) → result ≡ rules.replies_in_order joined (event_shown h u.now) (event_shown h v.now) }
+    ensures { (joined : ℕ → ℕ → Bool) (h : List Record)
+        → result ≡ holds rules.replies_in_order joined h u.now v.now }
 {
     match v.what {
         What::BeginOf { dispatch } => match dispatch.delivers {

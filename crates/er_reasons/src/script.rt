@@ -4,8 +4,8 @@ ghost use Rattle.std.specs.Prelude.{◌≡◌, ℕ, Bool, ◌&&◌, ◌==◌, na
 ghost use Rattle.er_trace.specs.declared.record.Record.{Record};
 ghost use Rattle.er_history.specs.Rules as rules;
 ghost use Rattle.er_names.specs.Names.{element_of};
-ghost use Rattle.er_steps.specs.Steps.{least_rule};
-ghost use Rattle.er_reasons.specs.Shown.{event_shown};
+ghost use Rattle.er_reasons.specs.Shown.{holds, least};
+ghost use Rattle.er_reasons.specs.Words.{blocks_deferred, blocks_step, deferred_before};
 
 use crate::elements::{is_blocking, is_deferred, is_maker};
 use crate::event::{Event, What};
@@ -14,7 +14,8 @@ use er_names::names::Element;
 
 /// The least number of a rule on scripts that holds from u to v.
 pub(crate) fn script_rule(u: &Event<'_>, v: &Event<'_>) -> Option<u32>
-    ensures { (joined : ℕ → ℕ → Bool) (h : List Record) → result ≡ least_rule rules.script_rules joined (event_shown h u.now) (event_shown h v.now) }
+    ensures { (joined : ℕ → ℕ → Bool) (h : List Record)
+        → result ≡ least rules.script_rules joined h u.now v.now }
 {
     least_from(
         3,
@@ -29,7 +30,8 @@ pub(crate) fn script_rule(u: &Event<'_>, v: &Event<'_>) -> Option<u32>
 }
 
 fn script_made_before_run(u: &Event<'_>, v: &Event<'_>) -> bool
-    ensures { (joined : ℕ → ℕ → Bool) (h : List Record) → result ≡ rules.script_made_before_run joined (event_shown h u.now) (event_shown h v.now) }
+    ensures { (joined : ℕ → ℕ → Bool) (h : List Record)
+        → result ≡ holds rules.script_made_before_run joined h u.now v.now }
 {
     match v.what {
         What::ScriptRun { made, .. } => is_maker(made, u),
@@ -38,7 +40,8 @@ fn script_made_before_run(u: &Event<'_>, v: &Event<'_>) -> bool
 }
 
 fn blocking_script_before_later_step(u: &Event<'_>, v: &Event<'_>) -> bool
-    ensures { (joined : ℕ → ℕ → Bool) (h : List Record) → result ≡ rules.blocking_script_before_later_step joined (event_shown h u.now) (event_shown h v.now) }
+    ensures { (joined : ℕ → ℕ → Bool) (h : List Record)
+        → result ≡ holds rules.blocking_script_before_later_step joined h u.now v.now }
 {
     match u.what {
         What::ScriptRun { made, .. } => match v.what {
@@ -50,7 +53,8 @@ fn blocking_script_before_later_step(u: &Event<'_>, v: &Event<'_>) -> bool
 }
 
 fn step_before_deferred_script(u: &Event<'_>, v: &Event<'_>) -> bool
-    ensures { (joined : ℕ → ℕ → Bool) (h : List Record) → result ≡ rules.step_before_deferred_script joined (event_shown h u.now) (event_shown h v.now) }
+    ensures { (joined : ℕ → ℕ → Bool) (h : List Record)
+        → result ≡ holds rules.step_before_deferred_script joined h u.now v.now }
 {
     match u.what {
         What::ParseStep { doc, .. } => match v.what {
@@ -62,7 +66,8 @@ fn step_before_deferred_script(u: &Event<'_>, v: &Event<'_>) -> bool
 }
 
 fn blocking_before_deferred_script(u: &Event<'_>, v: &Event<'_>) -> bool
-    ensures { (joined : ℕ → ℕ → Bool) (h : List Record) → result ≡ rules.blocking_before_deferred_script joined (event_shown h u.now) (event_shown h v.now) }
+    ensures { (joined : ℕ → ℕ → Bool) (h : List Record)
+        → result ≡ holds rules.blocking_before_deferred_script joined h u.now v.now }
 {
     match u.what {
         What::ScriptRun { made, .. } => match v.what {
@@ -74,7 +79,8 @@ fn blocking_before_deferred_script(u: &Event<'_>, v: &Event<'_>) -> bool
 }
 
 fn deferred_scripts_as_parsed(u: &Event<'_>, v: &Event<'_>) -> bool
-    ensures { (joined : ℕ → ℕ → Bool) (h : List Record) → result ≡ rules.deferred_scripts_as_parsed joined (event_shown h u.now) (event_shown h v.now) }
+    ensures { (joined : ℕ → ℕ → Bool) (h : List Record)
+        → result ≡ holds rules.deferred_scripts_as_parsed joined h u.now v.now }
 {
     match u.what {
         What::ScriptRun { made, .. } => match v.what {
@@ -87,7 +93,7 @@ fn deferred_scripts_as_parsed(u: &Event<'_>, v: &Event<'_>) -> bool
 
 /// Whether it is a blocking script of the document that was parsed before this step.
 fn blocks(made: Option<Element>, doc: u32, step: u32) -> bool
-    ensures { result ≡ rules.of_made (λ x. rules.is_blocking x && ((x.doc == doc) && nat_lt x.piece step)) (option_map element_of made) }
+    ensures { result ≡ rules.of_made (blocks_step doc step) (option_map element_of made) }
 {
     match made {
         Some(x) => is_blocking(&x) & ((x.doc == doc) & (x.piece < step)),
@@ -97,7 +103,8 @@ fn blocks(made: Option<Element>, doc: u32, step: u32) -> bool
 
 /// Whether it is a deferred script of the document.
 fn is_deferred_in(made: Option<Element>, doc: u32) -> bool
-    ensures { result ≡ rules.of_made (λ x. rules.is_deferred x && (x.doc == doc)) (option_map element_of made) }
+    ensures { result
+        ≡ rules.of_made (λ x. rules.is_deferred x && (x.doc == doc)) (option_map element_of made) }
 {
     match made {
         Some(x) => is_deferred(&x) & (x.doc == doc),
@@ -107,7 +114,9 @@ fn is_deferred_in(made: Option<Element>, doc: u32) -> bool
 
 /// Whether the one is a blocking script, the other a deferred script of its document.
 fn is_blocking_before(made: Option<Element>, later: Option<Element>) -> bool
-    ensures { result ≡ rules.both_made (λ x y. rules.is_blocking x && (rules.is_deferred y && (x.doc == y.doc))) (option_map element_of made) (option_map element_of later) }
+    ensures { result
+        ≡ rules.both_made blocks_deferred
+        (option_map element_of made) (option_map element_of later) }
 {
     let Some(x) = made else {
         return false;
@@ -120,7 +129,9 @@ fn is_blocking_before(made: Option<Element>, later: Option<Element>) -> bool
 
 /// Whether both are deferred scripts of one document, the one parsed before the other.
 fn is_deferred_before(made: Option<Element>, later: Option<Element>) -> bool
-    ensures { result ≡ rules.both_made (λ x y. rules.is_deferred x && (rules.is_deferred y && ((x.doc == y.doc) && nat_lt x.piece y.piece))) (option_map element_of made) (option_map element_of later) }
+    ensures { result
+        ≡ rules.both_made deferred_before
+        (option_map element_of made) (option_map element_of later) }
 {
     let Some(x) = made else {
         return false;

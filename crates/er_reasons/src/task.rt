@@ -8,9 +8,8 @@ ghost use Rattle.er_history.specs.Edges.{up_to};
 ghost use Rattle.er_history.specs.Tasks.{TaskKind, task_made};
 ghost use Rattle.er_clocks.specs.Clock.{StandsFor};
 ghost use Rattle.er_page.specs.Page.{IsPage};
-ghost use Rattle.er_steps.specs.Steps.{least_rule};
 ghost use Rattle.er_tasks.specs.Tasks.{task_at};
-ghost use Rattle.er_reasons.specs.Shown.{event_shown, what_shown};
+ghost use Rattle.er_reasons.specs.Shown.{holds, least, what_shown};
 ghost use Rattle.er_reasons.specs.Words.{is_declarer, declares};
 
 use crate::elements::recorded;
@@ -22,14 +21,10 @@ use er_page::page::Page;
 use er_tasks::tasks::Task;
 
 /// The least number of a rule on tasks that holds from u to v.
-pub(crate) fn task_rule(
-    page: &Page,
-    clocks: &Clocks,
-    u: &Event<'_>,
-    v: &Event<'_>,
-) -> Option<u32>
-    ensures { (h : List Record) (lists : List (List ℕ)) → IsPage page.now h → StandsFor clocks.now lists
-        → result ≡ least_rule rules.task_rules (up_to v.now.number (joins lists)) (event_shown h u.now) (event_shown h v.now) }
+pub(crate) fn task_rule(page: &Page, clocks: &Clocks, u: &Event<'_>, v: &Event<'_>) -> Option<u32>
+    ensures { (h : List Record) (lists : List (List ℕ)) → IsPage page.now h
+        → StandsFor clocks.now lists
+        → result ≡ least rules.task_rules (up_to v.now.number (joins lists)) h u.now v.now }
 {
     least_from(
         24,
@@ -47,7 +42,8 @@ pub(crate) fn task_rule(
 }
 
 fn post_before_message(page: &Page, u: &Event<'_>, v: &Event<'_>) -> bool
-    ensures { (joined : ℕ → ℕ → Bool) (h : List Record) → IsPage page.now h → result ≡ rules.post_before_message joined (event_shown h u.now) (event_shown h v.now) }
+    ensures { (joined : ℕ → ℕ → Bool) (h : List Record) → IsPage page.now h
+        → result ≡ holds rules.post_before_message joined h u.now v.now }
 {
     match v.what {
         What::MessageRun { message } => is_declarer(page, page.message(message), u.number),
@@ -56,14 +52,22 @@ fn post_before_message(page: &Page, u: &Event<'_>, v: &Event<'_>) -> bool
 }
 
 fn messages_in_order(page: &Page, clocks: &Clocks, u: &Event<'_>, v: &Event<'_>) -> bool
-    ensures { (h : List Record) (lists : List (List ℕ)) → IsPage page.now h → StandsFor clocks.now lists
-        → result ≡ rules.messages_in_order (up_to v.now.number (joins lists)) (event_shown h u.now) (event_shown h v.now) }
+    ensures { (h : List Record) (lists : List (List ℕ)) → IsPage page.now h
+        → StandsFor clocks.now lists
+        → result ≡ holds rules.messages_in_order (up_to v.now.number (joins lists)) h u.now v.now }
 {
     let first = recorded(u, v);
     match u.what {
         What::MessageRun { message } => match v.what {
             What::MessageRun { message: later } => {
-                first & in_order(page, clocks, page.message(message), page.message(later), v.number)
+                first
+                    & in_order(
+                        page,
+                        clocks,
+                        page.message(message),
+                        page.message(later),
+                        v.number,
+                    )
             }
             _ => false,
         },
@@ -72,7 +76,8 @@ fn messages_in_order(page: &Page, clocks: &Clocks, u: &Event<'_>, v: &Event<'_>)
 }
 
 fn ask_before_anim(page: &Page, u: &Event<'_>, v: &Event<'_>) -> bool
-    ensures { (joined : ℕ → ℕ → Bool) (h : List Record) → IsPage page.now h → result ≡ rules.ask_before_anim joined (event_shown h u.now) (event_shown h v.now) }
+    ensures { (joined : ℕ → ℕ → Bool) (h : List Record) → IsPage page.now h
+        → result ≡ holds rules.ask_before_anim joined h u.now v.now }
 {
     match v.what {
         What::AnimRun { anim } => is_declarer(page, page.anim(anim), u.number),
@@ -81,8 +86,9 @@ fn ask_before_anim(page: &Page, u: &Event<'_>, v: &Event<'_>) -> bool
 }
 
 fn anims_in_order(page: &Page, clocks: &Clocks, u: &Event<'_>, v: &Event<'_>) -> bool
-    ensures { (h : List Record) (lists : List (List ℕ)) → IsPage page.now h → StandsFor clocks.now lists
-        → result ≡ rules.anims_in_order (up_to v.now.number (joins lists)) (event_shown h u.now) (event_shown h v.now) }
+    ensures { (h : List Record) (lists : List (List ℕ)) → IsPage page.now h
+        → StandsFor clocks.now lists
+        → result ≡ holds rules.anims_in_order (up_to v.now.number (joins lists)) h u.now v.now }
 {
     let first = recorded(u, v);
     match u.what {
@@ -97,7 +103,8 @@ fn anims_in_order(page: &Page, clocks: &Clocks, u: &Event<'_>, v: &Event<'_>) ->
 }
 
 fn queue_before_job(page: &Page, u: &Event<'_>, v: &Event<'_>) -> bool
-    ensures { (joined : ℕ → ℕ → Bool) (h : List Record) → IsPage page.now h → result ≡ rules.queue_before_job joined (event_shown h u.now) (event_shown h v.now) }
+    ensures { (joined : ℕ → ℕ → Bool) (h : List Record) → IsPage page.now h
+        → result ≡ holds rules.queue_before_job joined h u.now v.now }
 {
     match v.what {
         What::JobRun { job, .. } => is_declarer(page, page.job(job), u.number),
@@ -106,8 +113,9 @@ fn queue_before_job(page: &Page, u: &Event<'_>, v: &Event<'_>) -> bool
 }
 
 fn jobs_in_order(page: &Page, clocks: &Clocks, u: &Event<'_>, v: &Event<'_>) -> bool
-    ensures { (h : List Record) (lists : List (List ℕ)) → IsPage page.now h → StandsFor clocks.now lists
-        → result ≡ rules.jobs_in_order (up_to v.now.number (joins lists)) (event_shown h u.now) (event_shown h v.now) }
+    ensures { (h : List Record) (lists : List (List ℕ)) → IsPage page.now h
+        → StandsFor clocks.now lists
+        → result ≡ holds rules.jobs_in_order (up_to v.now.number (joins lists)) h u.now v.now }
 {
     let first = recorded(u, v);
     match u.what {
@@ -123,7 +131,8 @@ fn jobs_in_order(page: &Page, clocks: &Clocks, u: &Event<'_>, v: &Event<'_>) -> 
 
 /// Rule 30: what the event that queued the job has set, posted or asked for.
 fn jobs_before_callbacks(page: &Page, u: &Event<'_>, v: &Event<'_>) -> bool
-    ensures { (joined : ℕ → ℕ → Bool) (h : List Record) → IsPage page.now h → result ≡ rules.jobs_before_callbacks joined (event_shown h u.now) (event_shown h v.now) }
+    ensures { (joined : ℕ → ℕ → Bool) (h : List Record) → IsPage page.now h
+        → result ≡ holds rules.jobs_before_callbacks joined h u.now v.now }
 {
     let first = recorded(u, v);
     match u.what {
@@ -137,7 +146,8 @@ fn jobs_before_callbacks(page: &Page, u: &Event<'_>, v: &Event<'_>) -> bool
 
 /// Whether this event declared what v is a callback or a message of.
 fn declares(page: &Page, maker: u32, v: &Event<'_>) -> bool
-    ensures { (h : List Record) → IsPage page.now h → result ≡ declares maker (what_shown h v.now.what) }
+    ensures { (h : List Record) → IsPage page.now h
+        → result ≡ declares maker (what_shown h v.now.what) }
 {
     match v.what {
         What::TimeoutRun { timeout } => is_it(page.maker_of_timeout(timeout), maker),
@@ -150,7 +160,8 @@ fn declares(page: &Page, maker: u32, v: &Event<'_>) -> bool
 
 /// Rule 31: the job began while the dispatch was on the stack.
 fn jobs_before_close(page: &Page, u: &Event<'_>, v: &Event<'_>) -> bool
-    ensures { (joined : ℕ → ℕ → Bool) (h : List Record) → IsPage page.now h → result ≡ rules.jobs_before_close joined (event_shown h u.now) (event_shown h v.now) }
+    ensures { (joined : ℕ → ℕ → Bool) (h : List Record) → IsPage page.now h
+        → result ≡ holds rules.jobs_before_close joined h u.now v.now }
 {
     let first = recorded(u, v);
     match u.what {
@@ -180,7 +191,8 @@ fn is_it(found: Option<u32>, number: u32) -> bool
 
 /// Whether this event declared the task, which the page has.
 fn is_declarer(page: &Page, task: Option<Task>, event: u32) -> bool
-    ensures { (kind : TaskKind) (number : ℕ) (h : List Record) → IsPage page.now h → task ≡ task_at kind page.now.tasks number
+    ensures { (kind : TaskKind) (number : ℕ) (h : List Record) → IsPage page.now h
+        → task ≡ task_at kind page.now.tasks number
         → result ≡ is_declarer (task_made kind h number) event }
 {
     match task {
@@ -197,9 +209,12 @@ fn in_order(
     second: Option<Task>,
     before: u32,
 ) -> bool
-    ensures { (kind : TaskKind) (m n : ℕ) (h : List Record) (lists : List (List ℕ)) → IsPage page.now h → StandsFor clocks.now lists
+    ensures { (kind : TaskKind) (m n : ℕ) (h : List Record) (lists : List (List ℕ))
+        → IsPage page.now h → StandsFor clocks.now lists
         → first ≡ task_at kind page.now.tasks m → second ≡ task_at kind page.now.tasks n
-        → result ≡ rules.declared_in_order (up_to before (joins lists)) (task_made kind h m) (task_made kind h n) }
+        → result
+        ≡ rules.declared_in_order (up_to before (joins lists))
+        (task_made kind h m) (task_made kind h n) }
 {
     let Some(earlier) = first else {
         return false;

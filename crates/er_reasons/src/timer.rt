@@ -8,8 +8,7 @@ ghost use Rattle.er_history.specs.Edges.{up_to};
 ghost use Rattle.er_history.specs.LookUps.{timeout_made};
 ghost use Rattle.er_clocks.specs.Clock.{StandsFor};
 ghost use Rattle.er_page.specs.Page.{IsPage};
-ghost use Rattle.er_steps.specs.Steps.{least_rule};
-ghost use Rattle.er_reasons.specs.Shown.{event_shown};
+ghost use Rattle.er_reasons.specs.Shown.{holds, least};
 ghost use Rattle.er_reasons.specs.Words.{fires_behind, fires_in_order, is_setter};
 
 use crate::elements::{made_by, recorded};
@@ -28,8 +27,10 @@ pub(crate) fn timer_rule(
     u: &Event<'_>,
     v: &Event<'_>,
 ) -> Option<u32>
-    ensures { (h : List Record) (lists : List (List ℕ)) → IsPage page.now h → StandsFor clocks.now lists
-        → result ≡ least_rule (rules.timer_rules version) (up_to v.now.number (joins lists)) (event_shown h u.now) (event_shown h v.now) }
+    ensures { (h : List Record) (lists : List (List ℕ)) → IsPage page.now h
+        → StandsFor clocks.now lists
+        → result
+        ≡ least (rules.timer_rules version) (up_to v.now.number (joins lists)) h u.now v.now }
 {
     least_from(
         18,
@@ -42,7 +43,8 @@ pub(crate) fn timer_rule(
 }
 
 fn set_before_timer(page: &Page, u: &Event<'_>, v: &Event<'_>) -> bool
-    ensures { (joined : ℕ → ℕ → Bool) (h : List Record) → IsPage page.now h → result ≡ rules.set_before_timer joined (event_shown h u.now) (event_shown h v.now) }
+    ensures { (joined : ℕ → ℕ → Bool) (h : List Record) → IsPage page.now h
+        → result ≡ holds rules.set_before_timer joined h u.now v.now }
 {
     match v.what {
         What::TimeoutRun { timeout } => is_setter(page, timeout, u.number),
@@ -58,8 +60,10 @@ fn timers_in_order(
     u: &Event<'_>,
     v: &Event<'_>,
 ) -> bool
-    ensures { (h : List Record) (lists : List (List ℕ)) → IsPage page.now h → StandsFor clocks.now lists
-        → result ≡ rules.timers_in_order version (up_to v.now.number (joins lists)) (event_shown h u.now) (event_shown h v.now) }
+    ensures { (h : List Record) (lists : List (List ℕ)) → IsPage page.now h
+        → StandsFor clocks.now lists
+        → result
+        ≡ holds (rules.timers_in_order version) (up_to v.now.number (joins lists)) h u.now v.now }
 {
     match version {
         Version::One => timers_of_one_event_in_order(page, u, v),
@@ -69,7 +73,8 @@ fn timers_in_order(
 }
 
 fn timers_of_one_event_in_order(page: &Page, u: &Event<'_>, v: &Event<'_>) -> bool
-    ensures { (joined : ℕ → ℕ → Bool) (h : List Record) → IsPage page.now h → result ≡ rules.timers_of_one_event_in_order joined (event_shown h u.now) (event_shown h v.now) }
+    ensures { (joined : ℕ → ℕ → Bool) (h : List Record) → IsPage page.now h
+        → result ≡ holds rules.timers_of_one_event_in_order joined h u.now v.now }
 {
     let first = recorded(u, v);
     match u.what {
@@ -87,8 +92,11 @@ fn timers_of_joined_pieces_in_order(
     u: &Event<'_>,
     v: &Event<'_>,
 ) -> bool
-    ensures { (h : List Record) (lists : List (List ℕ)) → IsPage page.now h → StandsFor clocks.now lists
-        → result ≡ rules.timers_of_joined_pieces_in_order (up_to v.now.number (joins lists)) (event_shown h u.now) (event_shown h v.now) }
+    ensures { (h : List Record) (lists : List (List ℕ)) → IsPage page.now h
+        → StandsFor clocks.now lists
+        → result
+        ≡ holds rules.timers_of_joined_pieces_in_order (up_to v.now.number (joins lists))
+        h u.now v.now }
 {
     let first = recorded(u, v);
     match u.what {
@@ -103,7 +111,8 @@ fn timers_of_joined_pieces_in_order(
 }
 
 fn ticks_in_order(u: &Event<'_>, v: &Event<'_>) -> bool
-    ensures { (joined : ℕ → ℕ → Bool) (h : List Record) → result ≡ rules.ticks_in_order joined (event_shown h u.now) (event_shown h v.now) }
+    ensures { (joined : ℕ → ℕ → Bool) (h : List Record)
+        → result ≡ holds rules.ticks_in_order joined h u.now v.now }
 {
     let first = recorded(u, v);
     match v.what {
@@ -120,7 +129,8 @@ fn ticks_in_order(u: &Event<'_>, v: &Event<'_>) -> bool
 
 /// Whether this event set the timeout.
 fn is_setter(page: &Page, timeout: u32, event: u32) -> bool
-    ensures { (h : List Record) → IsPage page.now h → result ≡ is_setter (timeout_made h timeout) event }
+    ensures { (h : List Record) → IsPage page.now h
+        → result ≡ is_setter (timeout_made h timeout) event }
 {
     match page.maker_of_timeout(timeout) {
         Some(maker) => maker == event,
@@ -130,7 +140,8 @@ fn is_setter(page: &Page, timeout: u32, event: u32) -> bool
 
 /// Whether one event set both timeouts, the one before the other with no greater delay.
 fn fires_in_order(page: &Page, timeout: u32, later: u32) -> bool
-    ensures { (h : List Record) → IsPage page.now h → result ≡ fires_in_order (timeout_made h timeout) (timeout_made h later) }
+    ensures { (h : List Record) → IsPage page.now h
+        → result ≡ fires_in_order (timeout_made h timeout) (timeout_made h later) }
 {
     let Some(maker) = page.maker_of_timeout(timeout) else {
         return false;
@@ -149,8 +160,11 @@ fn fires_in_order(page: &Page, timeout: u32, later: u32) -> bool
 
 /// Whether the one timeout was set before the other with no greater delay, and a path among the actions before this one leads from the piece that set the one to the piece that set the other.
 fn fires_behind(page: &Page, clocks: &Clocks, timeout: u32, later: u32, before: u32) -> bool
-    ensures { (h : List Record) (lists : List (List ℕ)) → IsPage page.now h → StandsFor clocks.now lists
-        → result ≡ fires_behind (up_to before (joins lists)) (timeout_made h timeout) (timeout_made h later) }
+    ensures { (h : List Record) (lists : List (List ℕ)) → IsPage page.now h
+        → StandsFor clocks.now lists
+        → result
+        ≡ fires_behind (up_to before (joins lists))
+        (timeout_made h timeout) (timeout_made h later) }
 {
     let Some(piece) = page.setting_piece(timeout) else {
         return false;

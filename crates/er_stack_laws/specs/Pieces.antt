@@ -18,4 +18,5 @@ PiecesInOrder = (table : List (ℕ × Rule)) (h : List Record) (a b : Action)
 abbrev pub PiecesReachLatest : Type 0
 PiecesReachLatest = (table : List (ℕ × Rule)) (h : List Record) (a : Action)
     → Among a (told h).actions
-    → (k : ℕ) × (latest_piece a.event.number (told h).actions ≡ k ∷ []) × (path table h a.number k ≡ true)
+    → (k : ℕ) × (latest_piece a.event.number (told h).actions ≡ k ∷ [])
+    × (path table h a.number k ≡ true)

@@ -42,20 +42,24 @@ Keeps h a d = Among a (told h).actions × (dispatch_of a.event.what ≡ Some d)
 
 -- A dispatch on the stack was begun by the action that it names as its begin, and that by a record of its number.
 abbrev pub OpenHaveBegun : Type 0
-OpenHaveBegun = (h : List Record) (o : Open) → IsNamed h → IsOn o (told h).stack → HasBegin (told h).actions o.dispatch
+OpenHaveBegun = (h : List Record) (o : Open) → IsNamed h → IsOn o (told h).stack
+    → HasBegin (told h).actions o.dispatch
 
 -- So was one that an event keeps.
 abbrev pub KeptHaveBegun : Type 0
-KeptHaveBegun = (h : List Record) (a : Action) (d : Dispatch) → IsNamed h → Keeps h a d → HasBegin (told h).actions d
+KeptHaveBegun = (h : List Record) (a : Action) (d : Dispatch) → IsNamed h → Keeps h a d
+    → HasBegin (told h).actions d
 
 -- Begin, handlers and close of one number keep one dispatch.
 abbrev pub OneDispatchANumber : Type 0
-OneDispatchANumber = (h : List Record) (a b : Action) (d e : Dispatch) → IsNamed h → Keeps h a d → Keeps h b e
+OneDispatchANumber = (h : List Record) (a b : Action) (d e : Dispatch) → IsNamed h → Keeps h a d
+    → Keeps h b e
     → d.number ≡ e.number → d ≡ e
 
 -- It is the one on the stack, while that is not finished.
 abbrev pub OpenIsKept : Type 0
-OpenIsKept = (h : List Record) (a : Action) (d : Dispatch) (o : Open) → IsNamed h → Keeps h a d → IsOn o (told h).stack
+OpenIsKept = (h : List Record) (a : Action) (d : Dispatch) (o : Open) → IsNamed h → Keeps h a d
+    → IsOn o (told h).stack
     → d.number ≡ o.dispatch.number → d ≡ o.dispatch
 
 -- the number of the dispatch that a record begins, runs a handler of or closes
@@ -73,7 +77,8 @@ dispatch_named _ = None
 
 -- An event keeps a dispatch of the number in the record of its first piece.
 abbrev pub KeptAsRead : Type 0
-KeptAsRead = (h : List Record) (a : Action) → IsNamed h → Among a (told h).actions → a.event.number ≡ a.number
+KeptAsRead = (h : List Record) (a : Action) → IsNamed h → Among a (told h).actions
+    → a.event.number ≡ a.number
     → option_map (λ (d : Dispatch). d.number) (dispatch_of a.event.what) ≡ dispatch_named a.begin
 
 -- Where naming accepts `back`: the begin of the inline dispatch, and the piece just before it, of whose event is the one that goes on.

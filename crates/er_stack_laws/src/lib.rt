@@ -1,6 +1,6 @@
 //! What the stack and the events keep of dispatches, against what the records say, and how the pieces of one event follow one another.
 //!
-//! Laws of the definitions in er_history; no state, and nothing stands on this crate. Each law is a function with no parameters, whose contract is the law.
+//! Laws of the definitions in er_history; no state; of the crates with code er_reasons alone stands on it. Each law is a function with no parameters, whose contract is the law.
 #![tactic(auto)]
 
 ghost use Rattle.er_stack_laws.specs.Pieces.{PiecesInOrder, PiecesReachLatest};

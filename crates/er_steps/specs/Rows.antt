@@ -21,15 +21,19 @@ apart = Timer 1 ∷ Timer 2 ∷ Set 2 0 ∷ Set 1 10 ∷ Exec 1 ∷ Parse 0 1 ki
 
 -- a script that calls an inline dispatch at an element that it made
 abbrev pub with_inline : List Record
-with_inline = Back 1 ∷ Close 1 ∷ Run 1 0 7 ∷ Inline 1 2 (99 ∷ []) ∷ New 0 2 new_kinds.Plain ∷ On 7 ∷ Exec 1 ∷ Parse 0 1 kinds.Inline ∷ []
+with_inline = Back 1 ∷ Close 1 ∷ Run 1 0 7 ∷ Inline 1 2 (99 ∷ []) ∷ New 0 2 new_kinds.Plain ∷ On 7
+    ∷ Exec 1 ∷ Parse 0 1 kinds.Inline ∷ []
 
 -- a timeout, and one that the callback of another set later, which fire in order
 abbrev pub by_paths : List Record
-by_paths = Timer 3 ∷ Timer 2 ∷ Set 3 10 ∷ Timer 1 ∷ Set 2 10 ∷ Set 1 0 ∷ Exec 1 ∷ Parse 0 1 kinds.Inline ∷ []
+by_paths = Timer 3 ∷ Timer 2 ∷ Set 3 10 ∷ Timer 1 ∷ Set 2 10 ∷ Set 1 0 ∷ Exec 1
+    ∷ Parse 0 1 kinds.Inline ∷ []
 
 abbrev pub WorkedSteps : Type 0
-WorkedSteps = (explanation (rules One) in_order 0 3 ≡ Some (step 0 1 3 ∷ step 1 2 18 ∷ step 2 3 19 ∷ []))
-    × (explanation (rules One) with_inline 1 5 ≡ Some (step 1 2 14 ∷ step 2 3 16 ∷ step 3 4 16 ∷ step 4 5 22 ∷ []))
+WorkedSteps =
+    (explanation (rules One) in_order 0 3 ≡ Some (step 0 1 3 ∷ step 1 2 18 ∷ step 2 3 19 ∷ []))
+    × (explanation (rules One) with_inline 1 5
+    ≡ Some (step 1 2 14 ∷ step 2 3 16 ∷ step 3 4 16 ∷ step 4 5 22 ∷ []))
     × (explanation (rules One) apart 2 3 ≡ None)
     × (explanation (rules One) apart 3 3 ≡ Some [])
     × (explanation (rules One) by_paths 3 4 ≡ None)

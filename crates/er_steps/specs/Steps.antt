@@ -33,7 +33,11 @@ rule_of_pieces i j = lesser (given (around_inline i j) 22) (given (of_one_event 
 
 -- the least number of a rule that makes an edge from i to j; the rules are told of the paths among the actions before event j
 abbrev pub rule_between : List (ℕ × Rule) → (ℕ → ℕ → Bool) → Action → Action → Option ℕ
-rule_between table joined i j = if nat_lt i.number j.number then lesser (rule_of_events table (up_to j.event.number joined) i.event j.event) (rule_of_pieces i j) else None
+rule_between table joined i j =
+    if nat_lt i.number j.number
+    then lesser (rule_of_events table (up_to j.event.number joined) i.event j.event)
+    (rule_of_pieces i j)
+    else None
 
 abbrev pub both_actions : Option Action → Option Action → (Action → Action → Option ℕ) → Option ℕ
 both_actions (Some i) (Some j) rule = rule i j
@@ -41,7 +45,9 @@ both_actions _ _ rule = None
 
 -- the same of the actions with these numbers
 abbrev pub rule_of : List (ℕ × Rule) → List Record → ℕ → ℕ → Option ℕ
-rule_of table h i j = both_actions (action_at i (told h).actions) (action_at j (told h).actions) (rule_between table (path table h))
+rule_of table h i j =
+    both_actions (action_at i (told h).actions) (action_at j (told h).actions)
+    (rule_between table (path table h))
 
 -- a link from one action to another, and the number of its rule
 pub record Step : Type 0 where
@@ -65,12 +71,16 @@ number_of (Some n) = n
 -- the steps up to a source, and the link from there
 abbrev pub then_link : (ℕ → Option ℕ) → (ℕ → List Step) → ℕ → Option ℕ → List Step
 then_link rule before j None = []
-then_link rule before j (Some k) = before k ++ record { source = k; target = j; rule = number_of (rule k) } ∷ []
+then_link rule before j (Some k) =
+    before k ++ record { source = k; target = j; rule = number_of (rule k) } ∷ []
 
 -- The steps from i to j: those from i to the least source, and the link from there. So many at most.
 abbrev pub steps_within : (ℕ → ℕ → Option ℕ) → List (List ℕ) → ℕ → ℕ → ℕ → List Step
 steps_within rule lists zero i j = []
-steps_within rule lists (suc n) i j = if i == j then [] else then_link (λ k. rule k j) (steps_within rule lists n i) j (least_source lists i j)
+steps_within rule lists (suc n) i j =
+    if i == j
+    then []
+    else then_link (λ k. rule k j) (steps_within rule lists n i) j (least_source lists i j)
 
 -- Each source is before its target, so there are no more than j.
 abbrev pub steps : (ℕ → ℕ → Option ℕ) → List (List ℕ) → ℕ → ℕ → List Step
@@ -78,4 +88,7 @@ steps rule lists i j = steps_within rule lists j i j
 
 -- the steps from action i to action j, where there is a path
 abbrev pub explanation : List (ℕ × Rule) → List Record → ℕ → ℕ → Option (List Step)
-explanation table h i j = if path table h i j then Some (steps (rule_of table h) (edges table (told h).actions) i j) else None
+explanation table h i j =
+    if path table h i j
+    then Some (steps (rule_of table h) (edges table (told h).actions) i j)
+    else None

@@ -14,5 +14,5 @@ returns c = λ h lists stands timed.
       sym (c.queue_before_job.ensures joined h stands),
       sym (c.jobs_in_order.ensures h lists stands timed),
       sym (c.jobs_before_callbacks.ensures joined h stands),
-      sym (c.jobs_before_close.ensures joined h stands)
+      sym (c.jobs_before_close.ensures joined h stands),
     ) c.least_from.ensures
