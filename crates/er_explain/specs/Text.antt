@@ -11,7 +11,8 @@ head_line i j = item_line (Word (codes "explain") ∷ Number i ∷ Number j ∷ 
 
 -- `step A B N`
 abbrev pub step_line : ℕ → Step → List ℕ
-step_line k s = item_line (Word (codes "step") ∷ Number s.source ∷ Number s.target ∷ Number s.rule ∷ [])
+step_line k s =
+    item_line (Word (codes "step") ∷ Number s.source ∷ Number s.target ∷ Number s.rule ∷ [])
 
 -- a line for each step, or one that says that there is no path
 abbrev pub body_lines : Option (List Step) → List ℕ

@@ -29,7 +29,8 @@ pub fn explain(alloc: Global, graph: &Graph, from: u32, to: u32) -> Result<Optio
     requires first { ∥ HasBegun graph.now from ∥₁ }
     requires second { ∥ HasBegun graph.now to ∥₁ }
     requires whole { HasFailed graph.now → ⊥ }
-    ensures { IfOk result (λ found. (accepted : List Accepted) → IsGraph graph.now accepted → found ≡ spec.explanation (rules graph.now.version) (records accepted) from to) }
+    ensures { IfOk result (λ found. (accepted : List Accepted) → IsGraph graph.now accepted
+        → found ≡ spec.explanation (rules graph.now.version) (records accepted) from to) }
 {
     let clocks = graph.clocks();
     if !clocks.joined(from, to) {
@@ -54,8 +55,11 @@ fn go_back(
     requires some { ∥ AreSome clocks.now ∥₁ }
     requires begun { ∥ pages.HasBegun page.now to ∥₁ }
     requires none { found.old.items ≡ [] }
-    ensures steps { OnOk result ((h : List Record) → IsTimed version page.now clocks.now h → path (rules version) h from to ≡ true
-        → reverse (all_shown found.new.items) ≡ spec.steps (spec.rule_of (rules version) h) (edges (rules version) (told h).actions) from to) }
+    ensures steps { OnOk result ((h : List Record) → IsTimed version page.now clocks.now h
+        → path (rules version) h from to ≡ true
+        → reverse (all_shown found.new.items)
+        ≡ spec.steps (spec.rule_of (rules version) h) (edges (rules version) (told h).actions)
+        from to) }
     ensures few { OnOk result (length found.new.items ≤ to) }
 {
     let mut at = to;
@@ -81,7 +85,12 @@ fn note(
     requires earlier { source < at }
     requires begun { ∥ pages.HasBegun page.now at ∥₁ }
     ensures noted { OnOk result ((h : List Record) → IsTimed version page.now clocks.now h
-        → all_shown found.new.items ≡ all_shown found.old.items ++ record { source = source; target = at; rule = spec.number_of (spec.rule_of (rules version) h source at) } ∷ []) }
+        → all_shown found.new.items
+        ≡ all_shown found.old.items ++ record {
+          source = source;
+          target = at;
+          rule = spec.number_of (spec.rule_of (rules version) h source at);
+        } ∷ []) }
     ensures one { OnOk result (length found.new.items ≡ length found.old.items + 1) }
 {
     let rule = number_of(reason(page, clocks, version, source, at));
