@@ -66,13 +66,19 @@ pub each_names_a_group : EachNamesAGroup
 each_names_a_group lists by_race known = names_below (length lists) (joins lists) by_race (names_by (joins lists) by_race) (length (groups_by (joins lists) by_race)) (orders lists) (selves lists) known refl refl
 
 -- where one of a list passes, the first that does stands at the place of it
-first_at : {X : Type 0} (p : X → Bool) (xs : List X) → list_any p xs ≡ true → (x : X) × (slice_get xs (position_or_len p xs) ≡ Some x) × (p x ≡ true)
+abbrev PassesFirst : (Class → Bool) → List Class → Type 0
+PassesFirst p xs = (x : Class) × (slice_get xs (position_or_len p xs) ≡ Some x) × (p x ≡ true)
+
+first_at : (p : Class → Bool) (xs : List Class) → list_any p xs ≡ true → PassesFirst p xs
 first_at p [] any = absurd (cc)
-first_at p (x ∷ xs) any = by (p x) refl
+first_at p (x ∷ xs) any = by (p x) refl (λ later. first_at p xs later)
   where
-    by : (b : Bool) → p x ≡ b → (y : X) × (slice_get (x ∷ xs) (position_or_len p (x ∷ xs)) ≡ Some y) × (p y ≡ true)
-    by true is = (x, rw is refl, is)
-    by false is = let later = first_at p xs (rw is at any) in (later.0, rw is later.1, later.2)
+    by : (b : Bool) → p x ≡ b → (list_any p xs ≡ true → PassesFirst p xs) → PassesFirst p (x ∷ xs)
+    by true is again = (x, rw is refl, is)
+    by false is again =
+        let later = again (rw is at any) in
+        let next : suc (position_or_len p xs) ≡ 1 + position_or_len p xs = omega arith in
+        (later.0, rw is (subst (λ n. slice_get (x ∷ xs) n ≡ Some later.0) next later.1), later.2)
 
 -- what stands at a place is one of the list
 among_at : (xs : List Class) (k : ℕ) (x : Class) → slice_get xs k ≡ Some x → is_among x xs ≡ true

@@ -9,7 +9,7 @@ use Rattle.std.proofs.lemmas.Nat.{mul-le}
 use Rattle.er_paths.specs.Paths.{joins}
 use Rattle.er_cover.specs.declared.class.Class.{Class}
 use Rattle.er_cover.specs.Classes.{is_among, same}
-use Rattle.er_cover.specs.Groups.{covers, is_maximal, maximal_of, name_of}
+use Rattle.er_cover.specs.Groups.{covers, is_maximal, maximal_of, most_classes, name_of}
 use Rattle.er_cover.specs.Passes.{rank, seconds_from, AreRising, AreDistinct, IsKnown, Keeps}
 use Rattle.er_cover.proofs.CoverLemmas.{AreOrders, name_cons, decide, or_cases, same_is, same_refl, pass_decides, filter_append, fewer_before}
 
