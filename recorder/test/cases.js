@@ -124,6 +124,13 @@ exports.cases = [
   {
     page: 'animation-frame.html',
     due: [
+      'w painted', 'ask', 'anim', 'r painted', 'w painted',
+    ],
+  },
+  {
+    page: 'animation-frame.html',
+    version: 2,
+    due: [
       'w painted', 'every 0', 'tick', 'r painted', 'w painted',
     ],
   },
@@ -149,12 +156,26 @@ exports.cases = [
   {
     page: 'messages.html',
     due: [
+      'on got', 'timer', 'w b', 'post', 'message', 'w last', 'timer', 'w a', 'post', 'message', 'w last',
+    ],
+    races: ['last'],
+  },
+  {
+    page: 'messages.html',
+    version: 2,
+    due: [
       'on got', 'timer', 'w b', 'new ? plain', 'fire ? message', 'run got', 'fire ? message', 'run got',
     ],
     races: ['last'],
   },
   {
     page: 'broadcast.html',
+    due: ['on got', 'timer', 'post', 'timer', 'post', 'message', 'w last', 'message', 'w last'],
+    races: ['last'],
+  },
+  {
+    page: 'broadcast.html',
+    version: 2,
     due: ['on got', 'timer', 'fire ? message', 'run got', 'w last', 'fire ? message', 'run got', 'w last'],
     races: ['last'],
   },

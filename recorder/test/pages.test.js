@@ -12,8 +12,9 @@ before(async () => { browser = await Chromium.launch({ width: 1100, height: 800 
 after(async () => { await browser.close(); });
 
 for (const one of cases) {
-  test(one.page, { timeout: 150000 }, async () => {
-    const trace = await recordPage(browser, one.page, one.words);
+  const name = one.version ? `${one.page} in version ${one.version}` : one.page;
+  test(name, { timeout: 150000 }, async () => {
+    const trace = await recordPage(browser, one.page, one.words, one.version);
     const missing = firstMissing(trace.readable, one.due || []);
     assert.strictEqual(missing, null, `missing or out of its order: ${missing}\n${trace.readable.join('\n')}`);
     for (const record of one.never || []) assert.ok(!trace.readable.includes(record), `not due: ${record}\n${trace.readable.join('\n')}`);
