@@ -156,7 +156,7 @@ exports.cases = [
   {
     page: 'messages.html',
     due: [
-      'on got', 'timer', 'w b', 'post', 'message', 'w last', 'timer', 'w a', 'post', 'message', 'w last',
+      'on got', 'timer', 'w b', 'post', 'message', 'w last', 'message', 'w last',
     ],
     races: ['last'],
   },
@@ -170,7 +170,7 @@ exports.cases = [
   },
   {
     page: 'broadcast.html',
-    due: ['on got', 'timer', 'post', 'timer', 'post', 'message', 'w last', 'message', 'w last'],
+    due: ['on got', 'timer', 'post', 'message', 'w last', 'message', 'w last'],
     races: ['last'],
   },
   {

@@ -39,7 +39,9 @@ function processesOf(own) {
   });
 }
 
-function assertNothingLeft(own) {
+/** A process that a signal ends may need a moment, where much else runs. */
+async function assertNothingLeft(own) {
+  for (let k = 0; k < 50 && processesOf(own).length > 0; k++) await new Promise((resolve) => setTimeout(resolve, 100));
   assert.deepStrictEqual(fs.readdirSync(own).filter((name) => name.startsWith('er-record-')), []);
   assert.deepStrictEqual(processesOf(own), []);
 }
@@ -53,7 +55,7 @@ test('a recording writes the trace and its names', { timeout: 150000 }, async ()
   const names = JSON.parse(fs.readFileSync(path.join(folder, 'plain.names.json'), 'utf8'));
   assert.strictEqual(Object.keys(names.timeouts).length, 2);
   assert.deepStrictEqual(names.timeouts[1].place.slice(1), [5, 1]);
-  assertNothingLeft(own);
+  await assertNothingLeft(own);
 });
 
 test('words that ask for nothing', { timeout: 150000 }, async () => {
@@ -75,7 +77,7 @@ test('a page that does not load', { timeout: 150000 }, async () => {
   const closed = await run('er_record', ['http://127.0.0.1:1/', traceFile('closed')], own);
   assert.strictEqual(closed.status, 4);
   assert.match(closed.stderr, /did not load: net::ERR/);
-  assertNothingLeft(own);
+  await assertNothingLeft(own);
 });
 
 function startRecording(name, page, own) {
@@ -97,7 +99,7 @@ test('Ctrl-C: what was recorded so far is written', { timeout: 150000 }, async (
   assert.match(child.said, /er_record: stopped/);
   assert.ok(isWhole(traceFile('stopped')));
   assert.match(fs.readFileSync(traceFile('stopped'), 'utf8'), /\ntick 1\n/);
-  assertNothingLeft(own);
+  await assertNothingLeft(own);
 });
 
 test('a browser that is gone: what was recorded so far is written', { timeout: 150000 }, async () => {
@@ -108,7 +110,7 @@ test('a browser that is gone: what was recorded so far is written', { timeout: 1
   assert.strictEqual(await child.ended, 5);
   assert.match(child.said, /er_record: the browser has gone/);
   assert.ok(isWhole(traceFile('gone')));
-  assertNothingLeft(own);
+  await assertNothingLeft(own);
 });
 
 test('a page without an end is recorded for as long as was said', { timeout: 150000 }, async () => {
@@ -116,7 +118,7 @@ test('a page without an end is recorded for as long as was said', { timeout: 150
   const { status, stderr } = await run('er_record', [path.join(PAGES, 'endless.html'), traceFile('endless'), '--time', '4'], own);
   assert.strictEqual(status, 0, stderr);
   assert.ok(isWhole(traceFile('endless')));
-  assertNothingLeft(own);
+  await assertNothingLeft(own);
 });
 
 test('from a page to its races', { timeout: 150000 }, async () => {
@@ -128,7 +130,7 @@ test('from a page to its races', { timeout: 150000 }, async () => {
   const clean = await run('er_page', [path.join(PAGES, 'no-race.html')], own);
   assert.strictEqual(clean.status, 0, clean.stderr);
   assert.match(clean.stdout, /^No race\.$/m);
-  assertNothingLeft(own);
+  await assertNothingLeft(own);
 });
 
 test('a trace that is refused', { timeout: 150000 }, async () => {
@@ -148,5 +150,5 @@ test('a test that a signal ends leaves nothing behind', { timeout: 150000 }, asy
   assert.ok(hasBrowser(), command.said);
   command.kill('SIGTERM');
   assert.strictEqual(await command.ended, 143);
-  assertNothingLeft(own);
+  await assertNothingLeft(own);
 });
