@@ -15,7 +15,7 @@ use er_page::page::Page;
 use er_trace::record::Record;
 use smallvec::SmallVec;
 
-/// Hands what is due before the record.
+/// Hands what is due before the record: before DOMContentLoaded the latest parse step and runs of the document (rule 8).
 pub(crate) fn hand_due(
     page: &Page,
     rec: &Record,

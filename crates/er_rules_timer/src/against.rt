@@ -1,15 +1,11 @@
 //! Whether a record comes too late: a rule leads from its event back to one that has begun.
 
-ghost use Rattle.std.specs.Prelude.{◌≡◌, ℕ, List, None};
+ghost use Rattle.std.specs.Prelude.{◌≡◌, ℕ, Bool, List};
 ghost use Rattle.er_trace.specs.declared.record.Record.{Record};
 ghost use Rattle.er_trace.specs.declared.version.Version.{Version};
 ghost use Rattle.er_history.specs.History.{told};
-ghost use Rattle.er_history.specs.Rules.{Rule, timer_rules};
-ghost use Rattle.er_history.specs.Edges.{path};
-ghost use Rattle.er_history.specs.Naming.{naming};
-ghost use Rattle.er_history.specs.Sound.{IsSound, leads_back};
-ghost use Rattle.er_pieces.specs.Enough.{HasSteady};
-ghost use Rattle.er_page.specs.Page.{IsPage};
+ghost use Rattle.er_history.specs.Rules.{timer_rules};
+ghost use Rattle.er_history.specs.Sound.{leads_back};
 
 use er_page::page::Page;
 use er_trace::record::Record;
@@ -19,9 +15,8 @@ use er_trace::record::Record;
 /// It never does: the event that set a timeout or an interval has begun, and callbacks are ordered as they are recorded.
 #[tactic(auto, using(er_history::proofs::OrderLemmas::timer_rules_never_lead_back))]
 pub fn against(page: &Page, rec: &Record) -> bool
-    ensures { (v : Version) (table : List (ℕ × Rule)) (h : List Record) → IsPage page.now h
-        → HasSteady table → IsSound table h → naming h rec.now ≡ None
-        → result ≡ leads_back (timer_rules v) (path table h) (told h) rec.now }
+    ensures { (v : Version) (joined : ℕ → ℕ → Bool) (h : List Record)
+        → result ≡ leads_back (timer_rules v) joined (told h) rec.now }
 {
     false
 }

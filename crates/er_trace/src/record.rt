@@ -104,7 +104,7 @@ pub enum Loc {
     Slot(u32, Name),
 }
 
-/// A record. Documents, elements, handlers, timeouts, intervals, requests and dispatches are numbered apart from each other.
+/// A record. Documents, elements, handlers, timeouts, intervals, requests, dispatches, messages, animation callbacks and jobs are numbered apart from each other.
 #[derive(Drop)]
 pub enum Record {
     /// A parse step that makes an element.

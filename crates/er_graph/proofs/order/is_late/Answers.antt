@@ -18,7 +18,7 @@ returns c = λ v h page sound named.
           (
             c.against-4.ensures (rules v) h page (sound_lists_are_named (rules v) h sound) named,
             (
-              c.against-5.ensures v (rules v) h page has sound named,
+              c.against-5.ensures v (path (rules v) h) h,
               (c.against-6.ensures (path (rules v) h) h, (c.against-7.ensures (path (rules v) h) h, tt)),
             ),
           ),
