@@ -20,8 +20,10 @@ SOURCES = ("src", "specs", "proofs")
 MEMORY = 2_000_000_000
 # the most jobs that one check gains from
 MOST_JOBS = 4
-# Bytes of source tell the time of a proof roughly: a crate with nearly as many behind it as the longest chain may hold up the end as well.
-NEARLY = 0.9
+# a crate with nearly as many bytes behind it as the longest chain may hold up the end as well
+NEARLY = 0.95
+# how a crate is called that holds up no end: it gives way to those that may
+GIVES_WAY = ("nice", "-n", "10")
 # rt, which sums up a crate's sources anew for each way down crates.txt that leads to it: at the upper crates a minute a call. Nothing in a room changes, so once is enough.
 # What the check of an edit says is put beside the edit, with .said behind its name.
 STAMPED_ONCE = """
@@ -68,9 +70,8 @@ def read_crates():
 
 
 def size_of(name):
-    """How many bytes of source the crate has."""
-    files = [file for part in SOURCES for file in glob.glob(f"{TOP}/crates/{name}/{part}/**", recursive=True)]
-    return sum(os.path.getsize(it) for it in files if os.path.isfile(it))
+    """How many bytes the functions of the crate have, which tell the time of its proof roughly: some 200 a second. Its definitions and lemmas take next to none."""
+    return sum(os.path.getsize(it) for it in glob.glob(f"{TOP}/crates/{name}/src/**/*.rt", recursive=True))
 
 
 def lanes():
@@ -99,11 +100,11 @@ def workers(count):
             raise
 
 
-def call_rt(room, folder, *words):
-    """Runs rt in a folder of the room. Gives its status and what it said."""
+def call_rt(room, folder, *words, before=()):
+    """Runs rt in a folder of the room, behind these words of another command. Gives its status and what it said."""
     how = {"stdin": subprocess.DEVNULL, "stdout": subprocess.PIPE, "stderr": subprocess.STDOUT, "errors": "replace"}
     how["env"] = {**os.environ, "TMPDIR": f"{room}/tmp"}
-    call = [sys.executable, "-c", STAMPED_ONCE, shutil.which("rt"), *words]
+    call = [*before, sys.executable, "-c", STAMPED_ONCE, shutil.which("rt"), *words]
     with subprocess.Popen(call, cwd=f"{room}/{folder}", **how) as it:
         started.add(it)
         if ends_early:
@@ -173,20 +174,21 @@ def held(names):
         yield
 
 
-def build(name, lines, below, jobs):
+def build(name, lines, below, jobs, gives_way):
     """Proves and builds a crate in a room. Gives whether it is built, and what rt said."""
     own = f"{TOP}/crates/{name}/out"
+    before = GIVES_WAY if gives_way else ()
     with room_for(lines, [*below[name], name]) as room:
         made = f"{room}/crates/{name}/out"
         move(own, made)
         try:
             if os.path.isfile(f"{room}/crates/{name}/src/lib.rt"):
-                status, said = call_rt(room, f"crates/{name}", "lib", "--jobs", str(jobs))
+                status, said = call_rt(room, f"crates/{name}", "lib", "--jobs", str(jobs), before=before)
                 return status == 0, said
             # rt run ends with the program's own status
             with contextlib.suppress(FileNotFoundError):
                 os.remove(f"{made}/{name}")
-            _, said = call_rt(room, f"crates/{name}", "run", "--jobs", str(jobs))
+            _, said = call_rt(room, f"crates/{name}", "run", "--jobs", str(jobs), before=before)
             return os.path.isfile(f"{made}/{name}"), said
         finally:
             move(made, own)
@@ -214,8 +216,9 @@ def build_all(names, tell):
                 idle -= share
                 left.remove(name)
                 # a crate that may hold up the end takes all that it gains from, also of processors that others use
-                jobs = MOST_JOBS if behind[name] >= NEARLY * longest else share
-                running[pool.submit(build, name, lines, below, jobs)] = name, share
+                gives_way = behind[name] < NEARLY * longest
+                jobs = share if gives_way else MOST_JOBS
+                running[pool.submit(build, name, lines, below, jobs, gives_way)] = name, share
             for it in wait(running, timeout=1, return_when=FIRST_COMPLETED).done:
                 name, _ = running.pop(it)
                 is_built, said = it.result()
