@@ -1,14 +1,20 @@
 -- What a graph keeps, for its calls.
-use Rattle.std.proofs.Common.{◌≡◌, ℕ, ◌<◌, Bool, true, false, List, ◌∷◌, length, None}
+use Rattle.std.proofs.Common.{◌≡◌, ℕ, ◌<◌, Bool, true, false, List, ◌∷◌, length, None, ap}
 use Rattle.std.proofs.Math.Logic.{∥∥₁_elim, ∥∥₁_map}
 use Rattle.std.proofs.Props.{props}
 use Rattle.er_trace.specs.declared.record.Record.{Record}
+use Rattle.er_trace.specs.declared.record.Record.TheVariants.{Access}
+use Rattle.er_trace.specs.declared.record.Loc.{Loc}
+use Rattle.er_trace.specs.declared.record.Mode.{Mode}
 use Rattle.er_trace.specs.declared.version.Version.{Version}
+use Rattle.er_trace.specs.Versions.{has_record}
+use Rattle.er_history.specs.History.{begins}
 use Rattle.er_page.specs.declared.page.Page.{Page}
+use Rattle.er_page.proofs.TakenLemmas.{accessed as page_accessed}
 use Rattle.er_graph.specs.declared.graph.Graph.{Graph}
 use Rattle.er_graph.specs.Accepted.{Accepted, cause_now, IsTold, AreTimed, IsNext, IsSomeGraph}
-use Rattle.er_graph.specs.Graph.{HasBegun}
-use Rattle.er_graph.proofs.PartLemmas.{line_there}
+use Rattle.er_graph.specs.Graph.{HasBegun, IsGraph}
+use Rattle.er_graph.proofs.PartLemmas.{line_there, told_more, same_lines, timed_still}
 
 pub within_lines : (graph : Graph) (action : ℕ) → ∥ HasBegun graph action ∥₁ → action < length graph.lines.items
 within_lines graph action some = ∥∥₁_elim some (hlevel props) (λ has. within has)
@@ -45,3 +51,13 @@ next_parts v page links kept has_failed x some whole passes = ∥∥₁_map some
   timed = one.timed whole;
   legal = passes one.accepted one.told;
 })
+
+-- an access changes nothing
+pub accessed : (graph : Graph) (line : ℕ) (x : Record) (m : Mode) (l : Loc) (accepted : List Accepted) → x ≡ Access m l → IsGraph graph accepted → has_record graph.version x ≡ true → cause_now graph.version accepted x ≡ None → IsGraph graph (record { line = line; read = x } ∷ accepted)
+accessed graph line x m l accepted e is of_version legal =
+    let note = ap begins e in
+    record {
+      listed = told_more graph.version graph.page graph.page graph.lines.items graph.lines.items line x accepted is.listed of_version legal (λ h page named fits. page_accessed graph.page h x m l e page named fits) (same_lines line x accepted graph.lines.items note is.listed.lines);
+      timed = timed_still graph.version graph.clocks line x accepted note is.timed;
+      whole = is.whole;
+    }

@@ -125,6 +125,10 @@ impl Graph {
         ensures kept { OnErr result
             ((accepted : List Accepted) → IsListed self.old accepted → IsListed self.new accepted) }
     {
+        // An access changes neither page, clocks, lines nor the mark.
+        if let Record::Access { .. } = rec {
+            return Ok(());
+        }
         self.has_failed = true;
         grow(
             self.version,
