@@ -22,7 +22,7 @@ use Rattle.er_tasks.specs.declared.begun.Started.{Started}
 use Rattle.er_tasks.specs.declared.tasks.BegunTask.{BegunTask}
 use Rattle.er_tasks.specs.declared.tasks.Task.{Task}
 use Rattle.er_tasks.specs.Begun.{IsBegun, GoesOn, IsRunTo, AreRuns, AreBegun}
-use Rattle.er_tasks.specs.Tasks.{Declared, declared_of, declared, TasksDeclared, TaskGiven, with_task, numbers_in, task_of, event_under, number_under, under, queuer_of, IsStarted, TasksAreRanked, task_rank}
+use Rattle.er_tasks.specs.Tasks.{Declared, declared_of, declared, TasksDeclared, TaskGiven, with_task, numbers_in, task_of, event_under, number_under, under, IsStarted, TasksAreRanked, task_rank}
 
 -- the task that a record declares
 
@@ -183,13 +183,6 @@ made_found old new (Some n) keeps = by (old n) refl
     by : (o : Option Task) → old n ≡ o → IfSome {T = ℕ × Task} (option_map (λ (t : Task). (n, t)) o) (λ p. new p.0 ≡ Some p.1)
     by None e = tt
     by (Some t) e = keeps n t e
-
-pub queuer_same : (found : ℕ → Option Task) (x : Record) (job : Option Started) → option_map task_of job ≡ with_task found (task_started OfJob x) → option_map (λ (s : Started). s.task.maker) job ≡ queuer_of found x
-queuer_same found x job e = same job ∙ ap (option_map (λ (p : ℕ × Task). p.1.maker)) e
-  where
-    same : (job : Option Started) → option_map (λ (s : Started). s.task.maker) job ≡ option_map (λ (p : ℕ × Task). p.1.maker) (option_map task_of job)
-    same None = refl
-    same (Some s) = refl
 
 -- what the lists keep
 

@@ -1,9 +1,10 @@
 -- What the tables of messages, animation callbacks and jobs stand for. Lists of records stand newest first.
-use Rattle.std.specs.Prelude.{◌≡◌, ℕ, ◌<◌, ◌==◌, Bool, false, if◌then◌else◌, List, [], ◌∷◌, length, Option, Some, None, is_some, option_map, map, nat_eq}
+use Rattle.std.specs.Prelude.{◌≡◌, ℕ, ◌<◌, ◌==◌, Bool, true, false, if◌then◌else◌, List, [], ◌∷◌, length, Option, Some, None, is_some, option_map, map, nat_eq}
 use Rattle.std.specs.List.{list_any}
 use Rattle.indexmap.specs.IndexMap.{get, spare, index_map_len}
 use Rattle.er_trace.specs.declared.record.Record.{Record}
 use Rattle.er_trace.specs.declared.record.Record.TheVariants.{Post, Ask, Queue, Message, Anim, Job}
+use Rattle.er_trace.specs.Versions.{is_of_task}
 use Rattle.er_history.specs.History as history
 use Rattle.er_history.specs.History.{told, makes_task, Action}
 use Rattle.er_history.specs.LookUps.{jobs_queued}
@@ -126,12 +127,16 @@ pub record TasksAre (tasks : Tasks) (h : List Record) : Type 0 where
       → AreBegun (get nat_eq tasks.jobs.declared) (get nat_eq tasks.jobs.started)
       (tasks_at tasks.queued u)
 
--- and there is room for what the record declares or begins
-pub record HaveRoomFor (tasks : Tasks) (x : Record) : Type 0 where
+-- and there is room for one task more of each kind, and for the job that the record begins
+pub record HaveRoomForTask (tasks : Tasks) (x : Record) : Type 0 where
   pub messages : HaveRoom tasks.messages
   pub anims : HaveRoom tasks.anims
   pub jobs : HaveRoom tasks.jobs
   pub queued : HasPlaceFor tasks.queued (queuer_of (get nat_eq tasks.jobs.declared) x)
+
+-- and there is room for what the record declares or begins; where it does neither, none is needed
+abbrev pub HaveRoomFor : Tasks → Record → Type 0
+HaveRoomFor tasks x = is_of_task x ≡ true → HaveRoomForTask tasks x
 
 -- the table of a kind
 abbrev pub table_of : TaskKind → Tasks → TaskTable

@@ -1,11 +1,24 @@
-//! The number that a record declares, or whose event it begins, of each kind of tasks.
+//! Whether a record declares or begins a task, and the number that it declares, or whose event it
+//! begins, of each kind of tasks.
 
 ghost use Rattle.std.specs.Prelude.{◌≡◌, ℕ};
+ghost use Rattle.er_trace.specs.Versions as versions;
 ghost use Rattle.er_history.specs.History.{posts_message, asks_for_anim, queues_job};
 ghost use Rattle.er_history.specs.Tasks.{OfMessage, OfAnim, OfJob, task_started};
 ghost use Rattle.er_firsts.specs.Noted.{is_number};
 
 use er_trace::record::Record;
+
+/// Whether the record declares a task or begins the event of one.
+pub(crate) fn is_of_task(rec: &Record) -> bool
+    ensures { result ≡ versions.is_of_task rec.now }
+{
+    match rec {
+        Record::Post { .. } | Record::Ask { .. } | Record::Queue { .. } => true,
+        Record::Message { .. } | Record::Anim { .. } | Record::Job { .. } => true,
+        _ => false,
+    }
+}
 
 /// The message that the record posts.
 pub(crate) fn posted_in(rec: &Record) -> Option<u32>

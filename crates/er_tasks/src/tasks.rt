@@ -5,7 +5,7 @@ ghost use Rattle.std.specs.Prelude.{[], OnOk};
 ghost use Rattle.er_firsts.specs.Taken.{Keeps, Takes};
 ghost use Rattle.er_tasks.specs.Tasks.{HaveRoomFor, TasksAre};
 
-use crate::forms::{anim_in, asked_in, job_in, message_in, posted_in, queued_in};
+use crate::forms::{anim_in, asked_in, is_of_task, job_in, message_in, posted_in, queued_in};
 use crate::queued::Queued;
 use crate::table::TaskTable;
 use er_firsts::firsts::Now;
@@ -69,6 +69,9 @@ impl Tasks {
         ensures kept { Keeps TasksAre self.old self.new }
         ensures room { OnOk result (HaveRoomFor self.new rec.now) }
     {
+        if !is_of_task(rec) {
+            return Ok(());
+        }
         self.messages.make_room()?;
         self.anims.make_room()?;
         self.jobs.make_room()?;
@@ -81,6 +84,9 @@ impl Tasks {
         requires room { HaveRoomFor self.old rec.now }
         ensures { Takes TasksAre self.old self.new rec.now now }
     {
+        if !is_of_task(rec) {
+            return;
+        }
         let _message = self.messages.take(posted_in(rec), message_in(rec), now);
         let _anim = self.anims.take(asked_in(rec), anim_in(rec), now);
         let job = self.jobs.take(queued_in(rec), job_in(rec), now);

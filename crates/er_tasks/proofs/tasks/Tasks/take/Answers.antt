@@ -1,14 +1,9 @@
-use Rattle.std.proofs.Common.{◌≡◌, ◌∙◌, sym, ap, subst, ◌++◌}
-use Rattle.std.specs.Prelude.{map}
+use Rattle.std.proofs.Common.{◌∙◌, ap, ◌++◌}
 use Rattle.er_history.specs.LookUps.{jobs_queued}
 use Rattle.er_history.specs.Tasks.{OfMessage, OfAnim, OfJob, queued_jobs}
-use Rattle.er_tasks.specs.Begun.{HasPlaceFor, task_number, tasks_at, listed_at}
 use Rattle.er_tasks.specs.Tasks.{with_task, event_under, number_under}
-use Rattle.er_tasks.proofs.TaskLemmas.{queuer_same, job_listed, job_events, still_begun}
+use Rattle.er_tasks.proofs.TaskLemmas.{job_listed, job_events, still_begun}
 use Rattle.er_tasks.proofs.tasks.Tasks.take.Goals as goal
-
-pub take-requires : goal.take-requires
-take-requires c = record { room = subst (HasPlaceFor c.args.self.now.queued) (sym (queuer_same _ c.args.rec.now c.take-job.result (c.take-job.ensures.answers ∙ ap (with_task _) c.job_in.ensures))) c.requires.room.queued }
 
 pub returns : goal.returns
 returns c = λ h stands now.
