@@ -1,12 +1,12 @@
 -- How the table of jobs by dispatch comes to stand for one record more.
-use Rattle.std.proofs.Common.{◌≡◌, ℕ, Bool, true, false, List, [], ◌∷◌, ◌++◌, length, map, reverse, Option, Some, None, refl, sym, ap, subst, ◌∙◌, arith}
+use Rattle.std.proofs.Common.{◌≡◌, ℕ, Bool, true, false, List, [], ◌∷◌, ◌++◌, length, map, reverse, Option, Some, refl, sym, ap, subst, ◌∙◌, arith}
 use Rattle.std.specs.Prelude.{◌==◌, ◌&&◌, ◌||◌, if◌then◌else◌}
 use Rattle.std.specs.List.{list_any}
 use Rattle.std.proofs.lemmas.Bool.{eq-eqb, ne_eqb}
 use Rattle.std.proofs.lemmas.List.{append-nil, reverse-append}
 use Rattle.er_trace.specs.declared.record.Record.{Record}
 use Rattle.er_trace.specs.declared.record.Record.TheVariants.{Parse, ParseFrame, Exec, Timer, Tick, Dcl, Load, Eload, Fire, Wfire, Reply, Inline, Run, Close, Back, New, NewFrame, On, Set, Every, Send, Access, Post, Ask, Queue, Message, Anim, Job}
-use Rattle.er_history.specs.History.{told, begins, running, is_inline, action_begun, event_begun, what_begun, What, Event, Action, Open}
+use Rattle.er_history.specs.History.{told, begins, running, is_inline, action_begun, event_begun, what_begun, What, Event, Open}
 use Rattle.er_history.specs.Kinds.{is_job_within}
 use Rattle.er_history.specs.Latest.{events_of_each}
 use Rattle.er_history.specs.LookUps.{jobs_in, top}

@@ -1,4 +1,4 @@
-use Rattle.std.proofs.Common.{◌≡◌, ◌∙◌, sym, subst}
+use Rattle.std.proofs.Common.{◌≡◌, subst}
 use Rattle.std.specs.Prelude.{IfSome}
 use Rattle.er_firsts.proofs.FirstLemmas.{note_keeps}
 use Rattle.er_tasks.proofs.TaskLemmas.{declared_more, tasks_ranked_more}

@@ -1,4 +1,4 @@
-use Rattle.std.proofs.Common.{◌≡◌, sym, subst}
+use Rattle.std.proofs.Common.{sym, subst}
 use Rattle.er_tasks.specs.Begun.{AreBegun, AreRuns, IsRunTo, tasks_at}
 use Rattle.er_tasks.specs.Tasks.{IsStarted}
 use Rattle.er_tasks.proofs.TaskLemmas.{begun_under}

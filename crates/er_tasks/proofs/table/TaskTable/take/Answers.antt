@@ -1,8 +1,8 @@
 use Rattle.std.proofs.Common.{◌≡◌, ◌∙◌, sym, ap, subst, ◌++◌, ◌∷◌}
-use Rattle.std.specs.Prelude.{IfSome, IsSome, Some, nat_eq, map}
+use Rattle.std.specs.Prelude.{IfSome, IsSome, Some, nat_eq}
 use Rattle.indexmap.specs.IndexMap.{get, index_map_len}
 use Rattle.er_history.specs.Tasks.{starts_task, tasks_begun}
-use Rattle.er_tasks.specs.Begun.{AreBegun, task_number}
+use Rattle.er_tasks.specs.Begun.{AreBegun}
 use Rattle.er_firsts.specs.Taken.{KeepsEach}
 use Rattle.er_firsts.specs.Noted.{is_number}
 use Rattle.er_tasks.specs.Tasks.{IsStarted, numbers_in, TasksDeclared, TasksAreRanked}
