@@ -146,7 +146,17 @@ fn lead(
     Ok(())
 }
 
+/// The action that was asked for last, and whether a path leads to it.
+#[derive(Clone, Copy)]
+pub(crate) struct Asked {
+    pub(crate) to: u32,
+    pub(crate) leads: bool,
+}
+
 /// Adds the second actions of those classes to whose first action a path leads.
+///
+/// Classes of one first action stand side by side, so that one comparison serves them all.
+#[tactic(auto, using(crate::proofs::ClockLemmas::selves))]
 fn gather(
     seconds: &mut Vec<u32>,
     found: &[Class],
@@ -163,14 +173,40 @@ fn gather(
     ensures bound { tests.new ≤ tests.old + length found.now }
     ensures rises { tests.old ≤ tests.new }
 {
+    // A path leads from each action to itself.
+    let mut last = Asked {
+        to: first,
+        leads: true,
+    };
     for group in found {
-        if clocks.before(first, group.first, tests) {
+        if leads_to(first, group.first, &mut last, clocks, tests) {
             let Ok(()) = seconds.push(group.second) else {
                 return Err(NoMemory);
             };
         }
     }
     Ok(())
+}
+
+/// Whether a path leads from one action to another. What was asked last is not compared again.
+fn leads_to(first: u32, to: u32, last: &mut Asked, clocks: &Clocks, tests: &mut Meter) -> bool
+    requires first { first < length clocks.now }
+    requires to { to < length clocks.now }
+    requires last { last.old.leads ≡ joins clocks.now first last.old.to }
+    requires room { tests.old + 1 < 2 ^ 62 }
+    ensures leads { result ≡ joins clocks.now first to }
+    ensures to { last.new.to ≡ to }
+    ensures last { last.new.leads ≡ joins clocks.now first to }
+    ensures again { last.old.to ≡ to → tests.new ≡ tests.old }
+    ensures bound { tests.new ≤ tests.old + 1 }
+    ensures rises { tests.old ≤ tests.new }
+{
+    if last.to == to {
+        return last.leads;
+    }
+    let leads = clocks.before(first, to, tests);
+    *last = Asked { to, leads };
+    leads
 }
 
 /// Whether a path leads from one of these actions to j.

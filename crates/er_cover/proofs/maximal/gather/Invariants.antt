@@ -6,5 +6,7 @@ use Rattle.er_cover.proofs.maximal.gather.Given as goal
 abbrev pub invariant-loop-group : goal.invariant-loop-group
 invariant-loop-group l = record {
   gathered : l.seconds.items ≡ seconds_from (joins l.clocks) l.first (take l.group-index l.found);
-  counted : l.tests ≡ l.fn.tests + l.group-index;
+  last : l.last.leads ≡ joins l.clocks l.first l.last.to;
+  bound : l.tests ≤ l.fn.tests + l.group-index;
+  rises : l.fn.tests ≤ l.tests;
 }
