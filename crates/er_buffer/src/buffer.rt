@@ -81,6 +81,12 @@ impl Sink for Buffer {
         if count == 0 && !piece.is_empty() {
             return Err(Failed);
         }
+        // Many pieces are one space: to store a byte is no call, to copy a slice of one byte is.
+        if let [byte] = piece {
+            self.bytes[self.count] = *byte;
+            self.count += 1;
+            return Ok(1);
+        }
         let end = self.count + count;
         self.bytes[self.count..end].copy_from_slice(&piece[..count]);
         self.count = end;
