@@ -1,4 +1,3 @@
-pub mod HeadLaws
 pub mod FormLaws
 pub mod RecordLaws
 pub mod PrintLaws

@@ -1,5 +1,5 @@
 -- The first word of a record, and how it goes on.
-use Rattle.std.specs.Prelude.{◌≡◌, ℕ, List, [], ◌∷◌, map, drop, codes}
+use Rattle.std.specs.Prelude.{◌≡◌, ℕ, ◌-◌, List, map, drop, codes, length, Some, slice_get}
 use Rattle.er_trace.specs.declared.head.Head.{Head}
 use Rattle.er_trace.specs.declared.head.Head.TheVariants as heads
 use Rattle.er_trace.specs.declared.record.Record.{Record}
@@ -38,13 +38,11 @@ head_word heads.Job = codes "job"
 head_word heads.R = codes "r"
 head_word heads.W = codes "w"
 
--- every first word, in the order of the table
-abbrev pub head_list : List Head
-head_list =
-    heads.R ∷ heads.W ∷ heads.Run ∷ heads.Close ∷ heads.Parse ∷ heads.Exec ∷ heads.Timer
-    ∷ heads.Tick ∷ heads.Dcl ∷ heads.Load ∷ heads.Eload ∷ heads.Fire ∷ heads.Wfire ∷ heads.Reply
-    ∷ heads.Inline ∷ heads.Back ∷ heads.New ∷ heads.On ∷ heads.Set ∷ heads.Every ∷ heads.Send
-    ∷ heads.Post ∷ heads.Ask ∷ heads.Queue ∷ heads.Message ∷ heads.Anim ∷ heads.Job ∷ []
+-- the word begins with that byte, and ends with that one
+abbrev pub HasEnds : Head → ℕ → ℕ → Type 0
+HasEnds head first last =
+    (slice_get (head_word head) 0 ≡ Some first)
+    × (slice_get (head_word head) (length (head_word head) - 1) ≡ Some last)
 
 abbrev pub mode_head : Mode → Head
 mode_head modes.R = heads.R

@@ -4,8 +4,7 @@ ghost use Rattle.std.specs.Prelude.{◌≡◌, ◌<◌, ◌↔◌, IsTrue, Some,
 ghost use Rattle.er_trace.specs.declared.head.Head.{Head};
 ghost use Rattle.er_trace.specs.declared.record.Kind.{Kind};
 ghost use Rattle.er_trace.specs.declared.record.NewKind.{NewKind};
-ghost use Rattle.std.proofs.Math.ListN.{get_or};
-ghost use Rattle.er_trace.specs.Heads.{head_list, head_word};
+ghost use Rattle.er_trace.specs.Heads.{head_word, HasEnds};
 ghost use Rattle.er_trace.specs.Spelling.{kind_word, new_kind_word};
 ghost use Rattle.er_trace.specs.Versions.{begins_task};
 
@@ -42,37 +41,6 @@ pub enum Head {
     R,
     W,
 }
-
-/// Every first word, the commonest in front.
-const HEADS: [Head; 27] = [
-    Head::R,
-    Head::W,
-    Head::Run,
-    Head::Close,
-    Head::Parse,
-    Head::Exec,
-    Head::Timer,
-    Head::Tick,
-    Head::Dcl,
-    Head::Load,
-    Head::Eload,
-    Head::Fire,
-    Head::Wfire,
-    Head::Reply,
-    Head::Inline,
-    Head::Back,
-    Head::New,
-    Head::On,
-    Head::Set,
-    Head::Every,
-    Head::Send,
-    Head::Post,
-    Head::Ask,
-    Head::Queue,
-    Head::Message,
-    Head::Anim,
-    Head::Job,
-];
 
 impl Head {
     pub fn word(self) -> &'static str
@@ -133,21 +101,51 @@ pub fn head_of(bytes: &[u8]) -> Option<Head>
     ensures read { IfSome result (λ head. bytes.now ≡ head_word head) }
     ensures exact { (head : Head) → bytes.now ≡ head_word head → result ≡ Some head }
 {
-    for place in 0..HEADS.len() {
-        let head = head_at(place);
-        if is_word(bytes, head.word()) {
-            return Some(head);
-        }
+    let first = *bytes.first()?;
+    let last = *bytes.last()?;
+    let head = head_between(first, last)?;
+    if is_word(bytes, head.word()) {
+        return Some(head);
     }
     None
 }
 
-/// The first word at that place of the table.
-fn head_at(place: usize) -> Head
-    requires { place < 27 }
-    ensures { result ≡ get_or head_list place Head.R }
+/// The first word with this first and this last byte: there is at most one.
+fn head_between(first: u8, last: u8) -> Option<Head>
+    ensures read { IfSome result (λ head. HasEnds head first last) }
+    ensures exact { (head : Head) → HasEnds head first last → result ≡ Some head }
 {
-    HEADS[place]
+    let head = match (first, last) {
+        (b'p', b'e') => Head::Parse,
+        (b'e', b'c') => Head::Exec,
+        (b't', b'r') => Head::Timer,
+        (b't', b'k') => Head::Tick,
+        (b'd', b'l') => Head::Dcl,
+        (b'l', b'd') => Head::Load,
+        (b'e', b'd') => Head::Eload,
+        (b'f', b'e') => Head::Fire,
+        (b'w', b'e') => Head::Wfire,
+        (b'r', b'y') => Head::Reply,
+        (b'i', b'e') => Head::Inline,
+        (b'r', b'n') => Head::Run,
+        (b'c', b'e') => Head::Close,
+        (b'b', b'k') => Head::Back,
+        (b'n', b'w') => Head::New,
+        (b'o', b'n') => Head::On,
+        (b's', b't') => Head::Set,
+        (b'e', b'y') => Head::Every,
+        (b's', b'd') => Head::Send,
+        (b'p', b't') => Head::Post,
+        (b'a', b'k') => Head::Ask,
+        (b'q', b'e') => Head::Queue,
+        (b'm', b'e') => Head::Message,
+        (b'a', b'm') => Head::Anim,
+        (b'j', b'b') => Head::Job,
+        (b'r', b'r') => Head::R,
+        (b'w', b'w') => Head::W,
+        _ => return None,
+    };
+    Some(head)
 }
 
 /// The kind that is spelled so.
