@@ -134,7 +134,7 @@ impl Clocks {
     }
 
     /// The entry over the kept links. The row of j is not asked for its own chain.
-    fn own_entry(&self, j: u32, chain: u32) -> u32
+    pub(crate) fn own_entry(&self, j: u32, chain: u32) -> u32
         requires { j < length self.now }
         ensures { result ≡ entry self.now j chain }
     {

@@ -5,6 +5,7 @@ mod clocks;
 mod fit;
 pub mod laws;
 mod list;
+mod many;
 mod meter;
 mod paths;
 mod push;

@@ -1,4 +1,4 @@
-use Rattle.std.proofs.Common.{◌∙◌, ap, ◌+◌, ℕ, sym, arith}
+use Rattle.std.proofs.Common.{◌∙◌, sym, arith}
 use Rattle.er_clocks.proofs.AskedLemmas.{asked_all, asked_to, found_apart, joins_more, none_apart}
 use Rattle.er_clocks.proofs.paths.Paths.first_apart.Goals as goal
 

@@ -1,0 +1,7 @@
+use Rattle.std.proofs.Common.{arith}
+use Rattle.er_clocks.proofs.LookUps.{as_seen, place_few}
+use Rattle.er_clocks.proofs.clocks.Clocks.target.Goals as goal
+
+pub overflow_add-result : goal.overflow_add-result
+overflow_add-result c =
+    let few = place_few c.self.inside c.args.self.now c.args.j c.index-place.result.now (as_seen c.self.inside c.args.self.now c.self.invariant c.self.view_is) c.requires c.index-place.ensures in omega (arith, few)
