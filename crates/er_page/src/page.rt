@@ -8,7 +8,7 @@ ghost use Rattle.er_history.specs.History.{told};
 ghost use Rattle.er_history.specs.Naming.{again, misplaced, naming, room, too_many_actions, too_deep, unknown};
 ghost use Rattle.er_page.specs.Accepted.{result_of};
 ghost use Rattle.er_names.specs.Names.{HasRoomFor};
-ghost use Rattle.er_tasks.specs.Tasks.{HaveRoomFor};
+ghost use Rattle.er_tasks.specs.Tasks.{HaveRoomIfTask};
 ghost use Rattle.er_page.specs.Page.{IsPage, IsNext, IsNextOf, Answers};
 ghost use Rattle.er_page.specs.Pieces.{about_start, about_begun};
 
@@ -22,6 +22,7 @@ use er_latest::latest::Latest;
 use er_latest::role::Now as Told;
 use er_names::names::Names;
 use er_outside::NoMemory;
+use er_tasks::forms::is_of_task;
 use er_tasks::tasks::Tasks;
 use er_text::Cause;
 use er_trace::record::Record;
@@ -124,21 +125,25 @@ impl Page {
         }
     }
 
-    /// Makes room for what the record declares, starts or finishes.
+    /// Makes room for what the record declares, starts or finishes. The tasks are asked for room only where the record is one's.
+    #[tactic(auto, using(crate::proofs::TakenLemmas::with_room))]
     fn make_room(&mut self, rec: &Record) -> Result<(), NoMemory>
         ensures kept { (h : List Record) → IsPage self.old h → IsPage self.new h }
         ensures names { OnOk result (HasRoomFor self.new.names rec.now) }
-        ensures tasks { OnOk result (HaveRoomFor self.new.tasks rec.now) }
+        ensures tasks { OnOk result (HaveRoomIfTask self.new.tasks rec.now) }
     {
         self.names.make_room(rec)?;
-        self.tasks.make_room(rec)
+        if is_of_task(rec) {
+            self.tasks.make_room(rec)?;
+        }
+        Ok(())
     }
 
     /// Takes a record that begins a piece of this event. All that grows is made to grow first.
     fn begin(&mut self, rec: &Record, start: Start) -> Result<(), NoMemory>
         requires next { ∥ IsNext self.old rec.now ∥₁ }
         requires names { HasRoomFor self.old.names rec.now }
-        requires tasks { HaveRoomFor self.old.tasks rec.now }
+        requires tasks { HaveRoomIfTask self.old.tasks rec.now }
         ensures taken { OnOk result ((h : List Record) → IsPage self.old h → IsNextOf h rec.now
             → Some (about_start start) ≡ about_begun h rec.now → IsPage self.new (rec.now ∷ h)) }
         ensures kept { OnErr result ((h : List Record) → IsPage self.old h → IsPage self.new h) }
@@ -165,7 +170,7 @@ impl Page {
     /// Takes a note, which stands in the running action.
     fn note(&mut self, rec: &Record)
         requires names { HasRoomFor self.old.names rec.now }
-        requires tasks { HaveRoomFor self.old.tasks rec.now }
+        requires tasks { HaveRoomIfTask self.old.tasks rec.now }
         ensures { (h : List Record) → IsPage self.old h → IsNextOf h rec.now
             → None ≡ about_begun h rec.now → IsPage self.new (rec.now ∷ h) }
     {

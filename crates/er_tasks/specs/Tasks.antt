@@ -128,15 +128,15 @@ pub record TasksAre (tasks : Tasks) (h : List Record) : Type 0 where
       (tasks_at tasks.queued u)
 
 -- and there is room for one task more of each kind, and for the job that the record begins
-pub record HaveRoomForTask (tasks : Tasks) (x : Record) : Type 0 where
+pub record HaveRoomFor (tasks : Tasks) (x : Record) : Type 0 where
   pub messages : HaveRoom tasks.messages
   pub anims : HaveRoom tasks.anims
   pub jobs : HaveRoom tasks.jobs
   pub queued : HasPlaceFor tasks.queued (queuer_of (get nat_eq tasks.jobs.declared) x)
 
--- and there is room for what the record declares or begins; where it does neither, none is needed
-abbrev pub HaveRoomFor : Tasks → Record → Type 0
-HaveRoomFor tasks x = is_of_task x ≡ true → HaveRoomForTask tasks x
+-- the same, asked only where the record declares or begins a task
+abbrev pub HaveRoomIfTask : Tasks → Record → Type 0
+HaveRoomIfTask tasks x = is_of_task x ≡ true → HaveRoomFor tasks x
 
 -- the table of a kind
 abbrev pub table_of : TaskKind → Tasks → TaskTable

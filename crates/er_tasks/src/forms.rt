@@ -10,7 +10,7 @@ ghost use Rattle.er_firsts.specs.Noted.{is_number};
 use er_trace::record::Record;
 
 /// Whether the record declares a task or begins the event of one.
-pub(crate) fn is_of_task(rec: &Record) -> bool
+pub fn is_of_task(rec: &Record) -> bool
     ensures { result ≡ versions.is_of_task rec.now }
 {
     match rec {

@@ -18,12 +18,13 @@
 //!
 //! A record is taken in two steps. `make_room` may answer `NoMemory`, and leaves what the tasks
 //! stand for;
-//! `take` needs the room and the action that runs when the record has been read, with its event
-//! (`Now`), and can't fail.
+//! `take` needs the room, where the record is a task's, and the action that runs when the record
+//! has been read, with its event (`Now`), and can't fail.
+//! `forms::is_of_task` tells whether it is one's: where it is not, `make_room` can be left out.
 #![tactic(auto)]
 
 mod begun;
-mod forms;
+pub mod forms;
 pub mod look_ups;
 mod naming;
 mod queued;

@@ -3,7 +3,7 @@
 
 ghost use Rattle.std.specs.Prelude.{[], OnOk};
 ghost use Rattle.er_firsts.specs.Taken.{Keeps, Takes};
-ghost use Rattle.er_tasks.specs.Tasks.{HaveRoomFor, TasksAre};
+ghost use Rattle.er_tasks.specs.Tasks.{HaveRoomFor, HaveRoomIfTask, TasksAre};
 
 use crate::forms::{anim_in, asked_in, is_of_task, job_in, message_in, posted_in, queued_in};
 use crate::queued::Queued;
@@ -69,9 +69,6 @@ impl Tasks {
         ensures kept { Keeps TasksAre self.old self.new }
         ensures room { OnOk result (HaveRoomFor self.new rec.now) }
     {
-        if !is_of_task(rec) {
-            return Ok(());
-        }
         self.messages.make_room()?;
         self.anims.make_room()?;
         self.jobs.make_room()?;
@@ -81,7 +78,7 @@ impl Tasks {
 
     /// Takes the record, after which this action runs.
     pub fn take(&mut self, rec: &Record, now: Now)
-        requires room { HaveRoomFor self.old rec.now }
+        requires room { HaveRoomIfTask self.old rec.now }
         ensures { Takes TasksAre self.old self.new rec.now now }
     {
         if !is_of_task(rec) {
