@@ -1,6 +1,7 @@
 pub mod ClockLemmas
 pub mod CoverLemmas
 pub mod GroupLemmas
+pub mod HeadLemmas
 pub mod LawLemmas
 pub mod NumberLemmas
 pub mod OrderLemmas

@@ -1,12 +1,13 @@
 -- What the passes over the classes keep.
-use Rattle.std.specs.Prelude.{◌≡◌, ℕ, ◌+◌, ◌-◌, ◌*◌, ◌^◌, ◌<◌, ◌≤◌, ◌++◌, ◌||◌, ◌&&◌, not, Bool, true, false, List, [], ◌∷◌, map, filter, length, if◌then◌else◌, slice_index, Some}
-use Rattle.std.specs.List.{AllByRecursion, list_any, position_or_len}
+use Rattle.std.specs.Prelude.{◌≡◌, ℕ, ◌+◌, ◌-◌, ◌*◌, ◌^◌, ◌<◌, ◌≤◌, ◌++◌, ◌&&◌, Bool, true, false, List, [], ◌∷◌, map, filter, length, if◌then◌else◌, slice_index, slice_range, get_or, ◌==◌, nat_lt, Some}
+use Rattle.std.specs.List.{All, AllByRecursion, list_any, position_or_len}
 use Rattle.er_paths.specs.Paths.{joins}
 use Rattle.er_access.specs.declared.access.Access.{Access}
 use Rattle.er_access.specs.Numbers.{access_at}
 use Rattle.er_races.specs.declared.race.Race.{Race}
 use Rattle.er_races.specs.Races.{most_races}
 use Rattle.er_cover.specs.declared.class.Class.{Class}
+use Rattle.er_cover.specs.declared.heads.Heads.{Heads}
 use Rattle.er_cover.specs.declared.maximal.Leading.{Leading}
 use Rattle.er_cover.specs.Classes.{same, is_among, each_once}
 use Rattle.er_cover.specs.Groups.{Grouping, covers, groups_by, maximal_of, most_classes, name_of, names_by, numbers_of, representative, size_of}
@@ -57,10 +58,39 @@ abbrev pub Keeps : (ℕ → ℕ → Bool) → Class → List Class → List Clas
 Keeps joined x old new =
     new ≡ (if list_any (λ g. covers joined g x) old then old else old ++ x ∷ [])
 
+abbrev pub seconds_of : List Class → List ℕ
+seconds_of classes = map (λ (g : Class). g.second) classes
+
 -- the second actions of the classes to whose first action a path leads
 abbrev pub seconds_from : (ℕ → ℕ → Bool) → ℕ → List Class → List ℕ
 seconds_from joined first classes =
-    map (λ (g : Class). g.second) (filter (λ (g : Class). joined first g.first) classes)
+    seconds_of (filter (λ (g : Class). joined first g.first) classes)
+
+-- where the groups of the first action at a place begin, or behind the last the number of groups
+abbrev pub start_of : ℕ → Heads → ℕ → ℕ
+start_of count heads n = get_or heads.starts.items n count
+
+-- the groups of the first action at a place
+abbrev pub groups_at : List Class → Heads → ℕ → List Class
+groups_at found heads n = slice_range found
+    (start_of (length found) heads n) (start_of (length found) heads (n + 1))
+
+-- this is the first action of the last group
+abbrev pub ends_with : Heads → ℕ → Bool
+ends_with heads first = nat_lt 0 (length heads.firsts.items)
+    && (slice_index heads.firsts.items (length heads.firsts.items - 1) == first)
+
+-- the first actions of these groups: the groups of each stand from its start up to the next one's
+pub record AreHeads (found : List Class) (heads : Heads) : Type 0 where
+  pub paired : length heads.starts.items ≡ length heads.firsts.items
+  pub begin : start_of (length found) heads 0 ≡ 0
+  pub rising : (n : ℕ) → n < length heads.firsts.items
+      → start_of (length found) heads n < start_of (length found) heads (n + 1)
+  pub each : (n : ℕ) → n < length heads.firsts.items
+      → All (λ (g : Class). g.first ≡ slice_index heads.firsts.items n) (groups_at found heads n)
+  -- no two side by side are the same
+  pub apart : (n : ℕ) → n + 1 < length heads.firsts.items
+      → (slice_index heads.firsts.items n == slice_index heads.firsts.items (n + 1)) ≡ false
 
 -- these are what stands there, where it was found for a first action
 abbrev pub IsLeading : (ℕ → ℕ → Bool) → List Class → Leading → Type 0

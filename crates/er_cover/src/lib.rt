@@ -6,6 +6,7 @@ mod classes;
 mod fault;
 mod grouping;
 mod groups;
+mod heads;
 pub mod laws;
 mod maximal;
 mod names;

@@ -1,16 +1,17 @@
 //! The maximal classes, by one pass over the classes by falling first action and, of one first action, by rising second:
 //! whatever covers a class stands before it.
 
-ghost use Rattle.std.specs.Prelude.{◌≡◌, ◌+◌, ◌*◌, ◌<◌, ◌≤◌, ◌^◌, [], length, All, Some, IfOk, OnOk};
+ghost use Rattle.std.specs.Prelude.{◌≡◌, ◌+◌, ◌*◌, ◌<◌, ◌≤◌, ◌^◌, length, All, Some, IfOk, OnOk};
 ghost use Rattle.std.specs.List.{list_any};
 ghost use Rattle.std.specs.List.Sorted.{IsPermutation};
 ghost use Rattle.er_paths.specs.Paths.{joins};
 ghost use Rattle.er_cover.specs.Groups as spec;
-ghost use Rattle.er_cover.specs.Passes.{AreDistinct, AreRising, Chooses, IsKnown, IsLeading, Keeps};
+ghost use Rattle.er_cover.specs.Passes.{AreDistinct, AreHeads, AreRising, Chooses, IsKnown, IsLeading, Keeps};
 ghost use Rattle.er_cover.specs.Passes.{chosen_of, maximal_tests, seconds_from};
 
 use crate::Class;
 use crate::classes::set_of;
+use crate::heads::{Heads, gather};
 use er_clocks::{Clocks, Meter, Paths};
 use er_outside::NoMemory;
 use indexmap::IndexSet;
@@ -71,12 +72,13 @@ fn pass(
     ensures rises { tests.old ≤ tests.new }
 {
     let mut found = Vec::new(alloc);
+    let mut heads = Heads::new(alloc);
     let mut leading = Leading {
         first: None,
         seconds: Vec::new(alloc),
     };
     for class in classes {
-        consider(&mut found, &mut leading, class, clocks, tests)?;
+        consider(&mut found, &mut heads, &mut leading, class, clocks, tests)?;
     }
     Ok(found)
 }
@@ -91,6 +93,7 @@ pub(crate) struct Leading {
 /// Keeps the class where none that was found covers it.
 fn consider(
     found: &mut Vec<Class>,
+    heads: &mut Heads,
     leading: &mut Leading,
     class: &Class,
     clocks: &Clocks,
@@ -98,18 +101,22 @@ fn consider(
 ) -> Result<(), NoMemory>
     requires known { All (IsKnown (length clocks.now)) found.old.items }
     requires class { IsKnown (length clocks.now) class.now }
+    requires few { length found.old.items ≤ spec.most_classes }
+    requires heads { AreHeads found.old.items heads.old }
     requires leading { IsLeading (joins clocks.now) found.old.items leading.old }
     requires room { tests.old + 2 * length found.old.items < 2 ^ 62 }
     ensures kept { OnOk result
         (Keeps (joins clocks.now) class.now found.old.items found.new.items) }
+    ensures heads { OnOk result (AreHeads found.new.items heads.new) }
     ensures leading { OnOk result (IsLeading (joins clocks.now) found.new.items leading.new) }
     ensures bound { tests.new ≤ tests.old + 2 * length found.old.items }
     ensures rises { tests.old ≤ tests.new }
 {
-    lead(leading, found.as_slice(), class.first, clocks, tests)?;
+    lead(leading, found.as_slice(), heads, class.first, clocks, tests)?;
     if any_joins(leading.seconds.as_slice(), class.second, clocks, tests) {
         return Ok(());
     }
+    heads.add(found.as_slice(), class)?;
     let Ok(()) = found.push(*class) else {
         return Err(NoMemory);
     };
@@ -123,12 +130,14 @@ fn consider(
 fn lead(
     leading: &mut Leading,
     found: &[Class],
+    heads: &Heads,
     first: u32,
     clocks: &Clocks,
     tests: &mut Meter,
 ) -> Result<(), NoMemory>
     requires known { All (IsKnown (length clocks.now)) found.now }
     requires first { first < length clocks.now }
+    requires heads { AreHeads found.now heads.now }
     requires leading { IsLeading (joins clocks.now) found.now leading.old }
     requires room { tests.old + length found.now < 2 ^ 62 }
     ensures first { OnOk result (leading.new.first ≡ Some first) }
@@ -141,72 +150,9 @@ fn lead(
         return Ok(());
     }
     leading.seconds.clear();
-    gather(&mut leading.seconds, found, first, clocks, tests)?;
+    gather(&mut leading.seconds, found, heads, first, clocks, tests)?;
     leading.first = Some(first);
     Ok(())
-}
-
-/// The action that was asked for last, and whether a path leads to it.
-#[derive(Clone, Copy)]
-pub(crate) struct Asked {
-    pub(crate) to: u32,
-    pub(crate) leads: bool,
-}
-
-/// Adds the second actions of those classes to whose first action a path leads.
-///
-/// Classes of one first action stand side by side, so that one comparison serves them all.
-#[tactic(auto, using(crate::proofs::ClockLemmas::selves))]
-fn gather(
-    seconds: &mut Vec<u32>,
-    found: &[Class],
-    first: u32,
-    clocks: &Clocks,
-    tests: &mut Meter,
-) -> Result<(), NoMemory>
-    requires known { All (IsKnown (length clocks.now)) found.now }
-    requires first { first < length clocks.now }
-    requires none { seconds.old.items ≡ [] }
-    requires room { tests.old + length found.now < 2 ^ 62 }
-    ensures seconds { OnOk result
-        (seconds.new.items ≡ seconds_from (joins clocks.now) first found.now) }
-    ensures bound { tests.new ≤ tests.old + length found.now }
-    ensures rises { tests.old ≤ tests.new }
-{
-    // A path leads from each action to itself.
-    let mut last = Asked {
-        to: first,
-        leads: true,
-    };
-    for group in found {
-        if leads_to(first, group.first, &mut last, clocks, tests) {
-            let Ok(()) = seconds.push(group.second) else {
-                return Err(NoMemory);
-            };
-        }
-    }
-    Ok(())
-}
-
-/// Whether a path leads from one action to another. What was asked last is not compared again.
-fn leads_to(first: u32, to: u32, last: &mut Asked, clocks: &Clocks, tests: &mut Meter) -> bool
-    requires first { first < length clocks.now }
-    requires to { to < length clocks.now }
-    requires last { last.old.leads ≡ joins clocks.now first last.old.to }
-    requires room { tests.old + 1 < 2 ^ 62 }
-    ensures leads { result ≡ joins clocks.now first to }
-    ensures to { last.new.to ≡ to }
-    ensures last { last.new.leads ≡ joins clocks.now first to }
-    ensures again { last.old.to ≡ to → tests.new ≡ tests.old }
-    ensures bound { tests.new ≤ tests.old + 1 }
-    ensures rises { tests.old ≤ tests.new }
-{
-    if last.to == to {
-        return last.leads;
-    }
-    let leads = clocks.before(first, to, tests);
-    *last = Asked { to, leads };
-    leads
 }
 
 /// Whether a path leads from one of these actions to j.
@@ -218,12 +164,7 @@ fn any_joins(firsts: &[u32], j: u32, clocks: &Clocks, tests: &mut Meter) -> bool
     ensures bound { tests.new ≤ tests.old + length firsts.now }
     ensures rises { tests.old ≤ tests.new }
 {
-    for i in firsts {
-        if clocks.before(*i, j, tests) {
-            return true;
-        }
-    }
-    false
+    clocks.first_joining(firsts, j, tests) < firsts.len()
 }
 
 /// Whether the one class covers the other.

@@ -1,7 +1,6 @@
-use Rattle.std.proofs.Common.{◌≡◌, ◌+◌, ◌≤◌, ◌<◌, length, ap, ◌∙◌, arith}
+use Rattle.std.proofs.Common.{length, ap, ◌∙◌, arith}
 use Rattle.er_paths.specs.Paths.{joins}
-use Rattle.er_cover.specs.Classes.{classes_of}
-use Rattle.er_cover.specs.Groups.{grouping_by, grouping_of, most_classes, most_tests}
+use Rattle.er_cover.specs.Groups.{grouping_by}
 use Rattle.er_cover.specs.Parts.{Classing}
 use Rattle.er_cover.proofs.ClockLemmas.{orders, selves}
 use Rattle.er_cover.proofs.PartLemmas.{all_listed, all_tested, as_many_names, class_names_below, over_classing}

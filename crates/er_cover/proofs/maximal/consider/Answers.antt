@@ -1,5 +1,5 @@
 use Rattle.std.proofs.Common.{◌≡◌, ◌++◌, ◌∷◌, [], ℕ, Bool, List, true, false, length, sym, ap, ◌∙◌, subst, arith}
-use Rattle.std.specs.Prelude.{Some, if◌then◌else◌}
+use Rattle.std.specs.Prelude.{if◌then◌else◌}
 use Rattle.std.specs.List.{list_any}
 use Rattle.er_paths.specs.Paths.{joins}
 use Rattle.er_cover.specs.declared.class.Class.{Class}
@@ -32,6 +32,13 @@ returns-then-any_joins-clause-kept c =
 
 pub returns-then-any_joins-clause-bound : goal.returns-then-any_joins-clause-bound
 returns-then-any_joins-clause-bound c =
+    let led = ap length (c.as_slice-2.ensures.value ∙ c.in_ok-lead.ensures.seconds ∙ ap (seconds_from (joins c.args.clocks.now) c.args.class.now.first) c.as_slice.ensures.value) in
+    let few = seconds_few (joins c.args.clocks.now) c.args.class.now.first c.args.found.now.items in
+    let all = ap length c.as_slice.ensures.value in
+    omega (arith, led, few, all, c.lead.ensures.bound, c.any_joins.ensures.bound)
+
+pub returns-in_err-add-clause-bound : goal.returns-in_err-add-clause-bound
+returns-in_err-add-clause-bound c =
     let led = ap length (c.as_slice-2.ensures.value ∙ c.in_ok-lead.ensures.seconds ∙ ap (seconds_from (joins c.args.clocks.now) c.args.class.now.first) c.as_slice.ensures.value) in
     let few = seconds_few (joins c.args.clocks.now) c.args.class.now.first c.args.found.now.items in
     let all = ap length c.as_slice.ensures.value in
