@@ -1,11 +1,10 @@
 //! What is kept for each action, and what may be read.
 
-ghost use Rattle.std.specs.Prelude.{◌≡◌, ◌≤◌, ◌<◌, [], length, All};
+ghost use Rattle.std.specs.Prelude.{◌≡◌, ◌≤◌, ◌<◌, [], length};
 ghost use Rattle.er_paths.specs.Limits.{most_actions};
 ghost use Rattle.er_paths.specs.Paths.{joins};
 ghost use Rattle.er_links.specs.Chains.{chains, chain_of, place_of, entry};
 ghost use Rattle.er_links.specs.Links.{links_of, link_count};
-ghost use Rattle.er_clocks.specs.Asked.{first_apart};
 ghost use Rattle.er_clocks.specs.Clock.{StandsFor, Tells};
 ghost use Rattle.er_clocks.specs.Rows.{is_covered};
 
@@ -162,23 +161,6 @@ impl Clocks {
         ensures { result ≡ joins self.now i j }
     {
         self.places[i as usize] < self.own_entry(j, self.numbers[i as usize])
-    }
-}
-
-impl Clocks {
-    /// The place of the first of these that has no path to j, or their number.
-    fn first_pathless(&self, firsts: &[u32], j: u32) -> usize
-        requires firsts { All (λ i. i < length self.now) firsts.now }
-        requires second { j < length self.now }
-        ensures answer { result ≡ first_apart (joins self.now) firsts.now j }
-        ensures within { result ≤ length firsts.now }
-    {
-        for (n, i) in firsts.iter().enumerate() {
-            if !self.has_path(*i, j) {
-                return n;
-            }
-        }
-        firsts.len()
     }
 }
 

@@ -1,9 +1,11 @@
 //! Many actions asked at once.
+//!
+//! The loops are functions that are not inlined: in their callers the processor's registers do not reach for them.
 
 ghost use Rattle.std.specs.Prelude.{◌≡◌, ◌+◌, ◌<◌, ◌≤◌, ◌^◌, nat_lt, All, length};
 ghost use Rattle.er_paths.specs.Paths.{joins};
 ghost use Rattle.er_links.specs.Chains.{chain_of, place_of};
-ghost use Rattle.er_clocks.specs.Asked.{AreEntries, asked, entry_at, first_joining, first_led};
+ghost use Rattle.er_clocks.specs.Asked.{AreEntries, asked, entry_at, first_apart, first_joining, first_led};
 
 use crate::row::{Number, number_at};
 use crate::{Clocks, Meter};
@@ -12,6 +14,7 @@ use crate::{Clocks, Meter};
 #[derive(Clone, Copy)]
 struct Target<'a> {
     chain: u32,
+    /// Its entry at its own chain.
     number: u32,
     row: &'a [Number],
 }
@@ -49,6 +52,7 @@ impl Clocks {
         n
     }
 
+    #[inline(never)]
     fn first_with_path(&self, firsts: &[u32], j: u32) -> usize
         requires firsts { All (λ i. i < length self.now) firsts.now }
         requires second { j < length self.now }
@@ -64,6 +68,24 @@ impl Clocks {
         firsts.len()
     }
 
+    /// The place of the first of these that has no path to j, or their number.
+    #[inline(never)]
+    pub(crate) fn first_pathless(&self, firsts: &[u32], j: u32) -> usize
+        requires firsts { All (λ i. i < length self.now) firsts.now }
+        requires second { j < length self.now }
+        ensures answer { result ≡ first_apart (joins self.now) firsts.now j }
+        ensures within { result ≤ length firsts.now }
+    {
+        let target = self.target(j);
+        for (n, i) in firsts.iter().enumerate() {
+            if !self.has_path_to(*i, target) {
+                return n;
+            }
+        }
+        firsts.len()
+    }
+
+    #[inline(never)]
     fn first_behind(&self, i: u32, seconds: &[u32]) -> usize
         requires first { i < length self.now }
         requires seconds { All (λ j. j < length self.now) seconds.now }
