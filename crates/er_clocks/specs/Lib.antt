@@ -5,3 +5,4 @@ pub mod Rows
 pub mod Sources
 pub mod Reached
 pub mod Laws
+pub mod InPlace
