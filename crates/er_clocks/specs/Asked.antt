@@ -1,7 +1,7 @@
 -- What is asked of several actions at once.
-use Rattle.std.specs.Prelude.{◌≡◌, ℕ, ◌+◌, ◌==◌, min, if◌then◌else◌, Bool, not, List, length, slice_index}
+use Rattle.std.specs.Prelude.{◌≡◌, ◌<◌, ℕ, ◌+◌, ◌==◌, min, if◌then◌else◌, Bool, not, List, length, slice_index}
 use Rattle.std.specs.List.{position_or_len}
-use Rattle.er_links.specs.Chains.{entry}
+use Rattle.er_links.specs.Chains.{chains, entry}
 
 -- the place of the first of these that does not join j, or their number
 abbrev pub first_apart : (ℕ → ℕ → Bool) → List ℕ → ℕ → ℕ
@@ -26,3 +26,8 @@ entry_at own number row c = if c == own then number else slice_index row c
 -- these are the entries of j
 abbrev pub AreEntries : List (List ℕ) → ℕ → (ℕ → ℕ) → Type 0
 AreEntries lists j at = (c : ℕ) → at c ≡ entry lists j c
+
+-- a list has the entries of j, one a chain
+pub record AreLaid (lists : List (List ℕ)) (j : ℕ) (laid : List ℕ) : Type 0 where
+  pub long : length laid ≡ length (chains lists)
+  pub entries : (c : ℕ) → c < length (chains lists) → slice_index laid c ≡ entry lists j c

@@ -105,6 +105,28 @@ pub(crate) fn number_at(numbers: &[Number], chain: u32) -> u32
     }
 }
 
+/// A copy of this length, with zeros behind the row.
+pub(crate) fn copied_to(
+    alloc: Global,
+    numbers: &[Number],
+    len: usize,
+) -> Result<Vec<Number>, NoMemory>
+    ensures long { IfOk result (λ copy. length copy.items ≡ len) }
+    ensures same { IfOk result
+        (λ copy. (c : ℕ) → c < len → slice_index copy.items c ≡ slice_index numbers.now c) }
+{
+    let Ok(mut copy) = Vec::with_capacity(alloc, len) else {
+        return Err(NoMemory);
+    };
+    if copy.extend_from_slice(numbers).is_err() {
+        return Err(NoMemory);
+    }
+    if copy.resize(len, 0).is_err() {
+        return Err(NoMemory);
+    }
+    Ok(copy)
+}
+
 /// Writes out zeros up to this length.
 fn widen(numbers: &mut Vec<Number>, len: usize) -> Result<(), NoMemory>
     ensures wide { OnOk result (len ≤ length numbers.new.items) }

@@ -10,7 +10,7 @@ returns-then-has_path_to-clause-answer c =
     let n : ℕ = c.loop-n.n in
     let target = c.target-target.result in
     let known = All-get_or (λ i. i < length c.args.self.now) c.args.firsts.now n 0 c.loop-n-test.true c.requires.firsts in
-    let joined = joined_by c.args.self.now (slice_index c.args.firsts.now n) c.args.j (entry_at target.chain target.number target.row.now) known c.target-target.ensures in
+    let joined = joined_by c.args.self.now (slice_index c.args.firsts.now n) c.args.j (entry_at target.chain target.number target.row.now) known c.target-target.ensures.entries in
     found_first (λ i. joins c.args.self.now i c.args.j) c.args.firsts.now n c.loop-n-test.true c.loop-n.invariant (sym joined ∙ sym c.has_path_to.ensures ∙ c.if-has_path_to.true)
 
 pub loop-n-preserved : goal.loop-n-preserved
@@ -18,7 +18,7 @@ loop-n-preserved c =
     let n : ℕ = c.loop-n.n in
     let target = c.target-target.result in
     let known = All-get_or (λ i. i < length c.args.self.now) c.args.firsts.now n 0 c.loop-n-test.true c.requires.firsts in
-    let joined = joined_by c.args.self.now (slice_index c.args.firsts.now n) c.args.j (entry_at target.chain target.number target.row.now) known c.target-target.ensures in
+    let joined = joined_by c.args.self.now (slice_index c.args.firsts.now n) c.args.j (entry_at target.chain target.number target.row.now) known c.target-target.ensures.entries in
     fails_more (λ i. joins c.args.self.now i c.args.j) c.args.firsts.now n c.loop-n.invariant (sym joined ∙ sym c.has_path_to.ensures ∙ c.if-has_path_to.false)
 
 pub returns-clause-answer : goal.returns-clause-answer
