@@ -7,8 +7,8 @@ ghost use Rattle.er_trace.specs.Spelling.{mode_word, loc_items};
 ghost use Rattle.er_buffer.specs.Lines.{item_start, item_line, count_line};
 
 use er_outside::{Failed, Sink, put_all};
+use er_syntax::print::print_loc;
 use er_text::put_number;
-use er_trace::print::print_loc;
 use er_trace::record::{Loc, Mode};
 
 /// Writes a word and a space.

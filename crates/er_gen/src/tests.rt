@@ -3,7 +3,7 @@
 use crate::Generator;
 use crate::rows::{one_round, two_rounds};
 use er_outside::{MemorySink, put_all};
-use er_trace::print::print_record;
+use er_syntax::print::print_record;
 use std::alloc::Global;
 use std::test::Fail;
 

@@ -11,14 +11,14 @@ use Rattle.er_trace.specs.declared.record.Kind.TheVariants as kinds
 use Rattle.er_trace.specs.declared.record.NewKind.TheVariants as new_kinds
 use Rattle.er_trace.specs.declared.record.Mode.TheVariants as modes
 use Rattle.er_trace.specs.declared.record.Loc.TheVariants.{Var, Elem, Slot}
-use Rattle.er_trace.specs.Heads.{head_word, record_head, later_words}
+use Rattle.er_syntax.specs.Heads.{head_word, record_head, later_words}
 use Rattle.er_trace.specs.Items.{Item, item_spelling}
 use Rattle.er_trace.specs.declared.version.Version.{Version}
 use Rattle.er_trace.specs.declared.version.Version.TheVariants.{Two}
 use Rattle.er_trace.specs.Spelling.{record_items, spelling, IsRecord}
 use Rattle.er_trace.specs.Versions.{is_of_task, has_record}
-use Rattle.er_trace.proofs.RecordLaws.{record_begins, words_of_spelling}
-use Rattle.er_trace.proofs.OneRecord.{one_record}
+use Rattle.er_syntax.proofs.RecordLaws.{record_begins, words_of_spelling}
+use Rattle.er_syntax.proofs.OneRecord.{one_record}
 use Rattle.er_json_line.specs.Members.{AreMembers, ReadsAs, SpellsItems, Spells, IsEnd, end_items}
 use Rattle.er_json_line.specs.Texts.{member_word, text_of, HaveWords, AreTexts, is_count, is_number}
 use Rattle.er_json_line.proofs.ShapeLemmas.{are_plain, AreWritten, written, back, line_of, line_joined, words_of_line}

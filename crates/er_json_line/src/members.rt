@@ -15,9 +15,9 @@ ghost use Rattle.er_json_line.specs.Texts.{member_word, next_word, text_of, HasW
 use crate::kinds::are_kinds;
 use crate::letters::Letters;
 use er_outside::put_all;
+use er_syntax::parse::parse_record;
 use er_text::{MOST_NAME, put_name, put_number};
 use er_trace::fault::LineFault;
-use er_trace::parse::parse_record;
 use er_trace::record::Record;
 use er_trace::version::Version;
 use serde_json::{Category, Value};

@@ -3,9 +3,9 @@
 use crate::{JsonFeed, JsonLines, parse_json_line};
 use er_lines::format::Lines;
 use er_outside::{MemorySink, put_all};
+use er_syntax::print::print_record;
 use er_text::Cause;
 use er_trace::fault::{FeedFault, LineFault};
-use er_trace::print::print_record;
 use er_trace::record::Record;
 use er_trace::version::Version;
 use std::alloc::Global;

@@ -10,7 +10,7 @@ use Rattle.er_trace.specs.Spelling.{spelling, IsRecord}
 use Rattle.er_trace.specs.Versions.{IsRecordOf}
 use Rattle.er_trace.specs.Trace.{most_line_bytes, header, end_word, line, lines}
 use Rattle.er_trace.specs.Trace as trace
-use Rattle.er_trace.proofs.RecordLaws.{spelling_is_short, spelling_has_no_lf}
+use Rattle.er_syntax.proofs.RecordLaws.{spelling_is_short, spelling_has_no_lf}
 use Rattle.er_lines.specs.Lines.{IsShort, AreLines, AreBehind, IsTrace}
 use Rattle.er_lines.specs.Steps.{IsFront}
 use Rattle.er_lines.specs.Text.{text, IsSpelled}

@@ -5,9 +5,9 @@ use Rattle.er_trace.specs.declared.version.Version.{Version}
 use Rattle.er_trace.specs.Spelling.{spelling}
 use Rattle.er_trace.specs.Versions.{IsRecordOf}
 use Rattle.er_trace.specs.Trace.{header, end_word, most_line_bytes}
-use Rattle.er_trace.proofs.OneTrace.{same_header}
-use Rattle.er_trace.proofs.OneRecord.{one_record}
-use Rattle.er_trace.proofs.RecordLaws.{spelling_is_no_end}
+use Rattle.er_syntax.proofs.OneTrace.{same_header}
+use Rattle.er_syntax.proofs.OneRecord.{one_record}
+use Rattle.er_syntax.proofs.RecordLaws.{spelling_is_no_end}
 use Rattle.std.proofs.Common.{sym, ◌∙◌}
 use Rattle.er_lines.specs.Format.{Format, IsFormat}
 

@@ -3,9 +3,9 @@
 use crate::feed::LineFeed;
 use crate::text::TextLines;
 use er_outside::{MemorySink, WriteFault, put_all};
+use er_syntax::print::print_record;
 use er_text::Cause;
 use er_trace::fault::FeedFault;
-use er_trace::print::print_record;
 use er_trace::record::Record;
 use er_trace::version::Version;
 use std::alloc::{AllocError, Global};

@@ -10,12 +10,13 @@ ghost use Rattle.er_lines.specs.Text.{text, IsSpelled, text_is_format};
 
 use crate::format::{Later, Lines};
 use er_outside::NoMemory;
+use er_syntax::parse::parse_record;
+use er_syntax::plain::plain_line;
+use er_syntax::version::version_of;
 use er_trace::fault::LineFault;
-use er_trace::parse::parse_record;
-use er_trace::plain::plain_line;
 use er_trace::record::Record;
 use er_trace::trace::MOST_LINE_BYTES;
-use er_trace::version::{Version, version_of};
+use er_trace::version::Version;
 use std::alloc::Global;
 
 const END: &str = "end";

@@ -10,9 +10,9 @@ ghost use Rattle.er_page_rows.specs.Lines.{HasTaken};
 
 use er_outside::NoMemory;
 use er_page::page::Page;
+use er_syntax::parse::parse_record;
 use er_text::Cause;
 use er_trace::fault::LineFault;
-use er_trace::parse::parse_record;
 use er_trace::record::Record;
 use er_trace::version::Version;
 use std::alloc::Global;

@@ -2,8 +2,6 @@
 use Rattle.std.specs.Prelude.{◌≡◌, Bool, true, false, ◌||◌, not}
 use Rattle.er_trace.specs.declared.record.Record.{Record}
 use Rattle.er_trace.specs.declared.record.Record.TheVariants.{Post, Ask, Queue, Message, Anim, Job}
-use Rattle.er_trace.specs.declared.head.Head.{Head}
-use Rattle.er_trace.specs.declared.head.Head.TheVariants as heads
 use Rattle.er_trace.specs.declared.version.Version.{Version}
 use Rattle.er_trace.specs.declared.version.Version.TheVariants.{One, Two, Three}
 use Rattle.er_trace.specs.Spelling.{IsRecord}
@@ -17,16 +15,6 @@ is_of_task (Message m) = true
 is_of_task (Anim a) = true
 is_of_task (Job j) = true
 is_of_task _ = false
-
--- the first word of such a record
-abbrev pub begins_task : Head → Bool
-begins_task heads.Post = true
-begins_task heads.Ask = true
-begins_task heads.Queue = true
-begins_task heads.Message = true
-begins_task heads.Anim = true
-begins_task heads.Job = true
-begins_task _ = false
 
 -- the version has such records
 abbrev pub has_tasks : Version → Bool

@@ -67,7 +67,7 @@ impl Name {
     }
 
     /// The name of the first so many bytes.
-    pub(crate) fn in_place(alloc: Global, place: &[u8; MOST_IN_PLACE], len: usize) -> Name
+    pub fn in_place(alloc: Global, place: &[u8; MOST_IN_PLACE], len: usize) -> Name
         requires few { len ≤ MOST_IN_PLACE }
         requires name { IsName (take len place.now) }
         ensures { result ≡ take len place.now }

@@ -2,7 +2,7 @@ use Rattle.std.proofs.Common.{◌++◌}
 use Rattle.er_history.specs.History.{History}
 use Rattle.er_history.specs.Kinds.{is_step_of, is_run_of}
 use Rattle.er_history.specs.Rules.{is_blocking, is_deferred}
-use Rattle.er_trace.proofs.PrintLaws.{on_err}
+use Rattle.er_trace.proofs.ResultLaws.{on_err}
 use Rattle.er_hand.proofs.HandingLemmas.{newest_events, newest_in, grew_newest, part_newest, grew_on, part_first, part_later, on_ok_then, on_err_then, on_ok_newest, on_err_newest}
 use Rattle.er_hand.proofs.handing.hand_parsed.Goals as goal
 

@@ -1,5 +1,5 @@
 use Rattle.std.proofs.Common.{◌++◌}
-use Rattle.er_trace.proofs.PrintLaws.{on_err}
+use Rattle.er_trace.proofs.ResultLaws.{on_err}
 use Rattle.er_history.specs.History.{History}
 use Rattle.er_hand.proofs.HandingLemmas.{grew_on, part_first, part_later, on_ok_then, on_err_then}
 use Rattle.er_rules_load.specs.Loads.{maker_part, run_part, inner_part}

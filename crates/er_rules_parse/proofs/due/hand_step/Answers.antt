@@ -1,4 +1,4 @@
-use Rattle.er_trace.proofs.PrintLaws.{on_err}
+use Rattle.er_trace.proofs.ResultLaws.{on_err}
 use Rattle.er_history.specs.History.{History, maker_by, declares_document}
 use Rattle.er_history.specs.Kinds.{is_step_of}
 use Rattle.er_history.specs.Latest.{latest_of}

@@ -1,5 +1,5 @@
 use Rattle.std.proofs.Common.{◌++◌}
-use Rattle.er_trace.proofs.PrintLaws.{on_err}
+use Rattle.er_trace.proofs.ResultLaws.{on_err}
 use Rattle.er_history.specs.History.{History, told, element_maker, first_to, makes_element}
 use Rattle.er_history.specs.Latest.{latest_of}
 use Rattle.er_pieces.specs.HandedPieces.{run_handed}

@@ -1,0 +1,7 @@
+-- What holds where a result is an error.
+use Rattle.std.proofs.Common.{Ok, Err}
+use Rattle.std.specs.Prelude.{Result, OnErr}
+
+pub on_err : {T E : Type 0} (r : Result T E) (Q : Type 0) → Q → OnErr r Q
+on_err (Ok x) Q q = tt
+on_err (Err e) Q q = q
