@@ -7,7 +7,7 @@ ghost use Rattle.er_run.specs.Status.{status_of};
 ghost use Rattle.er_cli.specs.Ended.{EndsWith};
 
 use er_clocks::Meter;
-use er_outside::{FromRead, ToWrite};
+use er_ends::{FromRead, ToWrite};
 use er_run::outcome::Outcome;
 use er_run::run;
 use er_shard::FreeGate;

@@ -2,7 +2,8 @@
 
 use crate::Generator;
 use crate::rows::{one_round, two_rounds};
-use er_outside::{MemorySink, put_all};
+use er_ends::MemorySink;
+use er_outside::put_all;
 use er_syntax::print::print_record;
 use std::alloc::Global;
 use std::test::Fail;

@@ -2,7 +2,8 @@
 
 use crate::{JsonFeed, JsonLines, parse_json_line};
 use er_lines::format::Lines;
-use er_outside::{MemorySink, put_all};
+use er_ends::MemorySink;
+use er_outside::put_all;
 use er_syntax::print::print_record;
 use er_text::Cause;
 use er_trace::fault::{FeedFault, LineFault};

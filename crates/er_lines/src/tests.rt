@@ -2,7 +2,8 @@
 
 use crate::feed::LineFeed;
 use crate::text::TextLines;
-use er_outside::{MemorySink, WriteFault, put_all};
+use er_ends::MemorySink;
+use er_outside::{WriteFault, put_all};
 use er_syntax::print::print_record;
 use er_text::Cause;
 use er_trace::fault::FeedFault;

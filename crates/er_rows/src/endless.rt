@@ -3,7 +3,8 @@
 ghost use Rattle.er_outside.specs.Ends.{untold};
 
 use er_clocks::Meter;
-use er_outside::{Failed, MemorySink, Source};
+use er_ends::MemorySink;
+use er_outside::{Failed, Source};
 use er_run::run;
 use er_shard::FreeGate;
 use std::alloc::Global;

@@ -1,7 +1,8 @@
 //! One call of `run` over ends in memory, asked against the text that is due.
 
 use er_clocks::Meter;
-use er_outside::{MemorySink, MemorySource, NoMemory};
+use er_ends::{MemorySink, MemorySource};
+use er_outside::NoMemory;
 use er_run::outcome::Outcome;
 use er_run::run;
 use er_shard::{FreeGate, Gate};

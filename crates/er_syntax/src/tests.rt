@@ -2,7 +2,8 @@
 
 use crate::parse::parse_record;
 use crate::print::{print_loc, print_record};
-use er_outside::{Failed, MemorySink};
+use er_ends::MemorySink;
+use er_outside::Failed;
 use er_trace::fault::LineFault;
 use er_trace::record::{Kind, Loc, Mode, Record};
 use er_trace::version::Version;

@@ -5,7 +5,7 @@ ghost use Rattle.std.specs.Io.KnownBytes.{Appends, ReadConsumes};
 ghost use Rattle.er_outside.specs.Ends.{AppendsFront, Gives, Gets, IsSpent, Rose, one_more, untold};
 
 use crate::counted::{CountedReader, CountedWriter};
-use crate::ends::{Failed, Sink, Source};
+use er_outside::{Failed, Sink, Source};
 use std::io::{Read, Write};
 
 /// A source over a reader. It does not tell what is still to come.

@@ -2,10 +2,10 @@
 
 ghost use Rattle.std.specs.Prelude.{◌≡◌, ◌↔◌, ◌<◌, ◌≤◌, ℕ, min, length, take, drop, Contains, Some, IfOk, OnOk, OnErr, IsErr};
 ghost use Rattle.er_outside.specs.Ends.{Gives, IsSpent, Rose, one_more};
-ghost use Rattle.er_outside.specs.Memory.{next_call};
+ghost use Rattle.er_ends.specs.Memory.{next_call};
 
 use crate::calls::Calls;
-use crate::ends::{Failed, Source};
+use er_outside::{Failed, Source};
 use std::marker::Model;
 
 /// Gives the bytes that it was made with, and no more than `most` of them a call.
@@ -20,7 +20,7 @@ pub struct MemorySource {
 
 impl Model for MemorySource {
     ghost use Rattle.std.specs.Prelude.{◌<◌, ◌≤◌, drop, length};
-    ghost use Rattle.er_outside.specs.Memory.{Input};
+    ghost use Rattle.er_ends.specs.Memory.{Input};
 
     ghost Value = { Input };
 

@@ -1,7 +1,8 @@
 //! The adapters over ends that give and take a byte a call, and of which one call fails, also by an
 //! interruption: it is a fault, the call is not made again, and the next call goes on where it stood.
 
-use crate::{Failed, FromRead, Sink, Source, ToWrite, put_all};
+use crate::{FromRead, ToWrite};
+use er_outside::{Failed, Sink, Source, put_all};
 use std::io;
 use std::io::{ErrorKind, Read, Write};
 

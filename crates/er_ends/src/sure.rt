@@ -3,7 +3,7 @@
 ghost use Rattle.std.specs.Prelude.{◌≡◌, ◌+◌, ◌<◌, ◌≤◌, ℕ, min, length, take, drop, Ok, Some, IfOk, OnOk, OnErr};
 ghost use Rattle.er_outside.specs.Ends.{Gives, Gets, IsSpent, Rose, last_count, no_faults, one_more, untold};
 
-use crate::ends::{Failed, Sink, Source};
+use er_outside::{Failed, Sink, Source};
 use std::marker::Model;
 
 /// Gives the bytes that it was made with, as many a call as the buffer has room for.

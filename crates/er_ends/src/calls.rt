@@ -2,7 +2,7 @@
 
 ghost use Rattle.std.specs.Prelude.{◌≡◌, ◌↔◌, IsTrue, Contains};
 ghost use Rattle.er_outside.specs.Ends.{one_more};
-ghost use Rattle.er_outside.specs.Memory.{next_call};
+ghost use Rattle.er_ends.specs.Memory.{next_call};
 
 /// The numbers of the calls that fail, how many calls came, and how many failed.
 #[derive(Drop)]

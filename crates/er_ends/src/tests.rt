@@ -1,9 +1,7 @@
 //! Each public call once, with ample memory, and what no clause says.
 
-use crate::{
-    Failed, FromRead, MemorySink, MemorySource, Sink, Source, SureSink, SureSource, ToWrite,
-    put_all,
-};
+use crate::{FromRead, MemorySink, MemorySource, SureSink, SureSource, ToWrite};
+use er_outside::{Failed, Sink, Source, put_all};
 use std::io;
 use std::io::{ErrorKind, Read, Write};
 use std::test::Fail;

@@ -2,10 +2,10 @@
 
 ghost use Rattle.std.specs.Prelude.{◌≡◌, ◌↔◌, ◌⊎◌, ◌<◌, ◌≤◌, ◌-◌, ◌++◌, [], ℕ, min, length, take, Contains, Some, IfOk, OnOk, OnErr, IsErr};
 ghost use Rattle.er_outside.specs.Ends.{Gets, Rose, one_more};
-ghost use Rattle.er_outside.specs.Memory.{next_call};
+ghost use Rattle.er_ends.specs.Memory.{next_call};
 
 use crate::calls::Calls;
-use crate::ends::{Failed, NoMemory, Sink};
+use er_outside::{Failed, NoMemory, Sink};
 use std::alloc::Global;
 use std::marker::Model;
 
@@ -21,7 +21,7 @@ pub struct MemorySink {
 
 impl Model for MemorySink {
     ghost use Rattle.std.specs.Prelude.{◌<◌, ◌≤◌, length, vec_capacity};
-    ghost use Rattle.er_outside.specs.Memory.{Output};
+    ghost use Rattle.er_ends.specs.Memory.{Output};
 
     ghost Value = { Output };
 
