@@ -11,6 +11,7 @@ use er_outside::NoMemory;
 use er_trace::name::Name;
 use indexmap::IndexMap;
 use std::alloc::Global;
+use std::hash::Hash;
 
 /// What came last among the actions, by document, interval, request, dispatch and target.
 pub struct Latest {
@@ -44,22 +45,37 @@ pub struct Latest {
 impl Drop for Latest {
     fn drop(self) {
         let Latest {
-            steps: _,
-            blocking: _,
-            deferred: _,
-            scripts: _,
-            ticks: _,
-            replies: _,
-            asyncs: _,
-            statics: _,
-            runs: _,
-            groups: _,
-            elements: _,
-            windows: _,
+            steps,
+            blocking,
+            deferred,
+            scripts,
+            ticks,
+            replies,
+            asyncs,
+            statics,
+            runs,
+            groups,
+            elements,
+            windows,
             alloc: _,
         } = self;
+        let_go(steps);
+        let_go(blocking);
+        let_go(deferred);
+        let_go(scripts);
+        let_go(ticks);
+        let_go(replies);
+        let_go(asyncs);
+        let_go(statics);
+        let_go(runs);
+        let_go(groups);
+        let_go(elements);
+        let_go(windows);
     }
 }
+
+/// Lets a table go, by a call: the ends of twelve tables written out in a row take long to prove.
+fn let_go<K: Eq + Hash + Drop, V: Drop>(_: IndexMap<K, V>) {}
 
 impl Latest {
     /// No action yet. It takes no memory.

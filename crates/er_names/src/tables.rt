@@ -1,7 +1,7 @@
 //! The tables of what the records have declared, started and finished, and how they take one record more.
 
-ghost use Rattle.std.specs.Prelude.{◌≡◌, ℕ, [], OnOk, nat_eq};
-ghost use Rattle.indexmap.specs.IndexMap.{get};
+ghost use Rattle.std.specs.Prelude.{◌≡◌, ℕ, ◌<◌, [], OnOk, nat_eq};
+ghost use Rattle.indexmap.specs.IndexMap.{get, spare};
 ghost use Rattle.er_firsts.specs.Taken.{Keeps, KeepsEach, Takes};
 ghost use Rattle.er_names.specs.Fired.{timer_found};
 ghost use Rattle.er_names.specs.Fired as says;
@@ -49,23 +49,40 @@ pub(crate) struct Tables {
 impl Drop for Tables {
     fn drop(self) {
         let Tables {
-            elements: _,
-            timeouts: _,
-            documents: _,
-            handlers: _,
-            intervals: _,
-            requests: _,
-            runs: _,
-            callbacks: _,
-            begins: _,
-            closes: _,
-            frames: _,
-            dcls: _,
-            loads: _,
-            eloads: _,
+            elements,
+            timeouts,
+            documents,
+            handlers,
+            intervals,
+            requests,
+            runs,
+            callbacks,
+            begins,
+            closes,
+            frames,
+            dcls,
+            loads,
+            eloads,
         } = self;
+        let_go(elements);
+        let_go(timeouts);
+        let_go(documents);
+        let_go(handlers);
+        let_go(intervals);
+        let_go(requests);
+        let_go(runs);
+        let_go(callbacks);
+        let_go(begins);
+        let_go(closes);
+        let_go(frames);
+        let_go(dcls);
+        let_go(loads);
+        let_go(eloads);
     }
 }
+
+/// Lets a table go, by a call: the ends of fourteen tables written out in a row take long to prove.
+fn let_go<V: Drop>(_: IndexMap<u32, V>) {}
 
 impl Tables {
     /// No name yet. It takes no memory.
@@ -99,18 +116,24 @@ impl Tables {
     {
         make_room(&mut self.elements)?;
         make_room(&mut self.timeouts)?;
-        make_room(&mut self.documents)?;
-        make_room(&mut self.handlers)?;
-        make_room(&mut self.intervals)?;
-        make_room(&mut self.requests)?;
-        make_room(&mut self.runs)?;
-        make_room(&mut self.callbacks)?;
-        make_room(&mut self.begins)?;
-        make_room(&mut self.closes)?;
-        make_room(&mut self.frames)?;
-        make_room(&mut self.dcls)?;
-        make_room(&mut self.loads)?;
-        make_room(&mut self.eloads)
+        make_rooms(
+            &mut self.documents,
+            &mut self.handlers,
+            &mut self.intervals,
+            &mut self.requests,
+        )?;
+        make_rooms(
+            &mut self.runs,
+            &mut self.callbacks,
+            &mut self.begins,
+            &mut self.closes,
+        )?;
+        make_rooms(
+            &mut self.frames,
+            &mut self.dcls,
+            &mut self.loads,
+            &mut self.eloads,
+        )
     }
 
     /// Takes a record, after which this action runs.
@@ -145,6 +168,26 @@ impl Tables {
         let set = self.timeouts.get(timeout)?;
         Some(numbered(*timeout, *set))
     }
+}
+
+/// Makes room for one number more in each of four tables.
+fn make_rooms(
+    first: &mut IndexMap<u32, u32>,
+    second: &mut IndexMap<u32, u32>,
+    third: &mut IndexMap<u32, u32>,
+    fourth: &mut IndexMap<u32, u32>,
+) -> Result<(), NoMemory>
+    ensures first { (k : ℕ) → get nat_eq first.new k ≡ get nat_eq first.old k }
+    ensures second { (k : ℕ) → get nat_eq second.new k ≡ get nat_eq second.old k }
+    ensures third { (k : ℕ) → get nat_eq third.new k ≡ get nat_eq third.old k }
+    ensures fourth { (k : ℕ) → get nat_eq fourth.new k ≡ get nat_eq fourth.old k }
+    ensures room { OnOk result ((0 < spare first.new) × (0 < spare second.new)
+        × (0 < spare third.new) × (0 < spare fourth.new)) }
+{
+    make_room(first)?;
+    make_room(second)?;
+    make_room(third)?;
+    make_room(fourth)
 }
 
 /// The timeout with its number.

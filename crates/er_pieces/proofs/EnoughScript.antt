@@ -112,15 +112,18 @@ IsScripted (ParseStep d m) = Unit {0}
 IsScripted (ScriptRun e made) = Unit {0}
 IsScripted _ = ⊥
 
+never : {A : Type 0} → false ≡ true → A
+never e = absurd (cc)
+
 to_scripted : (joined : ℕ → ℕ → Bool) (u : Event) (n : ℕ) (z : What) → Holds joined u (event_with n z) → IsScripted z
 to_scripted joined u n z e = by u.what z e
   where
     by : (w z : What) → Holds joined (event_with u.number w) (event_with n z) → IsScripted z
     by w (ParseStep d m) e = tt
     by w (ScriptRun s made) e = tt
-    by (ParseStep c m) _ e = absurd (cc)
-    by (ScriptRun f made) _ e = absurd (cc)
-    by _ _ e = absurd (cc)
+    by (ParseStep c m) _ e = never e
+    by (ScriptRun f made) _ e = never e
+    by _ _ e = never e
 
 not_scripted : (w : What) → IsOther w → IsScripted w → ⊥
 not_scripted (ParseStep d m) other is = other
