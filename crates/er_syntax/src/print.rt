@@ -1,12 +1,12 @@
 //! Writing records as they are spelled.
 
-ghost use Rattle.std.specs.Prelude.{ℕ, ◌≤◌, List, [], ◌∷◌, map, decimal, OnOk, OnErr, codes};
+ghost use Rattle.std.specs.Prelude.{◌≡◌, ℕ, ◌≤◌, List, [], ◌∷◌, map, decimal, OnOk, OnErr, codes};
 ghost use Rattle.std.specs.List.{AllByRecursion};
 ghost use Rattle.er_outside.specs.Ends.{Puts};
 ghost use Rattle.er_text.specs.Name.{IsName};
 ghost use Rattle.er_trace.specs.Items.{IsItem, item_spelling, items_spelling, Word, Number, Named};
-ghost use Rattle.er_trace.specs.Spelling.{loc_spelling, loc_items, mode_word, spelling, IsLoc, IsRecord};
-ghost use Rattle.er_syntax.specs.Tokens.{token_item, tokens_spelling};
+ghost use Rattle.er_trace.specs.Spelling.{loc_spelling, loc_items, mode_word, record_items, spelling, IsLoc, IsRecord};
+ghost use Rattle.er_syntax.specs.Tokens.{line_items, token_item, tokens_spelling};
 
 use er_outside::{Failed, Sink, put_all};
 use er_text::{put_name, put_number};
@@ -195,6 +195,92 @@ fn print_access<K: Sink>(mode: Mode, loc: &Loc, sink: &mut K) -> Result<(), Fail
     }
 }
 
+/// What stands in the line of a record: its first word and what comes behind it.
+#[derive(Drop)]
+enum Line<'a> {
+    One(&'static str, u32),
+    Two(&'static str, u32, u32),
+    Three(&'static str, u32, u32, u32),
+    Named(&'static str, u32, u32, &'a Name),
+    Made(&'static str, u32, u32, &'static str),
+    Framing(&'static str, u32, u32, u32),
+    Access(Mode, &'a Loc),
+}
+
+fn line_of<'a>(rec: &'a Record) -> Line<'a>
+    ensures { line_items result ≡ record_items rec.now }
+{
+    match rec {
+        Record::Parse { doc, element, kind } => Line::Made("parse", *doc, *element, kind.word()),
+        Record::ParseFrame {
+            doc,
+            element,
+            inner,
+        } => Line::Framing("parse", *doc, *element, *inner),
+        Record::Exec { element } => Line::One("exec", *element),
+        Record::Timer { timeout } => Line::One("timer", *timeout),
+        Record::Tick { interval } => Line::One("tick", *interval),
+        Record::Dcl { dispatch, doc } => Line::Two("dcl", *dispatch, *doc),
+        Record::Load { dispatch, doc } => Line::Two("load", *dispatch, *doc),
+        Record::Eload { dispatch, element } => Line::Two("eload", *dispatch, *element),
+        Record::Fire {
+            dispatch,
+            element,
+            name,
+        } => Line::Named("fire", *dispatch, *element, name),
+        Record::Wfire {
+            dispatch,
+            doc,
+            name,
+        } => Line::Named("wfire", *dispatch, *doc, name),
+        Record::Reply { dispatch, request } => Line::Two("reply", *dispatch, *request),
+        Record::Inline {
+            dispatch,
+            element,
+            name,
+        } => Line::Named("inline", *dispatch, *element, name),
+        Record::Run {
+            dispatch,
+            group,
+            handler,
+        } => Line::Three("run", *dispatch, *group, *handler),
+        Record::Close { dispatch } => Line::One("close", *dispatch),
+        Record::Back { dispatch } => Line::One("back", *dispatch),
+        Record::New { doc, element, kind } => Line::Made("new", *doc, *element, kind.word()),
+        Record::NewFrame {
+            doc,
+            element,
+            inner,
+        } => Line::Framing("new", *doc, *element, *inner),
+        Record::On { handler } => Line::One("on", *handler),
+        Record::Set { timeout, delay } => Line::Two("set", *timeout, *delay),
+        Record::Every { interval, delay } => Line::Two("every", *interval, *delay),
+        Record::Send { request } => Line::One("send", *request),
+        Record::Post { message } => Line::One("post", *message),
+        Record::Ask { anim } => Line::One("ask", *anim),
+        Record::Queue { job } => Line::One("queue", *job),
+        Record::Message { message } => Line::One("message", *message),
+        Record::Anim { anim } => Line::One("anim", *anim),
+        Record::Job { job } => Line::One("job", *job),
+        Record::Access { mode, loc } => Line::Access(*mode, loc),
+    }
+}
+
+fn put_line<K: Sink>(sink: &mut K, line: &Line) -> Result<(), Failed>
+    ensures fits { AllByRecursion IsItem (line_items line.now) }
+    ensures puts { Puts K.got K.faults sink.old (items_spelling (line_items line.now)) sink.new result }
+{
+    match line {
+        Line::One(word, a) => put_one(sink, word, *a),
+        Line::Two(word, a, b) => put_two(sink, word, *a, *b),
+        Line::Three(word, a, b, c) => put_three(sink, word, *a, *b, *c),
+        Line::Named(word, a, b, name) => put_two_and_name(sink, word, *a, *b, name),
+        Line::Made(word, doc, element, kind) => put_made(sink, word, *doc, *element, kind),
+        Line::Framing(word, doc, element, inner) => put_frame(sink, word, *doc, *element, *inner),
+        Line::Access(mode, loc) => print_access(*mode, loc, sink),
+    }
+}
+
 /// Writes the record as it is spelled, without an LF. Any record can be printed (`fits`), and
 /// what is written of it is a line that [`crate::parse::parse_record`] reads back as that record
 /// (its clause `exact`).
@@ -202,64 +288,5 @@ pub fn print_record<K: Sink>(rec: &Record, sink: &mut K) -> Result<(), Failed>
     ensures fits { IsRecord rec.now }
     ensures puts { Puts K.got K.faults sink.old (spelling rec.now) sink.new result }
 {
-    match rec {
-        Record::Parse { doc, element, kind } => put_made(
-            sink,
-            "parse",
-            *doc,
-            *element,
-            kind.word(),
-        ),
-        Record::ParseFrame {
-            doc,
-            element,
-            inner,
-        } => put_frame(sink, "parse", *doc, *element, *inner),
-        Record::Exec { element } => put_one(sink, "exec", *element),
-        Record::Timer { timeout } => put_one(sink, "timer", *timeout),
-        Record::Tick { interval } => put_one(sink, "tick", *interval),
-        Record::Dcl { dispatch, doc } => put_two(sink, "dcl", *dispatch, *doc),
-        Record::Load { dispatch, doc } => put_two(sink, "load", *dispatch, *doc),
-        Record::Eload { dispatch, element } => put_two(sink, "eload", *dispatch, *element),
-        Record::Fire {
-            dispatch,
-            element,
-            name,
-        } => put_two_and_name(sink, "fire", *dispatch, *element, name),
-        Record::Wfire {
-            dispatch,
-            doc,
-            name,
-        } => put_two_and_name(sink, "wfire", *dispatch, *doc, name),
-        Record::Reply { dispatch, request } => put_two(sink, "reply", *dispatch, *request),
-        Record::Inline {
-            dispatch,
-            element,
-            name,
-        } => put_two_and_name(sink, "inline", *dispatch, *element, name),
-        Record::Run {
-            dispatch,
-            group,
-            handler,
-        } => put_three(sink, "run", *dispatch, *group, *handler),
-        Record::Close { dispatch } => put_one(sink, "close", *dispatch),
-        Record::Back { dispatch } => put_one(sink, "back", *dispatch),
-        Record::New { doc, element, kind } => put_made(sink, "new", *doc, *element, kind.word()),
-        Record::NewFrame {
-            doc,
-            element,
-            inner,
-        } => put_frame(sink, "new", *doc, *element, *inner),
-        Record::On { handler } => put_one(sink, "on", *handler),
-        Record::Set { timeout, delay } => put_two(sink, "set", *timeout, *delay),
-        Record::Every { interval, delay } => put_two(sink, "every", *interval, *delay),
-        Record::Send { request } => put_one(sink, "send", *request),
-        Record::Post { message } => put_one(sink, "post", *message),
-        Record::Ask { anim } => put_one(sink, "ask", *anim),
-        Record::Queue { job } => put_one(sink, "queue", *job),
-        Record::Message { message } => put_one(sink, "message", *message),
-        Record::Anim { anim } => put_one(sink, "anim", *anim),
-        Record::Job { job } => put_one(sink, "job", *job),
-        Record::Access { mode, loc } => print_access(*mode, loc, sink),
-    }
+    put_line(sink, &line_of(rec))
 }
