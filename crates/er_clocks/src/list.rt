@@ -20,9 +20,14 @@ pub(crate) enum Held {
 }
 
 /// The sources of the links into an action, ascending. Callers see the list of numbers.
-#[derive(Drop)]
 pub(crate) struct LinkList {
     held: Held,
+}
+
+impl Drop for LinkList {
+    fn drop(self) {
+        let LinkList { held: _ } = self;
+    }
 }
 
 impl Model for LinkList {

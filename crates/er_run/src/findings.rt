@@ -7,14 +7,21 @@ use er_races::Race;
 use er_schedule::Schedules;
 
 /// The races of a trace, and their groups.
-#[derive(Drop)]
 pub(crate) struct Listing {
     pub(crate) races: Vec<Race>,
     pub(crate) groups: Groups,
 }
 
+impl Drop for Listing {
+    fn drop(self) {
+        let Listing {
+            races: _,
+            groups: _,
+        } = self;
+    }
+}
+
 /// What was found, for the text that is due.
-#[derive(Drop)]
 pub(crate) enum Found {
     /// For a line of JSON.
     Line(Listing),
@@ -37,6 +44,28 @@ pub(crate) enum Found {
         to: u32,
         steps: Option<Steps>,
     },
+}
+
+fn let_go(_: Listing) {}
+
+impl Drop for Found {
+    fn drop(self) {
+        match self {
+            Found::Line(listing) => let_go(listing),
+            Found::Report(listing) => let_go(listing),
+            Found::Summary { number: _, listing } => let_go(listing),
+            Found::Orders {
+                race: _,
+                races: _,
+                orders: _,
+            } => {}
+            Found::Steps {
+                from: _,
+                to: _,
+                steps: _,
+            } => {}
+        }
+    }
 }
 
 /// What the records of a trace come to, and what was found.
