@@ -108,17 +108,20 @@ fn a_failed_read_is_not_made_again(rt: HostRuntime) {
     }
 }
 
+/// Puts the piece through an adapter over the writer.
+fn put_through(writer: &mut FrailWriter, piece: &[u8]) -> Result<(), Failed> {
+    put_all(&mut ToWrite::new(writer), piece)
+}
+
 #[test]
 fn a_failed_write_is_not_made_again(rt: HostRuntime) {
     for kind in [ErrorKind::Interrupted, ErrorKind::BrokenPipe] {
         let mut writer = FrailWriter::new(2, 0, kind);
-        let mut sink = ToWrite::new(&mut writer);
-        assert_eq!(rt; put_all(&mut sink, b"abc"), Err(Failed));
+        assert_eq!(rt; put_through(&mut writer, b"abc"), Err(Failed));
         assert_eq!(rt; writer.taken, *b"a\0\0");
         assert_eq!(rt; writer.writes, 2);
         assert_eq!(rt; writer.flushes, 1);
-        let mut sink = ToWrite::new(&mut writer);
-        assert_eq!(rt; put_all(&mut sink, b"bc"), Ok(()));
+        assert_eq!(rt; put_through(&mut writer, b"bc"), Ok(()));
         assert_eq!(rt; writer.taken, *b"abc");
         assert_eq!(rt; writer.writes, 4);
         assert_eq!(rt; writer.flushes, 3);
@@ -129,8 +132,7 @@ fn a_failed_write_is_not_made_again(rt: HostRuntime) {
 fn nothing_is_written_after_a_failed_flush(rt: HostRuntime) {
     for kind in [ErrorKind::Interrupted, ErrorKind::BrokenPipe] {
         let mut writer = FrailWriter::new(0, 2, kind);
-        let mut sink = ToWrite::new(&mut writer);
-        assert_eq!(rt; put_all(&mut sink, b"abc"), Err(Failed));
+        assert_eq!(rt; put_through(&mut writer, b"abc"), Err(Failed));
         assert_eq!(rt; writer.taken, *b"ab\0");
         assert_eq!(rt; writer.writes, 2);
         assert_eq!(rt; writer.flushes, 2);

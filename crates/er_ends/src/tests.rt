@@ -122,6 +122,10 @@ fn a_writer_is_a_sink(rt: HostRuntime) {
     let mut sink = ToWrite::new(&mut taken);
     assert_eq!(rt; put_all(&mut sink, b"abc"), Ok(()));
     assert_eq!(rt; taken.as_slice(), b"abc".as_slice());
+}
+
+#[test]
+fn a_broken_writer_is_a_failing_sink(rt: HostRuntime) {
     for (fails, fails_to_flush) in [(true, false), (false, true), (false, false)] {
         let mut broken = ToWrite::new(Fake {
             fails,
@@ -129,6 +133,10 @@ fn a_writer_is_a_sink(rt: HostRuntime) {
         });
         assert_eq!(rt; put_all(&mut broken, b"abc"), Err(Failed));
     }
+}
+
+#[test]
+fn nothing_is_put_into_a_full_writer(rt: HostRuntime) {
     let mut full = ToWrite::new(Fake {
         fails: false,
         fails_to_flush: false,
@@ -138,7 +146,7 @@ fn a_writer_is_a_sink(rt: HostRuntime) {
 }
 
 #[test]
-fn sure_ends_never_fail(rt: HostRuntime) -> Result<(), Fail> {
+fn a_sure_source_gives_all(rt: HostRuntime) -> Result<(), Fail> {
     let mut source = SureSource::new(Vec::from_slice(rt.alloc(), b"abcd")?);
     let mut buf = [0; 3];
     assert_eq!(rt; read_some(&mut source, &mut buf), Ok(3));
@@ -146,8 +154,12 @@ fn sure_ends_never_fail(rt: HostRuntime) -> Result<(), Fail> {
     assert_eq!(rt; read_some(&mut source, &mut buf), Ok(1));
     assert_eq!(rt; buf, *b"dbc");
     assert_eq!(rt; read_some(&mut source, &mut buf), Ok(0));
+    Ok(())
+}
+
+#[test]
+fn a_sure_sink_takes_all(rt: HostRuntime) {
     let mut sink = SureSink::new();
     assert_eq!(rt; put_all(&mut sink, b"abc"), Ok(()));
     assert_eq!(rt; sink.count(), 3);
-    Ok(())
 }

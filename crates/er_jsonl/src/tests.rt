@@ -1,8 +1,8 @@
 //! Lines, and traces that come in pieces, however they are cut.
 
 use crate::{JsonFeed, JsonLines, parse_json_line};
-use er_lines::format::Lines;
 use er_ends::MemorySink;
+use er_lines::format::Lines;
 use er_outside::put_all;
 use er_syntax::print::print_record;
 use er_text::Cause;

@@ -3,9 +3,9 @@
 ghost use Rattle.std.specs.Prelude.{◌≡◌, false, OnOk};
 
 use er_clocks::{Clocks, Meter, Paths};
+use er_ends::MemorySink;
 use er_explain::{explain, write_steps};
 use er_graph::Graph;
-use er_ends::MemorySink;
 use er_outside::NoMemory;
 use er_schedule::{check_schedule, make_schedules};
 use er_syntax::parse::parse_record;
