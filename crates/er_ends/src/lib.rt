@@ -1,8 +1,6 @@
 //! The ends that there are: over the standard library's readers and writers, in memory, and such as never fail.
 #![tactic(auto)]
 
-#[cfg(test)]
-mod adapter_tests;
 mod adapters;
 mod calls;
 mod counted;
@@ -14,6 +12,3 @@ pub use adapters::{FromRead, ToWrite};
 pub use memory_sink::MemorySink;
 pub use memory_source::MemorySource;
 pub use sure::{SureSink, SureSource};
-
-#[cfg(test)]
-mod tests;

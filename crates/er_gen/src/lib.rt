@@ -6,7 +6,5 @@ mod generator;
 pub mod laws;
 mod records;
 pub mod rows;
-#[cfg(test)]
-mod tests;
 
 pub use generator::Generator;

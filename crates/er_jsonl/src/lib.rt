@@ -6,6 +6,3 @@ pub mod laws;
 
 pub use er_json_line::parse_json_line;
 pub use feed::{JsonFeed, JsonLines, MOST_LINE_BYTES};
-
-#[cfg(test)]
-mod tests;

@@ -7,6 +7,4 @@ pub mod format;
 pub mod laws;
 mod line;
 mod mark;
-#[cfg(test)]
-mod tests;
 pub mod text;

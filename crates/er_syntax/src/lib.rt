@@ -9,6 +9,4 @@ mod named_forms;
 pub mod parse;
 pub mod plain;
 pub mod print;
-#[cfg(test)]
-mod tests;
 pub mod version;

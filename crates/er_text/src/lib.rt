@@ -14,6 +14,3 @@ pub use causes::Cause;
 pub use lines::{Words, take_line};
 pub use names::{MOST_NAME, NameBytes, NameWord, put_name, read_name};
 pub use numbers::{BadToken, put_number, read_number};
-
-#[cfg(test)]
-mod tests;

@@ -5,7 +5,5 @@ pub mod fault;
 pub mod name;
 pub mod record;
 pub mod sharing;
-#[cfg(test)]
-mod tests;
 pub mod trace;
 pub mod version;

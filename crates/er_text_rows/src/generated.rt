@@ -1,8 +1,8 @@
 //! The generator gives the records of the worked texts, and the due number of records.
 
-use crate::Generator;
-use crate::rows::{one_round, two_rounds};
 use er_ends::MemorySink;
+use er_gen::Generator;
+use er_gen::rows::{one_round, two_rounds};
 use er_outside::put_all;
 use er_syntax::print::print_record;
 use std::alloc::Global;

@@ -1,6 +1,6 @@
 //! A name and its copy.
 
-use crate::name::Name;
+use er_trace::name::Name;
 
 /// Whether the name and a copy have these bytes.
 fn has_bytes(name: &Name, bytes: &[u8]) -> bool {

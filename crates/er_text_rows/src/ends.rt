@@ -1,7 +1,8 @@
 //! Each public call once, with ample memory, and what no clause says.
 
-use crate::{FromRead, MemorySink, MemorySource, SureSink, SureSource, ToWrite};
+use er_ends::{FromRead, MemorySink, MemorySource, SureSink, SureSource, ToWrite};
 use er_outside::{Failed, Sink, Source, put_all};
+use std::alloc::Global;
 use std::io;
 use std::io::{ErrorKind, Read, Write};
 use std::test::Fail;
@@ -46,40 +47,51 @@ impl Write for Fake {
     }
 }
 
+/// A source of five bytes that gives two a call, and whose second call fails.
+fn frail_source(alloc: Global) -> Result<MemorySource, Fail> {
+    let failing = Vec::from_slice(alloc, &[2])?;
+    match Vec::from_slice(alloc, b"abcde") {
+        Ok(bytes) => Ok(MemorySource::new(bytes, 2, failing)),
+        Err(_) => Err("memory".into()),
+    }
+}
+
 #[test]
 fn a_source_in_memory_gives_its_bytes(rt: HostRuntime) -> Result<(), Fail> {
-    let bytes = Vec::from_slice(rt.alloc(), b"abcde")?;
-    let failing = Vec::from_slice(rt.alloc(), &[2])?;
-    let mut source = MemorySource::new(bytes, 2, failing);
+    let mut source = frail_source(rt.alloc())?;
     let mut buf = [0; 3];
-    assert_eq!(rt; read_some(&mut source, &mut buf), Ok(2));
-    assert_eq!(rt; buf, *b"ab\0");
-    assert_eq!(rt; source.fault_count(), 0);
-    assert_eq!(rt; read_some(&mut source, &mut buf), Err(Failed));
-    assert_eq!(rt; buf, *b"ab\0");
-    assert_eq!(rt; source.fault_count(), 1);
-    assert_eq!(rt; read_some(&mut source, &mut buf), Ok(2));
-    assert_eq!(rt; buf, *b"cd\0");
-    assert_eq!(rt; read_some(&mut source, &mut buf), Ok(1));
-    assert_eq!(rt; buf, *b"ed\0");
-    assert_eq!(rt; read_some(&mut source, &mut buf), Ok(0));
-    assert_eq!(rt; source.fault_count(), 1);
+    for (answer, held, faults) in [
+        (Ok(2), *b"ab\0", 0),
+        (Err(Failed), *b"ab\0", 1),
+        (Ok(2), *b"cd\0", 1),
+        (Ok(1), *b"ed\0", 1),
+        (Ok(0), *b"ed\0", 1),
+    ] {
+        let answered = read_some(&mut source, &mut buf);
+        assert_eq!(rt;
+            (answered, buf, source.fault_count()),
+            (answer, held, faults)
+        );
+    }
     assert_eq!(rt; source.calls(), 5);
     Ok(())
 }
 
+/// A sink with room for six bytes that takes two a call, and of which one call fails.
+fn frail_sink(alloc: Global, failing: u32) -> Result<MemorySink, Fail> {
+    let failing = Vec::from_slice(alloc, &[failing])?;
+    Ok(MemorySink::new(alloc, 6, 2, failing)?)
+}
+
 #[test]
 fn a_piece_is_put_whole(rt: HostRuntime) -> Result<(), Fail> {
-    let failing = Vec::from_slice(rt.alloc(), &[5])?;
-    let mut sink = MemorySink::new(rt.alloc(), 6, 2, failing)?;
+    let mut sink = frail_sink(rt.alloc(), 5)?;
     assert_eq!(rt; put_all(&mut sink, b"abcde"), Ok(()));
-    assert_eq!(rt; sink.bytes(), b"abcde".as_slice());
-    assert_eq!(rt; sink.write(b"fg"), Ok(1));
-    assert_eq!(rt; sink.fault_count(), 0);
     // the fifth call brings nothing, so it does not fail; after it no room is left
-    assert_eq!(rt; sink.write(b""), Ok(0));
-    assert_eq!(rt; sink.write(b"g"), Err(Failed));
-    assert_eq!(rt; sink.fault_count(), 1);
+    for (piece, answer, faults) in [("fg", Ok(1), 0), ("", Ok(0), 0), ("g", Err(Failed), 1)] {
+        let answered = sink.write(piece.as_bytes());
+        assert_eq!(rt; (answered, sink.fault_count()), (answer, faults));
+    }
     assert_eq!(rt; sink.calls(), 6);
     assert_eq!(rt; sink.bytes(), b"abcdef".as_slice());
     Ok(())
@@ -87,16 +99,16 @@ fn a_piece_is_put_whole(rt: HostRuntime) -> Result<(), Fail> {
 
 #[test]
 fn a_piece_is_put_in_part(rt: HostRuntime) -> Result<(), Fail> {
-    let failing = Vec::from_slice(rt.alloc(), &[2])?;
-    let mut sink = MemorySink::new(rt.alloc(), 6, 2, failing)?;
-    assert_eq!(rt; put_all(&mut sink, b"abcde"), Err(Failed));
-    assert_eq!(rt; sink.bytes(), b"ab".as_slice());
-    assert_eq!(rt; sink.fault_count(), 1);
-    assert_eq!(rt; sink.calls(), 2);
+    let mut sink = frail_sink(rt.alloc(), 2)?;
     // what is still due can be put later, until the room is used up
-    assert_eq!(rt; put_all(&mut sink, b"cdefg"), Err(Failed));
-    assert_eq!(rt; sink.bytes(), b"abcdef".as_slice());
-    assert_eq!(rt; sink.fault_count(), 2);
+    for (piece, held, calls, faults) in [("abcde", "ab", 2, 1), ("cdefg", "abcdef", 5, 2)] {
+        let answered = put_all(&mut sink, piece.as_bytes());
+        assert_eq!(rt;
+            (answered, sink.calls(), sink.fault_count()),
+            (Err(Failed), calls, faults)
+        );
+        assert_eq!(rt; sink.bytes(), held.as_bytes());
+    }
     Ok(())
 }
 
@@ -104,16 +116,19 @@ fn a_piece_is_put_in_part(rt: HostRuntime) -> Result<(), Fail> {
 fn a_reader_is_a_source(rt: HostRuntime) {
     let mut buf = [0; 3];
     let mut source = FromRead::new(b"abcd".as_slice());
-    assert_eq!(rt; read_some(&mut source, &mut buf), Ok(3));
-    assert_eq!(rt; buf, *b"abc");
-    assert_eq!(rt; read_some(&mut source, &mut buf), Ok(1));
-    assert_eq!(rt; buf, *b"dbc");
-    assert_eq!(rt; read_some(&mut source, &mut buf), Ok(0));
+    for (answer, held) in [(Ok(3), *b"abc"), (Ok(1), *b"dbc"), (Ok(0), *b"dbc")] {
+        let answered = read_some(&mut source, &mut buf);
+        assert_eq!(rt; (answered, buf), (answer, held));
+    }
+}
+
+#[test]
+fn a_broken_reader_is_a_failing_source(rt: HostRuntime) {
     let mut broken = FromRead::new(Fake {
         fails: true,
         fails_to_flush: false,
     });
-    assert_eq!(rt; read_some(&mut broken, &mut buf), Err(Failed));
+    assert_eq!(rt; read_some(&mut broken, &mut [0; 3]), Err(Failed));
 }
 
 #[test]
@@ -149,11 +164,10 @@ fn nothing_is_put_into_a_full_writer(rt: HostRuntime) {
 fn a_sure_source_gives_all(rt: HostRuntime) -> Result<(), Fail> {
     let mut source = SureSource::new(Vec::from_slice(rt.alloc(), b"abcd")?);
     let mut buf = [0; 3];
-    assert_eq!(rt; read_some(&mut source, &mut buf), Ok(3));
-    assert_eq!(rt; buf, *b"abc");
-    assert_eq!(rt; read_some(&mut source, &mut buf), Ok(1));
-    assert_eq!(rt; buf, *b"dbc");
-    assert_eq!(rt; read_some(&mut source, &mut buf), Ok(0));
+    for (answer, held) in [(Ok(3), *b"abc"), (Ok(1), *b"dbc"), (Ok(0), *b"dbc")] {
+        let answered = read_some(&mut source, &mut buf);
+        assert_eq!(rt; (answered, buf), (answer, held));
+    }
     Ok(())
 }
 

@@ -1,9 +1,9 @@
 //! Each public call once, against lines from the format's description.
 
-use crate::parse::parse_record;
-use crate::print::{print_loc, print_record};
 use er_ends::MemorySink;
 use er_outside::Failed;
+use er_syntax::parse::parse_record;
+use er_syntax::print::{print_loc, print_record};
 use er_trace::fault::LineFault;
 use er_trace::record::{Kind, Loc, Mode, Record};
 use er_trace::version::Version;

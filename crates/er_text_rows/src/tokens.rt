@@ -2,8 +2,8 @@
 
 ghost use Rattle.std.specs.Prelude.{ℕ, List, Option, None};
 
-use crate::{Cause, Words, put_name, put_number, read_name, read_number, take_line};
 use er_outside::{Failed, Sink};
+use er_text::{Cause, Words, put_name, put_number, read_name, read_number, take_line};
 use std::test::Fail;
 
 /// A sink that compares what it gets with what is due.

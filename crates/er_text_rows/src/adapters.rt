@@ -1,7 +1,7 @@
 //! The adapters over ends that give and take a byte a call, and of which one call fails, also by an
 //! interruption: it is a fault, the call is not made again, and the next call goes on where it stood.
 
-use crate::{FromRead, ToWrite};
+use er_ends::{FromRead, ToWrite};
 use er_outside::{Failed, Sink, Source, put_all};
 use std::io;
 use std::io::{ErrorKind, Read, Write};
@@ -98,33 +98,39 @@ fn a_failed_read_is_not_made_again(rt: HostRuntime) {
         };
         let mut source = FromRead::new(&mut reader);
         let mut buf = [0; 3];
-        assert_eq!(rt; read_some(&mut source, &mut buf), Ok(1));
-        assert_eq!(rt; read_some(&mut source, &mut buf), Err(Failed));
-        assert_eq!(rt; buf, *b"a\0\0");
-        assert_eq!(rt; read_some(&mut source, &mut buf), Ok(1));
-        assert_eq!(rt; buf, *b"b\0\0");
-        assert_eq!(rt; read_some(&mut source, &mut buf), Ok(0));
+        for (answer, held) in [
+            (Ok(1), *b"a\0\0"),
+            (Err(Failed), *b"a\0\0"),
+            (Ok(1), *b"b\0\0"),
+            (Ok(0), *b"b\0\0"),
+        ] {
+            let answered = read_some(&mut source, &mut buf);
+            assert_eq!(rt; (answered, buf), (answer, held));
+        }
         assert_eq!(rt; reader.calls, 4);
     }
 }
 
+/// What came of a piece: the answer, what the writer keeps, and its calls so far, of both kinds.
+type Put = (Result<(), Failed>, [u8; 3], u32, u32);
+
 /// Puts the piece through an adapter over the writer.
-fn put_through(writer: &mut FrailWriter, piece: &[u8]) -> Result<(), Failed> {
-    put_all(&mut ToWrite::new(writer), piece)
+fn put_through(writer: &mut FrailWriter, piece: &str) -> Put {
+    let answered = put_all(&mut ToWrite::new(&mut *writer), piece.as_bytes());
+    (answered, writer.taken, writer.writes, writer.flushes)
 }
 
 #[test]
 fn a_failed_write_is_not_made_again(rt: HostRuntime) {
     for kind in [ErrorKind::Interrupted, ErrorKind::BrokenPipe] {
         let mut writer = FrailWriter::new(2, 0, kind);
-        assert_eq!(rt; put_through(&mut writer, b"abc"), Err(Failed));
-        assert_eq!(rt; writer.taken, *b"a\0\0");
-        assert_eq!(rt; writer.writes, 2);
-        assert_eq!(rt; writer.flushes, 1);
-        assert_eq!(rt; put_through(&mut writer, b"bc"), Ok(()));
-        assert_eq!(rt; writer.taken, *b"abc");
-        assert_eq!(rt; writer.writes, 4);
-        assert_eq!(rt; writer.flushes, 3);
+        for (piece, due) in [
+            ("abc", (Err(Failed), *b"a\0\0", 2, 1)),
+            ("bc", (Ok(()), *b"abc", 4, 3)),
+        ] {
+            let put = put_through(&mut writer, piece);
+            assert_eq!(rt; put, due);
+        }
     }
 }
 
@@ -132,9 +138,7 @@ fn a_failed_write_is_not_made_again(rt: HostRuntime) {
 fn nothing_is_written_after_a_failed_flush(rt: HostRuntime) {
     for kind in [ErrorKind::Interrupted, ErrorKind::BrokenPipe] {
         let mut writer = FrailWriter::new(0, 2, kind);
-        assert_eq!(rt; put_through(&mut writer, b"abc"), Err(Failed));
-        assert_eq!(rt; writer.taken, *b"ab\0");
-        assert_eq!(rt; writer.writes, 2);
-        assert_eq!(rt; writer.flushes, 2);
+        let put = put_through(&mut writer, "abc");
+        assert_eq!(rt; put, (Err(Failed), *b"ab\0", 2, 2));
     }
 }

@@ -1,19 +1,21 @@
-//! Lines, and traces that come in pieces, however they are cut.
+//! Lines of JSON, and traces of them.
 
-use crate::{JsonFeed, JsonLines, parse_json_line};
+use crate::feeds::{
+    Mark, Row, is_long_line_refused, is_read_in_bytes, of_row, stays_refused, tells_marks,
+    version_of, wrong_cut,
+};
 use er_ends::MemorySink;
+use er_jsonl::{JsonLines, parse_json_line};
 use er_lines::format::Lines;
-use er_outside::put_all;
 use er_syntax::print::print_record;
 use er_text::Cause;
-use er_trace::fault::{FeedFault, LineFault};
+use er_trace::fault::LineFault;
 use er_trace::record::Record;
 use er_trace::version::Version;
-use std::alloc::Global;
-use std::test::Fail;
+use std::alloc::{AllocError, Global};
 
 /// Lines, and the line of a trace with the same record.
-const RECORDS: [(&str, &str); 43] = [
+static RECORDS: [(&str, &str); 43] = [
     ("[\"parse\",0,1,\"plain\"]", "parse 0 1 plain"),
     ("[\"parse\",0,1,\"inline\"]", "parse 0 1 inline"),
     ("[\"parse\",0,1,\"sync\"]", "parse 0 1 sync"),
@@ -64,7 +66,7 @@ const RECORDS: [(&str, &str); 43] = [
 ];
 
 /// Lines that spell no record.
-const OTHERS: [&str; 52] = [
+static OTHERS: [&str; 52] = [
     "",
     " ",
     "null",
@@ -122,48 +124,72 @@ const OTHERS: [&str; 52] = [
     "[\"post\",1]",
 ];
 
-/// Whether the line spells the record of that line of a trace.
-fn reads_as(alloc: Global, line: &str, text: &str) -> Result<bool, Fail> {
-    let rec = parse_json_line(alloc, line.as_bytes()).map_err(|_| "read")?;
-    let mut sink = MemorySink::new(alloc, 1000, 1000, Vec::new(alloc)).map_err(|_| "memory")?;
-    print_record(&rec, &mut sink).map_err(|_| "printed")?;
-    Ok(sink.bytes() == text.as_bytes())
+/// Lets the record go. The proof of that is long, and a caller that goes through this needs none of its own.
+fn let_go(_rec: Record) {}
+
+/// Whether the record is printed as this line of text.
+fn is_printed(alloc: Global, rec: &Record, text: &str) -> bool {
+    match MemorySink::new(alloc, 1000, 1000, Vec::new(alloc)) {
+        Ok(mut sink) => print_record(rec, &mut sink).is_ok() && sink.bytes() == text.as_bytes(),
+        Err(_) => false,
+    }
+}
+
+/// Whether the line spells the record of that line of text.
+fn reads_as(alloc: Global, line: &str, text: &str) -> bool {
+    match parse_json_line(alloc, line.as_bytes()) {
+        Ok(rec) => {
+            let same = is_printed(alloc, &rec, text);
+            let_go(rec);
+            same
+        }
+        Err(_) => false,
+    }
+}
+
+/// Why the line spells no record, where it spells none.
+fn fault_of(alloc: Global, line: &[u8]) -> Option<LineFault> {
+    match parse_json_line(alloc, line) {
+        Ok(rec) => {
+            let_go(rec);
+            None
+        }
+        Err(fault) => Some(fault),
+    }
 }
 
 fn is_refused(alloc: Global, line: &[u8]) -> bool {
-    matches!(parse_json_line(alloc, line), Err(LineFault::BadRecord))
+    fault_of(alloc, line) == Some(LineFault::BadRecord)
 }
 
 #[test]
-fn records(rt: HostRuntime) -> Result<(), Fail> {
-    for (line, text) in RECORDS {
-        assert!(rt; reads_as(rt.alloc(), line, text)?, "{line}");
+fn records(rt: HostRuntime) {
+    for (line, text) in &RECORDS {
+        assert!(rt; reads_as(rt.alloc(), line, text), "{line}");
     }
-    Ok(())
 }
 
 #[test]
 fn other_lines(rt: HostRuntime) {
-    for line in OTHERS {
+    for line in &OTHERS {
         assert!(rt; is_refused(rt.alloc(), line.as_bytes()), "{line}");
     }
 }
 
 #[test]
 fn bytes_that_are_no_text(rt: HostRuntime) {
-    assert!(rt; is_refused(rt.alloc(), b"[\"r\",\"var\",0,\"\xff\"]"));
-    assert!(rt; is_refused(rt.alloc(), b"[\"r\",\"var\",0,\"\xc3\"]"));
-    assert!(rt;
-        is_refused(
-            rt.alloc(),
-            b"[\"r\",\"var\",0,\"\xed\xa0\xbd\xed\xb8\x80\"]"
-        )
-    );
-    assert!(rt; is_refused(rt.alloc(), b"[\"exec\",1]\xff"));
+    for line in [
+        b"[\"r\",\"var\",0,\"\xff\"]".as_slice(),
+        b"[\"r\",\"var\",0,\"\xc3\"]",
+        b"[\"r\",\"var\",0,\"\xed\xa0\xbd\xed\xb8\x80\"]",
+        b"[\"exec\",1]\xff",
+    ] {
+        assert!(rt; is_refused(rt.alloc(), line));
+    }
 }
 
 /// Bytes, and how many of them stand behind the access that is read at their front.
-const FRONTS: [(&str, Option<usize>); 20] = [
+static FRONTS: [(&str, Option<usize>); 20] = [
     ("[\"r\",\"var\",0,\"x\"]\n", Some(0)),
     ("[\"w\",\"elem\",4294967295,\"i\"]\n[", Some(1)),
     ("[\"r\", \"slot\", 10, \"on click\"]\nrest", Some(4)),
@@ -196,60 +222,59 @@ const FRONTS: [(&str, Option<usize>); 20] = [
 /// How many bytes stand behind the access that is read at the front.
 fn left_of(alloc: Global, bytes: &str) -> Option<usize> {
     match JsonLines::front(alloc, Version::One, bytes.as_bytes()) {
-        Some((_, left)) => Some(left.len()),
+        Some((rec, left)) => {
+            let_go(rec);
+            Some(left.len())
+        }
         None => None,
     }
 }
 
 #[test]
 fn fronts(rt: HostRuntime) {
-    for (bytes, left) in FRONTS {
-        assert_eq!(rt; left_of(rt.alloc(), bytes), left, "{bytes}");
+    for (bytes, left) in &FRONTS {
+        assert_eq!(rt; left_of(rt.alloc(), bytes), *left, "{bytes}");
     }
 }
 
-/// An access of a name of so many letters.
-fn with_name(alloc: Global, letters: usize) -> Result<Vec<u8>, Fail> {
-    let mut line = Vec::from_slice(alloc, b"[\"r\",\"var\",0,\"").map_err(|_| "memory")?;
-    for _ in 0..letters {
-        line.push(b'a').map_err(|_| "memory")?;
-    }
-    line.extend_from_slice(b"\"]").map_err(|_| "memory")?;
-    Ok(line)
+/// Why an access of a name of so many letters is no record, where it is none.
+fn fault_of_name(alloc: Global, letters: usize) -> Result<Option<LineFault>, AllocError> {
+    let mut line = Vec::from_slice(alloc, b"[\"r\",\"var\",0,\"")?;
+    line.resize(line.len().saturating_add(letters), b'a')?;
+    line.extend_from_slice(b"\"]")?;
+    Ok(fault_of(alloc, line.as_slice()))
 }
 
 #[test]
-fn names_at_the_limit(rt: HostRuntime) -> Result<(), Fail> {
-    let longest = with_name(rt.alloc(), 255)?;
-    assert!(rt; parse_json_line(rt.alloc(), longest.as_slice()).is_ok());
-    let too_long = with_name(rt.alloc(), 256)?;
-    assert!(rt; is_refused(rt.alloc(), too_long.as_slice()));
-    Ok(())
+fn names_at_the_limit(rt: HostRuntime) {
+    for (letters, fault) in [(255, None), (256, Some(LineFault::BadRecord))] {
+        assert!(rt;
+            fault_of_name(rt.alloc(), letters) == Ok(fault),
+            "{letters}"
+        );
+    }
 }
 
-/// So many brackets, opened and closed.
-fn nested(alloc: Global, depth: usize) -> Result<Vec<u8>, Fail> {
+/// Whether so many brackets, opened and closed, are no record.
+fn are_brackets_refused(alloc: Global, depth: usize) -> Result<bool, AllocError> {
     let mut line = Vec::new(alloc);
-    for _ in 0..depth {
-        line.push(b'[').map_err(|_| "memory")?;
-    }
-    for _ in 0..depth {
-        line.push(b']').map_err(|_| "memory")?;
-    }
-    Ok(line)
+    line.resize(depth, b'[')?;
+    line.resize(depth.saturating_mul(2), b']')?;
+    Ok(is_refused(alloc, line.as_slice()))
 }
 
 #[test]
-fn deep_lines(rt: HostRuntime) -> Result<(), Fail> {
+fn deep_lines(rt: HostRuntime) {
     for depth in [1, 126, 127, 128, 129, 2048] {
-        let line = nested(rt.alloc(), depth)?;
-        assert!(rt; is_refused(rt.alloc(), line.as_slice()), "{depth}");
+        assert!(rt;
+            are_brackets_refused(rt.alloc(), depth) == Ok(true),
+            "{depth}"
+        );
     }
-    Ok(())
 }
 
 /// Traces, the lines of the records that come of each, and the line that is refused.
-const ROWS: [(&str, &str, Option<(u32, Cause)>); 23] = [
+static ROWS: [Row; 23] = [
     ("", "", Some((1, Cause::NoEnd))),
     ("[\"webtrace\",1]", "", Some((1, Cause::NoEnd))),
     ("[\"webtrace\",1]\n", "", Some((2, Cause::NoEnd))),
@@ -311,121 +336,44 @@ const ROWS: [(&str, &str, Option<(u32, Cause)>); 23] = [
     ),
 ];
 
-/// No trace above is longer.
-const MOST_PLACES: usize = 96;
-
-fn answer_of(refused: Option<(u32, Cause)>) -> Result<(), FeedFault> {
-    match refused {
-        None => Ok(()),
-        Some((line, cause)) => Err(FeedFault::Refused { line, cause }),
+#[test]
+fn cut_anywhere(rt: HostRuntime) {
+    for row in &ROWS {
+        let wrong = wrong_cut::<JsonLines>(rt.alloc(), &of_row(row));
+        assert_eq!(rt; wrong, None, "{}", row.0);
     }
-}
-
-/// What a feed answers, and whether the lines of its records are those that were wanted.
-#[derive(Clone, Copy)]
-struct Read {
-    answer: Result<(), FeedFault>,
-    same: bool,
-}
-
-/// What comes of the text in two pieces.
-fn read_in_two(alloc: Global, text: &[u8], place: usize, lines: &str) -> Result<Read, Fail> {
-    let place = place.min(text.len());
-    let mut out = Vec::new(alloc);
-    let mut feed = JsonFeed::new(alloc);
-    let first = feed.feed(&text[..place], &mut out);
-    let second = first.and(feed.feed(&text[place..], &mut out));
-    read_by(alloc, second.and(feed.finish()), out.as_slice(), lines)
-}
-
-/// What comes of the text byte by byte.
-fn read_bytes(alloc: Global, text: &[u8], lines: &str) -> Result<Read, Fail> {
-    let mut out = Vec::new(alloc);
-    let mut feed = JsonFeed::new(alloc);
-    let mut answer = Ok(());
-    for byte in text {
-        answer = answer.and(feed.feed(&[*byte], &mut out));
-    }
-    read_by(alloc, answer.and(feed.finish()), out.as_slice(), lines)
-}
-
-fn read_by(
-    alloc: Global,
-    answer: Result<(), FeedFault>,
-    records: &[Record],
-    lines: &str,
-) -> Result<Read, Fail> {
-    let mut sink = MemorySink::new(alloc, 1000, 1000, Vec::new(alloc)).map_err(|_| "memory")?;
-    for rec in records {
-        print_record(rec, &mut sink).map_err(|_| "printed")?;
-        put_all(&mut sink, b"\n").map_err(|_| "printed")?;
-    }
-    Ok(Read {
-        answer,
-        same: sink.bytes() == lines.as_bytes(),
-    })
 }
 
 #[test]
-fn cut_anywhere(rt: HostRuntime) -> Result<(), Fail> {
-    for (text, lines, refused) in ROWS {
-        for place in 0..MOST_PLACES {
-            let read = read_in_two(rt.alloc(), text.as_bytes(), place, lines)?;
-            assert_eq!(rt; read.answer, answer_of(refused), "{text} at {place}");
-            assert!(rt; read.same, "{text} at {place}");
-        }
+fn byte_by_byte(rt: HostRuntime) {
+    for row in &ROWS {
+        let read = is_read_in_bytes::<JsonLines>(rt.alloc(), &of_row(row));
+        assert!(rt; read, "{}", row.0);
     }
-    Ok(())
 }
 
 #[test]
-fn byte_by_byte(rt: HostRuntime) -> Result<(), Fail> {
-    for (text, lines, refused) in ROWS {
-        let read = read_bytes(rt.alloc(), text.as_bytes(), lines)?;
-        assert_eq!(rt; read.answer, answer_of(refused), "{text}");
-        assert!(rt; read.same, "{text}");
-    }
-    Ok(())
-}
-
-/// A header, and a line of so many spaces.
-fn with_spaces(alloc: Global, spaces: usize, end: &str) -> Result<Vec<u8>, Fail> {
-    let mut text = Vec::from_slice(alloc, b"[\"webtrace\",1]\n").map_err(|_| "memory")?;
-    for _ in 0..spaces {
-        text.push(b' ').map_err(|_| "memory")?;
-    }
-    text.extend_from_slice(end.as_bytes())
-        .map_err(|_| "memory")?;
-    Ok(text)
-}
-
-#[test]
-fn lines_at_the_limit(rt: HostRuntime) -> Result<(), Fail> {
+fn lines_at_the_limit(rt: HostRuntime) {
     for (spaces, end, cause) in [
         (4096, "\n", Cause::BadRecord),
         (4097, "\n", Cause::LongLine),
         (4096, "", Cause::NoEnd),
         (4097, "", Cause::LongLine),
     ] {
-        let text = with_spaces(rt.alloc(), spaces, end)?;
-        let refused = Err(FeedFault::Refused { line: 2, cause });
-        for place in [0, 15, 16, 1000, 4110, 4111, 4112, 4113] {
-            let read = read_in_two(rt.alloc(), text.as_slice(), place, "")?;
-            assert_eq!(rt; read.answer, refused, "{spaces} at {place}");
-        }
+        let refused = is_long_line_refused::<JsonLines>(
+            rt.alloc(),
+            b"[\"webtrace\",1]\n",
+            b' ',
+            spaces,
+            end,
+            cause,
+        );
+        assert!(rt; refused == Ok(true), "{spaces}{end}");
     }
-    Ok(())
-}
-
-/// The version that a feed tells after these bytes.
-fn version_of(alloc: Global, bytes: &str) -> Option<Version> {
-    let mut feed = JsonFeed::new(alloc);
-    let _answer = fed(alloc, &mut feed, bytes);
-    feed.version()
 }
 
 /// What comes, and the version that is told.
-const VERSIONS: [(&str, Option<Version>); 6] = [
+static VERSIONS: [(&str, Option<Version>); 6] = [
     ("", None),
     ("[\"webtrace\",1]", None),
     ("[\"webtrace\",1]\n", Some(Version::One)),
@@ -436,52 +384,32 @@ const VERSIONS: [(&str, Option<Version>); 6] = [
 
 #[test]
 fn versions(rt: HostRuntime) {
-    for (bytes, version) in VERSIONS {
-        let told = version_of(rt.alloc(), bytes);
-        assert!(rt; told == version, "{bytes}");
+    for (bytes, version) in &VERSIONS {
+        let told = version_of::<JsonLines>(rt.alloc(), bytes);
+        assert!(rt; told == *version, "{bytes}");
     }
-}
-
-/// What one call answers, and how many records it hands on.
-fn fed(alloc: Global, feed: &mut JsonFeed, piece: &str) -> (Result<(), FeedFault>, usize) {
-    let mut out = Vec::new(alloc);
-    let answer = feed.feed(piece.as_bytes(), &mut out);
-    (answer, out.len())
 }
 
 #[test]
 fn refusals_stay(rt: HostRuntime) {
-    let mut feed = JsonFeed::new(rt.alloc());
-    let refused = Err(FeedFault::Refused {
-        line: 3,
-        cause: Cause::BadRecord,
-    });
-    let first = fed(
+    let stays = stays_refused::<JsonLines>(
         rt.alloc(),
-        &mut feed,
         "[\"webtrace\",1]\n[\"exec\",1]\n[\"exec\"]\n[\"exec\",2]\n",
+        "[\"exec\",3]\n[\"end\"]\n",
     );
-    assert_eq!(rt; first, (refused, 1));
-    let later = fed(rt.alloc(), &mut feed, "[\"exec\",3]\n[\"end\"]\n");
-    assert_eq!(rt; later, (refused, 0));
-    assert_eq!(rt; feed.finish(), refused);
+    assert!(rt; stays);
 }
+
+static MARKS: [Mark; 6] = [
+    ("[\"webtrace\",1]\n[\"exec\",1]\n[\"ex", 1, 1, false),
+    ("ec\",2]", 0, 1, false),
+    ("\n[\"en", 1, 2, false),
+    ("d\"]", 0, 2, false),
+    ("\n", 0, 2, true),
+    ("", 0, 2, true),
+];
 
 #[test]
 fn marks(rt: HostRuntime) {
-    let mut feed = JsonFeed::new(rt.alloc());
-    for (piece, came, records, ended) in [
-        ("[\"webtrace\",1]\n[\"exec\",1]\n[\"ex", 1, 1, false),
-        ("ec\",2]", 0, 1, false),
-        ("\n[\"en", 1, 2, false),
-        ("d\"]", 0, 2, false),
-        ("\n", 0, 2, true),
-        ("", 0, 2, true),
-    ] {
-        let answer = fed(rt.alloc(), &mut feed, piece);
-        assert_eq!(rt; answer, (Ok(()), came), "{piece}");
-        assert_eq!(rt; feed.records(), records, "{piece}");
-        assert_eq!(rt; feed.ended(), ended, "{piece}");
-    }
-    assert_eq!(rt; feed.finish(), Ok(()));
+    assert!(rt; tells_marks::<JsonLines>(rt.alloc(), &MARKS));
 }

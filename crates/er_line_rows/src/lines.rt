@@ -1,0 +1,184 @@
+//! Traces of lines of text.
+
+use crate::feeds::{
+    Due, Mark, Row, is_long_line_refused, is_read_in_bytes, joined, of_row, stays_refused,
+    tells_marks, version_of, wrong_cut,
+};
+use er_lines::text::TextLines;
+use er_text::Cause;
+use er_trace::version::Version;
+use std::alloc::{AllocError, Global};
+
+/// Texts, the lines of the records that come of each, and the line that is refused.
+static ROWS: [Row; 17] = [
+    ("", "", Some((1, Cause::NoEnd))),
+    ("webtrace 1", "", Some((1, Cause::NoEnd))),
+    ("webtrace 1\n", "", Some((2, Cause::NoEnd))),
+    ("webtrace 2\nexec 1\nend\n", "exec 1\n", None),
+    ("webtrace 3\njob 1\nend\n", "job 1\n", None),
+    (
+        "webtrace 2\nexec 1\njob 1\nend\n",
+        "exec 1\n",
+        Some((3, Cause::BadRecord)),
+    ),
+    ("webtrace 4\nend\n", "", Some((1, Cause::BadHeader))),
+    ("webtrace 1\r\nend\n", "", Some((1, Cause::BadHeader))),
+    ("webtrace 1\nend\n", "", None),
+    ("webtrace 1\nend", "", Some((2, Cause::NoEnd))),
+    ("webtrace 1\nend\n\n", "", Some((3, Cause::AfterEnd))),
+    ("webtrace 1\nend\nend\n", "", Some((3, Cause::AfterEnd))),
+    (
+        "webtrace 1\nparse 0 1 inline\nexec 1\nend\n",
+        "parse 0 1 inline\nexec 1\n",
+        None,
+    ),
+    (
+        "webtrace 1\nr var 0 x%20y\nw elem 3 z\nr var",
+        "r var 0 x%20y\nw elem 3 z\n",
+        Some((4, Cause::NoEnd)),
+    ),
+    (
+        "webtrace 1\nexec 1\nexec\nexec 2\nend\n",
+        "exec 1\n",
+        Some((3, Cause::BadRecord)),
+    ),
+    (
+        "webtrace 1\nexec 1\n\nend\n",
+        "exec 1\n",
+        Some((3, Cause::BadRecord)),
+    ),
+    (
+        "webtrace 1\nexec 1\nEnd\n",
+        "exec 1\n",
+        Some((3, Cause::BadRecord)),
+    ),
+];
+
+#[test]
+fn cut_anywhere(rt: HostRuntime) {
+    for row in &ROWS {
+        let wrong = wrong_cut::<TextLines>(rt.alloc(), &of_row(row));
+        assert_eq!(rt; wrong, None, "{}", row.0);
+    }
+}
+
+#[test]
+fn byte_by_byte(rt: HostRuntime) {
+    for row in &ROWS {
+        let read = is_read_in_bytes::<TextLines>(rt.alloc(), &of_row(row));
+        assert!(rt; read, "{}", row.0);
+    }
+}
+
+#[test]
+fn lines_at_the_limit(rt: HostRuntime) {
+    for (letters, end, cause) in [
+        (1024, "\n", Cause::BadRecord),
+        (1025, "\n", Cause::LongLine),
+        (1024, "", Cause::NoEnd),
+        (1025, "", Cause::LongLine),
+    ] {
+        let refused = is_long_line_refused::<TextLines>(
+            rt.alloc(),
+            b"webtrace 1\n",
+            b'a',
+            letters,
+            end,
+            cause,
+        );
+        assert!(rt; refused == Ok(true), "{letters}{end}");
+    }
+}
+
+/// Accesses with names of 1, 29, 30 and 31 bytes, on both sides of what lies in place, and one with a byte
+/// that is spelled by digits.
+static NAMES: [&str; 5] = [
+    "w slot 4294967295 x\n",
+    "r var 0 abcdefghijklmnopqrstuvwxyz012\n",
+    "r var 0 abcdefghijklmnopqrstuvwxyz0123\n",
+    "r elem 10 abcdefghijklmnopqrstuvwxyz01234\n",
+    "r elem 10 abcdefghijklmnopqrstu%00\n",
+];
+
+/// Lines behind them, with more bytes than lie in place: a line that few bytes follow is read in another way.
+const LATER: &[u8] = b"w var 1 a\nexec 1\nw var 2 b\nr var 3 c\n";
+
+/// Whether the line comes with those behind it, wherever the text is cut.
+fn is_read(alloc: Global, line: &[u8]) -> Result<bool, AllocError> {
+    let text = joined(alloc, &[b"webtrace 1\n", line, LATER, b"end\n"])?;
+    let lines = joined(alloc, &[line, LATER])?;
+    let due = Due {
+        text: text.as_slice(),
+        lines: lines.as_slice(),
+        answer: Ok(()),
+    };
+    Ok(wrong_cut::<TextLines>(alloc, &due).is_none())
+}
+
+#[test]
+fn names_of_any_length(rt: HostRuntime) {
+    for line in &NAMES {
+        let read = is_read(rt.alloc(), line.as_bytes());
+        assert!(rt; read == Ok(true), "{line}");
+    }
+}
+
+/// Whether an access whose name has so many letters is read, wherever the text is cut.
+fn is_long_name_read(alloc: Global, letters: usize) -> Result<bool, AllocError> {
+    let mut line = joined(alloc, &[b"r var 0 "])?;
+    line.resize(line.len().saturating_add(letters), b'a')?;
+    line.extend_from_slice(b"\n")?;
+    is_read(alloc, line.as_slice())
+}
+
+#[test]
+fn longest_name(rt: HostRuntime) {
+    for (letters, wanted) in [(255, true), (256, false)] {
+        let read = is_long_name_read(rt.alloc(), letters);
+        assert!(rt; read == Ok(wanted), "{letters}");
+    }
+}
+
+#[test]
+fn refusals_stay(rt: HostRuntime) {
+    let stays = stays_refused::<TextLines>(
+        rt.alloc(),
+        "webtrace 1\nexec 1\nexec\nexec 2\n",
+        "exec 3\nend\n",
+    );
+    assert!(rt; stays);
+}
+
+static MARKS: [Mark; 6] = [
+    ("webtrace 1\nexec 1\nex", 1, 1, false),
+    ("ec 2", 0, 1, false),
+    ("\nen", 1, 2, false),
+    ("d", 0, 2, false),
+    ("\n", 0, 2, true),
+    ("", 0, 2, true),
+];
+
+#[test]
+fn marks(rt: HostRuntime) {
+    assert!(rt; tells_marks::<TextLines>(rt.alloc(), &MARKS));
+}
+
+/// What comes, and the version that is told.
+static VERSIONS: [(&str, Option<Version>); 8] = [
+    ("", None),
+    ("webtrace 1", None),
+    ("webtrace 1\n", Some(Version::One)),
+    ("webtrace 2\nexec 1\n", Some(Version::Two)),
+    ("webtrace 2\nexec\n", Some(Version::Two)),
+    ("webtrace 2\nend\n", Some(Version::Two)),
+    ("webtrace 3\n", Some(Version::Three)),
+    ("webtrace 4\n", None),
+];
+
+#[test]
+fn versions(rt: HostRuntime) {
+    for (bytes, version) in &VERSIONS {
+        let told = version_of::<TextLines>(rt.alloc(), bytes);
+        assert!(rt; told == *version, "{bytes}");
+    }
+}
