@@ -42,6 +42,18 @@ def checked_of(crate, texts, *words):
             it.write(ran.stdout)
     return ran
 own["must_fail"], own["checked"] = must_fail_of, checked_of
+"""
+# A library is built with what others may cite of it, without its proofs, and a build keeps nothing for the next one: its functions are then checked in forks of one process, which has loaded once what stands below. Each copy of a check that keeps what it proved loads all that anew, and proofs too.
+BUILT_AFRESH = """
+library = rt["rtlib"]
+library.KEPT.clear()
+library.Crate.has_kept = lambda crate: False
+words_of = library.Crate.words
+def words(crate, *flags, **more):
+    return [*words_of(crate, *flags, **more), *["--statements"] * (not crate.is_program)]
+library.Crate.words = words
+"""
+CALLED = """
 sys.exit(rt["main"](sys.argv[2:]))
 """
 
@@ -100,11 +112,11 @@ def workers(count):
             raise
 
 
-def call_rt(room, folder, *words, before=()):
-    """Runs rt in a folder of the room, behind these words of another command. Gives its status and what it said."""
+def call_rt(room, folder, *words, before=(), changes=""):
+    """Runs rt, with these changes, in a folder of the room, behind these words of another command. Gives its status and what it said."""
     how = {"stdin": subprocess.DEVNULL, "stdout": subprocess.PIPE, "stderr": subprocess.STDOUT, "errors": "replace"}
     how["env"] = {**os.environ, "TMPDIR": f"{room}/tmp"}
-    call = [*before, sys.executable, "-c", STAMPED_ONCE, shutil.which("rt"), *words]
+    call = [*before, sys.executable, "-c", STAMPED_ONCE + changes + CALLED, shutil.which("rt"), *words]
     with subprocess.Popen(call, cwd=f"{room}/{folder}", **how) as it:
         started.add(it)
         if ends_early:
@@ -174,21 +186,23 @@ def held(names):
         yield
 
 
-def build(name, lines, below, jobs, gives_way):
+def build(name, lines, below, jobs, gives_way, keeps):
     """Proves and builds a crate in a room. Gives whether it is built, and what rt said."""
     own = f"{TOP}/crates/{name}/out"
-    before = GIVES_WAY if gives_way else ()
+    if keeps and not os.path.isdir(f"{own}/incremental"):
+        shutil.rmtree(f"{own}/rlib", ignore_errors=True)
+    how = {"before": GIVES_WAY if gives_way else (), "changes": "" if keeps else BUILT_AFRESH}
     with room_for(lines, [*below[name], name]) as room:
         made = f"{room}/crates/{name}/out"
         move(own, made)
         try:
             if os.path.isfile(f"{room}/crates/{name}/src/lib.rt"):
-                status, said = call_rt(room, f"crates/{name}", "lib", "--jobs", str(jobs), before=before)
+                status, said = call_rt(room, f"crates/{name}", "lib", "--jobs", str(jobs), **how)
                 return status == 0, said
             # rt run ends with the program's own status
             with contextlib.suppress(FileNotFoundError):
                 os.remove(f"{made}/{name}")
-            _, said = call_rt(room, f"crates/{name}", "run", "--jobs", str(jobs), before=before)
+            _, said = call_rt(room, f"crates/{name}", "run", "--jobs", str(jobs), **how)
             return os.path.isfile(f"{made}/{name}"), said
         finally:
             move(made, own)
@@ -198,7 +212,7 @@ class NotBuilt(Exception):
     """A crate is not proved or not built: its name, and what rt said."""
 
 
-def build_all(names, tell):
+def build_all(names, tell, keeps=False):
     """Builds these crates, each once those below it are built, and first those with most to do behind them. Calls tell with those that are built and those in work, each second."""
     lines, below = read_crates()
     behind = {}
@@ -218,7 +232,7 @@ def build_all(names, tell):
                 # a crate that may hold up the end takes all that it gains from, also of processors that others use
                 gives_way = behind[name] < NEARLY * longest
                 jobs = share if gives_way else MOST_JOBS
-                running[pool.submit(build, name, lines, below, jobs, gives_way)] = name, share
+                running[pool.submit(build, name, lines, below, jobs, gives_way, keeps)] = name, share
             for it in wait(running, timeout=1, return_when=FIRST_COMPLETED).done:
                 name, _ = running.pop(it)
                 is_built, said = it.result()
