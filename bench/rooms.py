@@ -22,8 +22,6 @@ MEMORY = 2_000_000_000
 MOST_JOBS = 4
 # a crate with nearly as many bytes behind it as the longest chain may hold up the end as well
 NEARLY = 0.95
-# how a crate is called that holds up no end: it gives way to those that may
-GIVES_WAY = ("nice", "-n", "10")
 # rt, which sums up a crate's sources anew for each way down crates.txt that leads to it: at the upper crates a minute a call. Nothing in a room changes, so once is enough.
 # What the check of an edit says is put beside the edit, with .said behind its name.
 STAMPED_ONCE = """
@@ -112,11 +110,11 @@ def workers(count):
             raise
 
 
-def call_rt(room, folder, *words, before=(), changes=""):
-    """Runs rt, with these changes, in a folder of the room, behind these words of another command. Gives its status and what it said."""
+def call_rt(room, folder, *words, changes=""):
+    """Runs rt, with these changes, in a folder of the room. Gives its status and what it said."""
     how = {"stdin": subprocess.DEVNULL, "stdout": subprocess.PIPE, "stderr": subprocess.STDOUT, "errors": "replace"}
     how["env"] = {**os.environ, "TMPDIR": f"{room}/tmp"}
-    call = [*before, sys.executable, "-c", STAMPED_ONCE + changes + CALLED, shutil.which("rt"), *words]
+    call = [sys.executable, "-c", STAMPED_ONCE + changes + CALLED, shutil.which("rt"), *words]
     with subprocess.Popen(call, cwd=f"{room}/{folder}", **how) as it:
         started.add(it)
         if ends_early:
@@ -186,23 +184,23 @@ def held(names):
         yield
 
 
-def build(name, lines, below, jobs, gives_way, keeps):
+def build(name, lines, below, jobs, keeps):
     """Proves and builds a crate in a room. Gives whether it is built, and what rt said."""
     own = f"{TOP}/crates/{name}/out"
     if keeps and not os.path.isdir(f"{own}/incremental"):
         shutil.rmtree(f"{own}/rlib", ignore_errors=True)
-    how = {"before": GIVES_WAY if gives_way else (), "changes": "" if keeps else BUILT_AFRESH}
+    changes = "" if keeps else BUILT_AFRESH
     with room_for(lines, [*below[name], name]) as room:
         made = f"{room}/crates/{name}/out"
         move(own, made)
         try:
             if os.path.isfile(f"{room}/crates/{name}/src/lib.rt"):
-                status, said = call_rt(room, f"crates/{name}", "lib", "--jobs", str(jobs), **how)
+                status, said = call_rt(room, f"crates/{name}", "lib", "--jobs", str(jobs), changes=changes)
                 return status == 0, said
             # rt run ends with the program's own status
             with contextlib.suppress(FileNotFoundError):
                 os.remove(f"{made}/{name}")
-            _, said = call_rt(room, f"crates/{name}", "run", "--jobs", str(jobs), **how)
+            _, said = call_rt(room, f"crates/{name}", "run", "--jobs", str(jobs), changes=changes)
             return os.path.isfile(f"{made}/{name}"), said
         finally:
             move(made, own)
@@ -223,20 +221,16 @@ def build_all(names, tell, keeps=False):
     with held(names), workers(most) as pool:
         while left or running:
             ready = [it for it in left if all(low in built for low in below[it])]
-            idle = most - sum(share for _, share in running.values())
-            longest = max(behind[it] for it in [*left, *[name for name, _ in running.values()]])
-            for at, name in enumerate(ready[: max(idle, 0)]):
-                share = min(MOST_JOBS, max(1, idle // (len(ready) - at)))
-                idle -= share
+            longest = max(behind[it] for it in [*left, *running.values()])
+            for name in ready[: most - len(running)]:
                 left.remove(name)
-                # a crate that may hold up the end takes all that it gains from, also of processors that others use
-                gives_way = behind[name] < NEARLY * longest
-                jobs = share if gives_way else MOST_JOBS
-                running[pool.submit(build, name, lines, below, jobs, gives_way, keeps)] = name, share
+                # forks cost half as much again, so only a crate that may hold up the end is checked by them
+                jobs = min(MOST_JOBS, most) if behind[name] >= NEARLY * longest else 1
+                running[pool.submit(build, name, lines, below, jobs, keeps)] = name
             for it in wait(running, timeout=1, return_when=FIRST_COMPLETED).done:
-                name, _ = running.pop(it)
+                name = running.pop(it)
                 is_built, said = it.result()
                 if not is_built:
                     raise NotBuilt(name, said)
                 built.append(name)
-            tell(built, [name for name, _ in running.values()])
+            tell(built, [*running.values()])

@@ -20,7 +20,7 @@ use Rattle.er_graph.specs.Accepted.{Accepted, records, edges_of, AreTimed, IsSom
 use Rattle.er_graph.specs.Graph.{HasBegun, HasFailed, IsGraph, IsListed}
 use Rattle.er_graph.proofs.PartLemmas.{lines_counted}
 use Rattle.er_graph.proofs.GraphLemmas.{within_lines}
-use Rattle.er_rules_timer.specs.Timed.{IsTimed}
+use Rattle.er_path_rules.specs.timer.Timed.{IsTimed}
 use Rattle.er_steps.specs.Steps.{Step, least_source, number_of, steps, rule_of, explanation}
 use Rattle.er_steps.proofs.Steps.{source_found, source_parts, steps_last, steps_none}
 use Rattle.er_explain.specs.declared.steps.Step as kept

@@ -8,7 +8,7 @@ ghost use Rattle.er_history.specs.Edges.{edges, path};
 ghost use Rattle.er_page.specs.Page as pages;
 ghost use Rattle.er_graph.specs.Accepted.{Accepted, records};
 ghost use Rattle.er_graph.specs.Graph.{HasBegun, HasFailed, IsGraph};
-ghost use Rattle.er_rules_timer.specs.Timed.{IsTimed};
+ghost use Rattle.er_path_rules.specs.timer.Timed.{IsTimed};
 ghost use Rattle.er_steps.specs.Steps as spec;
 ghost use Rattle.er_explain.specs.Steps.{AreSome, all_shown};
 

@@ -11,7 +11,7 @@ use Rattle.er_history.specs.Edges.{path}
 use Rattle.er_history.specs.Sound.{leads_back, out_of_order}
 use Rattle.er_history.proofs.OrderLemmas.{leads_append, none_passes, not_both}
 
--- one a crate of rules, in the order of their numbers
+-- the lists of the groups, in the order of their numbers
 abbrev pub groups : Version → List (List (ℕ × Rule))
 groups v = parse_rules ∷ script_rules ∷ load_rules ∷ dispatch_rules ∷ timer_rules v ∷ request_rules ∷ task_rules ∷ []
 

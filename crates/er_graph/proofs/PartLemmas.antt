@@ -29,7 +29,7 @@ use Rattle.er_page.specs.declared.page.Page.{Page}
 use Rattle.er_page.specs.Accepted.{result_of}
 use Rattle.er_page.specs.Page as pages
 use Rattle.er_page.specs.Page.{IsPage, IsSomePage}
-use Rattle.er_rules_timer.specs.Timed.{IsTimed, IsSomeTimed}
+use Rattle.er_path_rules.specs.timer.Timed.{IsTimed, IsSomeTimed}
 use Rattle.er_history.specs.Rules.{Rule, rules}
 use Rattle.er_graph.specs.Accepted.{Accepted, AreOf, records, lines_of, cause_now, edges_of, IsTold, AreTimed, IsNext, IsSomeGraph}
 

@@ -1,4 +1,4 @@
-//! The rules of all crates together: whether a record comes too late, and what comes before it. A crate of rules is a line in each.
+//! The rules of all groups together: whether a record comes too late, and what comes before it. A group is a line in each.
 
 ghost use Rattle.std.specs.Prelude.{◌≡◌, List, ◌∷◌, Bool, false, None, IfOk, OnOk};
 ghost use Rattle.std.specs.List.{list_any};
@@ -12,20 +12,15 @@ ghost use Rattle.er_history.specs.Sound.{IsSound, out_of_order};
 ghost use Rattle.er_pieces.specs.Contract.{ComesNext};
 ghost use Rattle.er_pieces.specs.PiecesHanded.{ArePiecesHanded};
 ghost use Rattle.er_page.specs.Page.{IsPage, IsSomePage};
-ghost use Rattle.er_rules_timer.specs.Timed.{IsTimed, IsSomeTimed};
+ghost use Rattle.er_path_rules.specs.timer.Timed.{IsTimed, IsSomeTimed};
 ghost use Rattle.er_trace.specs.declared.version.Version.{Version};
 ghost use Rattle.er_graph.specs.Accepted.{AreOf};
 
 use er_clocks::Clocks;
 use er_outside::NoMemory;
 use er_page::page::Page;
-use er_rules_dispatch as dispatch;
-use er_rules_load as load;
-use er_rules_parse as parse;
-use er_rules_request as request;
-use er_rules_script as script;
-use er_rules_task as task;
-use er_rules_timer as timer;
+use er_path_rules::{task, timer};
+use er_rules::{dispatch, load, parse, request, script};
 use er_trace::record::Record;
 use er_trace::version::Version;
 use smallvec::SmallVec;

@@ -20,7 +20,7 @@ use Rattle.er_page.specs.declared.page.Page.{Page}
 use Rattle.er_page.specs.Page.{IsPage}
 use Rattle.er_tasks.specs.declared.tasks.Task.{Task}
 use Rattle.er_tasks.specs.Tasks.{task_at}
-use Rattle.er_rules_task.proofs.ListLemmas.{task_says, none_made, ranks_are}
+use Rattle.er_path_rules.proofs.task.ListLemmas.{task_says, none_made, ranks_are}
 use Rattle.er_reasons.specs.Read.{within_in, within_at, within_of}
 use Rattle.er_pieces.proofs.ChainLemmas.{event_with}
 use Rattle.er_reasons.specs.Words.{is_declarer, declares}

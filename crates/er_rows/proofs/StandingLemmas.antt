@@ -8,7 +8,7 @@ use Rattle.er_page.specs.declared.page.Page.{Page}
 use Rattle.er_page.specs.Page.{IsPage, IsSomePage}
 use Rattle.er_graph.specs.declared.graph.Graph.{Graph}
 use Rattle.er_trace.specs.declared.version.Version.{Version}
-use Rattle.er_rules_timer.specs.Timed.{IsSomeTimed}
+use Rattle.er_path_rules.specs.timer.Timed.{IsSomeTimed}
 use Rattle.er_graph.specs.Accepted.{Accepted, records, cause_now, AreTimed}
 use Rattle.er_graph.specs.Graph.{IsListed, IsGraph, HasBegun}
 

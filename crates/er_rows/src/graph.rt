@@ -1,4 +1,4 @@
-//! Records handed straight to a graph, and what its clocks and its crates of rules answer.
+//! Records handed straight to a graph, and what its clocks and its rules answer.
 //!
 //! A record is forgotten where its end would come: its name lies in place, so that nothing is lost, and the proof of
 //! the end of a record takes as long as ten of these functions.
@@ -9,8 +9,7 @@ ghost use Rattle.er_trace.specs.Versions.{has_record};
 use er_clocks::{Meter, Paths};
 use er_graph::Graph;
 use er_outside::NoMemory;
-use er_rules_parse as parse;
-use er_rules_script as script;
+use er_rules::{parse, script};
 use er_syntax::parse::parse_record;
 use er_text::Cause;
 use er_trace::fault::{FeedFault, LineFault};
@@ -34,7 +33,7 @@ struct Row {
     next: &'static [Next],
 }
 
-/// A next record, and what two crates of rules answer.
+/// A next record, and what the rules of parsing and of scripts answer.
 struct Next {
     text: &'static str,
     /// The pieces that the rules of parsing hand.
@@ -201,7 +200,7 @@ fn is_held_back(graph: &Graph, rec: &Record, due: bool) -> bool {
     !parse::against::against(page, rec) & (script::against::against(page, rec) == due)
 }
 
-/// Whether the crates of rules answer what is due.
+/// Whether these rules answer what is due.
 fn is_answered(graph: &Graph, alloc: Global, rec: &Record, due: &Next) -> bool {
     is_handed_by_parsing(graph, alloc, rec, due.of_parsing)
         & is_handed_by_scripts(graph, alloc, rec, due.of_scripts)
@@ -224,7 +223,7 @@ fn ask_graph(rt: &impl Abort, graph: &Graph, row: &Row) {
     }
 }
 
-/// Whether the crates of rules answer what is due for the record that the line spells.
+/// Whether these rules answer what is due for the record that the line spells.
 fn is_line_answered(graph: &Graph, alloc: Global, due: &Next) -> Result<bool, LineFault> {
     let rec = parse_record(alloc, graph.version(), due.text.as_bytes())?;
     let answered = is_answered(graph, alloc, &rec, due);

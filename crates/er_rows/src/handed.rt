@@ -1,4 +1,4 @@
-//! How many numbers each crate of rules hands for each record of a load.
+//! How many numbers each group of rules hands for each record of a load.
 
 ghost use Rattle.std.specs.Prelude.{◌≡◌, false};
 ghost use Rattle.er_page.specs.Page.{IsSomePage};
@@ -7,13 +7,8 @@ use crate::graph::{hand, let_go};
 use er_graph::Graph;
 use er_outside::NoMemory;
 use er_page::page::Page;
-use er_rules_dispatch as dispatch;
-use er_rules_load as load;
-use er_rules_parse as parse;
-use er_rules_request as request;
-use er_rules_script as script;
-use er_rules_task as task;
-use er_rules_timer as timer;
+use er_path_rules::{task, timer};
+use er_rules::{dispatch, load, parse, request, script};
 use er_syntax::parse::parse_record;
 use er_trace::fault::LineFault;
 use er_trace::record::Record;

@@ -1,4 +1,4 @@
-//! Tokens, names, records, generated traces and the ends that there are, through their public calls.
+//! Tokens, names, records, generated traces, lists of words and the ends that there are, through their public calls.
 #![tactic(auto)]
 
 #[cfg(test)]
@@ -13,3 +13,5 @@ mod names;
 mod records;
 #[cfg(test)]
 mod tokens;
+#[cfg(test)]
+mod words;

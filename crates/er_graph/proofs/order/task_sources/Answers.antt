@@ -3,7 +3,7 @@ use Rattle.std.proofs.lemmas.Result.{on_ok_weaker}
 use Rattle.er_trace.specs.declared.version.Version.{Version}
 use Rattle.er_trace.specs.Versions.{has_tasks}
 use Rattle.er_history.specs.Rules.{rules}
-use Rattle.er_rules_timer.specs.Timed.{IsSomeTimed}
+use Rattle.er_path_rules.specs.timer.Timed.{IsSomeTimed}
 use Rattle.er_graph.proofs.TaskLemmas.{nothing_by_tasks}
 use Rattle.er_graph.proofs.order.task_sources.Goals as goal
 

@@ -1,6 +1,0 @@
-use Rattle.std.proofs.Common.{sym, ◌∙◌}
-use Rattle.er_rules_load.proofs.LateLemmas.{late_loads_lead_back}
-use Rattle.er_rules_load.proofs.against.against.Goals as goal
-
-pub returns : goal.returns
-returns c = λ table h page group sound named. c.is_late.ensures h page ∙ sym (late_loads_lead_back table h c.args.rec.now group sound named)

@@ -1,0 +1,5 @@
+//! What lists of words come to, as tables.
+
+mod accepted;
+mod reading;
+mod refused;
