@@ -18,10 +18,8 @@ TOP = os.path.dirname(os.path.dirname(os.path.abspath(__file__)))
 SOURCES = ("src", "specs", "proofs")
 # the memory that a check takes at most, as seen
 MEMORY = 2_000_000_000
-# the most jobs that one check gains from
+# the most forks that one check gains from
 MOST_JOBS = 4
-# a crate with nearly as many bytes behind it as the longest chain may hold up the end as well
-NEARLY = 0.95
 # rt, which sums up a crate's sources anew for each way down crates.txt that leads to it: at the upper crates a minute a call. Nothing in a room changes, so once is enough.
 # What the check of an edit says is put beside the edit, with .said behind its name.
 STAMPED_ONCE = """
@@ -220,17 +218,17 @@ def build_all(names, tell, keeps=False):
     most = lanes()
     with held(names), workers(most) as pool:
         while left or running:
-            ready = [it for it in left if all(low in built for low in below[it])]
-            longest = max(behind[it] for it in [*left, *running.values()])
-            for name in ready[: most - len(running)]:
+            free = most - sum(jobs for _, jobs in running.values())
+            ready = [it for it in left if all(low in built for low in below[it])][:free]
+            for name in ready:
                 left.remove(name)
-                # forks cost half as much again, so only a crate that may hold up the end is checked by them
-                jobs = min(MOST_JOBS, most) if behind[name] >= NEARLY * longest else 1
-                running[pool.submit(build, name, lines, below, jobs, keeps)] = name
+                # a check in four forks takes twice the processor time, so forks get only what no other crate is ready for
+                jobs = min(MOST_JOBS, free // len(ready))
+                running[pool.submit(build, name, lines, below, jobs, keeps)] = name, jobs
             for it in wait(running, timeout=1, return_when=FIRST_COMPLETED).done:
-                name = running.pop(it)
+                name, _ = running.pop(it)
                 is_built, said = it.result()
                 if not is_built:
                     raise NotBuilt(name, said)
                 built.append(name)
-            tell(built, [*running.values()])
+            tell(built, [name for name, _ in running.values()])

@@ -4,10 +4,10 @@ use Rattle.er_trace.specs.declared.record.Record.{Record}
 use Rattle.er_history.specs.History.{told}
 use Rattle.er_history.specs.Rules.{Rule}
 use Rattle.er_history.proofs.HistoryLemmas.{edges_length, edges_stay}
-use Rattle.er_links.specs.Chains.{chain_of, place_of, entry}
-use Rattle.er_links.specs.Links.{links_of}
-use Rattle.er_links.proofs.Chains.{chains_stay}
-use Rattle.er_links.proofs.Links.{links_stay}
+use Rattle.er_paths.specs.links.Chains.{chain_of, place_of, entry}
+use Rattle.er_paths.specs.links.Links.{links_of}
+use Rattle.er_paths.proofs.links.Chains.{chains_stay}
+use Rattle.er_paths.proofs.links.Links.{links_stay}
 use Rattle.er_chain_laws.specs.Kept.{edges_after, ChainsAreKept, LinksAreKept}
 
 -- an action has its list of edges

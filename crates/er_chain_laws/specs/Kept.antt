@@ -4,8 +4,8 @@ use Rattle.er_trace.specs.declared.record.Record.{Record}
 use Rattle.er_history.specs.History.{told}
 use Rattle.er_history.specs.Rules.{Rule}
 use Rattle.er_history.specs.Edges.{edges}
-use Rattle.er_links.specs.Chains.{chain_of, place_of, entry}
-use Rattle.er_links.specs.Links.{links_of}
+use Rattle.er_paths.specs.links.Chains.{chain_of, place_of, entry}
+use Rattle.er_paths.specs.links.Links.{links_of}
 
 -- the edges into each action of the list, by the table
 abbrev pub edges_after : List (ℕ × Rule) → List Record → List (List ℕ)

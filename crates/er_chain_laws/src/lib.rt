@@ -1,6 +1,6 @@
 //! What later records leave of the chains and links of actions.
 //!
-//! Laws that join those of er_history, on the edges of longer lists, with those of er_links; no state, and nothing stands on this crate. Each law is a function with no parameters, whose contract is the law.
+//! Laws that join those of er_history, on the edges of longer lists, with those of links and chains (er_paths); no state, and nothing stands on this crate. Each law is a function with no parameters, whose contract is the law.
 #![tactic(auto)]
 
 ghost use Rattle.er_chain_laws.specs.Kept.{ChainsAreKept, LinksAreKept};

@@ -6,13 +6,13 @@ use Rattle.std.proofs.lemmas.Bool.Decides.{nat_tests}
 use Rattle.std.proofs.Math.Path.{fun_ext}
 use Rattle.er_paths.specs.Paths.{joins, is_among}
 use Rattle.er_paths.proofs.Paths.{any_some, any_from, or_cases, or_left, or_right, joins_newest, joins_older, paths_go_forward, paths_compose, paths_stand}
-use Rattle.er_links.specs.Chains.{chains, members, count_in, chain_of, place_of, entry, first_fit, last_passes}
-use Rattle.er_links.specs.Links.{numbers_below, links, links_of}
-use Rattle.er_links.proofs.Tests.{decide, same_test, never, both}
-use Rattle.er_links.proofs.Chains.{count_same}
-use Rattle.er_links.proofs.Fits.{IsLacking, fit_number, fit_chain, chains_lack, in_one_chain, entry_of_itself}
-use Rattle.er_links.proofs.Links.{keeps, kept_of, any_kept, links_newest, links_grow, links_of_paths, link_parts}
-use Rattle.er_links.proofs.Ascending.{member_filter, member_below, member_links}
+use Rattle.er_paths.specs.links.Chains.{chains, members, count_in, chain_of, place_of, entry, first_fit, last_passes}
+use Rattle.er_paths.specs.links.Links.{numbers_below, links, links_of}
+use Rattle.er_paths.proofs.links.Tests.{decide, same_test, never, both}
+use Rattle.er_paths.proofs.links.Chains.{count_same}
+use Rattle.er_paths.proofs.links.Fits.{IsLacking, fit_number, fit_chain, chains_lack, in_one_chain, entry_of_itself}
+use Rattle.er_paths.proofs.links.Links.{keeps, kept_of, any_kept, links_newest, links_grow, links_of_paths, link_parts}
+use Rattle.er_paths.proofs.links.Ascending.{member_filter, member_below, member_links}
 use Rattle.er_clocks.specs.Sources.{reaches, IsOnlyLink, RepeatsNewest}
 use Rattle.er_clocks.specs.Reached.{like_at}
 use Rattle.er_clocks.specs.Rows.{links_before}

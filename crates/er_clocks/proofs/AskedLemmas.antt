@@ -9,10 +9,10 @@ use Rattle.std.proofs.lemmas.Bool.Decides.{nat_tests}
 use Rattle.std.proofs.lemmas.Bool.{cases_lt}
 use Rattle.er_paths.specs.Paths.{joins}
 use Rattle.er_paths.proofs.Paths.{place_cases}
-use Rattle.er_links.specs.Chains.{chains, chain_of, place_of}
-use Rattle.er_links.proofs.Chains.{chains_tell_paths}
-use Rattle.er_links.proofs.Fits.{chain_number_short}
-use Rattle.er_links.proofs.Tests.{decide}
+use Rattle.er_paths.specs.links.Chains.{chains, chain_of, place_of}
+use Rattle.er_paths.proofs.links.Chains.{chains_tell_paths}
+use Rattle.er_paths.proofs.links.Fits.{chain_number_short}
+use Rattle.er_paths.proofs.links.Tests.{decide}
 use Rattle.er_clocks.specs.Rows.{is_covered}
 use Rattle.er_clocks.specs.Asked.{first_apart, asked, AreEntries, AreLaid, entry_at}
 

@@ -8,13 +8,13 @@ use Rattle.std.proofs.lemmas.Bool.Decides.{nat_tests}
 use Rattle.std.specs.List.Sorted.{IsStrictlyIncreasing}
 use Rattle.std.proofs.lemmas.List.Elements.{recursion_from_All}
 use Rattle.er_paths.specs.Paths.{joins, is_among}
-use Rattle.er_links.specs.Links.{links_of}
-use Rattle.er_links.specs.Chains.{chains, members, count_in, chain_of, place_of, entry}
+use Rattle.er_paths.specs.links.Links.{links_of}
+use Rattle.er_paths.specs.links.Chains.{chains, members, count_in, chain_of, place_of, entry}
 use Rattle.er_paths.proofs.Paths.{joins_newest}
-use Rattle.er_links.proofs.Tests.{any_members, decide}
-use Rattle.er_links.proofs.Fits.{entry_of_itself}
-use Rattle.er_links.proofs.Chains.{count_decides, count_either, count_none, count_same, front_linked, back_to, back_any, members_linked, AreBelow, chains_below, at_place}
-use Rattle.er_links.proofs.Links.{links_newest}
+use Rattle.er_paths.proofs.links.Tests.{any_members, decide}
+use Rattle.er_paths.proofs.links.Fits.{entry_of_itself}
+use Rattle.er_paths.proofs.links.Chains.{count_decides, count_either, count_none, count_same, front_linked, back_to, back_any, members_linked, AreBelow, chains_below, at_place}
+use Rattle.er_paths.proofs.links.Links.{links_newest}
 use Rattle.er_clocks.proofs.Uncovered.{uncovered_kept, rises_sorted, known_same}
 use Rattle.er_clocks.specs.Sources.{uncovered, reaches, IsReach, IsTaken}
 

@@ -6,10 +6,10 @@ use Rattle.std.proofs.lemmas.Bool.Decides.{nat_tests}
 use Rattle.std.proofs.Math.Path.{fun_ext}
 use Rattle.er_paths.specs.Paths.{joins}
 use Rattle.er_paths.proofs.Paths.{place_cases, joins_older, paths_go_forward}
-use Rattle.er_links.specs.Chains.{chains, chain_of, members, entry, last_passes, first_fit, count_in}
-use Rattle.er_links.proofs.Tests.{decide, never}
-use Rattle.er_links.proofs.Chains.{IsFront, count_le, back_to, front_linked, members_linked, chain_stays}
-use Rattle.er_links.proofs.Fits.{IsBegun, fit_number, chains_begun, chains_are_first_fit, chain_number_short}
+use Rattle.er_paths.specs.links.Chains.{chains, chain_of, members, entry, last_passes, first_fit, count_in}
+use Rattle.er_paths.proofs.links.Tests.{decide, never}
+use Rattle.er_paths.proofs.links.Chains.{IsFront, count_le, back_to, front_linked, members_linked, chain_stays}
+use Rattle.er_paths.proofs.links.Fits.{IsBegun, fit_number, chains_begun, chains_are_first_fit, chain_number_short}
 use Rattle.er_chains.specs.Lengths.{one_more}
 
 -- full exactly where the last member passes

@@ -1,10 +1,10 @@
 -- What is put for the new action is its links, and a row right but at its own chain.
 use Rattle.std.proofs.Common.{[], ◌≡◌, ◌≢◌, ℕ, ◌<◌, ◌≤◌, List, ◌∷◌, length, inl, inr, refl, ap, ◌∙◌, arith}
 use Rattle.std.specs.Prelude.{◌==◌, slice_index, if◌then◌else◌}
-use Rattle.er_links.specs.Chains.{chains, members, count_in, chain_of}
-use Rattle.er_links.specs.Links.{links_of}
-use Rattle.er_links.proofs.Tests.{decide}
-use Rattle.er_links.proofs.Links.{kept_short, links_newest}
+use Rattle.er_paths.specs.links.Chains.{chains, members, count_in, chain_of}
+use Rattle.er_paths.specs.links.Links.{links_of}
+use Rattle.er_paths.proofs.links.Tests.{decide}
+use Rattle.er_paths.proofs.links.Links.{kept_short, links_newest}
 use Rattle.std.proofs.lemmas.Bool.Decides.{nat_tests}
 use Rattle.er_clocks.specs.Shared.{row_of, taken, IsTakenFrom}
 use Rattle.er_clocks.specs.Sources.{reaches}

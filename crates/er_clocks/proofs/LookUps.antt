@@ -4,10 +4,10 @@ use Rattle.std.specs.Prelude.{slice_index, reverse, nat_lt}
 use Rattle.std.proofs.lemmas.List.{get_or_read, length-reverse}
 use Rattle.er_paths.specs.Limits.{most_actions}
 use Rattle.er_paths.specs.Paths.{joins}
-use Rattle.er_links.specs.Chains.{chains, chain_of, place_of, entry}
-use Rattle.er_links.specs.Links.{links_of}
-use Rattle.er_links.proofs.Chains.{chains_tell_paths}
-use Rattle.er_links.proofs.Fits.{chain_number_short, place_short}
+use Rattle.er_paths.specs.links.Chains.{chains, chain_of, place_of, entry}
+use Rattle.er_paths.specs.links.Links.{links_of}
+use Rattle.er_paths.proofs.links.Chains.{chains_tell_paths}
+use Rattle.er_paths.proofs.links.Fits.{chain_number_short, place_short}
 use Rattle.er_chains.proofs.Lengths.{few_chains}
 use Rattle.er_clocks.specs.Shared.{row_of, shared, AreShared}
 use Rattle.er_clocks.specs.Clock.{IsClock, StandsFor}

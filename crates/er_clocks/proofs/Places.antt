@@ -3,8 +3,8 @@ use Rattle.std.proofs.Common.{◌≡◌, ◌≢◌, ℕ, suc, ◌<◌, ◌≤◌
 use Rattle.std.specs.Prelude.{◌==◌, slice_index}
 use Rattle.std.proofs.lemmas.Bool.Decides.{nat_tests}
 use Rattle.std.proofs.lemmas.List.{length-map}
-use Rattle.er_links.specs.Chains.{chains, members, chain_of, entry}
-use Rattle.er_links.proofs.Fits.{chain_number_short}
+use Rattle.er_paths.specs.links.Chains.{chains, members, chain_of, entry}
+use Rattle.er_paths.proofs.links.Fits.{chain_number_short}
 use Rattle.er_clocks.specs.Shared.{row_of}
 use Rattle.er_clocks.specs.Clock.{IsClock}
 use Rattle.er_clocks.specs.Reached.{like_at, IsFit}

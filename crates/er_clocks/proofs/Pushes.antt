@@ -6,11 +6,11 @@ use Rattle.std.proofs.lemmas.Grind.{common_steps}
 use Rattle.std.proofs.lemmas.List.{length-reverse, reverse-append}
 use Rattle.std.proofs.Math.Path.{fun_ext}
 use Rattle.er_paths.specs.Paths.{joins}
-use Rattle.er_links.specs.Chains.{chains, members, count_in, number_in, place_in, chain_of, place_of, entry}
-use Rattle.er_links.specs.Links.{numbers_below, links, links_of, links_to, link_count, total}
+use Rattle.er_paths.specs.links.Chains.{chains, members, count_in, number_in, place_in, chain_of, place_of, entry}
+use Rattle.er_paths.specs.links.Links.{numbers_below, links, links_of, links_to, link_count, total}
 use Rattle.er_paths.proofs.Paths.{place_cases, joins_past, paths_go_forward, enough_long, any_handed, handed_paths}
-use Rattle.er_links.proofs.Chains.{GoesBack, back_to, front_linked, IsFront, IsLinked, chains_linked, all_linked_still, chain_stays, chains_of_paths}
-use Rattle.er_links.proofs.Links.{keeps, kept_of, any_kept, kept_short, links_newest, links_grow, length-links, links_have_the_paths, links_long, links_of_paths}
+use Rattle.er_paths.proofs.links.Chains.{GoesBack, back_to, front_linked, IsFront, IsLinked, chains_linked, all_linked_still, chain_stays, chains_of_paths}
+use Rattle.er_paths.proofs.links.Links.{keeps, kept_of, any_kept, kept_short, links_newest, links_grow, length-links, links_have_the_paths, links_long, links_of_paths}
 use Rattle.er_chains.specs.Lengths.{one_more}
 use Rattle.er_paths.specs.Limits.{most_actions}
 use Rattle.er_clocks.specs.Shared.{row_of}
@@ -19,10 +19,10 @@ use Rattle.er_clocks.specs.Reached.{IsFit}
 use Rattle.er_clocks.specs.Sources.{reaches}
 use Rattle.er_clocks.specs.Laws.{ClocksOfHanded, ClocksOfNewest, ClocksOfPaths, ClocksTellPaths}
 use Rattle.er_clocks.proofs.Entries.{members_agree}
-use Rattle.er_links.proofs.Fits.{fit_number, fit_chain, fit_place, chains_begun, chains_lack, chains_are_first_fit, entry_of_itself}
+use Rattle.er_paths.proofs.links.Fits.{fit_number, fit_chain, fit_place, chains_begun, chains_lack, chains_are_first_fit, entry_of_itself}
 use Rattle.er_clocks.proofs.Fulls.{fit_is, fit_lengths}
 use Rattle.std.proofs.lemmas.Bool.Decides.{nat_tests}
-use Rattle.er_links.proofs.Tests.{decide, never}
+use Rattle.er_paths.proofs.links.Tests.{decide, never}
 
 -- an element of a list with one more at its end
 

@@ -5,14 +5,14 @@ use Rattle.std.specs.List.{list_any}
 use Rattle.std.proofs.lemmas.Grind.{common_steps}
 use Rattle.std.proofs.lemmas.Bool.Decides.{nat_tests}
 use Rattle.er_paths.specs.Paths.{joins, is_among, list_of}
-use Rattle.er_links.specs.Chains.{chains, members, count_in, chain_of, place_of, entry}
-use Rattle.er_links.specs.Links.{links_of, links_to, links, is_link}
+use Rattle.er_paths.specs.links.Chains.{chains, members, count_in, chain_of, place_of, entry}
+use Rattle.er_paths.specs.links.Links.{links_of, links_to, links, is_link}
 use Rattle.er_paths.proofs.Paths.{or_cases, or_left, or_right, any_from, any_some, joins_older, joins_below, joins_newest_cases, list_newest, list_older, paths_compose, paths_stand, place_cases}
-use Rattle.er_links.proofs.Tests.{decide}
-use Rattle.er_links.proofs.Chains.{count_either, front_linked, back_to, back_any, members_linked}
-use Rattle.er_links.proofs.Fits.{in_one_chain, entry_of_itself}
-use Rattle.er_links.proofs.Links.{any_append, link_parts, links_have_the_paths}
-use Rattle.er_links.proofs.Ascending.{member_links}
+use Rattle.er_paths.proofs.links.Tests.{decide}
+use Rattle.er_paths.proofs.links.Chains.{count_either, front_linked, back_to, back_any, members_linked}
+use Rattle.er_paths.proofs.links.Fits.{in_one_chain, entry_of_itself}
+use Rattle.er_paths.proofs.links.Links.{any_append, link_parts, links_have_the_paths}
+use Rattle.er_paths.proofs.links.Ascending.{member_links}
 use Rattle.er_clocks.specs.Sources.{uncovered, reaches, IsReach}
 
 -- a path has a last step

@@ -6,11 +6,11 @@ use Rattle.std.specs.List.Sorted.{IsStrictlyIncreasing}
 use Rattle.std.proofs.lemmas.List.Elements.{recursion_from_All, All-from_recursion}
 use Rattle.std.proofs.lemmas.Bool.Decides.{nat_tests}
 use Rattle.er_paths.specs.Paths.{joins, is_among}
-use Rattle.er_links.specs.Links.{numbers_below}
+use Rattle.er_paths.specs.links.Links.{numbers_below}
 use Rattle.er_paths.proofs.Paths.{paths_go_forward}
-use Rattle.er_links.proofs.Tests.{decide, never, apart_true, any_members}
-use Rattle.er_links.proofs.Links.{keeps, keeps_parts, kept_of}
-use Rattle.er_links.proofs.Ascending.{Rises, rises_from, rises_filter, rises_below, rises_lack, same_rising, member_filter, member_below}
+use Rattle.er_paths.proofs.links.Tests.{decide, never, apart_true, any_members}
+use Rattle.er_paths.proofs.links.Links.{keeps, keeps_parts, kept_of}
+use Rattle.er_paths.proofs.links.Ascending.{Rises, rises_from, rises_filter, rises_below, rises_lack, same_rising, member_filter, member_below}
 use Rattle.er_clocks.specs.Sources.{uncovered}
 
 rises_uncovered : (joined : ℕ → ℕ → Bool) (lo : ℕ) (xs : List ℕ) → Rises lo xs → Rises lo (uncovered joined xs)

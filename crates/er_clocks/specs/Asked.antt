@@ -1,7 +1,7 @@
 -- What is asked of several actions at once.
 use Rattle.std.specs.Prelude.{◌≡◌, ◌<◌, ℕ, ◌+◌, ◌==◌, min, if◌then◌else◌, Bool, not, List, length, slice_index}
 use Rattle.std.specs.List.{position_or_len}
-use Rattle.er_links.specs.Chains.{chains, entry}
+use Rattle.er_paths.specs.links.Chains.{chains, entry}
 
 -- the place of the first of these that does not join j, or their number
 abbrev pub first_apart : (ℕ → ℕ → Bool) → List ℕ → ℕ → ℕ

@@ -2,8 +2,8 @@
 use Rattle.std.specs.Prelude.{◌≡◌, ℕ, suc, ◌*◌, ◌<◌, ◌≤◌, ◌==◌, if◌then◌else◌, List, ◌∷◌, length, map, slice_index}
 use Rattle.std.specs.List.{sum}
 use Rattle.er_paths.specs.Limits.{most_actions}
-use Rattle.er_links.specs.Chains.{chains, chain_of, place_of, entry}
-use Rattle.er_links.specs.Links.{links, total}
+use Rattle.er_paths.specs.links.Chains.{chains, chain_of, place_of, entry}
+use Rattle.er_paths.specs.links.Links.{links, total}
 use Rattle.er_clocks.specs.Shared.{row_of}
 
 -- the number of action j at a chain: at its own one more than its place, else that of its row, which is 0 past the end

@@ -1,8 +1,8 @@
 -- How many members of each chain have a path to an action that is to come, as it is handed from step to step.
 use Rattle.std.specs.Prelude.{◌≡◌, ◌≢◌, ◌≤◌, ◌<◌, ℕ, ◌==◌, if◌then◌else◌, List, [], length, slice_index}
 use Rattle.er_paths.specs.Limits.{most_actions}
-use Rattle.er_links.specs.Chains.{chains, members, count_in, chain_of, entry}
-use Rattle.er_links.specs.Links.{links_of}
+use Rattle.er_paths.specs.links.Chains.{chains, members, count_in, chain_of, entry}
+use Rattle.er_paths.specs.links.Links.{links_of}
 use Rattle.er_clocks.specs.Rows.{links_before}
 use Rattle.er_clocks.specs.Shared.{row_of, taken}
 use Rattle.er_clocks.specs.Sources.{reaches}

@@ -1,7 +1,7 @@
 -- Steps on a row of numbers, one a chain. Past its end a row has 0.
 use Rattle.std.specs.Prelude.{◌≡◌, ℕ, ◌==◌, if◌then◌else◌, max, nat_lt, Bool, List, ◌∷◌, length, slice_index}
-use Rattle.er_links.specs.Links.{links_of}
-use Rattle.er_links.specs.Chains.{chain_of, place_of}
+use Rattle.er_paths.specs.links.Links.{links_of}
+use Rattle.er_paths.specs.links.Chains.{chain_of, place_of}
 
 -- chain by chain the greater number of two rows
 abbrev pub IsRaised : List ℕ → List ℕ → List ℕ → Type 0

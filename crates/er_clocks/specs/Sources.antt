@@ -2,8 +2,8 @@
 use Rattle.std.specs.Prelude.{◌≡◌, ◌⊎◌, ◌<◌, ◌≤◌, ℕ, suc, Bool, true, List, [], ◌∷◌, length, reverse, slice_index, if◌then◌else◌}
 use Rattle.std.specs.List.{list_any}
 use Rattle.er_paths.specs.Paths.{joins, is_among}
-use Rattle.er_links.specs.Chains.{chains, members, count_in}
-use Rattle.er_links.specs.Links.{links_of}
+use Rattle.er_paths.specs.links.Chains.{chains, members, count_in}
+use Rattle.er_paths.specs.links.Links.{links_of}
 
 -- of an ascending list, those that have no path to a later one
 abbrev pub uncovered : (ℕ → ℕ → Bool) → List ℕ → List ℕ

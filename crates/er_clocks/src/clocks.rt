@@ -3,8 +3,8 @@
 ghost use Rattle.std.specs.Prelude.{◌≡◌, ◌≤◌, ◌<◌, [], length};
 ghost use Rattle.er_paths.specs.Limits.{most_actions};
 ghost use Rattle.er_paths.specs.Paths.{joins};
-ghost use Rattle.er_links.specs.Chains.{chains, chain_of, place_of, entry};
-ghost use Rattle.er_links.specs.Links.{links_of, link_count};
+ghost use Rattle.er_paths.specs.links.Chains.{chains, chain_of, place_of, entry};
+ghost use Rattle.er_paths.specs.links.Links.{links_of, link_count};
 ghost use Rattle.er_clocks.specs.Clock.{StandsFor, Tells};
 ghost use Rattle.er_clocks.specs.Rows.{is_covered};
 

@@ -5,7 +5,7 @@
 ghost use Rattle.std.specs.Prelude.{◌≡◌, ◌+◌, ◌<◌, ◌≤◌, ◌^◌, ℕ, nat_lt, All, length, IfOk};
 ghost use Rattle.er_paths.specs.Limits.{most_actions};
 ghost use Rattle.er_paths.specs.Paths.{joins};
-ghost use Rattle.er_links.specs.Chains.{chains, chain_of, place_of};
+ghost use Rattle.er_paths.specs.links.Chains.{chains, chain_of, place_of};
 ghost use Rattle.er_clocks.specs.Asked.{AreEntries, AreLaid, asked, entry_at, first_apart, first_joining, first_led};
 ghost use Rattle.er_clocks.specs.Rows.{is_covered};
 

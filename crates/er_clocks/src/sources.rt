@@ -5,8 +5,8 @@
 
 ghost use Rattle.std.specs.Prelude.{◌≡◌, ◌≤◌, ◌<◌, ℕ, true, List, [], All, length, slice_index, IfOk, OnOk, IfSome};
 ghost use Rattle.er_paths.specs.Paths.{is_among};
-ghost use Rattle.er_links.specs.Chains.{chain_of, place_of};
-ghost use Rattle.er_links.specs.Links.{links_of};
+ghost use Rattle.er_paths.specs.links.Chains.{chain_of, place_of};
+ghost use Rattle.er_paths.specs.links.Links.{links_of};
 ghost use Rattle.std.specs.List.Sorted.{IsStrictlyIncreasing};
 ghost use Rattle.er_clocks.specs.Sources.{AllJoin, ComeBefore, HasLinks, HasTwin, IsFoundWith, IsOnlyLink, IsTaken, ReachesToo, RepeatsNewest, TakesToo};
 ghost use Rattle.er_clocks.specs.Reached.{IsReachedBy, IsReachFrom, LinksAre};

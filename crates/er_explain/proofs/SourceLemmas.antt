@@ -8,12 +8,12 @@ use Rattle.std.proofs.Math.Seq.{drop-cons}
 use Rattle.std.proofs.lemmas.Bool.Decides.{nat_tests}
 use Rattle.er_paths.specs.Paths.{joins, is_among}
 use Rattle.er_paths.proofs.Paths.{or_left, or_right}
-use Rattle.er_links.specs.Links.{links_of}
-use Rattle.er_links.proofs.Links.{length-links}
-use Rattle.er_links.proofs.Ascending.{member_links}
+use Rattle.er_paths.specs.links.Links.{links_of}
+use Rattle.er_paths.proofs.links.Links.{length-links}
+use Rattle.er_paths.proofs.links.Ascending.{member_links}
 use Rattle.er_clocks.specs.Clock.{StandsFor}
-use Rattle.er_steps.specs.Steps.{first_of, least_source}
-use Rattle.er_steps.proofs.Steps.{link_forward}
+use Rattle.er_pieces.specs.steps.Steps.{first_of, least_source}
+use Rattle.er_pieces.proofs.steps.Steps.{link_forward}
 use Rattle.er_explain.specs.Steps.{AreSome}
 
 pub long_told : (kept lists : List (List ℕ)) → StandsFor kept lists → length kept ≡ length lists

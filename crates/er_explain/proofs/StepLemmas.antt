@@ -7,7 +7,7 @@ use Rattle.std.proofs.lemmas.List.{reverse-append}
 use Rattle.er_trace.specs.declared.record.Record.{Record}
 use Rattle.er_trace.specs.declared.version.Version.{Version}
 use Rattle.er_paths.specs.Paths.{joins}
-use Rattle.er_links.proofs.Tests.{never}
+use Rattle.er_paths.proofs.links.Tests.{never}
 use Rattle.er_history.specs.History.{told}
 use Rattle.er_history.specs.Rules.{rules}
 use Rattle.er_history.specs.Edges.{edges, path}
@@ -21,8 +21,8 @@ use Rattle.er_graph.specs.Graph.{HasBegun, HasFailed, IsGraph, IsListed}
 use Rattle.er_graph.proofs.PartLemmas.{lines_counted}
 use Rattle.er_graph.proofs.GraphLemmas.{within_lines}
 use Rattle.er_path_rules.specs.timer.Timed.{IsTimed}
-use Rattle.er_steps.specs.Steps.{Step, least_source, number_of, steps, rule_of, explanation}
-use Rattle.er_steps.proofs.Steps.{source_found, source_parts, steps_last, steps_none}
+use Rattle.er_pieces.specs.steps.Steps.{Step, least_source, number_of, steps, rule_of, explanation}
+use Rattle.er_pieces.proofs.steps.Steps.{source_found, source_parts, steps_last, steps_none}
 use Rattle.er_explain.specs.declared.steps.Step as kept
 use Rattle.er_explain.specs.Steps.{AreSome, all_shown}
 use Rattle.er_explain.proofs.SourceLemmas.{long_told}

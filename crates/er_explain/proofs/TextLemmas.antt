@@ -1,9 +1,9 @@
 -- The lines of an explanation, as the pieces that are written.
 use Rattle.std.proofs.Common.{◌≡◌, ℕ, [], ◌∷◌, ◌++◌, append_assoc, codes}
 use Rattle.er_trace.specs.Items.{Word, Number}
-use Rattle.er_buffer.specs.Lines.{item_start}
-use Rattle.er_buffer.specs.Lines.{item_line}
-use Rattle.er_buffer.proofs.LineLemmas.{first_item}
+use Rattle.er_syntax.specs.Lines.{item_start}
+use Rattle.er_syntax.specs.Lines.{item_line}
+use Rattle.er_syntax.proofs.LineLemmas.{first_item}
 use Rattle.er_explain.specs.Text.{head_line}
 
 pub head_pieces : (i j : ℕ) → head_line i j ≡ item_start (Word (codes "explain")) ++ item_start (Number i) ++ item_line (Number j ∷ [])

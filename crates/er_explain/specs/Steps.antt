@@ -1,7 +1,7 @@
 -- Steps as they are kept, and clocks that stand for something.
 use Rattle.std.specs.Prelude.{ℕ, List, map}
 use Rattle.er_clocks.specs.Clock.{StandsFor}
-use Rattle.er_steps.specs.Steps as steps
+use Rattle.er_pieces.specs.steps.Steps as steps
 use Rattle.er_explain.specs.declared.steps.Step.{Step}
 
 abbrev pub shown : Step → steps.Step

@@ -2,8 +2,8 @@
 use Rattle.std.specs.Prelude.{ℕ, List, [], ◌∷◌, ◌++◌, codes, Option, Some, None}
 use Rattle.er_trace.specs.Items.{Word, Number}
 use Rattle.er_trace.specs.Trace.{line}
-use Rattle.er_buffer.specs.Lines.{item_line, lines_from}
-use Rattle.er_steps.specs.Steps.{Step}
+use Rattle.er_syntax.specs.Lines.{item_line, lines_from}
+use Rattle.er_pieces.specs.steps.Steps.{Step}
 
 -- `explain I J`
 abbrev pub head_line : ℕ → ℕ → List ℕ

@@ -9,7 +9,7 @@ ghost use Rattle.er_page.specs.Page as pages;
 ghost use Rattle.er_graph.specs.Accepted.{Accepted, records};
 ghost use Rattle.er_graph.specs.Graph.{HasBegun, HasFailed, IsGraph};
 ghost use Rattle.er_path_rules.specs.timer.Timed.{IsTimed};
-ghost use Rattle.er_steps.specs.Steps as spec;
+ghost use Rattle.er_pieces.specs.steps.Steps as spec;
 ghost use Rattle.er_explain.specs.Steps.{AreSome, all_shown};
 
 use crate::source::source_of;

@@ -4,7 +4,7 @@ ghost use Rattle.std.specs.Prelude.{◌≡◌, List};
 ghost use Rattle.er_history.specs.Rules.{rules};
 ghost use Rattle.er_graph.specs.Accepted.{Accepted, records};
 ghost use Rattle.er_graph.specs.Graph.{HasBegun, IsGraph};
-ghost use Rattle.er_steps.specs.Steps as steps;
+ghost use Rattle.er_pieces.specs.steps.Steps as steps;
 
 use er_graph::Graph;
 use er_reasons::reason;

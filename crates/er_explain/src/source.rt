@@ -3,7 +3,7 @@
 ghost use Rattle.std.specs.Prelude.{◌≡◌, ◌<◌, IfSome, length};
 ghost use Rattle.er_paths.specs.Paths.{joins};
 ghost use Rattle.er_clocks.specs.Clock.{Tells};
-ghost use Rattle.er_steps.specs.Steps.{least_source};
+ghost use Rattle.er_pieces.specs.steps.Steps.{least_source};
 ghost use Rattle.er_explain.specs.Steps.{AreSome};
 
 use er_clocks::Clocks;

@@ -21,7 +21,7 @@ pub struct Steps {
 
 impl Model for Steps {
     ghost use Rattle.std.specs.Prelude.{List, ◌<◌, ◌^◌, length};
-    ghost use Rattle.er_steps.specs.Steps as spec;
+    ghost use Rattle.er_pieces.specs.steps.Steps as spec;
     ghost use Rattle.er_explain.specs.Steps.{all_shown};
 
     ghost Value = { List spec.Step };

@@ -3,15 +3,15 @@
 ghost use Rattle.std.specs.Prelude.{◌≡◌, ◌++◌, length, codes, List, option_map, OnOk, OnErr};
 ghost use Rattle.er_outside.specs.Ends.{Gets, GetsPart, Puts};
 ghost use Rattle.er_trace.specs.Trace.{line};
-ghost use Rattle.er_buffer.specs.Buffered.{CountsFaults, HoldsRest};
-ghost use Rattle.er_buffer.specs.Lines.{lines_from};
+ghost use Rattle.er_syntax.specs.Buffered.{CountsFaults, HoldsRest};
+ghost use Rattle.er_syntax.specs.Lines.{lines_from};
 ghost use Rattle.er_explain.specs.Steps.{shown};
 ghost use Rattle.er_explain.specs.Text.{head_line, step_line, body_lines, end_line, explain_text};
 
 use crate::{Step, Steps};
-use er_buffer::tokens::{end_with_number, put_field, put_word};
-use er_buffer::{Buffer, Text, flush, put_text};
 use er_outside::{Failed, Sink, WriteFault, put_all};
+use er_syntax::tokens::{end_with_number, put_field, put_word};
+use er_syntax::{Buffer, Text, flush, put_text};
 
 /// Writes the steps from one action to another, or that there are none. It takes no memory.
 pub fn write_steps<K: Sink>(

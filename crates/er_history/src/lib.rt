@@ -1,6 +1,8 @@
 //! What a list of records says: its actions, the rules between them, paths, and which records naming, order and room refuse.
-//! Definitions and their laws; no state. Each law is a function with no parameters, whose contract is the law.
+//! Definitions and their laws; no state. Each law is a function with no parameters, whose contract is the law. Beside them `firsts`, tables from numbers to what was noted first.
 #![tactic(auto)]
+
+pub mod firsts;
 
 ghost use Rattle.er_history.specs.Laws.{ActionsAreKept, ActionsAreNumbered, EdgesAreEdges, EdgesGoForward, EdgesJoinActions, EdgesStay, EntriesAreCounted, EventsBeginBefore, EventsHaveFirstPieces, PathsLeadOverEdges, PathsLeadOverActions, PathsStay};
 ghost use Rattle.er_history.specs.Facts.{FactsAreExact, FactsStay};

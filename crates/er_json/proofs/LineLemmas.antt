@@ -15,7 +15,7 @@ use Rattle.er_clocks.specs.Clock.{StandsFor}
 use Rattle.er_access.specs.Kept.{Kept}
 use Rattle.er_races.specs.Races.{races_by}
 use Rattle.er_cover.specs.Groups.{Grouping, grouping_of}
-use Rattle.er_buffer.specs.Lines.{lines_from}
+use Rattle.er_syntax.specs.Lines.{lines_from}
 use Rattle.er_report.specs.declared.counts.Counts.{Counts}
 use Rattle.er_report.specs.Report.{counts}
 use Rattle.er_report.proofs.CountLemmas.{paths_told}

@@ -5,7 +5,7 @@ use Rattle.serde_json.specs.Data.{Data}
 use Rattle.serde_json.specs.Written.{comma_if, compact_text}
 use Rattle.er_access.specs.Kept.{Kept}
 use Rattle.er_cover.specs.Groups.{Grouping}
-use Rattle.er_buffer.specs.Lines.{lines_from}
+use Rattle.er_syntax.specs.Lines.{lines_from}
 use Rattle.er_report.specs.declared.counts.Counts.{Counts}
 use Rattle.er_json.specs.Json.{race_value, group_value}
 

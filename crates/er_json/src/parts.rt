@@ -5,8 +5,8 @@ ghost use Rattle.er_outside.specs.Ends.{Puts};
 ghost use Rattle.er_json.specs.Parts.{part_text};
 
 use crate::location::put_location;
-use er_buffer::Text;
 use er_outside::{Failed, Sink, put_all};
+use er_syntax::Text;
 use er_text::put_number;
 use er_trace::record::Loc;
 

@@ -8,7 +8,7 @@ ghost use Rattle.er_clocks.specs.Clock.{Tells};
 ghost use Rattle.er_access.specs.Kept.{Kept};
 ghost use Rattle.er_races.specs.Races.{races_of, most_races, ArePairs, IsWithin};
 ghost use Rattle.er_cover.specs.Groups.{grouping_of};
-ghost use Rattle.er_buffer.specs.Buffered.{CountsFaults, HoldsRest};
+ghost use Rattle.er_syntax.specs.Buffered.{CountsFaults, HoldsRest};
 ghost use Rattle.er_json.specs.Json as spec;
 ghost use Rattle.er_json.specs.Parts.{part_text};
 ghost use Rattle.er_json.specs.Pieces.{group_items, race_items, pieces_of};
@@ -19,12 +19,12 @@ use crate::pieces::{
     parts_of_refusal,
 };
 use er_access::Table;
-use er_buffer::{Buffer, flush, put_text};
 use er_clocks::Clocks;
 use er_cover::Groups;
 use er_outside::{Failed, Sink, WriteFault};
 use er_races::Race;
 use er_report::{Counts, count_all};
+use er_syntax::{Buffer, flush, put_text};
 use er_text::Cause;
 
 /// Writes the line of the report of a table, with its races by these clocks and their groups. It takes no

@@ -3,8 +3,8 @@ use Rattle.std.proofs.Common.{ℕ, List, Option, Some, None, Bor, arith}
 use Rattle.std.specs.Prelude.{IfSome}
 use Rattle.er_trace.specs.declared.record.Record.{Record}
 use Rattle.er_lines.specs.Steps.{IsFront}
-use Rattle.er_json_line.specs.Members.{Spells}
-use Rattle.er_json_line.specs.Plain.{most_plain_bytes}
+use Rattle.er_lines.specs.json_line.Members.{Spells}
+use Rattle.er_lines.specs.json_line.Plain.{most_plain_bytes}
 use Rattle.er_jsonl.specs.Trace.{most_line_bytes}
 
 pub front_within : (piece : List ℕ) (found : Option (Record × Bor (List ℕ))) → IfSome found (λ pair. IsFront most_plain_bytes Spells piece pair.0 pair.1.now)

@@ -1,8 +1,8 @@
 -- What the format of JSON lines keeps: one version of a first line, one record of a line, and none of the last line.
 use Rattle.er_lines.specs.Format.{IsFormat}
 use Rattle.er_jsonl.specs.Trace.{json}
-use Rattle.er_json_line.proofs.HeaderLemmas.{one_version}
-use Rattle.er_json_line.proofs.RecordLemmas.{one_of_line, of_each, end_is_none}
+use Rattle.er_lines.proofs.json_line.HeaderLemmas.{one_version}
+use Rattle.er_lines.proofs.json_line.RecordLemmas.{one_of_line, of_each, end_is_none}
 
 pub json_is_format : IsFormat json
 json_is_format = record {

@@ -6,7 +6,7 @@ use Rattle.er_trace.specs.declared.version.Version.{Version}
 use Rattle.er_lines.specs.Format.{Format}
 use Rattle.er_lines.specs.Lines.{Place}
 use Rattle.er_lines.specs.Lines as lines
-use Rattle.er_json_line.specs.Members.{Spells, IsHeader, IsEnd}
+use Rattle.er_lines.specs.json_line.Members.{Spells, IsHeader, IsEnd}
 
 -- the most bytes of a line without its LF
 abbrev pub most_line_bytes : ℕ

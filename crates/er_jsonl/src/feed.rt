@@ -5,13 +5,13 @@ ghost use Rattle.std.proofs.Common.{refl, lit<};
 ghost use Rattle.er_trace.specs.declared.record.Record.{Record};
 ghost use Rattle.er_lines.specs.Format.{IsVersionOf};
 ghost use Rattle.er_lines.specs.Steps.{IsLater, IsFront};
-ghost use Rattle.er_json_line.specs.Members.{Spells, IsHeader, IsEnd};
+ghost use Rattle.er_lines.specs.json_line.Members.{Spells, IsHeader, IsEnd};
 ghost use Rattle.er_jsonl.specs.Trace.{json, most_line_bytes};
 ghost use Rattle.er_jsonl.specs.Lawful.{json_is_format};
 
-use er_json_line::plain_json_line;
 use er_lines::feed::LineFeed;
 use er_lines::format::{Later, Lines};
+use er_lines::json_line::plain_json_line;
 use er_outside::NoMemory;
 use er_trace::fault::LineFault;
 use er_trace::record::Record;
@@ -37,7 +37,7 @@ impl Lines for JsonLines {
     fn read_header(alloc: Global, line: &[u8]) -> Result<Option<Version>, NoMemory>
         ensures { IfOk result (IsVersionOf IsHeader line.now) }
     {
-        er_json_line::read_header(alloc, line)
+        er_lines::json_line::read_header(alloc, line)
     }
 
     fn read_later(alloc: Global, _version: Version, line: &[u8]) -> Result<Later, LineFault>
@@ -45,7 +45,7 @@ impl Lines for JsonLines {
         ensures bad { result ≡ Err LineFault.BadRecord
             → ¬ IsEnd line.now × ((x : Record) → ¬ Spells line.now x) }
     {
-        er_json_line::read_later(alloc, line)
+        er_lines::json_line::read_later(alloc, line)
     }
 
     #[tactic(auto, using(crate::proofs::FrontLemmas::front_within))]

@@ -8,7 +8,7 @@ ghost use Rattle.er_text.specs.declared.causes.Cause.TheVariants.{NoEnd};
 ghost use Rattle.er_trace.specs.declared.record.Record.{Record};
 ghost use Rattle.er_trace.specs.declared.version.Version.{Version};
 ghost use Rattle.er_lines.specs.Lines.{Place, line_number};
-ghost use Rattle.er_json_line.specs.Members.{Spells, IsEnd};
+ghost use Rattle.er_lines.specs.json_line.Members.{Spells, IsEnd};
 ghost use Rattle.er_jsonl.specs.Trace.{IsTrace, Refuses};
 
 /// A line spells at most one record, and the last line none.

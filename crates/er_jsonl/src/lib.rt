@@ -4,5 +4,5 @@
 mod feed;
 pub mod laws;
 
-pub use er_json_line::parse_json_line;
+pub use er_lines::json_line::parse_json_line;
 pub use feed::{JsonFeed, JsonLines, MOST_LINE_BYTES};

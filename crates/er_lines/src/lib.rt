@@ -1,9 +1,10 @@
-//! Reading a trace of any format that comes in pieces: a format says how one line is read.
+//! Reading a trace of any format that comes in pieces: a format says how one line is read, as text (`text`) or as JSON (`json_line`).
 #![tactic(auto)]
 
 mod cut;
 pub mod feed;
 pub mod format;
+pub mod json_line;
 pub mod laws;
 mod line;
 mod mark;

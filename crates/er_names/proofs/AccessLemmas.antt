@@ -9,7 +9,7 @@ use Rattle.er_trace.specs.declared.record.Loc.{Loc}
 use Rattle.er_trace.specs.declared.record.Mode.{Mode}
 use Rattle.er_history.specs.History.{told, running, actions_after, Action}
 use Rattle.er_history.specs.LookUps as says
-use Rattle.er_firsts.proofs.FirstLemmas.{or_none, makers_same, firsts_same}
+use Rattle.er_history.proofs.FirstLemmas.{or_none, makers_same, firsts_same}
 use Rattle.er_names.specs.declared.names.Names.{Names}
 use Rattle.er_names.specs.declared.tables.Tables.{Tables}
 use Rattle.er_names.specs.Names.{TablesAre, NamesAre}

@@ -4,7 +4,7 @@ use Rattle.std.specs.Prelude.{IfSome}
 use Rattle.std.proofs.lemmas.List.Elements.{All-weaker}
 use Rattle.er_trace.specs.declared.record.Record.{Record}
 use Rattle.er_trace.specs.declared.record.Record.TheVariants.{Timer}
-use Rattle.er_firsts.specs.Taken.{KeepsEach}
+use Rattle.er_history.specs.Taken.{KeepsEach}
 use Rattle.er_names.specs.declared.fired.Fired.{Fired}
 use Rattle.er_names.specs.declared.names.SetTimeout.{SetTimeout}
 use Rattle.er_names.specs.declared.names.Timeout.{Timeout}

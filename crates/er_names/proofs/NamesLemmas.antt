@@ -6,8 +6,8 @@ use Rattle.er_trace.specs.declared.record.Record.TheVariants.{Timer}
 use Rattle.er_history.specs.History as history
 use Rattle.er_history.specs.History.{told, or_else, first_to, makes_element, makes_timeout, running, actions_after, Action, Entry}
 use Rattle.er_history.specs.LookUps.{timeout_made, fires, fires_of}
-use Rattle.er_firsts.specs.Noted.{noted_in}
-use Rattle.er_firsts.proofs.FirstLemmas.{map_or_else, known_more, entry_more}
+use Rattle.er_history.specs.Noted.{noted_in}
+use Rattle.er_history.proofs.FirstLemmas.{map_or_else, known_more, entry_more}
 use Rattle.er_names.specs.declared.names.Element.{Element}
 use Rattle.er_names.specs.declared.names.SetTimeout.{SetTimeout}
 use Rattle.er_names.specs.declared.names.Timeout.{Timeout}

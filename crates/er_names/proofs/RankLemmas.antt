@@ -5,9 +5,9 @@ use Rattle.er_trace.specs.declared.record.Record.{Record}
 use Rattle.er_history.specs.History as history
 use Rattle.er_history.specs.History.{told, or_else, makes_timeout, running, actions_after, Action}
 use Rattle.er_history.specs.LookUps.{place_of}
-use Rattle.er_firsts.specs.Noted.{noted_in}
-use Rattle.er_firsts.specs.Found.{IsRanked}
-use Rattle.er_firsts.proofs.RankLemmas.{more_ranked, place_more, longer_list}
+use Rattle.er_history.specs.Noted.{noted_in}
+use Rattle.er_history.specs.Found.{IsRanked}
+use Rattle.er_history.proofs.RankLemmas.{more_ranked, place_more, longer_list}
 use Rattle.er_names.specs.declared.names.Timeout.{Timeout}
 use Rattle.er_names.specs.Names.{SettingGiven, HasRank, IsRankedByPlace, rank_of}
 

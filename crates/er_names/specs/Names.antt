@@ -8,8 +8,8 @@ use Rattle.er_history.specs.History as history
 use Rattle.er_history.specs.History.{told, first_to, makes_element, makes_timeout, declares_document, declares_handler, declares_interval, declares_request, Action}
 use Rattle.er_history.specs.Naming as naming
 use Rattle.er_history.specs.Naming.{knows_document, declares_element, sets_timeout, runs_script, fires_timeout, begins_dispatch, is_dcl, is_load, is_eload}
-use Rattle.er_firsts.specs.Found.{entry_of, MakersAre, FirstsAre, IsRanked}
-use Rattle.er_firsts.specs.Noted.{noted_in}
+use Rattle.er_history.specs.Found.{entry_of, MakersAre, FirstsAre, IsRanked}
+use Rattle.er_history.specs.Noted.{noted_in}
 use Rattle.er_names.specs.declared.names.Form.{Form}
 use Rattle.er_names.specs.declared.names.Form.TheVariants.{Kinded, Framing}
 use Rattle.er_names.specs.declared.names.Element.{Element}

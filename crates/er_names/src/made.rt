@@ -4,11 +4,11 @@ ghost use Rattle.std.specs.Prelude.{◌≡◌, ℕ, ◌<◌, List, ◌∷◌, na
 ghost use Rattle.indexmap.specs.IndexMap.{get, spare, index_map_len};
 ghost use Rattle.er_trace.specs.declared.record.Record.{Record};
 ghost use Rattle.er_history.specs.History as history;
-ghost use Rattle.er_firsts.specs.Taken.{IsNow, KeepsEach, Takes};
+ghost use Rattle.er_history.specs.Taken.{IsNow, KeepsEach, Takes};
 ghost use Rattle.er_names.specs.Names.{ElementsAre, TimeoutsAre, ElementGiven, SettingGiven, HasRank, IsRankedByPlace};
 
 use crate::names::{Element, Form, Timeout};
-use er_firsts::firsts::{Now, note_pair};
+use er_history::firsts::{Now, note_pair};
 use er_trace::record::{Kind, NewKind, Record};
 use indexmap::IndexMap;
 

@@ -1,12 +1,12 @@
 //! What the records have declared, started and finished, and how one record more is taken.
 
 ghost use Rattle.std.specs.Prelude.{[], OnOk};
-ghost use Rattle.er_firsts.specs.Taken.{Keeps, Takes};
+ghost use Rattle.er_history.specs.Taken.{Keeps, Takes};
 ghost use Rattle.er_names.specs.Names.{NamesAre, HasRoomFor};
 
 use crate::fired::Fired;
 use crate::tables::Tables;
-use er_firsts::firsts::Now;
+use er_history::firsts::Now;
 use er_outside::NoMemory;
 use er_trace::record::{Kind, Record};
 use std::alloc::Global;

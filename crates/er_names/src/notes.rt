@@ -5,11 +5,11 @@ ghost use Rattle.indexmap.specs.IndexMap.{get, spare};
 ghost use Rattle.er_history.specs.History.{declares_document, declares_handler, declares_interval, declares_request};
 ghost use Rattle.er_history.specs.Naming.{runs_script, fires_timeout, begins_dispatch, is_dcl, is_load, is_eload};
 ghost use Rattle.er_history.specs.LookUps.{closes_dispatch, makes_frame, begins_dcl, begins_load, begins_eload};
-ghost use Rattle.er_firsts.specs.Found.{MakersAre, FirstsAre};
-ghost use Rattle.er_firsts.specs.Noted.{noted_in, is_number};
-ghost use Rattle.er_firsts.specs.Taken.{Takes, TakesAny};
+ghost use Rattle.er_history.specs.Found.{MakersAre, FirstsAre};
+ghost use Rattle.er_history.specs.Noted.{noted_in, is_number};
+ghost use Rattle.er_history.specs.Taken.{Takes, TakesAny};
 
-use er_firsts::firsts::{Now, note_first, note_maker};
+use er_history::firsts::{Now, note_first, note_maker};
 use er_trace::record::Record;
 use indexmap::IndexMap;
 

@@ -2,7 +2,7 @@
 
 ghost use Rattle.std.specs.Prelude.{◌≡◌, ℕ, ◌<◌, [], OnOk, nat_eq};
 ghost use Rattle.indexmap.specs.IndexMap.{get, spare};
-ghost use Rattle.er_firsts.specs.Taken.{Keeps, KeepsEach, Takes};
+ghost use Rattle.er_history.specs.Taken.{Keeps, KeepsEach, Takes};
 ghost use Rattle.er_names.specs.Fired.{timer_found};
 ghost use Rattle.er_names.specs.Fired as says;
 ghost use Rattle.er_names.specs.Names.{TablesAre, HaveSpare};
@@ -13,7 +13,7 @@ use crate::notes::{
     note_begin, note_callback, note_close, note_dcl, note_document, note_eload, note_frame,
     note_handler, note_interval, note_load, note_request, note_run,
 };
-use er_firsts::firsts::{Now, make_room};
+use er_history::firsts::{Now, make_room};
 use er_outside::NoMemory;
 use er_trace::record::Record;
 use indexmap::IndexMap;

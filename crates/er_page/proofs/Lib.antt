@@ -1,4 +1,5 @@
 pub mod AcceptedLemmas
+pub mod HandingLemmas
 pub mod LevelLemmas
 pub mod NamingLemmas
 pub mod PageLemmas

@@ -11,7 +11,7 @@ use Rattle.er_history.specs.Latest.{newest_by, is_event}
 use Rattle.er_history.specs.Laws.{Among, IsNumbered}
 use Rattle.er_history.specs.LookUps.{running_action, begin_of, event_of, piece_in}
 use Rattle.er_history.proofs.HistoryLemmas.{action_at_among, actions_are_numbered, among_below}
-use Rattle.er_firsts.specs.declared.firsts.Now.{Now}
+use Rattle.er_history.specs.declared.firsts.Now.{Now}
 use Rattle.er_page.specs.declared.page.Page.{Page}
 use Rattle.er_page.specs.declared.piece.Piece.{Piece}
 use Rattle.er_page.specs.LookUps.{begun_of}

@@ -14,8 +14,8 @@ use Rattle.er_history.specs.Laws.{IsNumbered}
 use Rattle.er_history.specs.Naming.{naming, room}
 use Rattle.er_paths.specs.Limits.{most_actions}
 use Rattle.er_history.proofs.HistoryLemmas.{actions_are_numbered}
-use Rattle.er_firsts.specs.declared.firsts.Now.{Now}
-use Rattle.er_firsts.specs.Taken.{IsNow, Keeps}
+use Rattle.er_history.specs.declared.firsts.Now.{Now}
+use Rattle.er_history.specs.Taken.{IsNow, Keeps}
 use Rattle.er_names.specs.declared.names.Names.{Names}
 use Rattle.er_names.specs.Names.{NamesAre}
 use Rattle.er_names.proofs.AccessLemmas.{names_same}

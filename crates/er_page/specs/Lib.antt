@@ -1,4 +1,5 @@
 pub mod Accepted
+pub mod Handing
 pub mod LookUps
 pub mod Page
 pub mod Pieces

@@ -5,7 +5,7 @@ use Rattle.er_trace.specs.declared.record.Record.{Record}
 use Rattle.er_trace.specs.declared.record.Record.TheVariants.{Parse, ParseFrame, Exec, Timer, Tick, Dcl, Load, Eload, Fire, Wfire, Reply, Inline, Run, Close, Back, New, NewFrame, On, Set, Every, Send, Access, Post, Ask, Queue, Message, Anim, Job}
 use Rattle.er_history.specs.History.{told, begins, event_begun, Action, Event, What, ParseStep, ScriptRun, TimeoutRun, TickRun, BeginOf, HandlerOf, CloseOf, MessageRun, AnimRun, JobRun, Unnamed}
 use Rattle.er_history.specs.LookUps.{latest_piece}
-use Rattle.er_firsts.specs.declared.firsts.Now.{Now}
+use Rattle.er_history.specs.declared.firsts.Now.{Now}
 use Rattle.er_page.specs.declared.piece.Begun.{Begun}
 use Rattle.er_page.specs.declared.piece.Begun.TheVariants as begun
 use Rattle.er_page.specs.declared.piece.Piece.{Piece}

@@ -17,7 +17,7 @@ use crate::roles::{first_of, role_by, served_of};
 use crate::stack::Stack;
 use crate::starts::start_of;
 use crate::within::{Within, job_dispatch};
-use er_firsts::firsts::Now;
+use er_history::firsts::Now;
 use er_latest::latest::Latest;
 use er_latest::role::Now as Told;
 use er_names::names::Names;

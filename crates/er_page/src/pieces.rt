@@ -9,7 +9,7 @@ ghost use Rattle.er_page.specs.Roles.{begin_in, read};
 ghost use Rattle.er_page.specs.Pieces.{PiecesAre, newest_of, now_of, start_in, calls, begun_by};
 
 use crate::piece::{Begun, Piece, Pieces, Start};
-use er_firsts::firsts::Now;
+use er_history::firsts::Now;
 use er_outside::NoMemory;
 use er_trace::record::Record;
 use indexmap::IndexMap;

@@ -1,3 +1,5 @@
-pub mod Paths
 pub mod Laws
 pub mod Limits
+pub mod links
+pub mod orders
+pub mod Paths

@@ -1,7 +1,10 @@
-//! Paths over lists of predecessors: the definition on which happens-before rests, and its laws.
+//! Paths over lists of predecessors, on which happens-before rests, and what is made of them: chains and links (`links`), and orders of all actions (`orders`). Definitions and their laws; no state.
 //!
 //! The lists stand newest first, one an action. Each law is a function with no parameters, whose contract is the law.
 #![tactic(auto)]
+
+pub mod links;
+pub mod orders;
 
 ghost use Rattle.er_paths.specs.Laws.{HandedPaths, PathsAreSteps, PathsCompose, PathsGoForward, PathsStand, PathsStay};
 

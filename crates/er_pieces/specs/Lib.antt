@@ -4,5 +4,8 @@ pub mod Counts
 pub mod Enough
 pub mod HandedPieces
 pub mod Hands
+pub mod Pieces
 pub mod PiecesHanded
+pub mod Stack
+pub mod steps
 pub mod Together

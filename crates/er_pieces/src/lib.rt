@@ -1,7 +1,12 @@
 //! The pieces of events: how they follow one another where dispatches are nested, and which of them stand for all that must come before a record.
 //!
+//! Beside them, why a path leads from one action to another (`steps`).
+//!
 //! Definitions and their laws; no state. What each group of rules hands for a record is a list in `specs/HandedPieces.antt`: latest pieces alone. The laws say that these are sources of edges, and enough of them, for every table that has the steady rules: those that are the same in every version of the format.
 #![tactic(auto)]
+
+pub mod stack;
+pub mod steps;
 
 ghost use Rattle.er_history.specs.Rules.{rules};
 ghost use Rattle.er_trace.specs.declared.version.Version.{Version};

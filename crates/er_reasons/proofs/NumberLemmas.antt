@@ -3,10 +3,10 @@ use Rattle.std.proofs.Common.{◌≡◌, ℕ, suc, ◌+◌, ◌<◌, ◌≤◌, 
 use Rattle.std.specs.Prelude.{nat_lt}
 use Rattle.std.proofs.Math.Seq.{drop-cons}
 use Rattle.std.proofs.lemmas.Bool.Decides.{nat_tests}
-use Rattle.er_links.proofs.Tests.{decide, never}
+use Rattle.er_paths.proofs.links.Tests.{decide, never}
 use Rattle.er_history.specs.History.{Event}
 use Rattle.er_history.specs.Rules.{Rule}
-use Rattle.er_steps.specs.Steps.{lesser, given, least_rule}
+use Rattle.er_pieces.specs.steps.Steps.{lesser, given, least_rule}
 use Rattle.er_reasons.specs.Numbers.{least_from}
 
 lesser_none : (o : Option ℕ) → lesser o None ≡ o

@@ -17,8 +17,8 @@ use Rattle.er_pieces.proofs.StackLemmas.{Serves}
 use Rattle.er_pieces.proofs.OnceLemmas.{BegunBy, begun_by, begun_in, begun_once, dispatch_once}
 use Rattle.er_pieces.proofs.BegunLemmas.{made_by_action, maker_is_event}
 use Rattle.er_pieces.proofs.DispatchLemmas.{HasBegun, served_begun, begin_number}
-use Rattle.er_stack_laws.specs.Stack.{dispatch_of, dispatch_named}
-use Rattle.er_stack_laws.proofs.NamedLemmas.{kept_as_read}
+use Rattle.er_pieces.specs.Stack.{dispatch_of, dispatch_named}
+use Rattle.er_pieces.proofs.NamedLemmas.{kept_as_read}
 use Rattle.er_page.specs.declared.page.Page.{Page}
 use Rattle.er_page.specs.Page as pages
 use Rattle.er_page.specs.Page.{IsPage, IsSomePage}

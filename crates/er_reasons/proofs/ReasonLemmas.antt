@@ -4,7 +4,7 @@ use Rattle.std.specs.Prelude.{◌==◌, nat_lt}
 use Rattle.std.proofs.lemmas.Bool.Decides.{nat_tests}
 use Rattle.er_trace.specs.declared.record.Record.{Record}
 use Rattle.er_trace.specs.declared.version.Version.{Version}
-use Rattle.er_links.proofs.Tests.{decide, never}
+use Rattle.er_paths.proofs.links.Tests.{decide, never}
 use Rattle.er_history.specs.History.{told, action_at, Action, Event}
 use Rattle.er_history.specs.Rules.{Rule, rules, parse_rules, script_rules, load_rules, dispatch_rules, timer_rules, request_rules, task_rules}
 use Rattle.er_history.specs.Edges.{path, up_to}
@@ -15,7 +15,7 @@ use Rattle.er_page.specs.declared.page.Page.{Page}
 use Rattle.er_page.specs.Page.{IsPage, HasBegun}
 use Rattle.er_page.proofs.SeenLemmas.{action_there}
 use Rattle.er_page.proofs.TakenLemmas.{long_page}
-use Rattle.er_steps.specs.Steps.{lesser, least_rule, rule_of_events, rule_of_pieces, rule_between, rule_of, both_actions}
+use Rattle.er_pieces.specs.steps.Steps.{lesser, least_rule, rule_of_events, rule_of_pieces, rule_between, rule_of, both_actions}
 use Rattle.er_reasons.specs.Words.{piece}
 use Rattle.er_reasons.proofs.NumberLemmas.{least_append}
 

@@ -1,6 +1,6 @@
 -- The numbers of the rules that hold.
 use Rattle.std.specs.Prelude.{ℕ, ◌+◌, Bool, List, [], ◌∷◌, Option, None}
-use Rattle.er_steps.specs.Steps.{lesser, given}
+use Rattle.er_pieces.specs.steps.Steps.{lesser, given}
 
 -- of tests with the numbers from k on, the least number of one that passes
 abbrev pub least_from : ℕ → List Bool → Option ℕ

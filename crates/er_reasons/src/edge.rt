@@ -8,7 +8,7 @@ ghost use Rattle.er_history.specs.Edges.{up_to};
 ghost use Rattle.er_clocks.specs.Clock.{StandsFor};
 ghost use Rattle.er_page.specs.Page.{IsPage, HasBegun};
 ghost use Rattle.er_path_rules.specs.timer.Timed.{IsTimed};
-ghost use Rattle.er_steps.specs.Steps.{least_rule, rule_of_events, rule_of};
+ghost use Rattle.er_pieces.specs.steps.Steps.{least_rule, rule_of_events, rule_of};
 ghost use Rattle.er_reasons.specs.Shown.{least, rule_shown};
 
 use crate::dispatch::dispatch_rule;

@@ -1,7 +1,7 @@
 //! The least of some numbers.
 
 ghost use Rattle.std.specs.Prelude.{◌≡◌, ◌+◌, ◌<◌, ◌^◌, length};
-ghost use Rattle.er_steps.specs.Steps.{lesser};
+ghost use Rattle.er_pieces.specs.steps.Steps.{lesser};
 ghost use Rattle.er_reasons.specs.Numbers.{least_from};
 
 /// Of tests with the numbers from one on, the least number of one that passes.

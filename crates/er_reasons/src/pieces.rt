@@ -4,7 +4,7 @@ ghost use Rattle.std.specs.Prelude.{◌≡◌, ◌<◌, List};
 ghost use Rattle.er_trace.specs.declared.record.Record.{Record};
 ghost use Rattle.er_history.specs.History as history;
 ghost use Rattle.er_history.specs.Edges.{around_inline};
-ghost use Rattle.er_steps.specs.Steps.{given, rule_of_pieces};
+ghost use Rattle.er_pieces.specs.steps.Steps.{given, rule_of_pieces};
 ghost use Rattle.er_reasons.specs.Shown.{what_shown, event_shown};
 ghost use Rattle.er_reasons.specs.Words.{piece, closes_inline};
 

@@ -5,9 +5,9 @@ use Rattle.std.proofs.lemmas.List.FromFn.{length-range_with_len}
 use Rattle.std.proofs.lemmas.List.{length-map}
 use Rattle.std.specs.List.{slice_get, range_with_len}
 use Rattle.er_paths.specs.Paths.{joins}
-use Rattle.er_links.specs.Chains.{chains}
-use Rattle.er_links.specs.Links.{link_count}
-use Rattle.er_links.proofs.Links.{length-links, links_have_the_paths}
+use Rattle.er_paths.specs.links.Chains.{chains}
+use Rattle.er_paths.specs.links.Links.{link_count}
+use Rattle.er_paths.proofs.links.Links.{length-links, links_have_the_paths}
 use Rattle.er_clocks.specs.Clock.{StandsFor}
 use Rattle.er_access.specs.Kept.{Kept, candidates_of}
 use Rattle.er_races.specs.declared.race.Race.{Race}

@@ -6,8 +6,8 @@ use Rattle.er_trace.specs.Spelling.{mode_word, loc_items}
 use Rattle.er_trace.specs.Items.{Word, Number}
 use Rattle.er_trace.specs.declared.record.Loc.{Loc}
 use Rattle.er_access.specs.declared.access.Access.{Access}
-use Rattle.er_buffer.specs.Lines.{item_start, item_line}
-use Rattle.er_buffer.proofs.LineLemmas.{first_item, item_before_loc}
+use Rattle.er_syntax.specs.Lines.{item_start, item_line}
+use Rattle.er_syntax.proofs.LineLemmas.{first_item, item_before_loc}
 use Rattle.er_report.specs.Pieces.{placed}
 use Rattle.er_report.specs.Report.{race_line, cover_line, group_line, refusal}
 

@@ -8,12 +8,12 @@ use Rattle.er_trace.specs.Items.{Word, Number}
 use Rattle.er_trace.specs.Spelling.{mode_word, loc_items}
 use Rattle.er_trace.specs.Trace.{line}
 use Rattle.er_paths.specs.Paths.{joins}
-use Rattle.er_links.specs.Chains.{chains}
-use Rattle.er_links.specs.Links.{link_count}
+use Rattle.er_paths.specs.links.Chains.{chains}
+use Rattle.er_paths.specs.links.Links.{link_count}
 use Rattle.er_access.specs.Kept.{Kept, candidates_of}
 use Rattle.er_races.specs.Races.{races_by}
 use Rattle.er_cover.specs.Groups.{Grouping, grouping_of, groups_of}
-pub use Rattle.er_buffer.specs.Lines.{item_line, lines_from, count_line}
+pub use Rattle.er_syntax.specs.Lines.{item_line, lines_from, count_line}
 use Rattle.er_report.specs.declared.counts.Counts.{Counts}
 
 -- `race K LINE LINE MODES ACTION ACTION LOC`

@@ -3,16 +3,16 @@
 ghost use Rattle.std.specs.Prelude.{ℕ, ◌+◌, List, [], ◌∷◌, ◌++◌, codes};
 ghost use Rattle.er_outside.specs.Ends.{Puts};
 ghost use Rattle.er_report.specs.Pieces.{both_at};
-ghost use Rattle.er_buffer.specs.Lines.{count_line};
+ghost use Rattle.er_syntax.specs.Lines.{count_line};
 ghost use Rattle.er_report.specs.Report.{opening_line, race_line, cover_line, group_line, closing_lines, refusal};
 
 use crate::counts::Counts;
 use er_access::Access;
-use er_buffer::Text;
-use er_buffer::tokens::{
+use er_outside::{Failed, Sink, put_all};
+use er_syntax::Text;
+use er_syntax::tokens::{
     end_with_loc, end_with_number, end_with_word, put_count, put_field, put_modes, put_word,
 };
-use er_outside::{Failed, Sink, put_all};
 use er_text::Cause;
 use er_trace::record::Loc;
 

@@ -6,18 +6,18 @@ ghost use Rattle.er_paths.specs.Paths.{joins};
 ghost use Rattle.er_clocks.specs.Clock.{Tells};
 ghost use Rattle.er_races.specs.Races.{races_of};
 ghost use Rattle.er_cover.specs.Groups.{grouping_of};
-ghost use Rattle.er_buffer.specs.Buffered.{CountsFaults};
+ghost use Rattle.er_syntax.specs.Buffered.{CountsFaults};
 ghost use Rattle.er_report.specs.Report.{summary_of, summary};
 
 use crate::counts::{Counts, count_all};
 use crate::lines::Generated;
 use crate::writer::put_groups;
 use er_access::Table;
-use er_buffer::{Buffer, flush, put_text};
 use er_clocks::Clocks;
 use er_cover::Groups;
 use er_outside::{Failed, Sink, WriteFault};
 use er_races::Race;
+use er_syntax::{Buffer, flush, put_text};
 
 /// Writes the summary of the trace that was generated for a number, with its races by these
 /// clocks and their groups. It takes no memory.

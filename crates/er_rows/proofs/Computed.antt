@@ -1,7 +1,7 @@
 -- The worked rows, by computing.
 use Rattle.std.proofs.Common.{refl, [], ◌∷◌, codes, arith}
 use Rattle.std.specs.Fmt.{digits}
-use Rattle.er_buffer.specs.Lines.{item_line}
+use Rattle.er_syntax.specs.Lines.{item_line}
 use Rattle.er_trace.specs.declared.record.Record.TheVariants.{Parse, Timer, Exec}
 use Rattle.er_trace.specs.declared.record.Kind.TheVariants as kinds
 use Rattle.er_trace.specs.Spelling.{spelling}

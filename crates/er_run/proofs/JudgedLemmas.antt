@@ -23,7 +23,7 @@ use Rattle.er_page.specs.declared.page.Page.{Page}
 use Rattle.er_page.specs.Page.{IsPage}
 use Rattle.er_schedule.specs.Schedules.{Orders, orders_of}
 use Rattle.er_schedule.specs.Text.{AreOrders, AreSomeOrders, schedule_text}
-use Rattle.er_steps.specs.Steps.{Step, explanation}
+use Rattle.er_pieces.specs.steps.Steps.{Step, explanation}
 use Rattle.er_trace.specs.declared.record.Loc.{Loc}
 use Rattle.er_trace.specs.declared.record.Loc.TheVariants.{Var}
 use Rattle.er_access.specs.declared.access.Access as access

@@ -10,8 +10,8 @@ use Rattle.er_history.specs.Rules.{rules}
 use Rattle.er_history.specs.Edges.{edges}
 use Rattle.er_history.proofs.HistoryLemmas.{edges_go_forward, edges_length}
 use Rattle.er_access.specs.Kept.{Kept, is_candidate, pairs_of}
-use Rattle.er_orders.specs.Laws.{AreApart}
-use Rattle.er_orders.proofs.Orders.{both_orders_are_lawful, both_orders_are_shown}
+use Rattle.er_paths.specs.orders.Laws.{AreApart}
+use Rattle.er_paths.proofs.orders.Orders.{both_orders_are_lawful, both_orders_are_shown}
 use Rattle.er_run.specs.Races.{kept, races}
 use Rattle.er_run.specs.Laws.{OrdersKeepRules}
 use Rattle.er_run.proofs.AccessLemmas.{kept_begun}

@@ -30,7 +30,7 @@ use Rattle.er_history.specs.Edges.{edges, path}
 use Rattle.er_history.specs.History.{told}
 use Rattle.er_schedule.specs.Schedules.{Orders}
 use Rattle.er_schedule.specs.Text.{AreOrders}
-use Rattle.er_steps.specs.Steps.{Step, explanation}
+use Rattle.er_pieces.specs.steps.Steps.{Step, explanation}
 use Rattle.er_races.specs.declared.race.Race.{Race}
 use Rattle.er_races.specs.Races.{races_of, most_pairs, most_races}
 use Rattle.er_cover.specs.Groups.{Grouping, grouping_of, most_classes}

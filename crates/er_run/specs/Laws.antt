@@ -16,7 +16,7 @@ use Rattle.er_history.specs.History.{told}
 use Rattle.er_history.specs.Rules.{rules}
 use Rattle.er_history.specs.Edges.{edges}
 use Rattle.er_access.specs.Kept.{Kept}
-use Rattle.er_orders.specs.Orders.{is_lawful, is_next, before_order, after_order}
+use Rattle.er_paths.specs.orders.Orders.{is_lawful, is_next, before_order, after_order}
 use Rattle.er_run.specs.Answer.{format_of, FirstIllegal, Answers}
 use Rattle.er_run.specs.Legal.{IsLegal}
 use Rattle.er_run.specs.Report.{refusal_for}

@@ -12,7 +12,7 @@ use Rattle.er_words.specs.declared.commands.Command.{Command}
 use Rattle.er_words.specs.declared.commands.Command.TheVariants.{Check, Gen, Schedule, Explain}
 use Rattle.er_schedule.specs.Text as schedules
 use Rattle.er_explain.specs.Text as explanations
-use Rattle.er_steps.specs.Steps.{explanation}
+use Rattle.er_pieces.specs.steps.Steps.{explanation}
 use Rattle.er_run.specs.Races.{kept}
 
 -- the report of the edges between its actions and of its kept accesses

@@ -7,13 +7,13 @@ use Rattle.std.proofs.lemmas.List.Elements.{filter-append}
 use Rattle.std.proofs.lemmas.Bool.Decides.{nat_tests}
 use Rattle.er_paths.specs.Paths.{joins}
 use Rattle.er_paths.specs.Laws.{GoForward}
-use Rattle.er_links.specs.Links.{numbers_below}
-use Rattle.er_links.proofs.Tests.{decide}
-use Rattle.er_links.proofs.Links.{length-links, links_have_the_paths}
+use Rattle.er_paths.specs.links.Links.{numbers_below}
+use Rattle.er_paths.proofs.links.Tests.{decide}
+use Rattle.er_paths.proofs.links.Links.{length-links, links_have_the_paths}
 use Rattle.er_clocks.specs.Clock.{StandsFor}
-use Rattle.er_orders.specs.Orders.{is_next, before_order, after_order}
-use Rattle.er_orders.specs.Laws.{AreApart}
-use Rattle.er_orders.proofs.Orders.{both_orders_are_lawful}
+use Rattle.er_paths.specs.orders.Orders.{is_next, before_order, after_order}
+use Rattle.er_paths.specs.orders.Laws.{AreApart}
+use Rattle.er_paths.proofs.orders.Orders.{both_orders_are_lawful}
 use Rattle.er_schedule.specs.Schedules.{AreLawful}
 
 pub long_told : (kept lists : List (List ℕ)) → StandsFor kept lists → length kept ≡ length lists

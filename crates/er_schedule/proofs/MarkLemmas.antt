@@ -7,14 +7,14 @@ use Rattle.std.proofs.lemmas.Bool.Decides.{nat_tests}
 use Rattle.er_paths.specs.Paths.{joins, is_among, list_of}
 use Rattle.er_paths.specs.Laws.{GoForward}
 use Rattle.er_paths.proofs.Paths.{or_cases, or_left, or_right}
-use Rattle.er_links.specs.Links.{links, links_of}
-use Rattle.er_links.proofs.Tests.{decide, same_test, both, and_true, not_true, not_false, never}
-use Rattle.er_links.proofs.Links.{length-links}
-use Rattle.er_links.proofs.Sources.{links_go_forward, list_of_links}
+use Rattle.er_paths.specs.links.Links.{links, links_of}
+use Rattle.er_paths.proofs.links.Tests.{decide, same_test, both, and_true, not_true, not_false, never}
+use Rattle.er_paths.proofs.links.Links.{length-links}
+use Rattle.er_paths.proofs.links.Sources.{links_go_forward, list_of_links}
 use Rattle.er_clocks.specs.Clock.{StandsFor}
-use Rattle.er_orders.specs.Orders.{times, has_each_once, is_lawful, keeps_paths, is_next, is_schedule}
-use Rattle.er_orders.proofs.Times.{times_among, among_times, once_from, once_at, once_below}
-use Rattle.er_orders.proofs.Follows.{follows, moves_on, lawful_follows, links_decide}
+use Rattle.er_paths.specs.orders.Orders.{times, has_each_once, is_lawful, keeps_paths, is_next, is_schedule}
+use Rattle.er_paths.proofs.orders.Times.{times_among, among_times, once_from, once_at, once_below}
+use Rattle.er_paths.proofs.orders.Follows.{follows, moves_on, lawful_follows, links_decide}
 use Rattle.er_schedule.proofs.MakeLemmas.{long_told}
 use Rattle.er_schedule.specs.Marks.{is_marked, may_come, all_come}
 

@@ -1,6 +1,6 @@
 -- The two orders of a race. An order stands with its first action first; lists of predecessors stand newest first.
 use Rattle.std.specs.Prelude.{◌≡◌, ℕ, Bool, true, List}
-use Rattle.er_orders.specs.Orders.{is_lawful, before_order, after_order}
+use Rattle.er_paths.specs.orders.Orders.{is_lawful, before_order, after_order}
 
 -- two orders of all actions
 pub record Orders : Type 0 where

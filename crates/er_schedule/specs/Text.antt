@@ -5,7 +5,7 @@ use Rattle.er_paths.specs.Paths.{joins}
 use Rattle.er_access.specs.Kept.{Kept}
 use Rattle.er_races.specs.declared.race.Race.{Race}
 use Rattle.er_races.specs.Races.{races_by, races_of}
-use Rattle.er_buffer.specs.Lines.{count_line, lines_from}
+use Rattle.er_syntax.specs.Lines.{count_line, lines_from}
 use Rattle.er_report.specs.Report.{race_line}
 use Rattle.er_schedule.specs.Schedules.{Orders, orders_of}
 

@@ -3,9 +3,9 @@
 ghost use Rattle.std.specs.Prelude.{◌≡◌, ◌<◌, ◌==◌, ◌&&◌, true, false, Bool, length, replicate, if◌then◌else◌, IfOk, slice_set};
 ghost use Rattle.std.specs.List.{list_all};
 ghost use Rattle.er_paths.specs.Paths.{joins};
-ghost use Rattle.er_links.specs.Links.{links_of};
+ghost use Rattle.er_paths.specs.links.Links.{links_of};
 ghost use Rattle.er_clocks.specs.Clock.{Tells};
-ghost use Rattle.er_orders.specs.Orders.{is_schedule, is_next};
+ghost use Rattle.er_paths.specs.orders.Orders.{is_schedule, is_next};
 ghost use Rattle.er_schedule.specs.Marks.{is_marked, may_come, all_come};
 
 use er_clocks::{Clocks, Paths};

@@ -4,7 +4,7 @@ ghost use Rattle.std.specs.Prelude.{◌≡◌, ◌<◌, ◌∷◌, ◌++◌, [],
 ghost use Rattle.er_paths.specs.Paths.{joins};
 ghost use Rattle.er_paths.specs.Laws.{GoForward};
 ghost use Rattle.er_clocks.specs.Clock.{Tells};
-ghost use Rattle.er_orders.specs.Orders.{comes_before, comes_after, others_before, others_after};
+ghost use Rattle.er_paths.specs.orders.Orders.{comes_before, comes_after, others_before, others_after};
 ghost use Rattle.er_schedule.specs.Schedules.{orders_of, AreLawful};
 
 use crate::Schedules;

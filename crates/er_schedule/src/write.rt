@@ -2,18 +2,18 @@
 
 ghost use Rattle.std.specs.Prelude.{◌≡◌, ◌≤◌, ◌++◌, ℕ, List, codes, length, OnOk, OnErr};
 ghost use Rattle.er_outside.specs.Ends.{Gets, GetsPart, Puts};
-ghost use Rattle.er_buffer.specs.Buffered.{CountsFaults, HoldsRest};
+ghost use Rattle.er_syntax.specs.Buffered.{CountsFaults, HoldsRest};
 ghost use Rattle.er_report.specs.Pieces.{both_at};
-ghost use Rattle.er_buffer.specs.Lines.{count_line};
+ghost use Rattle.er_syntax.specs.Lines.{count_line};
 ghost use Rattle.er_schedule.specs.Text.{opening_line, end_line, order_lines, schedules_of, schedule_text, AreOrders, AreSomeOrders};
 
 use crate::Schedules;
 use er_access::Table;
-use er_buffer::tokens::put_count;
-use er_buffer::{Buffer, Text, flush, put_text};
 use er_outside::{Failed, Sink, WriteFault, put_all};
 use er_races::Race;
 use er_report::RaceLine;
+use er_syntax::tokens::put_count;
+use er_syntax::{Buffer, Text, flush, put_text};
 
 /// Writes the race of this number, from 1, and its two orders. It takes no memory.
 pub fn write_schedules<K: Sink>(

@@ -1,6 +1,9 @@
+pub mod BufferedLemmas
 pub mod FormLaws
-pub mod RecordLaws
-pub mod PrintLaws
+pub mod LineLemmas
 pub mod OneRecord
 pub mod OneTrace
 pub mod PlainLaws
+pub mod PrintLaws
+pub mod RecordLaws
+pub mod SequenceLemmas

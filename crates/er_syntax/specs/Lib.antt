@@ -1,3 +1,5 @@
-pub mod Heads
-pub mod Tokens
+pub mod Buffered
 pub mod Forms
+pub mod Heads
+pub mod Lines
+pub mod Tokens

@@ -10,7 +10,7 @@ use Rattle.er_trace.specs.declared.record.Mode.{Mode}
 use Rattle.er_history.specs.History.{told, running, actions_after, Action}
 use Rattle.er_history.specs.LookUps as says
 use Rattle.er_history.specs.Tasks.{TaskKind, OfMessage, OfAnim, OfJob, declares_task, starts_task, started_by, tasks_begun, queued_jobs}
-use Rattle.er_firsts.proofs.FirstLemmas.{or_none, makers_same}
+use Rattle.er_history.proofs.FirstLemmas.{or_none, makers_same}
 use Rattle.er_tasks.specs.declared.table.TaskTable.{TaskTable}
 use Rattle.er_tasks.specs.declared.tasks.Tasks.{Tasks}
 use Rattle.er_tasks.specs.Tasks.{TaskGiven, TaskTableIs, TasksAre}

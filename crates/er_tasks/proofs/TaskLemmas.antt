@@ -11,12 +11,12 @@ use Rattle.er_trace.specs.declared.record.Record.TheVariants.{Message, Anim, Job
 use Rattle.er_history.specs.History as history
 use Rattle.er_history.specs.History.{told, or_else, first_to, makes_task, running, actions_after, action_begun, Action, Entry}
 use Rattle.er_history.specs.Tasks.{TaskKind, OfMessage, OfAnim, OfJob, declares_task, starts_task, task_started, task_made, task_place, if_made, if_queued, started_by, queued_by}
-use Rattle.er_firsts.specs.declared.firsts.Now.{Now}
-use Rattle.er_firsts.specs.Found.{IsRanked}
-use Rattle.er_firsts.specs.Noted.{is_number, noted_in}
-use Rattle.er_firsts.specs.Taken.{IsNow, KeepsEach}
-use Rattle.er_firsts.proofs.FirstLemmas.{map_or_else, known_more, entry_more}
-use Rattle.er_firsts.proofs.RankLemmas.{more_ranked, place_more, longer_list}
+use Rattle.er_history.specs.declared.firsts.Now.{Now}
+use Rattle.er_history.specs.Found.{IsRanked}
+use Rattle.er_history.specs.Noted.{is_number, noted_in}
+use Rattle.er_history.specs.Taken.{IsNow, KeepsEach}
+use Rattle.er_history.proofs.FirstLemmas.{map_or_else, known_more, entry_more}
+use Rattle.er_history.proofs.RankLemmas.{more_ranked, place_more, longer_list}
 use Rattle.er_tasks.specs.declared.begun.Started.{Started}
 use Rattle.er_tasks.specs.declared.tasks.BegunTask.{BegunTask}
 use Rattle.er_tasks.specs.declared.tasks.Task.{Task}

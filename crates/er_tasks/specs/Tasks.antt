@@ -10,8 +10,8 @@ use Rattle.er_history.specs.History.{told, makes_task, Action}
 use Rattle.er_history.specs.LookUps.{jobs_queued}
 use Rattle.er_history.specs.Naming as naming
 use Rattle.er_history.specs.Tasks.{TaskKind, OfMessage, OfAnim, OfJob, declares_task, starts_task, task_started, task_made, task_place, tasks_begun, queued_jobs}
-use Rattle.er_firsts.specs.Found.{MakersAre, IsRanked, entry_of}
-use Rattle.er_firsts.specs.Noted.{is_number, noted_in}
+use Rattle.er_history.specs.Found.{MakersAre, IsRanked, entry_of}
+use Rattle.er_history.specs.Noted.{is_number, noted_in}
 use Rattle.er_tasks.specs.declared.begun.Started.{Started}
 use Rattle.er_tasks.specs.declared.tasks.BegunTask.{BegunTask}
 use Rattle.er_tasks.specs.declared.tasks.Task.{Task}

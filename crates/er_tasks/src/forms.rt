@@ -5,7 +5,7 @@ ghost use Rattle.std.specs.Prelude.{◌≡◌, ℕ};
 ghost use Rattle.er_trace.specs.Versions as versions;
 ghost use Rattle.er_history.specs.History.{posts_message, asks_for_anim, queues_job};
 ghost use Rattle.er_history.specs.Tasks.{OfMessage, OfAnim, OfJob, task_started};
-ghost use Rattle.er_firsts.specs.Noted.{is_number};
+ghost use Rattle.er_history.specs.Noted.{is_number};
 
 use er_trace::record::Record;
 

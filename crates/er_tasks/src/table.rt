@@ -8,16 +8,16 @@ ghost use Rattle.er_history.specs.History.{told, running, actions_after, Action}
 ghost use Rattle.er_history.specs.LookUps.{before};
 ghost use Rattle.er_history.specs.Tasks as says;
 ghost use Rattle.er_history.specs.Tasks.{TaskKind, declares_task, starts_task};
-ghost use Rattle.er_firsts.specs.Found.{MakersAre};
-ghost use Rattle.er_firsts.specs.Noted.{is_number};
-ghost use Rattle.er_firsts.specs.Taken.{IsNow, Keeps, KeepsEach};
+ghost use Rattle.er_history.specs.Found.{MakersAre};
+ghost use Rattle.er_history.specs.Noted.{is_number};
+ghost use Rattle.er_history.specs.Taken.{IsNow, Keeps, KeepsEach};
 ghost use Rattle.er_tasks.specs.declared.tasks.Task.{Task};
 ghost use Rattle.er_tasks.specs.Begun.{AreBegun, HasPlace, task_number};
 ghost use Rattle.er_tasks.specs.Tasks.{HaveRoom, IsNoted, IsStarted, TaskGiven, TaskTableIs, TasksAreRanked, TasksDeclared, numbers_in, task_of, task_rank, with_task};
 
 use crate::begun::{Begun, Started, run_to};
 use crate::tasks::{BegunTask, Task};
-use er_firsts::firsts::{Now, make_room, note_maker, note_pair};
+use er_history::firsts::{Now, make_room, note_maker, note_pair};
 use er_outside::NoMemory;
 use indexmap::IndexMap;
 use std::alloc::Global;

@@ -2,13 +2,13 @@
 //! is taken.
 
 ghost use Rattle.std.specs.Prelude.{[], OnOk};
-ghost use Rattle.er_firsts.specs.Taken.{Keeps, Takes};
+ghost use Rattle.er_history.specs.Taken.{Keeps, Takes};
 ghost use Rattle.er_tasks.specs.Tasks.{HaveRoomFor, HaveRoomIfTask, TasksAre};
 
 use crate::forms::{anim_in, asked_in, is_of_task, job_in, message_in, posted_in, queued_in};
 use crate::queued::Queued;
 use crate::table::TaskTable;
-use er_firsts::firsts::Now;
+use er_history::firsts::Now;
 use er_outside::NoMemory;
 use er_trace::record::Record;
 use std::alloc::Global;

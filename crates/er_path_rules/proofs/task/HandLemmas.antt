@@ -21,8 +21,8 @@ use Rattle.er_history.specs.Laws.{Among}
 use Rattle.er_history.specs.LookUps.{event_of, jobs_in}
 use Rattle.er_history.specs.Rules.{rules, of_made, task_rules}
 use Rattle.er_history.specs.Tasks.{TaskKind, OfMessage, OfAnim, OfJob, declares_task, task_made, tasks_begun, queued_jobs}
-use Rattle.er_hand.specs.Handing.{HasEvents, GrewFor, GrewInPartFor}
-use Rattle.er_hand.proofs.HandingLemmas.{named_list}
+use Rattle.er_page.specs.Handing.{HasEvents, GrewFor, GrewInPartFor}
+use Rattle.er_page.proofs.HandingLemmas.{named_list}
 use Rattle.er_page.specs.declared.page.Page.{Page}
 use Rattle.er_page.specs.Page.{IsPage, IsSomePage}
 use Rattle.er_pieces.specs.Contract.{ComesNext, GrewBy, GrewInPart, HandsFew, listed, latest_of_all}

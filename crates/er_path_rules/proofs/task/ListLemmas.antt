@@ -23,7 +23,7 @@ use Rattle.er_history.specs.Tasks.{TaskKind, OfMessage, OfAnim, OfJob, declares_
 use Rattle.er_history.proofs.HandedLemmas.{action_stands}
 use Rattle.er_history.proofs.HistoryLemmas.{BeginsBefore, and_left, told_before, event_before, actions_are_numbered, number_taken}
 use Rattle.er_history.proofs.MakersLemmas.{task_below}
-use Rattle.er_firsts.specs.Found.{IsRanked}
+use Rattle.er_history.specs.Found.{IsRanked}
 use Rattle.er_pieces.proofs.BegunLemmas.{made_by_action, maker_is_event}
 use Rattle.er_pieces.specs.Contract.{listed}
 use Rattle.er_pieces.proofs.ChainLemmas.{event_with, one_holds}

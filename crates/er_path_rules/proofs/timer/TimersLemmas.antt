@@ -18,7 +18,7 @@ use Rattle.er_history.specs.Naming.{IsNamed}
 use Rattle.er_history.proofs.HandedLemmas.{action_stands}
 use Rattle.er_page.specs.declared.page.Page.{Page}
 use Rattle.er_page.specs.Page.{IsPage, IsSomePage}
-use Rattle.er_hand.specs.Handing.{HasEvents}
+use Rattle.er_page.specs.Handing.{HasEvents}
 use Rattle.er_pieces.specs.Contract.{listed, ComesNext, GrewForEach, GrewInPartForEach, HandsFew}
 use Rattle.er_pieces.specs.Counts.{most_timer}
 use Rattle.er_pieces.specs.HandedPieces.{timeout_handed}

@@ -9,7 +9,7 @@ use Rattle.er_trace.specs.declared.record.Record.{Record}
 use Rattle.er_trace.specs.declared.version.Version.{Version}
 use Rattle.er_paths.specs.Paths.{is_among}
 use Rattle.er_paths.proofs.Paths.{place_cases}
-use Rattle.er_hand.specs.Handing.{GrewInPartFor}
+use Rattle.er_page.specs.Handing.{GrewInPartFor}
 use Rattle.er_history.specs.History.{History, told}
 use Rattle.er_history.specs.Naming.{IsNamed}
 use Rattle.er_history.specs.Rules.{rules}

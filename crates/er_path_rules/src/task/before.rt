@@ -9,14 +9,14 @@ ghost use Rattle.er_history.specs.Edges.{path};
 ghost use Rattle.er_paths.specs.Paths.{joins};
 ghost use Rattle.er_clocks.specs.Clock.{Tells};
 ghost use Rattle.er_tasks.specs.Begun.{AreRuns};
-ghost use Rattle.er_hand.specs.Handing.{HasEvents};
+ghost use Rattle.er_page.specs.Handing.{HasEvents};
 ghost use Rattle.er_path_rules.specs.timer.Timed.{IsTimed};
 ghost use Rattle.er_path_rules.specs.task.Before as says;
 ghost use Rattle.er_path_rules.specs.task.Before.{AreJoined, HandsOf, HandsSomeOf, WalksOn, event_in};
 
 use er_clocks::Clocks;
-use er_hand::handing::hand;
 use er_outside::NoMemory;
+use er_page::handing::hand;
 use er_page::page::Page;
 use er_tasks::tasks::{BegunTask, Task};
 use smallvec::SmallVec;

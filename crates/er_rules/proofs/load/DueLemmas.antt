@@ -14,8 +14,8 @@ use Rattle.er_pieces.specs.HandedPieces.{inner_close, eload_handed}
 use Rattle.er_pieces.proofs.LookUpLemmas.{listed_is}
 use Rattle.er_pieces.proofs.BegunLemmas.{maker_is_event, newest_run}
 use Rattle.er_pieces.proofs.DeliveryLemmas.{close_found, newest_dcl_close, newest_load_close}
-use Rattle.er_hand.specs.Handing.{HasEvents}
-use Rattle.er_hand.proofs.HandingLemmas.{latest_in, named_list}
+use Rattle.er_page.specs.Handing.{HasEvents}
+use Rattle.er_page.proofs.HandingLemmas.{latest_in, named_list}
 use Rattle.er_rules.specs.load.Loads.{close_of, inner_close_of, dcl_part, run_part, inner_part, eload_parts}
 
 -- a close that a look-up finds

@@ -8,8 +8,8 @@ ghost use Rattle.er_pieces.specs.Contract.{GrewForEach, GrewInPartForEach};
 ghost use Rattle.er_pieces.specs.HandedPieces.{runs_or_begin};
 ghost use Rattle.er_rules.specs.dispatch.Due.{before_run};
 
-use er_hand::handing::{hand_each, hand_latest};
 use er_outside::NoMemory;
+use er_page::handing::{hand_each, hand_latest};
 use er_page::page::Page;
 use smallvec::SmallVec;
 

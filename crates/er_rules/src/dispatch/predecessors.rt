@@ -11,8 +11,8 @@ ghost use Rattle.er_pieces.specs.PiecesHanded.{HandsEnoughPieces, HandsSourcePie
 
 use crate::dispatch::groups::{hand_for_run, hand_group};
 use crate::dispatch::targets::{hand_at_element, hand_at_window, hand_document, hand_in_piece};
-use er_hand::handing::hand_some;
 use er_outside::NoMemory;
+use er_page::handing::hand_some;
 use er_page::page::Page;
 use er_trace::record::Record;
 use smallvec::SmallVec;
@@ -60,7 +60,7 @@ fn hand(page: &Page, rec: &Record, out: &mut SmallVec<u32, 8>) -> Result<(), NoM
         Record::Close { dispatch } => {
             hand_group(page, *dispatch, page.last_group(*dispatch), out)
         }
-        // It is the latest piece of the close: the law `BackEndsClose` of er_stack_laws.
+        // It is the latest piece of the close: the law `BackEndsClose` (er_pieces `stack`).
         Record::Back { .. } => hand_some(page.running(), out),
         _ => Ok(()),
     }

@@ -6,11 +6,11 @@ ghost use Rattle.er_history.specs.History.{History};
 ghost use Rattle.er_history.specs.LookUps.{dcl_of, load_of};
 ghost use Rattle.er_page.specs.Page.{IsPage, IsSomePage};
 ghost use Rattle.er_pieces.specs.HandedPieces.{load_handed};
-ghost use Rattle.er_hand.specs.Handing.{GrewFor, GrewInPartFor};
+ghost use Rattle.er_page.specs.Handing.{GrewFor, GrewInPartFor};
 ghost use Rattle.er_rules.specs.load.Loads.{window_parts, dcl_part, async_part, static_part, eload_parts, maker_part, run_part, inner_part, close_of, inner_close_of};
 
-use er_hand::handing::{hand_each, hand_latest, hand_parsed};
 use er_outside::NoMemory;
+use er_page::handing::{hand_each, hand_latest, hand_parsed};
 use er_page::page::Page;
 use er_trace::record::Record;
 use smallvec::SmallVec;

@@ -4,10 +4,10 @@ ghost use Rattle.std.specs.Prelude.{OnOk, OnErr};
 ghost use Rattle.er_history.specs.History.{History};
 ghost use Rattle.er_page.specs.Page.{IsSomePage};
 ghost use Rattle.er_pieces.specs.HandedPieces.{parse_handed, step_handed};
-ghost use Rattle.er_hand.specs.Handing.{GrewFor, GrewInPartFor};
+ghost use Rattle.er_page.specs.Handing.{GrewFor, GrewInPartFor};
 
-use er_hand::handing::hand_latest;
 use er_outside::NoMemory;
+use er_page::handing::hand_latest;
 use er_page::page::Page;
 use er_trace::record::Record;
 use smallvec::SmallVec;

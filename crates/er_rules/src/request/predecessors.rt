@@ -9,10 +9,10 @@ ghost use Rattle.er_pieces.specs.Contract.{HandsExactly, HandsFront, HandsEnough
 ghost use Rattle.er_pieces.specs.Counts.{most_request};
 ghost use Rattle.er_pieces.specs.HandedPieces.{request_handed};
 ghost use Rattle.er_rules.specs.request.Replies.{reply_handed};
-ghost use Rattle.er_hand.specs.Handing.{GrewFor, GrewInPartFor};
+ghost use Rattle.er_page.specs.Handing.{GrewFor, GrewInPartFor};
 
-use er_hand::handing::hand_latest;
 use er_outside::NoMemory;
+use er_page::handing::hand_latest;
 use er_page::page::Page;
 use er_trace::record::Record;
 use smallvec::SmallVec;

@@ -9,12 +9,12 @@ ghost use Rattle.er_history.specs.Latest.{newest};
 ghost use Rattle.er_history.specs.Rules.{is_blocking};
 ghost use Rattle.er_page.specs.Page.{IsPage, IsSomePage};
 ghost use Rattle.er_pieces.specs.HandedPieces.{script_handed, run_handed};
-ghost use Rattle.er_hand.specs.Handing.{GrewFor, GrewInPartFor};
+ghost use Rattle.er_page.specs.Handing.{GrewFor, GrewInPartFor};
 ghost use Rattle.er_rules.specs.script.Scripts.{deferred_document, before_deferred};
 
 use crate::script::elements::is_deferred;
-use er_hand::handing::{hand_latest, hand_parsed};
 use er_outside::NoMemory;
+use er_page::handing::{hand_latest, hand_parsed};
 use er_page::page::Page;
 use er_trace::record::Record;
 use smallvec::SmallVec;

@@ -2,7 +2,7 @@ use Rattle.std.proofs.Common.{arith}
 use Rattle.er_history.specs.History.{told}
 use Rattle.er_history.specs.Rules.{rules}
 use Rattle.er_history.specs.Edges.{edges}
-use Rattle.er_steps.specs.Steps.{rule_of}
+use Rattle.er_pieces.specs.steps.Steps.{rule_of}
 use Rattle.er_explain.specs.Steps.{all_shown}
 use Rattle.er_explain.proofs.StepLemmas.{back_on, back_end, back_never, earlier_begun}
 use Rattle.er_explain.proofs.explanation.go_back.Goals as goal

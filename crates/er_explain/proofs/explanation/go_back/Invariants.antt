@@ -4,7 +4,7 @@ use Rattle.er_history.specs.History.{told}
 use Rattle.er_history.specs.Rules.{rules}
 use Rattle.er_history.specs.Edges.{edges, path}
 use Rattle.er_path_rules.specs.timer.Timed.{IsTimed}
-use Rattle.er_steps.specs.Steps.{rule_of}
+use Rattle.er_pieces.specs.steps.Steps.{rule_of}
 use Rattle.er_explain.specs.Steps.{all_shown}
 use Rattle.er_explain.proofs.StepLemmas.{IsBack}
 use Rattle.er_explain.proofs.explanation.go_back.Given as goal

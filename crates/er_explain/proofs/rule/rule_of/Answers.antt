@@ -1,7 +1,7 @@
 use Rattle.std.proofs.Common.{ap, ◌∙◌}
 use Rattle.er_trace.specs.declared.version.Version.{Version}
 use Rattle.er_history.specs.Rules.{rules}
-use Rattle.er_steps.specs.Steps.{rule_of}
+use Rattle.er_pieces.specs.steps.Steps.{rule_of}
 use Rattle.er_graph.specs.Accepted.{records}
 use Rattle.er_explain.proofs.StepLemmas.{graph_timed, page_begun}
 use Rattle.er_explain.proofs.rule.rule_of.Goals as goal

@@ -2,7 +2,7 @@ use Rattle.std.proofs.Common.{◌≡◌, drop}
 use Rattle.std.specs.List.{filter}
 use Rattle.er_paths.specs.Paths.{joins}
 use Rattle.er_clocks.specs.Clock.{Tells}
-use Rattle.er_steps.specs.Steps.{first_of, least_source}
+use Rattle.er_pieces.specs.steps.Steps.{first_of, least_source}
 use Rattle.er_explain.proofs.source.source_of.Given as goal
 
 -- those that are left decide

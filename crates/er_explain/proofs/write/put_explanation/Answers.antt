@@ -1,9 +1,9 @@
 use Rattle.std.proofs.Common.{◌++◌, rules}
 use Rattle.std.proofs.lemmas.Result.{on_ok_weaker, on_err_weaker}
 use Rattle.er_outside.specs.Ends.{GetsPart}
-use Rattle.er_buffer.specs.Buffered.{HoldsRest}
-use Rattle.er_buffer.proofs.BufferedLemmas.{all_came, part_came}
-use Rattle.er_buffer.proofs.SequenceLemmas.{three_held, second_of_three, third_of_three}
+use Rattle.er_syntax.specs.Buffered.{HoldsRest}
+use Rattle.er_syntax.proofs.BufferedLemmas.{all_came, part_came}
+use Rattle.er_syntax.proofs.SequenceLemmas.{three_held, second_of_three, third_of_three}
 use Rattle.er_explain.specs.Text.{head_line, body_lines, end_line, explain_text}
 use Rattle.er_explain.proofs.write.put_explanation.Goals as goal
 

@@ -1,8 +1,8 @@
 use Rattle.std.proofs.Common.{refl, rules, ◌∙◌}
 use Rattle.er_explain.specs.Steps.{shown}
 use Rattle.er_explain.specs.Text.{step_line}
-use Rattle.er_buffer.proofs.BufferedLemmas.{holds_start}
-use Rattle.er_buffer.proofs.SequenceLemmas.{line_held, line_part}
+use Rattle.er_syntax.proofs.BufferedLemmas.{holds_start}
+use Rattle.er_syntax.proofs.SequenceLemmas.{line_held, line_part}
 use Rattle.er_explain.proofs.write.put_steps.Goals as goal
 
 pub loop-k-init : goal.loop-k-init

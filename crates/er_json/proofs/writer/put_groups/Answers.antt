@@ -1,8 +1,8 @@
 use Rattle.std.proofs.Common.{◌≡◌, ◌<◌, ◌≤◌, length, arith, refl, rules, sym, ◌∙◌}
 use Rattle.std.specs.List.{zip}
 use Rattle.er_json.specs.Pieces.{group_item}
-use Rattle.er_buffer.proofs.BufferedLemmas.{holds_start}
-use Rattle.er_buffer.proofs.SequenceLemmas.{all_lines, line_held, line_part}
+use Rattle.er_syntax.proofs.BufferedLemmas.{holds_start}
+use Rattle.er_syntax.proofs.SequenceLemmas.{all_lines, line_held, line_part}
 use Rattle.er_report.proofs.ReportLemmas.{group_at, groups_long}
 use Rattle.er_json.proofs.writer.put_groups.Goals as goal
 

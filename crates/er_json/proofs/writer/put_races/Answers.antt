@@ -3,8 +3,8 @@ use Rattle.std.specs.List.{zip}
 use Rattle.er_races.specs.declared.race.Race.{Race}
 use Rattle.er_report.specs.Pieces.{placed}
 use Rattle.er_report.proofs.ReportLemmas.{name_at, reads_pair}
-use Rattle.er_buffer.proofs.BufferedLemmas.{holds_start}
-use Rattle.er_buffer.proofs.SequenceLemmas.{all_lines, line_held, line_part}
+use Rattle.er_syntax.proofs.BufferedLemmas.{holds_start}
+use Rattle.er_syntax.proofs.SequenceLemmas.{all_lines, line_held, line_part}
 use Rattle.er_json.specs.Pieces.{race_item}
 use Rattle.er_json.proofs.LineLemmas.{no_longer, zip_at}
 use Rattle.er_json.proofs.writer.put_races.Goals as goal

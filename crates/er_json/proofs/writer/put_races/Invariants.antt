@@ -2,8 +2,8 @@ use Rattle.std.proofs.Common.{◌≡◌, List, ◌++◌, take}
 use Rattle.std.specs.List.{zip}
 use Rattle.er_access.specs.Kept.{Kept}
 use Rattle.er_races.specs.Races.{ArePairs}
-use Rattle.er_buffer.specs.Buffered.{HoldsRest}
-use Rattle.er_buffer.specs.Lines.{lines_from}
+use Rattle.er_syntax.specs.Buffered.{HoldsRest}
+use Rattle.er_syntax.specs.Lines.{lines_from}
 use Rattle.er_json.specs.Pieces.{race_item}
 use Rattle.er_json.proofs.writer.put_races.Given as goal
 

@@ -1,10 +1,10 @@
 use Rattle.std.proofs.Common.{◌++◌, rules}
 use Rattle.std.proofs.lemmas.Result.{on_ok_weaker, on_err_weaker}
 use Rattle.er_outside.specs.Ends.{GetsPart}
-use Rattle.er_buffer.specs.Buffered.{HoldsRest}
+use Rattle.er_syntax.specs.Buffered.{HoldsRest}
 use Rattle.er_json.specs.Pieces.{before_groups, group_items, before_races, race_items, after_races, pieces_of}
-use Rattle.er_buffer.proofs.BufferedLemmas.{all_came, part_came}
-use Rattle.er_buffer.proofs.SequenceLemmas.{five_held, second_part, third_part, fourth_part, fifth_part}
+use Rattle.er_syntax.proofs.BufferedLemmas.{all_came, part_came}
+use Rattle.er_syntax.proofs.SequenceLemmas.{five_held, second_part, third_part, fourth_part, fifth_part}
 use Rattle.er_json.proofs.writer.put_report.Goals as goal
 
 pub returns-in_err-put_groups-clause-part : goal.returns-in_err-put_groups-clause-part

@@ -1,4 +1,4 @@
-use Rattle.er_json_line.proofs.RecordLemmas.{one_of_line, end_is_none}
+use Rattle.er_lines.proofs.json_line.RecordLemmas.{one_of_line, end_is_none}
 use Rattle.er_jsonl.proofs.laws.one_record.Goals as goal
 
 pub returns : goal.returns

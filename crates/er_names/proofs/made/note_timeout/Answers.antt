@@ -1,6 +1,6 @@
 use Rattle.std.proofs.Common.{subst}
 use Rattle.er_names.specs.Names.{HasRank}
-use Rattle.er_firsts.proofs.FirstLemmas.{note_keeps}
+use Rattle.er_history.proofs.FirstLemmas.{note_keeps}
 use Rattle.er_names.proofs.NamesLemmas.{timeouts_more}
 use Rattle.er_names.proofs.RankLemmas.{ranked_more}
 use Rattle.er_names.proofs.made.note_timeout.Goals as goal

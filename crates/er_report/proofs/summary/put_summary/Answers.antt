@@ -1,11 +1,11 @@
 use Rattle.std.proofs.Common.{◌++◌, codes, rules}
 use Rattle.std.proofs.lemmas.Result.{on_ok_weaker, on_err_weaker}
 use Rattle.er_outside.specs.Ends.{GetsPart}
-use Rattle.er_buffer.specs.Buffered.{HoldsRest}
-use Rattle.er_buffer.specs.Lines.{count_line}
+use Rattle.er_syntax.specs.Buffered.{HoldsRest}
+use Rattle.er_syntax.specs.Lines.{count_line}
 use Rattle.er_report.specs.Report.{group_lines, closing_lines, summary_of}
-use Rattle.er_buffer.proofs.BufferedLemmas.{all_came, part_came}
-use Rattle.er_buffer.proofs.SequenceLemmas.{three_held, second_of_three, third_of_three}
+use Rattle.er_syntax.proofs.BufferedLemmas.{all_came, part_came}
+use Rattle.er_syntax.proofs.SequenceLemmas.{three_held, second_of_three, third_of_three}
 use Rattle.er_report.proofs.summary.put_summary.Goals as goal
 
 pub returns-in_err-put_groups-clause-part : goal.returns-in_err-put_groups-clause-part

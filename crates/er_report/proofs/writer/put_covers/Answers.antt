@@ -1,7 +1,7 @@
 use Rattle.std.proofs.Common.{◌<◌, length, refl, rules, ◌∙◌}
 use Rattle.er_report.specs.Report.{cover_line}
-use Rattle.er_buffer.proofs.BufferedLemmas.{holds_start}
-use Rattle.er_buffer.proofs.SequenceLemmas.{line_held, line_part}
+use Rattle.er_syntax.proofs.BufferedLemmas.{holds_start}
+use Rattle.er_syntax.proofs.SequenceLemmas.{line_held, line_part}
 use Rattle.er_report.proofs.ReportLemmas.{name_at}
 use Rattle.er_report.proofs.writer.put_covers.Goals as goal
 

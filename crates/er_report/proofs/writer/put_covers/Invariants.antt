@@ -1,6 +1,6 @@
 use Rattle.std.proofs.Common.{◌≡◌, ◌++◌, take}
-use Rattle.er_buffer.specs.Buffered.{HoldsRest}
-use Rattle.er_buffer.specs.Lines.{lines_from}
+use Rattle.er_syntax.specs.Buffered.{HoldsRest}
+use Rattle.er_syntax.specs.Lines.{lines_from}
 use Rattle.er_report.specs.Report.{cover_line}
 use Rattle.er_report.proofs.writer.put_covers.Given as goal
 

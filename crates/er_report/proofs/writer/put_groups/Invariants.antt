@@ -1,7 +1,7 @@
 use Rattle.std.proofs.Common.{◌≡◌, ◌++◌, take}
 use Rattle.std.specs.List.{zip}
-use Rattle.er_buffer.specs.Buffered.{HoldsRest}
-use Rattle.er_buffer.specs.Lines.{lines_from}
+use Rattle.er_syntax.specs.Buffered.{HoldsRest}
+use Rattle.er_syntax.specs.Lines.{lines_from}
 use Rattle.er_report.specs.Report.{group_line}
 use Rattle.er_report.proofs.writer.put_groups.Given as goal
 

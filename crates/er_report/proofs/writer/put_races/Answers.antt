@@ -2,8 +2,8 @@ use Rattle.std.proofs.Common.{refl, rules, ◌∙◌}
 use Rattle.er_races.specs.declared.race.Race.{Race}
 use Rattle.er_report.specs.Pieces.{placed}
 use Rattle.er_report.specs.Report.{race_line}
-use Rattle.er_buffer.proofs.BufferedLemmas.{holds_start}
-use Rattle.er_buffer.proofs.SequenceLemmas.{line_held, line_part}
+use Rattle.er_syntax.proofs.BufferedLemmas.{holds_start}
+use Rattle.er_syntax.proofs.SequenceLemmas.{line_held, line_part}
 use Rattle.er_report.proofs.ReportLemmas.{reads_pair}
 use Rattle.er_report.proofs.writer.put_races.Goals as goal
 

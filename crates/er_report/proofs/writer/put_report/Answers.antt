@@ -1,10 +1,10 @@
 use Rattle.std.proofs.Common.{◌++◌, rules}
 use Rattle.std.proofs.lemmas.Result.{on_ok_weaker, on_err_weaker}
 use Rattle.er_outside.specs.Ends.{GetsPart}
-use Rattle.er_buffer.specs.Buffered.{HoldsRest}
+use Rattle.er_syntax.specs.Buffered.{HoldsRest}
 use Rattle.er_report.specs.Report.{opening_line, race_lines, cover_lines, group_lines, closing_lines, report_of}
-use Rattle.er_buffer.proofs.BufferedLemmas.{all_came, part_came}
-use Rattle.er_buffer.proofs.SequenceLemmas.{five_held, second_part, third_part, fourth_part, fifth_part}
+use Rattle.er_syntax.proofs.BufferedLemmas.{all_came, part_came}
+use Rattle.er_syntax.proofs.SequenceLemmas.{five_held, second_part, third_part, fourth_part, fifth_part}
 use Rattle.er_report.proofs.writer.put_report.Goals as goal
 
 pub returns-in_err-put_races-clause-part : goal.returns-in_err-put_races-clause-part

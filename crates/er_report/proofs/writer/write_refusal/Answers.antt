@@ -3,7 +3,7 @@ use Rattle.std.proofs.lemmas.Grind.{common_steps}
 use Rattle.er_outside.specs.Ends.{GetsPart}
 use Rattle.er_outside.proofs.Puts.{composes}
 use Rattle.er_report.specs.Report.{refusal}
-use Rattle.er_buffer.proofs.BufferedLemmas.{all_came, part_came}
+use Rattle.er_syntax.proofs.BufferedLemmas.{all_came, part_came}
 use Rattle.er_report.proofs.writer.write_refusal.Goals as goal
 
 pub returns-in_err-flush : goal.returns-in_err-flush

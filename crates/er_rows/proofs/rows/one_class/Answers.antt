@@ -1,6 +1,6 @@
 use Rattle.std.proofs.Common.{refl}
 use Rattle.std.specs.Fmt.{digits}
-use Rattle.er_buffer.specs.Lines.{item_line}
+use Rattle.er_syntax.specs.Lines.{item_line}
 use Rattle.er_rows.proofs.rows.one_class.Goals as goal
 
 pub returns : goal.returns

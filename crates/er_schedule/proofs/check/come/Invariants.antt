@@ -1,5 +1,5 @@
 use Rattle.std.proofs.Common.{◌≡◌, drop, length}
-use Rattle.er_links.specs.Links.{links_of}
+use Rattle.er_paths.specs.links.Links.{links_of}
 use Rattle.er_clocks.specs.Clock.{Tells}
 use Rattle.er_schedule.specs.Marks.{all_come}
 use Rattle.er_schedule.proofs.check.come.Given as goal

@@ -1,5 +1,5 @@
 use Rattle.std.proofs.Common.{◌≡◌, ◌-◌, ◌≤◌, drop}
-use Rattle.er_orders.specs.Orders.{is_next}
+use Rattle.er_paths.specs.orders.Orders.{is_next}
 use Rattle.er_schedule.proofs.check.stands_before.Given as goal
 
 -- the rest of the order decides

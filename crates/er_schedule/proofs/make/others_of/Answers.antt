@@ -1,6 +1,6 @@
 use Rattle.std.proofs.Common.{arith}
 use Rattle.er_paths.specs.Paths.{joins}
-use Rattle.er_orders.specs.Orders.{comes_before, comes_after}
+use Rattle.er_paths.specs.orders.Orders.{comes_before, comes_after}
 use Rattle.er_schedule.proofs.MakeLemmas.{part_more, part_whole}
 use Rattle.er_schedule.proofs.make.others_of.Goals as goal
 

@@ -1,9 +1,9 @@
 use Rattle.std.proofs.Common.{◌≡◌}
 use Rattle.std.specs.List.{filter}
 use Rattle.er_paths.specs.Paths.{joins}
-use Rattle.er_links.specs.Links.{numbers_below}
+use Rattle.er_paths.specs.links.Links.{numbers_below}
 use Rattle.er_clocks.specs.Clock.{Tells}
-use Rattle.er_orders.specs.Orders.{comes_before, comes_after}
+use Rattle.er_paths.specs.orders.Orders.{comes_before, comes_after}
 use Rattle.er_schedule.proofs.make.others_of.Given as goal
 
 -- of the actions so far those that pass

@@ -1,8 +1,8 @@
 use Rattle.std.proofs.Common.{refl, rules, get_or, ◌∙◌}
 use Rattle.std.proofs.lemmas.Option.{slice_get-get_or}
 use Rattle.er_schedule.specs.Text.{order_line}
-use Rattle.er_buffer.proofs.BufferedLemmas.{holds_start}
-use Rattle.er_buffer.proofs.SequenceLemmas.{line_held, line_part}
+use Rattle.er_syntax.proofs.BufferedLemmas.{holds_start}
+use Rattle.er_syntax.proofs.SequenceLemmas.{line_held, line_part}
 use Rattle.er_schedule.proofs.write.put_order.Goals as goal
 
 pub loop-k-init : goal.loop-k-init

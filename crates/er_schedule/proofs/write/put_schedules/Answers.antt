@@ -1,11 +1,11 @@
 use Rattle.std.proofs.Common.{◌++◌, rules, codes}
 use Rattle.std.proofs.lemmas.Result.{on_ok_weaker, on_err_weaker}
 use Rattle.er_outside.specs.Ends.{GetsPart}
-use Rattle.er_buffer.specs.Buffered.{HoldsRest}
+use Rattle.er_syntax.specs.Buffered.{HoldsRest}
 use Rattle.er_report.specs.Pieces.{both_at}
 use Rattle.er_report.specs.Report.{race_line}
-use Rattle.er_buffer.proofs.BufferedLemmas.{all_came, part_came}
-use Rattle.er_buffer.proofs.SequenceLemmas.{five_held, second_part, third_part, fourth_part, fifth_part}
+use Rattle.er_syntax.proofs.BufferedLemmas.{all_came, part_came}
+use Rattle.er_syntax.proofs.SequenceLemmas.{five_held, second_part, third_part, fourth_part, fifth_part}
 use Rattle.er_schedule.specs.Text.{opening_line, order_lines, end_line, schedules_of}
 use Rattle.er_schedule.proofs.write.put_schedules.Goals as goal
 

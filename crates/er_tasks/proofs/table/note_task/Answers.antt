@@ -1,6 +1,6 @@
 use Rattle.std.proofs.Common.{◌≡◌, subst}
 use Rattle.std.specs.Prelude.{IfSome}
-use Rattle.er_firsts.proofs.FirstLemmas.{note_keeps}
+use Rattle.er_history.proofs.FirstLemmas.{note_keeps}
 use Rattle.er_tasks.proofs.TaskLemmas.{declared_more, tasks_ranked_more}
 use Rattle.er_tasks.proofs.table.note_task.Goals as goal
 

@@ -1,5 +1,5 @@
 use Rattle.std.proofs.Common.{sym, ap, subst, ◌∙◌}
-use Rattle.er_firsts.specs.Noted.{is_number}
+use Rattle.er_history.specs.Noted.{is_number}
 use Rattle.er_tasks.specs.Tasks.{TaskGiven}
 use Rattle.er_tasks.proofs.TaskLemmas.{none_given, given_at}
 use Rattle.er_tasks.proofs.table.task_in.Goals as goal

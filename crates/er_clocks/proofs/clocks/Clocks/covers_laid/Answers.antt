@@ -1,5 +1,5 @@
 use Rattle.std.proofs.Common.{arith}
-use Rattle.er_links.proofs.Fits.{chain_number_short}
+use Rattle.er_paths.proofs.links.Fits.{chain_number_short}
 use Rattle.er_clocks.proofs.LookUps.{as_seen, chain_seen}
 use Rattle.er_clocks.proofs.clocks.Clocks.covers_laid.Goals as goal
 

@@ -1,6 +1,6 @@
 use Rattle.std.proofs.Common.{[], ◌≡◌, ◌≢◌, ◌∙◌, ℕ, List, length, slice_index, ap, sym, arith}
-use Rattle.er_links.specs.Chains.{chains, chain_of, members}
-use Rattle.er_links.proofs.Fits.{chain_number_short}
+use Rattle.er_paths.specs.links.Chains.{chains, chain_of, members}
+use Rattle.er_paths.proofs.links.Fits.{chain_number_short}
 use Rattle.er_clocks.proofs.LookUps.{as_seen, begun_seen, chain_few, chain_seen, chains_seen, rows_in}
 use Rattle.er_clocks.proofs.Places.{fit_above, fit_here, length_at}
 use Rattle.er_clocks.proofs.clocks.Clocks.fit_like.Goals as goal

@@ -1,6 +1,6 @@
 use Rattle.std.proofs.Common.{◌≡◌, ◌∙◌, ℕ, true, slice_index, sym, ap, inr, arith}
 use Rattle.er_paths.specs.Paths.{is_among}
-use Rattle.er_links.specs.Links.{links_of}
+use Rattle.er_paths.specs.links.Links.{links_of}
 use Rattle.er_clocks.proofs.Again.{link_before, number_stands}
 use Rattle.er_clocks.proofs.clocks.Clocks.found_with.Goals as goal
 

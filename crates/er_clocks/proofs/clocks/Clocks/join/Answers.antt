@@ -1,7 +1,7 @@
 use Rattle.std.proofs.Common.{[], ◌≡◌, ◌<◌, ◌+◌, ◌∙◌, ℕ, List, suc, length, slice_index, ap, arith}
 use Rattle.std.specs.Prelude.{◌==◌, if◌then◌else◌}
 use Rattle.std.proofs.lemmas.List.Elements.{All-get_or}
-use Rattle.er_links.specs.Chains.{chain_of, place_of}
+use Rattle.er_paths.specs.links.Chains.{chain_of, place_of}
 use Rattle.er_clocks.proofs.Entries.{reach_raised}
 use Rattle.er_clocks.proofs.Twins.{reach_twin, link_reached}
 use Rattle.er_clocks.proofs.LookUps.{as_seen, chain_seen, place_few, place_seen, row_seen}

@@ -1,5 +1,5 @@
 use Rattle.std.proofs.Common.{◌≡◌, ◌+◌, ◌∙◌, suc, arith}
-use Rattle.er_links.specs.Chains.{place_of}
+use Rattle.er_paths.specs.links.Chains.{place_of}
 use Rattle.er_clocks.proofs.Again.{only_links, only_reached}
 use Rattle.er_clocks.proofs.LookUps.{as_seen, place_few, place_seen}
 use Rattle.er_clocks.proofs.clocks.Clocks.sources_behind.Goals as goal

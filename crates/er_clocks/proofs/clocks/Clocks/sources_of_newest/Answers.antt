@@ -1,5 +1,5 @@
 use Rattle.std.proofs.Common.{◌≡◌, ◌+◌, ◌-◌, ℕ, length, refl, arith}
-use Rattle.er_links.specs.Links.{links_of}
+use Rattle.er_paths.specs.links.Links.{links_of}
 use Rattle.er_clocks.proofs.Again.{links_repeated, reach_repeated}
 use Rattle.er_clocks.proofs.LookUps.{as_seen, place_few, place_seen}
 use Rattle.er_clocks.proofs.clocks.Clocks.sources_of_newest.Goals as goal

@@ -1,5 +1,5 @@
 use Rattle.std.proofs.Common.{arith}
-use Rattle.er_links.proofs.Fits.{chain_number_short}
+use Rattle.er_paths.proofs.links.Fits.{chain_number_short}
 use Rattle.er_clocks.proofs.LookUps.{as_seen, chain_seen, place_few}
 use Rattle.er_clocks.proofs.clocks.Clocks.target.Goals as goal
 

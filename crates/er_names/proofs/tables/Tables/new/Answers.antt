@@ -1,8 +1,8 @@
 use Rattle.std.proofs.Common.{[], ap, is_some, option_map, refl}
 use Rattle.er_history.specs.LookUps.{place_of}
 use Rattle.er_names.specs.Names.{rank_of, element_of, setting_of}
-use Rattle.er_firsts.proofs.FirstLemmas.{none_found, none_made, none_given}
-use Rattle.er_firsts.proofs.RankLemmas.{none_ranked}
+use Rattle.er_history.proofs.FirstLemmas.{none_found, none_made, none_given}
+use Rattle.er_history.proofs.RankLemmas.{none_ranked}
 use Rattle.er_names.proofs.tables.Tables.new.Goals as goal
 
 pub returns : goal.returns

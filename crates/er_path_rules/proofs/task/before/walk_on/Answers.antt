@@ -4,7 +4,7 @@ use Rattle.er_trace.specs.declared.version.Version.TheVariants.{Three}
 use Rattle.er_history.specs.History.{told}
 use Rattle.er_history.specs.Rules.{rules}
 use Rattle.er_history.specs.Edges.{edges, path}
-use Rattle.er_hand.proofs.HandingLemmas.{one_event}
+use Rattle.er_page.proofs.HandingLemmas.{one_event}
 use Rattle.er_path_rules.specs.task.Before.{event_in}
 use Rattle.er_path_rules.proofs.task.WalkLemmas.{paths_go_on, walk_covered, walk_past, walk_handed, last_piece, last_left, no_begun, event_among, nothing_grew}
 use Rattle.er_path_rules.proofs.task.before.walk_on.Goals as goal

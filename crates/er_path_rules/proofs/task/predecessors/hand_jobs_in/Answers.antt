@@ -1,5 +1,5 @@
 use Rattle.er_history.specs.Kinds.{is_job_within}
-use Rattle.er_hand.proofs.HandingLemmas.{slice_events}
+use Rattle.er_page.proofs.HandingLemmas.{slice_events}
 use Rattle.er_path_rules.proofs.task.HandLemmas.{within_whole, within_part}
 use Rattle.er_path_rules.proofs.task.predecessors.hand_jobs_in.Goals as goal
 

@@ -2,7 +2,7 @@ use Rattle.std.proofs.Common.{◌-◌, ◌∙◌, get_or, sym, subst, arith, Som
 use Rattle.er_history.specs.History.{told}
 use Rattle.er_history.specs.Latest.{latest_of}
 use Rattle.er_history.specs.Naming.{fires_timeout}
-use Rattle.er_hand.proofs.HandingLemmas.{made_events}
+use Rattle.er_page.proofs.HandingLemmas.{made_events}
 use Rattle.er_pieces.specs.Contract.{GrewBy}
 use Rattle.er_path_rules.specs.timer.Walk.{IsWalk}
 use Rattle.er_path_rules.proofs.timer.WalkLemmas.{no_fired, stands, set_at, counted_at, last_set, is_run, not_before, walk_covered, walk_missed, walk_handed, nothing_grew}

@@ -1,5 +1,5 @@
 use Rattle.er_trace.specs.declared.record.Record.TheVariants.{Timer}
-use Rattle.er_hand.proofs.HandingLemmas.{named_list}
+use Rattle.er_page.proofs.HandingLemmas.{named_list}
 use Rattle.er_path_rules.specs.timer.Enough.{timer_due}
 use Rattle.er_path_rules.specs.timer.Fired.{due_for, tick_handed}
 use Rattle.er_path_rules.proofs.timer.GrownLemmas.{enough_as, some_as}

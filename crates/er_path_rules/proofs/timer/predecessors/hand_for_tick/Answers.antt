@@ -3,7 +3,7 @@ use Rattle.er_history.specs.History.{told, declares_interval}
 use Rattle.er_history.specs.Latest.{newest, latest_of}
 use Rattle.er_history.specs.Kinds.{is_tick_of}
 use Rattle.er_page.specs.Page.{IsPage}
-use Rattle.er_hand.proofs.HandingLemmas.{newest_events, made_events}
+use Rattle.er_page.proofs.HandingLemmas.{newest_events, made_events}
 use Rattle.er_pieces.proofs.SequenceLemmas.{whole_then, part_then, part_first}
 use Rattle.er_path_rules.specs.timer.Fired.{tick_handed}
 use Rattle.er_path_rules.proofs.timer.TimersLemmas.{tick_is_due}

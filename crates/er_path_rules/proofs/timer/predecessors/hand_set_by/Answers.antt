@@ -3,7 +3,7 @@ use Rattle.std.specs.Prelude.{map}
 use Rattle.er_history.specs.History.{told}
 use Rattle.er_history.specs.Latest.{latest_piece}
 use Rattle.er_names.specs.Fired.{number_of, sets}
-use Rattle.er_hand.proofs.HandingLemmas.{named_list}
+use Rattle.er_page.proofs.HandingLemmas.{named_list}
 use Rattle.er_path_rules.specs.timer.Fired.{handed_for_each, fired_handed}
 use Rattle.er_path_rules.proofs.timer.GrownLemmas.{grew_all, grew_front, enough_then, some_then, some_at_first}
 use Rattle.er_path_rules.proofs.timer.TimersLemmas.{latest_stand}

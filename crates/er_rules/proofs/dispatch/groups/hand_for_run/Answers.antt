@@ -3,7 +3,7 @@ use Rattle.std.specs.Prelude.{nat_lt}
 use Rattle.er_history.specs.History.{told}
 use Rattle.er_history.specs.Latest.{latest_of}
 use Rattle.er_page.specs.Page.{IsPage}
-use Rattle.er_hand.proofs.HandingLemmas.{made_events}
+use Rattle.er_page.proofs.HandingLemmas.{made_events}
 use Rattle.er_history.specs.History.{declares_handler}
 use Rattle.er_pieces.specs.HandedPieces.{runs_or_begin, group_handed}
 use Rattle.er_pieces.proofs.SequenceLemmas.{whole_then, part_then, part_first}

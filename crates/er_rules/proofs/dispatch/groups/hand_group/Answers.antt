@@ -2,7 +2,7 @@ use Rattle.std.specs.Prelude.{reverse}
 use Rattle.er_history.specs.History.{told}
 use Rattle.er_history.specs.Latest.{latest_of}
 use Rattle.er_page.specs.Page.{IsPage}
-use Rattle.er_hand.proofs.HandingLemmas.{made_events, slice_events, named_list}
+use Rattle.er_page.proofs.HandingLemmas.{made_events, slice_events, named_list}
 use Rattle.er_history.specs.Naming.{begins_dispatch}
 use Rattle.er_history.specs.Kinds.{is_handler_of}
 use Rattle.std.specs.Prelude.{◌==◌}

@@ -2,7 +2,7 @@ use Rattle.std.proofs.Common.{◌++◌}
 use Rattle.er_history.specs.History.{told}
 use Rattle.er_history.specs.Latest.{latest_of}
 use Rattle.er_page.specs.Page.{IsPage}
-use Rattle.er_hand.proofs.HandingLemmas.{element_events}
+use Rattle.er_page.proofs.HandingLemmas.{element_events}
 use Rattle.er_pieces.specs.Contract.{listed}
 use Rattle.er_pieces.proofs.SequenceLemmas.{whole_then, part_then, part_first}
 use Rattle.er_rules.specs.dispatch.Due.{closed_at, at_element}

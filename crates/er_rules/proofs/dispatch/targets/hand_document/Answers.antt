@@ -2,7 +2,7 @@ use Rattle.er_history.specs.History.{told}
 use Rattle.er_history.specs.Latest.{latest_of}
 use Rattle.er_history.specs.LookUps.{maker_of_document}
 use Rattle.er_page.specs.Page.{IsPage}
-use Rattle.er_hand.proofs.HandingLemmas.{made_events}
+use Rattle.er_page.proofs.HandingLemmas.{made_events}
 use Rattle.er_history.specs.History.{declares_document}
 use Rattle.er_pieces.proofs.SequenceLemmas.{whole_of, part_of}
 use Rattle.er_rules.proofs.dispatch.targets.hand_document.Goals as goal

@@ -3,7 +3,7 @@ use Rattle.er_history.specs.History.{History}
 use Rattle.er_history.specs.Kinds.{is_run_of, is_static_async}
 use Rattle.er_pieces.specs.Contract.{latest_of_all}
 use Rattle.er_pieces.proofs.LookUpLemmas.{slice_handed}
-use Rattle.er_hand.proofs.HandingLemmas.{slice_events, on_ok_as, on_err_as}
+use Rattle.er_page.proofs.HandingLemmas.{slice_events, on_ok_as, on_err_as}
 use Rattle.er_rules.specs.load.Loads.{async_part}
 use Rattle.er_rules.proofs.load.due.hand_async.Goals as goal
 

@@ -1,7 +1,7 @@
 use Rattle.std.proofs.Common.{◌++◌}
 use Rattle.er_trace.proofs.ResultLaws.{on_err}
 use Rattle.er_history.specs.History.{History}
-use Rattle.er_hand.proofs.HandingLemmas.{grew_on, part_first, part_later, on_ok_then, on_err_then}
+use Rattle.er_page.proofs.HandingLemmas.{grew_on, part_first, part_later, on_ok_then, on_err_then}
 use Rattle.er_rules.specs.load.Loads.{maker_part, run_part, inner_part}
 use Rattle.er_rules.proofs.load.due.hand_before_eload.Goals as goal
 

@@ -2,7 +2,7 @@ use Rattle.std.proofs.Common.{◌++◌}
 use Rattle.er_trace.proofs.ResultLaws.{on_err}
 use Rattle.er_history.specs.History.{History}
 use Rattle.er_pieces.specs.HandedPieces.{dcl_handed}
-use Rattle.er_hand.proofs.HandingLemmas.{grew_on, part_first, part_later, on_ok_then, on_err_then}
+use Rattle.er_page.proofs.HandingLemmas.{grew_on, part_first, part_later, on_ok_then, on_err_then}
 use Rattle.er_rules.specs.load.Loads.{dcl_part, async_part, static_part}
 use Rattle.er_rules.proofs.load.due.hand_before_load.Goals as goal
 

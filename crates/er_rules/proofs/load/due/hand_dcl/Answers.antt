@@ -1,4 +1,4 @@
-use Rattle.er_hand.proofs.HandingLemmas.{latest_in, on_ok_as, on_err_as}
+use Rattle.er_page.proofs.HandingLemmas.{latest_in, on_ok_as, on_err_as}
 use Rattle.er_rules.specs.load.Loads.{dcl_part}
 use Rattle.er_rules.proofs.load.DueLemmas.{dcl_events, dcl_is}
 use Rattle.er_rules.proofs.load.due.hand_dcl.Goals as goal

@@ -1,7 +1,7 @@
 use Rattle.std.proofs.Common.{sym, ap, ◌∙◌}
 use Rattle.er_history.specs.History.{History, told}
 use Rattle.er_pieces.specs.HandedPieces.{load_handed}
-use Rattle.er_hand.proofs.HandingLemmas.{on_ok_as, on_err_as}
+use Rattle.er_page.proofs.HandingLemmas.{on_ok_as, on_err_as}
 use Rattle.er_rules.specs.load.Loads.{window_parts, eload_parts}
 use Rattle.er_rules.proofs.load.DueLemmas.{eload_parts_are}
 use Rattle.er_rules.proofs.load.due.hand_due.Goals as goal

@@ -1,4 +1,4 @@
-use Rattle.er_hand.proofs.HandingLemmas.{latest_in, on_ok_as, on_err_as}
+use Rattle.er_page.proofs.HandingLemmas.{latest_in, on_ok_as, on_err_as}
 use Rattle.er_rules.specs.load.Loads.{inner_part}
 use Rattle.er_rules.proofs.load.DueLemmas.{inner_events, inner_is}
 use Rattle.er_rules.proofs.load.due.hand_inner.Goals as goal

@@ -1,6 +1,6 @@
 use Rattle.er_history.specs.History.{History}
 use Rattle.er_history.specs.History.{element_maker}
-use Rattle.er_hand.proofs.HandingLemmas.{latest_in, look_up_is, element_events, on_ok_as, on_err_as}
+use Rattle.er_page.proofs.HandingLemmas.{latest_in, look_up_is, element_events, on_ok_as, on_err_as}
 use Rattle.er_rules.specs.load.Loads.{maker_part}
 use Rattle.er_rules.proofs.load.due.hand_maker.Goals as goal
 

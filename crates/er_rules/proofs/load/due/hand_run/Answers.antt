@@ -1,5 +1,5 @@
 use Rattle.er_history.specs.Naming.{runs_script}
-use Rattle.er_hand.proofs.HandingLemmas.{latest_in, made_events, on_ok_as, on_err_as}
+use Rattle.er_page.proofs.HandingLemmas.{latest_in, made_events, on_ok_as, on_err_as}
 use Rattle.er_rules.specs.load.Loads.{run_part}
 use Rattle.er_rules.proofs.load.DueLemmas.{run_is}
 use Rattle.er_rules.proofs.load.due.hand_run.Goals as goal

@@ -2,7 +2,7 @@ use Rattle.er_trace.proofs.ResultLaws.{on_err}
 use Rattle.er_history.specs.History.{History, maker_by, declares_document}
 use Rattle.er_history.specs.Kinds.{is_step_of}
 use Rattle.er_history.specs.Latest.{latest_of}
-use Rattle.er_hand.proofs.HandingLemmas.{newest_in, latest_in, newest_events, made_events, look_up_is, grew_newest, part_newest, on_ok_as, on_err_as, part_first, on_ok_then, on_err_then}
+use Rattle.er_page.proofs.HandingLemmas.{newest_in, latest_in, newest_events, made_events, look_up_is, grew_newest, part_newest, on_ok_as, on_err_as, part_first, on_ok_then, on_err_then}
 use Rattle.er_rules.proofs.parse.due.hand_step.Goals as goal
 
 pub hand_latest-requires : goal.hand_latest-requires

@@ -3,7 +3,7 @@ use Rattle.er_history.specs.History.{told, declares_request}
 use Rattle.er_history.specs.Latest.{newest, latest_of}
 use Rattle.er_history.specs.Kinds.{closes, is_reply_of}
 use Rattle.er_page.specs.Page.{IsPage}
-use Rattle.er_hand.proofs.HandingLemmas.{newest_events, made_events}
+use Rattle.er_page.proofs.HandingLemmas.{newest_events, made_events}
 use Rattle.er_pieces.proofs.SequenceLemmas.{whole_then, part_then, part_first}
 use Rattle.er_rules.specs.request.Replies.{reply_handed}
 use Rattle.er_rules.proofs.request.RepliesLemmas.{both_are_due}

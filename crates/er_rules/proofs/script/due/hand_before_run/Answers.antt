@@ -3,7 +3,7 @@ use Rattle.er_trace.proofs.ResultLaws.{on_err}
 use Rattle.er_history.specs.History.{History, told, element_maker, first_to, makes_element}
 use Rattle.er_history.specs.Latest.{latest_of}
 use Rattle.er_pieces.specs.HandedPieces.{run_handed}
-use Rattle.er_hand.proofs.HandingLemmas.{latest_in, element_events, look_up_is, grew_as, part_as, part_first, on_ok_as, on_err_as, on_ok_then, on_err_then}
+use Rattle.er_page.proofs.HandingLemmas.{latest_in, element_events, look_up_is, grew_as, part_as, part_first, on_ok_as, on_err_as, on_ok_then, on_err_then}
 use Rattle.er_rules.specs.script.Scripts.{before_deferred}
 use Rattle.er_rules.proofs.script.DueLemmas.{run_parts}
 use Rattle.er_rules.proofs.script.due.hand_before_run.Goals as goal

@@ -1,6 +1,6 @@
 use Rattle.er_history.specs.Kinds.{is_run_of}
 use Rattle.er_history.specs.Rules.{is_blocking}
-use Rattle.er_hand.proofs.HandingLemmas.{newest_events, on_ok_newest, on_err_newest}
+use Rattle.er_page.proofs.HandingLemmas.{newest_events, on_ok_newest, on_err_newest}
 use Rattle.er_rules.proofs.script.due.hand_blocking.Goals as goal
 
 pub hand_latest-requires : goal.hand_latest-requires

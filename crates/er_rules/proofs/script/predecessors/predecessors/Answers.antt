@@ -5,7 +5,7 @@ use Rattle.er_pieces.specs.HandedPieces.{script_handed}
 use Rattle.er_pieces.proofs.ContractLemmas.{enough_by, sources_by, few_by}
 use Rattle.er_pieces.proofs.CountLaws.{script_hands_at_most}
 use Rattle.er_pieces.proofs.HandsScript.{hands_script}
-use Rattle.er_hand.proofs.HandingLemmas.{stays_in_front}
+use Rattle.er_page.proofs.HandingLemmas.{stays_in_front}
 use Rattle.er_rules.proofs.script.predecessors.predecessors.Goals as goal
 
 pub returns-clause-enough : goal.returns-clause-enough

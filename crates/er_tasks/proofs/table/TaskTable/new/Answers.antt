@@ -2,7 +2,7 @@ use Rattle.std.proofs.Common.{[], refl, rules, sym, subst}
 use Rattle.er_history.specs.Tasks.{task_place}
 use Rattle.er_tasks.specs.Begun.{AreBegun}
 use Rattle.er_tasks.specs.Tasks.{task_rank}
-use Rattle.er_firsts.proofs.RankLemmas.{none_ranked}
+use Rattle.er_history.proofs.RankLemmas.{none_ranked}
 use Rattle.er_tasks.proofs.TaskLemmas.{none_begun}
 use Rattle.er_tasks.proofs.table.TaskTable.new.Goals as goal
 

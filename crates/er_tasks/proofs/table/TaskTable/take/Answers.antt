@@ -3,10 +3,10 @@ use Rattle.std.specs.Prelude.{IfSome, IsSome, Some, nat_eq}
 use Rattle.indexmap.specs.IndexMap.{get, index_map_len}
 use Rattle.er_history.specs.Tasks.{starts_task, tasks_begun}
 use Rattle.er_tasks.specs.Begun.{AreBegun}
-use Rattle.er_firsts.specs.Taken.{KeepsEach}
-use Rattle.er_firsts.specs.Noted.{is_number}
+use Rattle.er_history.specs.Taken.{KeepsEach}
+use Rattle.er_history.specs.Noted.{is_number}
 use Rattle.er_tasks.specs.Tasks.{IsStarted, numbers_in, TasksDeclared, TasksAreRanked}
-use Rattle.er_firsts.specs.Found.{MakersAre}
+use Rattle.er_history.specs.Found.{MakersAre}
 use Rattle.er_tasks.proofs.TaskLemmas.{made_there, made_found, starts_number, started_listed, still_begun}
 use Rattle.er_tasks.proofs.table.TaskTable.take.Goals as goal
 

@@ -1,3 +1,0 @@
-pub mod BufferedLemmas
-pub mod LineLemmas
-pub mod SequenceLemmas

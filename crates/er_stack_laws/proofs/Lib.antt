@@ -1,5 +1,0 @@
-pub mod ClosingLemmas
-pub mod KeptLemmas
-pub mod NamedLemmas
-pub mod BackLemmas
-pub mod PieceLemmas
