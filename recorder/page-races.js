@@ -4,13 +4,21 @@
 
 const fs = require('node:fs');
 const path = require('node:path');
-const { parseOptions, UsageFault, USAGE } = require('./options.js');
+const { resolveAddress } = require('./browser/folder.js');
+const { Known, KnownFault } = require('./list/known.js');
+const { Listing } = require('./list/listing.js');
+const { writeOutputs } = require('./list/outputs.js');
+const { WriteFault } = require('./list/whole-file.js');
+const { parseOptions, UsageFault, USAGE, REPLAY_USAGE } = require('./options.js');
 const { recordInto } = require('./record.js');
+const { Recorder, RecordingFault } = require('./recorder.js');
+const { Replay, withEnd, chance, verdictInWords, plain } = require('./replay/replay.js');
 const { NEWEST_VERSION } = require('./trace/spelling.js');
 const { runProgram } = require('./view/program.js');
-const { view, besides } = require('./view.js');
+const { view, writePage, besides } = require('./view.js');
 
 const USAGE_STATUS = 2;
+const WRITE_STATUS = 5;
 
 /** The folder for a page: by its name, in the current one. */
 function folderFor(given) {
@@ -19,38 +27,153 @@ function folderFor(given) {
   return `${last.replace(/[^\w.-]+/g, '-')}.races`;
 }
 
-/** The races to look at first, in words: the first of each group. */
-function tell(model) {
-  model.groups.forEach(({ race, size }, k) => {
-    const more = size > 1 ? ` (and ${size - 1} more)` : '';
-    console.log(`${k + 1}. ${model.races[race].words}${more}`);
-  });
-  if (!model.groups.length) console.log('No race.');
+const SIGNALS = ['SIGINT', 'SIGTERM', 'SIGHUP'];
+const STOPPED = 130;
+
+/** Does something that a signal stops. */
+async function stoppable(stop, work) {
+  SIGNALS.forEach((signal) => process.on(signal, stop));
+  try {
+    return await work();
+  } finally {
+    SIGNALS.forEach((signal) => process.off(signal, stop));
+  }
 }
 
-async function pageRaces(given, options) {
-  const folder = folderFor(given);
-  fs.mkdirSync(folder, { recursive: true });
-  const traceFile = path.join(folder, 'page.trace');
-  const recorded = await recordInto(given, traceFile, options);
-  if (recorded !== 0) return recorded;
+/** Records a page once. Answers the status where it ended early, and else what the program and the list say of it. */
+async function recordRun(given, traceFile, options, recorder, known) {
+  const recorded = await recordInto(given, traceFile, options, recorder);
+  if (recorded !== 0) return { status: recorded };
+  return stoppable(() => process.exit(STOPPED), () => judgeAndView(traceFile, known)); // a browser may still run
+}
+
+async function judgeAndView(traceFile, known) {
   const { output } = await runProgram([], traceFile);
   fs.writeFileSync(besides(traceFile, '.report'), output);
-  const { status, model } = await view(traceFile, 'er_page');
-  if (!model) return status;
-  tell(model);
-  console.log(`${folder}: page.trace, page.names.json, page.report, page.html`);
+  return view(traceFile, 'er_page', known);
+}
+
+/** A run's files: those of the first one stand in the folder, those of the others in `runs`. */
+function fileOfRun(folder, k) {
+  if (k === 0) return path.join(folder, 'page.trace');
+  fs.mkdirSync(path.join(folder, 'runs'), { recursive: true });
+  return path.join(folder, 'runs', `${k + 1}.trace`);
+}
+
+const folderOf = (given, options) => resolveAddress(given, options.root).folder;
+
+async function pageRaces(given, options) {
+  const known = options.known ? Known.readFile(options.known, options.writesKnown) : null;
+  const folder = folderFor(given);
+  fs.mkdirSync(folder, { recursive: true });
+  fs.rmSync(path.join(folder, 'runs'), { recursive: true, force: true });
+  fs.rmSync(path.join(folder, 'page.replay.json'), { force: true });
+  const first = new Recorder(given, options.isReplayed ? withEnd({ ...options, keepsBrowser: true, fixed: chance(options) }) : options);
+  const runs = [];
+  try {
+    for (let k = 0; k < options.runs; k++) {
+      const own = { ...options, seed: options.seed + k, salt: k };
+      const run = await recordRun(given, fileOfRun(folder, k), own, k === 0 ? first : new Recorder(given, own), known);
+      if (!run.model && !runs.length) return run.status;
+      if (!run.model) {
+        console.error(`er_page: run ${k + 1} of ${options.runs} failed: the list is that of the runs before`);
+        await tellRuns(runs, known, first, { given, folder, options });
+        return run.status;
+      }
+      runs.push(run);
+    }
+    return await tellRuns(runs, known, first, { given, folder, options });
+  } finally {
+    if (options.isReplayed) await first.browser?.close();
+  }
+}
+
+/** Tells the list of all runs. Answers the status: 0 where no race came, or none that is not known. */
+async function tellRuns(runs, known, recorder, { given, folder, options }) {
+  const listing = new Listing(runs.map(({ problems }) => problems), known);
+  const status = listing.fresh().length ? 1 : 0;
+  const files = runs.map((run, k) => fileOfRun(folder, k));
+  writeOutputs(listing, options, { page: given, status, files, folder: folderOf(given, options) });
+  const [{ report, model }] = runs;
+  const hasReplays = options.isReplayed && model.groups.length > 0;
+  const replayed = hasReplays ? await replayRaces(recorder, options, files[0], { report, model, listing }) : 0;
+  const others = [...hasReplays ? ['page.replay.json'] : [], ...runs.length > 1 ? [`runs/2 to runs/${runs.length}`] : []];
+  (options.isJson ? console.error : console.log)(`${folder}: ${['page.trace', 'page.names.json', 'page.report', 'page.html', ...others].join(', ')}`);
+  return replayed || status;
+}
+
+/** The number of the race by which a problem is told. */
+const raceOf = ({ races, first }) => (first ?? races[0]) + 1;
+
+/** The line of the list in which a race stands, as words. */
+function lineOf(listing, number) {
+  const line = listing.told().findIndex(({ line: told }) => raceOf(told) === number);
+  return line >= 0 ? `${line + 1}.` : `race ${number}:`;
+}
+
+/** The races that are asked for: by their numbers, else the first of each line of the list. */
+function racesToReplay({ races, most }, model, listing) {
+  const numbers = races.length ? races : [...listing.told().map(({ line }) => line), ...listing.knownLines()].map(raceOf);
+  const wrong = numbers.find((number) => !model.races[number - 1]);
+  if (wrong !== undefined) console.error(`er_page: there is no race ${wrong}`);
+  return [...new Set(numbers)].filter((number) => model.races[number - 1]).slice(0, most);
+}
+
+/** Runs the page again for each race. Answers 0, or the status with which it was stopped. */
+async function replayRaces(recorder, options, traceFile, { report, model, listing }) {
+  const replay = new Replay(recorder, options, traceFile, report);
+  const results = [];
+  let status = 0;
+  const say = options.isJson ? console.error : console.log;
+  say('Each run again in the other order:');
+  try {
+    const numbers = racesToReplay(options, model, listing);
+    await stoppable(() => replay.interrupt(), () => turnEach(replay, numbers, results, (number, words) => say(`${lineOf(listing, number)} ${words}`)));
+  } catch (fault) {
+    if (!(fault instanceof RecordingFault)) throw fault;
+    console.error(`er_page: ${fault.message}`);
+    status = fault.status;
+  } finally {
+    await replay.pictures.close();
+  }
+  const turned = results.filter(({ result }) => result.verdict === 'turned');
+  const differing = turned.filter(({ result }) => result.differences.length).length;
+  say(`Of ${results.length}: ${differing} differ, ${turned.length - differing} have no visible difference, ${results.length - turned.length} could not be turned.`);
+  writeReplays(replay, traceFile, results, { report, model });
   return status;
+}
+
+async function turnEach(replay, numbers, results, say) {
+  await replay.runFreely();
+  for (const number of numbers) {
+    const result = await replay.turn(replay.report.races[number - 1], number);
+    results.push({ number, result });
+    say(number, verdictInWords(result));
+  }
+}
+
+function writeReplays(replay, traceFile, results, { report, model }) {
+  const races = results.map(({ number, result }) => plain(result, report.races[number - 1], number));
+  const unsteady = replay.unsteady.map(({ kind, subject }) => ({ kind, subject }));
+  fs.writeFileSync(besides(traceFile, '.replay.json'), `${JSON.stringify({ replay: 1, page: replay.recorder.given, races, unsteady }, null, 1)}\n`);
+  const pictures = results.map(({ result }) => result.picture || null);
+  writePage(traceFile, { ...model, replays: races.map((race, k) => ({ ...race, picture: pictures[k] })), recordedPicture: replay.recorded.end.picture?.small || null });
 }
 
 async function main(words) {
   try {
     const options = parseOptions(words, NEWEST_VERSION, 1);
+    if (options.attach) throw new UsageFault('--attach is an option of er_record');
+    if (options.isReplayed && options.isRaw) throw new UsageFault('--raw records nothing that could be replayed');
     return await pageRaces(options.words[0], options);
   } catch (fault) {
+    if (fault instanceof KnownFault || fault instanceof WriteFault) {
+      console.error(`er_page: ${fault.message}`);
+      return fault instanceof KnownFault ? USAGE_STATUS : WRITE_STATUS;
+    }
     if (!(fault instanceof UsageFault)) throw fault;
     if (fault.message) console.error(`er_page: ${fault.message}`);
-    console.error(USAGE.replace('er_record URL OUT.trace', 'er_page URL'));
+    console.error(`${USAGE.replace('er_record URL OUT.trace', 'er_page URL')}\n${REPLAY_USAGE}`);
     return USAGE_STATUS;
   }
 }

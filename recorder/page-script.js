@@ -6,14 +6,20 @@ const path = require('node:path');
 
 const FOLDER = path.join(__dirname, 'page');
 /** What the recorder uses of the window is taken before the page can put something else in its place. */
-const TAKEN = ['Array', 'Error', 'JSON', 'Map', 'Math', 'Number', 'Object', 'Reflect', 'RegExp', 'Set', 'String', 'TextEncoder',
+const TAKEN = ['Array', 'ArrayBuffer', 'Error', 'Function', 'JSON', 'Map', 'Math', 'Number', 'Object', 'Reflect', 'RegExp', 'Set', 'String', 'Symbol', 'TextEncoder',
   'Uint8Array', 'WeakMap', 'WeakSet'];
 
-/** @param {string[]} handlerOwners the interfaces of the browser that have `on..` properties */
-function pageScript(handlerOwners) {
+/**
+ * @param {string[]} handlerOwners the interfaces of the browser that have `on..` properties
+ * @param {object} options what is recorded (`depth`, `keepsAll`, `libraries`); of a replay what is kept back (`holds`, page/steering.js), the chance of the
+ *   run (`fixed`, page/chance.js); and whether another program runs code of its own in the page (`isDriven`)
+ */
+function pageScript(handlerOwners, { depth, keepsAll, libraries, holds = null, fixed = null, isDriven = false }) {
   const order = JSON.parse(fs.readFileSync(path.join(FOLDER, 'order.json'), 'utf8'));
   const files = order.map((name) => fs.readFileSync(path.join(FOLDER, `${name}.js`), 'utf8'));
-  const lines = ["'use strict';", `const { ${TAKEN.join(', ')} } = window;`, `const HANDLER_OWNERS = ${JSON.stringify(handlerOwners)};`, ...files];
+  const lines = ["'use strict';", `const { ${TAKEN.join(', ')} } = window;`, `const HANDLER_OWNERS = ${JSON.stringify(handlerOwners)};`,
+    `const DEPTH = ${JSON.stringify(depth)};`, `const KEEPS_ALL = ${!!keepsAll};`, `const LIBRARIES = ${libraries};`,
+    `const HOLDS = ${JSON.stringify(holds)};`, `const FIXED = ${JSON.stringify(fixed)};`, `const IS_DRIVEN = ${isDriven};`, ...files];
   return `(function (window) {\n${lines.join('\n')}\n})(window);\n//# sourceURL=__er-recorder`;
 }
 

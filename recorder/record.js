@@ -3,9 +3,11 @@
 // er_record URL OUT.trace: records a page. Writes OUT.trace and OUT.names.json.
 
 const fs = require('node:fs');
+const { AttachedRecorder } = require('./attached-recorder.js');
 const { parseOptions, UsageFault, USAGE } = require('./options.js');
 const { Progress } = require('./progress.js');
 const { Recorder, RecordingFault } = require('./recorder.js');
+const { Accesses } = require('./trace/accesses.js');
 const { Names } = require('./trace/names.js');
 const { Spelling, keepWithin, NEWEST_VERSION } = require('./trace/spelling.js');
 
@@ -13,16 +15,24 @@ const USAGE_STATUS = 2;
 
 const namesFile = (traceFile) => `${traceFile.replace(/\.trace$/, '')}.names.json`;
 
-/** Writes the trace and its names, also of a recording that ended early. Answers what the limits left out, as lines. */
-function writeFiles(recorder, options, traceFile) {
-  const spelled = new Spelling(recorder.intake.entries, options.version).records();
+/** The trace of what was recorded so far, and its names; `accesses` knows what was left out. */
+function readRun(recorder, options) {
+  const accesses = new Accesses(recorder.intake.entries);
+  const isLibrary = (place) => recorder.sources.isLibrary(place, options.libraries);
+  const spelled = new Spelling(accesses.entries({ keepsAll: options.keepsAll, isLibrary }), options.version).records();
   const { records, leftOut, cut } = keepWithin(spelled);
   const text = [`webtrace ${options.version}`, ...records.map((one) => one.text), 'end'].join('\n');
-  fs.writeFileSync(traceFile, `${text}\n`);
-  const names = new Names(recorder.sources, recorder.intake.names);
+  const names = new Names(recorder.sources, recorder.intake.names, options.libraries);
   names.addRecords(records);
+  return { text: `${text}\n`, names, accesses, leftOut, cut };
+}
+
+/** Writes the trace and its names, also of a recording that ended early. Answers what the limits left out, as lines. */
+function writeFiles(recorder, options, traceFile) {
+  const { text, names, accesses, leftOut, cut } = readRun(recorder, options);
+  fs.writeFileSync(traceFile, text);
   fs.writeFileSync(namesFile(traceFile), names.toJson({ page: recorder.given, trace: traceFile.replace(/^.*\//, '') }));
-  const lines = [];
+  const lines = accesses.lines();
   if (leftOut) lines.push(`parse steps in which nothing happened, left out for the limit on actions: ${leftOut}`);
   if (cut) lines.push(`records behind the limits on actions, accesses and lines, cut off: ${cut}`);
   return lines;
@@ -46,8 +56,7 @@ function reportPage({ errors, loadTime }) {
  * Records a page into a file.
  * @returns {Promise<number>} the exit status
  */
-async function recordInto(given, traceFile, options) {
-  const recorder = new Recorder(given, options);
+async function recordInto(given, traceFile, options, recorder = new Recorder(given, options)) {
   const stop = () => recorder.interrupt();
   ['SIGINT', 'SIGTERM', 'SIGHUP'].forEach((signal) => process.on(signal, stop));
   const progress = new Progress(process.stderr, () => ({ actions: recorder.intake.actions, requests: recorder.openRequests() }));
@@ -63,6 +72,7 @@ async function recordInto(given, traceFile, options) {
     progress.end();
     ['SIGINT', 'SIGTERM', 'SIGHUP'].forEach((signal) => process.off(signal, stop));
   }
+  if (!options.isRaw) await recorder.readMaps();
   if (options.isRaw) printRaw(recorder, progress);
   else report(recorder, writeFiles(recorder, options, traceFile), progress.seconds());
   return status;
@@ -78,16 +88,19 @@ async function main(words) {
   let options;
   try {
     options = parseOptions(words, NEWEST_VERSION, 2);
+    if (options.isReplayed) throw new UsageFault('--replay and --race are options of er_page');
+    if (options.known || options.isJson || options.sarif || options.runs > 1) throw new UsageFault('--known, --json, --sarif and --runs are options of er_page');
   } catch (fault) {
     if (!(fault instanceof UsageFault)) throw fault;
     if (fault.message) console.error(`er_record: ${fault.message}`);
     console.error(USAGE);
     return USAGE_STATUS;
   }
-  return recordInto(options.words[0], options.words[1], options);
+  const recorder = options.attach ? new AttachedRecorder(options.words[0], options) : undefined;
+  return recordInto(options.words[0], options.words[1], options, recorder);
 }
 
-module.exports = { recordInto, namesFile };
+module.exports = { recordInto, readRun, writeFiles, namesFile };
 
 if (require.main === module) {
   main(process.argv.slice(2)).then((status) => process.exit(status));

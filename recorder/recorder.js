@@ -22,8 +22,12 @@ const GRACE = 1000;
 const QUIET = 400;
 /** A page that is never quiet, as one with an interval, is waited for so long. */
 const LONGEST_UNREST = 3000;
+const QUIET_END = 1200;
+const LONGEST_UNREST_AT_END = 8000;
 /** The last lines of the page are waited for so long. */
 const LONGEST_FLUSH = 5000;
+/** The page is told for so long which act comes. */
+const LONGEST_TELLING = 2000;
 
 const LOAD_TIME = "(() => { const [one] = performance.getEntriesByType('navigation'); return one && one.loadEventEnd ? one.loadEventEnd - one.startTime : null; })()";
 
@@ -36,6 +40,13 @@ function browserFacts() {
   return { names, handlerOwners: Object.getOwnPropertyNames(window).filter(hasHandlers) };
 }
 
+/** The number of the user's act with this index; those of its letters follow. */
+const LETTERS_OF_ACT = 1000;
+const numberOfAct = (index) => (index + 1) * LETTERS_OF_ACT;
+
+/** In a replay the target of an act may still have to come. */
+const LONGEST_SEARCH = 1500;
+
 /** Why a recording ended before its end. */
 class RecordingFault extends Error {
   constructor(message, status) {
@@ -46,12 +57,20 @@ class RecordingFault extends Error {
 const STATUS = { noPage: 4, noBrowser: 5, stopped: 130 };
 
 class Recorder {
+  /**
+   * @param {object} options what parseOptions gives, and of a replay: `browser`, `sources` (those of another run of the page, so that its scripts
+   *   are marked the same), `fixed` (page/chance.js), `steering` (what is kept back) and `whenOver` (called when the recording is over)
+   */
   constructor(given, options) {
     this.options = options;
     this.given = given;
     this.intake = new Intake();
-    this.sources = new Sources();
+    this.sources = options.sources || new Sources(options.depth);
+    this.steering = options.steering || null;
     this.errors = [];
+    /** What a user or an author is told beside errors. */
+    this.consoleErrors = [];
+    this.dialogs = [];
     this.windows = 0;
     this.isLoaded = false;
     this.hasAnswered = false;
@@ -68,7 +87,7 @@ class Recorder {
   }
 
   openRequests() {
-    return this.responses ? this.responses.open.size : 0;
+    return this.responses ? this.responses.openRequests() : 0;
   }
 
   /** Records the page. Fails with a RecordingFault; what was recorded until then stands in the intake. */
@@ -86,17 +105,28 @@ class Recorder {
 
   /** A browser that was handed in stays; its tab goes. */
   async closeBrowser() {
-    if (this.options.browser) await this.tab?.close().catch(() => {});
+    if (this.options.browser || this.options.keepsBrowser) await this.tab?.close().catch(() => {});
     else if (this.browser) await this.browser.close();
   }
 
   async recordToEnd() {
     const { address, folder } = this.resolve();
+    this.folder = folder;
     await this.openBrowser(address, folder);
     await this.prepareTab(folder);
     this.until = Date.now() + this.options.time * 1000; // the browser's own start does not count
     await Promise.race([this.loadAndUse(address), this.timeIsUp()]);
     await this.finish();
+    await this.options.whenOver?.(this);
+  }
+
+  /** Source maps stand beside their scripts: in the folder, or on a web server of this machine. */
+  async readMaps() {
+    const places = [this.folder, new LocalServer()].filter(Boolean);
+    await this.sources.readMaps(async (address) => {
+      const answer = await places.find((one) => one.has(address))?.answer(address);
+      return answer && answer.status === 200 ? answer.body.toString() : null;
+    });
   }
 
   async loadAndUse(address) {
@@ -143,43 +173,62 @@ class Recorder {
     const { tab, options } = this;
     this.listen();
     for (const domain of ['Page', 'Runtime', 'Inspector']) await tab.send(`${domain}.enable`);
-    const { names, handlerOwners } = await tab.evaluate(`(${browserFacts})()`);
+    const { names, handlerOwners } = await this.browserFacts(`(${browserFacts})()`);
     this.sources.builtins = new Set(names);
     const longest = options.time * 1000 + GRACE;
-    this.responses = new Responses(tab, { sources: options.isRaw ? null : this.sources, folder, slow: options.slow, longest });
+    const { holds, leaves, isDriven } = this.pageOptions();
+    this.responses = new Responses(tab, { leaves, sources: options.isRaw ? null : this.sources, folder, slow: options.slow, salt: options.salt, longest, steering: this.steering });
     await this.responses.start();
     await tab.closeOpenedWindows(() => { this.windows++; });
     if (!options.isRaw) {
       await tab.send('Runtime.addBinding', { name: '__erSend' });
-      await tab.send('Page.addScriptToEvaluateOnNewDocument', { source: pageScript(handlerOwners) });
+      const source = pageScript(handlerOwners, { ...options, holds, isDriven });
+      this.script = await tab.send('Page.addScriptToEvaluateOnNewDocument', { source });
     }
+  }
+
+  browserFacts(facts) {
+    return this.tab.evaluate(facts);
+  }
+
+  /** What is kept back in the page, and what is done where another page comes in its place. */
+  pageOptions() {
+    return { holds: this.steering?.forPage(), leaves: null, isDriven: false };
+  }
+
+  answersDialogs() {
+    return true;
   }
 
   listen() {
     const { tab } = this;
-    tab.on('Runtime.bindingCalled', ({ name, payload }) => name === '__erSend' && this.intake.take(payload));
+    tab.on('Runtime.bindingCalled', ({ name, payload }) => name === '__erSend' && this.take(payload));
     tab.on('Runtime.exceptionThrown', ({ exceptionDetails }) => this.errors.push(errorOf(exceptionDetails)));
+    tab.on('Runtime.consoleAPICalled', ({ type, args }) => (type === 'error' || type === 'assert') && this.consoleErrors.push(textOf(args)));
+    tab.on('Page.javascriptDialogOpening', ({ type, message }) => this.dialogs.push(`${type}: ${message}`));
     tab.on('Page.loadEventFired', () => { this.isLoaded = true; });
-    tab.on('Page.javascriptDialogOpening', () => tab.send('Page.handleJavaScriptDialog', { accept: true }).catch(() => {}));
+    if (this.answersDialogs()) tab.on('Page.javascriptDialogOpening', () => tab.send('Page.handleJavaScriptDialog', { accept: true }).catch(() => {}));
     tab.on('Inspector.targetCrashed', () => this.stop(new RecordingFault('the page crashed the browser', STATUS.noBrowser)));
+  }
+
+  take(payload) {
+    this.intake.take(payload);
+    this.steering?.look();
   }
 
   // ---- loading
 
   async load(address) {
     this.isLoaded = false;
+    this.steering?.begin(this);
     const navigation = this.tab.send('Page.navigate', { url: address }, this.options.time * 1000 + GRACE);
-    const early = this.options.actions.filter((action) => action.isEarly);
     const { errorText } = await Promise.race([navigation, this.noAnswer()]);
     this.hasAnswered = true;
     if (errorText) throw new RecordingFault(`${this.given} did not load: ${errorText}`, STATUS.noPage);
     if (this.responses.failures.includes(address.replace(/#.*$/, ''))) throw new RecordingFault(`${this.given} did not load: there is no such file`, STATUS.noPage);
     this.user = new User(this.tab);
-    for (const action of early) {
-      await this.user.waitFor(action, this.until);
-      await this.user.act(action);
-    }
-    while (!this.isLoaded && Date.now() < this.until) await sleep(POLL);
+    for (const action of this.actions().early) await this.act(action);
+    await this.waitForLoad();
     this.loadTime = this.isLoaded ? await this.tab.evaluateApart(LOAD_TIME) : null;
   }
 
@@ -189,19 +238,85 @@ class Recorder {
     return { errorText: this.responses.hasPageBegun ? 'it did not come to its end in time' : 'no answer came in time' };
   }
 
+  /** Where a replay keeps back what load waits for, a quiet page is as loaded as it gets. */
+  async waitForLoad() {
+    while (!this.isLoaded && Date.now() < this.until) {
+      if (this.steering?.isHolding() && await this.waitForQuiet()) return;
+      await sleep(POLL);
+    }
+  }
+
   // ---- use
+
+  /** What the user does, the early actions first. The numbers say which is which in the trace. */
+  actions() {
+    const { actions } = this.options;
+    const early = actions.filter((action) => action.isEarly);
+    const late = actions.filter((action) => !action.isEarly);
+    const numbered = [...early, ...late].map((action, k) => ({ ...action, number: numberOfAct(k) }));
+    const both = { early: numbered.slice(0, early.length), late: numbered.slice(early.length) };
+    return this.steering ? this.steering.actions(both) : both;
+  }
+
+  async act(action) {
+    if (action.isEarly) await this.user.waitFor(action, this.until);
+    else if (this.steering) await this.user.waitFor(action, Math.min(this.until, Date.now() + LONGEST_SEARCH));
+    if (this.steering?.blocks(action)) {
+      await this.waitUntil(() => !this.steering.blocks(action));
+      if (!action.isEarly) await this.waitForLoad();
+      if (!action.isEarly) await this.waitForQuiet();
+    }
+    await this.around(action, () => this.user.act(action));
+  }
+
+  /** The events of an act have its number in the log, and those of a letter one of its own behind that. */
+  async around({ number }, act) {
+    this.user.beforeLetter = (letter) => this.beginLetter(number + letter);
+    await this.tellAct(number);
+    await act();
+    await this.tellAct(0);
+  }
+
+  async beginLetter(number) {
+    if (this.steering?.blocks({ number })) await this.waitUntil(() => !this.steering.blocks({ number }));
+    await this.tellAct(number);
+  }
+
+  async tellAct(number) {
+    if (this.options.isRaw) return;
+    await within(this.tab.evaluate(`typeof __er === 'object' && __er.recording && (__er.recording.act = ${number})`).catch(() => {}), LONGEST_TELLING);
+  }
 
   /** Answers whether the page was quiet, or as quiet as it gets, within its time. */
   async useAndWait() {
     await this.waitForQuiet();
-    for (const action of this.options.actions.filter((one) => !one.isEarly)) {
-      if (Date.now() < this.until) await this.user.act(action);
+    const { late } = this.actions();
+    for (const action of late) {
+      if (Date.now() < this.until) await this.act(action);
     }
-    await this.user.clickAround(this.options.clicks, this.options.seed);
-    return this.waitForQuiet();
+    const done = this.options.actions.length;
+    await this.user.clickAround(this.options.clicks, this.options.seed, (spot, act) => this.around({ number: numberOfAct(done + this.user.picks.length - 1) }, act));
+    if (!this.steering) return this.waitForEnd();
+    await this.waitForQuiet();
+    await this.waitUntil(() => this.steering.isLet());
+    await this.waitForLoad();
+    return this.waitForEnd();
   }
 
-  async waitForQuiet() {
+  /** Where the ends of runs are compared, what the page still does is waited for longer. */
+  waitForEnd() {
+    return this.options.whenOver ? this.waitForQuiet(QUIET_END, LONGEST_UNREST_AT_END) : this.waitForQuiet();
+  }
+
+  /** Waits until a replay lets go what it keeps back; where nothing comes any more it does. */
+  async waitUntil(isLet) {
+    const { steering } = this;
+    while (!isLet() && await this.waitForQuiet(steering.quiet(), steering.longest, isLet)) {
+      if (!isLet()) steering.giveUp();
+    }
+  }
+
+  async waitForQuiet(length = QUIET, longestUnrest = LONGEST_UNREST, isEnough = () => false) {
     const begin = Date.now();
     let actions = -1;
     let quietSince = begin;
@@ -209,8 +324,8 @@ class Recorder {
       await this.flush();
       if (this.openRequests() || this.intake.actions !== actions) quietSince = Date.now();
       actions = this.intake.actions;
-      const isTooLong = Date.now() - begin > LONGEST_UNREST && !this.openRequests();
-      if (Date.now() - quietSince >= QUIET || isTooLong) return true;
+      const isTooLong = Date.now() - begin > longestUnrest && !this.openRequests();
+      if (Date.now() - quietSince >= length || isTooLong || isEnough()) return true;
       await sleep(POLL);
     }
     return false;
@@ -245,9 +360,13 @@ class Recorder {
   }
 }
 
+/** An error's text has the code around it as the browser got it. */
+const withoutMarks = (text) => text.replace(/__er\.\w+\(\.\.\.\)/g, '…');
+const textOf = (values) => withoutMarks(values.map(({ value, description, type }) => (value !== undefined ? String(value) : description || type)).join(' ').split('\n')[0]).slice(0, 300);
+
 function errorOf({ exception, text, url, lineNumber }) {
   const message = (exception && exception.description ? exception.description.split('\n')[0] : text) || '';
-  return `${message} (${(url || '').replace(/^.*\//, '')}:${lineNumber + 1})`;
+  return `${withoutMarks(message)} (${(url || '').replace(/^.*\//, '')}:${lineNumber + 1})`;
 }
 
-module.exports = { Recorder, RecordingFault };
+module.exports = { Recorder, RecordingFault, numberOfAct, LETTERS_OF_ACT };

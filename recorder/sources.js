@@ -5,6 +5,7 @@
 const { EditedText, Lines } = require('./instrument/edits.js');
 const { instrument } = require('./instrument/instrument.js');
 const { PageRewriter } = require('./instrument/page.js');
+const { readMap } = require('./trace/source-map.js');
 
 /** The numbers of the objects that stand for modules begin here; form fields begin at 1,000,000 (page/fields.js). */
 const FIRST_MODULE = 2000000;
@@ -17,7 +18,14 @@ class Source {
     this.text = text;
     this.lines = new Lines(text);
     this.tags = new Map();
+    /** The functions that have a name, an outer one before those inside it. */
+    this.functions = [];
     this.edited = null;
+    /** The marks of a page, without what a replay inserts. */
+    this.edits = null;
+    /** The source map of a bundle, and the numbers of the files that it was made of. */
+    this.map = null;
+    this.originals = new Map();
   }
 
   /** Options of `instrument` for code that stands at an offset of this text. */
@@ -25,9 +33,22 @@ class Source {
     return {
       kind,
       builtins: this.sources.builtins,
-      site: (inside) => this.sources.addSite(this, offset + (wholeAtStart ? 0 : inside)),
+      depth: this.sources.depth,
+      site: (inside, about) => this.sources.addSite(this, offset + (wholeAtStart ? 0 : inside), wholeAtStart && about?.object ? undefined : about, offset),
       module: kind === 'module' ? this.sources.addModule(this) : undefined,
+      named: wholeAtStart ? undefined : (start, end, name) => this.functions.push({ start: offset + start, end: offset + end, name }),
     };
+  }
+
+  /** The name of the innermost function that has one and holds a place, or ''. */
+  functionAt(line, column) {
+    const at = this.lines.offsetOf(line, column);
+    let found = '';
+    for (const { start, end, name } of this.functions) {
+      if (start > at) break;
+      if (at < end) found = this.map?.names.length ? this.sources.nameIn(this, start) || '' : name; // in a bundle names are cut short
+    }
+    return found;
   }
 
   /** A start tag, with the attributes by which its element is known. */
@@ -45,8 +66,35 @@ class Source {
   }
 }
 
+/** A file that a bundle was made of: its functions are those of the bundle. */
+class OriginalFile {
+  constructor(address, text) {
+    Object.assign(this, { address, text });
+    this.functions = new Map();
+  }
+
+  noteFunction([, line, column], name) {
+    this.functions.set(`${line}:${column}`, name);
+  }
+
+  functionAt(line, column) {
+    return this.functions.get(`${line}:${column}`) || '';
+  }
+}
+
+/** A map names its files by their way from the bundle. */
+function wholeAddress(name, bundle) {
+  try {
+    return new URL(name, bundle).href;
+  } catch {
+    return name;
+  }
+}
+
 class Sources {
-  constructor() {
+  /** @param {'globals'|'objects'} depth what is marked */
+  constructor(depth = 'globals') {
+    this.depth = depth;
     this.builtins = new Set();
     this.files = [];
     this.byAddress = new Map();
@@ -60,18 +108,26 @@ class Sources {
     counts.set(what, (counts.get(what) || 0) + 1);
   }
 
-  addSite(source, offset) {
-    return this.sites.push({ source, offset }) - 1;
+  /** `about` tells what stands there: the function of a scope, or from where to where the text of an object stands. */
+  addSite(source, offset, about, base) {
+    return this.sites.push({ source, offset, about, base }) - 1;
   }
 
   addModule(source) {
     return FIRST_MODULE + this.modules.push(source.address) - 1;
   }
 
-  /** The text of a page as the browser shall get it. */
-  rewritePage(address, html) {
-    const source = this.addSource(address, html);
-    return source.edit(new PageRewriter(html, source).rewrite());
+  /**
+   * The text of a page as the browser shall get it.
+   * @param {{start: number, end: number, insert: string}[]} holds what a replay inserts
+   */
+  rewritePage(address, html, holds = []) {
+    const known = this.byAddress.get(address);
+    const source = known && known.edits && known.text === html ? known : this.addSource(address, html);
+    source.edits = source.edits || new PageRewriter(html, source).rewrite(); // its sites have the same numbers in each run
+    if (source.edited && !holds.length && !source.hasHolds) return source.edited.text;
+    source.hasHolds = holds.length > 0;
+    return source.edit([...holds, ...source.edits]);
   }
 
   /** The text of a script as the browser shall get it; a script that is no JavaScript stays as it is. */
@@ -92,25 +148,83 @@ class Sources {
     return source;
   }
 
+  /** Reads the source maps of the scripts that name one. */
+  async readMaps(read) {
+    await Promise.all(this.files.filter(({ edited, isMapRead }) => edited && !isMapRead).map(async (source) => {
+      source.isMapRead = true;
+      source.map = await readMap(source.text, source.address, read);
+    }));
+  }
+
+  /** A place in a file; of a bundle with a source map, in the file that it was made of. */
+  placeIn(source, { line, column }) {
+    const original = source.map && source.map.original(line, column);
+    if (!original) return [source.index, line, column];
+    const place = [this.originalFile(source, original.source), original.line, original.column];
+    this.files[place[0]].noteFunction(place, source.functionAt(line, column));
+    return place;
+  }
+
+  originalFile(source, number) {
+    if (!source.originals.has(number)) {
+      source.originals.set(number, this.files.push(new OriginalFile(wholeAddress(source.map.sources[number], source.address), source.map.texts[number] || '')) - 1);
+    }
+    return source.originals.get(number);
+  }
+
+  /** The name of the function around a place, or ''. */
+  functionAt([file, line, column]) {
+    return this.files[file].functionAt(line, column);
+  }
+
   /** @returns {[file: number, line: number, column: number]} */
   placeOfSite(site) {
     const { source, offset } = this.sites[site];
+    return this.placeIn(source, source.lines.placeOf(offset));
+  }
+
+  /** Whether the code at a site is that of a library, by the name of its file. */
+  isLibrary(place, pattern) {
+    return /^\d+$/.test(place || '') && this.isOfLibrary(this.files[this.placeOfSite(Number(place))[0]].address, pattern);
+  }
+
+  isOfLibrary(address, pattern) {
+    if (!pattern) return false;
+    return /(^|\/)node_modules\//.test(address) || pattern.test(address.replace(/[?#].*$/, '').replace(/^.*\//, ''));
+  }
+
+  /** What a site tells of an object or a scope: `{text}` or `{scope}`. */
+  aboutSite(site) {
+    const { source, offset, about, base } = this.sites[site];
+    if (!about) return {};
+    if (about.scope !== undefined) return { scope: this.nameIn(source, offset) || about.scope };
+    if (source.map) return { text: this.nameIn(source, base + about.object[0]) };
+    const text = source.text.slice(base + about.object[0], base + about.object[1]);
+    return /^[\w$.[\]#'"()]{1,40}$/.test(text) ? { text } : {};
+  }
+
+  /** The name that stood at a place of a bundle before it was made. */
+  nameIn(source, offset) {
     const { line, column } = source.lines.placeOf(offset);
-    return [source.index, line, column];
+    return source.map?.original(line, column)?.name;
   }
 
   /** The place for a position in the browser's copy, or null where the text is none that was instrumented. */
   placeInCopy(address, line, column) {
     const source = this.byAddress.get(address);
     if (!source || !source.edited) return null;
-    const place = source.edited.originalPlace(line, column);
-    return [source.index, place.line, place.column];
+    return this.placeIn(source, source.edited.originalPlace(line, column));
   }
 
-  /** The place of the next start tag in the page at an address that made an element of this name, id and `src`. */
-  nextTag(address, name, { id, source } = {}) {
+  /**
+   * The place of the next start tag in the page at an address that made an element of this name, id and `src`. `left` holds the
+   * tags that no element has taken yet, by address and name.
+   */
+  nextTag(address, name, { id, source } = {}, left = new Map()) {
     const file = this.byAddress.get(address);
-    const tags = file?.tags.get(name) || [];
+    const key = `${name} ${address}`;
+    if (!left.has(key)) left.set(key, [...(file?.tags.get(name) || [])]);
+    const tags = left.get(key);
     const found = tags.findIndex((tag) => (tag.id || '') === (id || '') && (tag.source || '') === (source || ''));
     if (found < 0) return null;
     const [tag] = tags.splice(0, found + 1).slice(-1);

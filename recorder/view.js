@@ -4,6 +4,8 @@
 // er_view OUT.trace --why A B: tells why action A comes before action B, where the program has the mode `explain`.
 
 const fs = require('node:fs');
+const { Listing } = require('./list/listing.js');
+const { Problems } = require('./list/problems.js');
 const { Actions } = require('./view/actions.js');
 const { Model } = require('./view/model.js');
 const { renderPage } = require('./view/html.js');
@@ -14,7 +16,7 @@ const { why } = require('./view/why.js');
 const USAGE = `usage: er_view OUT.trace [--why ACTION ACTION]
 Without --why it writes OUT.html. With it, it tells why the one action comes before the other, or that nothing says so.`;
 const STATUS = { usage: 2, noFile: 4, noView: 5 };
-const NO_NAMES = { files: [], elements: {}, documents: {}, handlers: {}, timeouts: {}, intervals: {}, requests: {}, dispatches: {}, places: {} };
+const NO_NAMES = { files: [], elements: {}, documents: {}, handlers: {}, timeouts: {}, intervals: {}, requests: {}, dispatches: {}, objects: {}, places: {} };
 
 const besides = (traceFile, ending) => traceFile.replace(/\.trace$/, '') + ending;
 
@@ -27,20 +29,34 @@ function readNames(traceFile) {
   }
 }
 
-/**
- * Writes the view of a judged trace.
- * @returns {Promise<object>} the model that it shows
- */
-async function writeView(traceFile, report) {
-  const model = new Model(report, readNames(traceFile), new Actions(fs.readFileSync(traceFile, 'utf8').replace(/end\n$/, '')));
-  const links = await linksBetween(traceFile, model.pairsToExplain());
-  const shown = { ...model.build(links), question: `./er_view ${traceFile} --why` };
-  fs.writeFileSync(besides(traceFile, '.html'), renderPage(shown));
-  return shown;
+/** What the view shows of a problem. */
+function plainProblem({ name, words, look, groups, races, first, isKnown }) {
+  return { name, words, first, look: look.name, rank: look.rank, part: look.part, seen: look.seen, groups, races, isKnown };
 }
 
-/** Judges a trace and writes its view. Answers the exit status, and the model where there is one. */
-async function view(traceFile, name) {
+/**
+ * Writes the view of a judged trace.
+ * @returns {Promise<{model: object, problems: Problems}>} what it shows, and its races folded
+ */
+async function writeView(traceFile, report, known) {
+  const text = fs.readFileSync(traceFile, 'utf8');
+  const names = readNames(traceFile);
+  const model = new Model(report, names, new Actions(text.replace(/end\n$/, '')));
+  const problems = new Problems(text, names, report);
+  const links = await linksBetween(traceFile, model.pairsToExplain());
+  const built = model.build(links);
+  const groups = built.groups.map((group, k) => ({ ...group, race: problems.leads[k] }));
+  const shown = { ...built, groups, problems: new Listing([problems], known).problems.map(plainProblem), question: `./er_view ${traceFile} --why` };
+  writePage(traceFile, shown);
+  return { model: shown, problems };
+}
+
+function writePage(traceFile, shown) {
+  fs.writeFileSync(besides(traceFile, '.html'), renderPage(shown));
+}
+
+/** Judges a trace and writes its view. Answers the exit status, and the model and the problems where there are some. */
+async function view(traceFile, name, known = null) {
   const { status, report, fault } = await judge(traceFile);
   if (fault) {
     console.error(`${name}: the program gave no report: ${fault}`);
@@ -50,7 +66,7 @@ async function view(traceFile, name) {
     console.error(`${name}: the trace is refused at line ${report.refused.line}: ${report.refused.cause}`);
     return { status };
   }
-  return { status, report, model: await writeView(traceFile, report) };
+  return { status, report, ...await writeView(traceFile, report, known) };
 }
 
 /** Tells why two actions are ordered. */
@@ -73,7 +89,7 @@ async function main(words) {
   return asksWhy ? tellWhy(words[0], words[2], words[3]) : (await view(words[0], 'er_view')).status;
 }
 
-module.exports = { view, besides };
+module.exports = { view, writePage, besides };
 
 if (require.main === module) {
   main(process.argv.slice(2)).then((status) => { process.exitCode = status; });

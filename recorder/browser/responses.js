@@ -18,15 +18,25 @@ function hash(text) {
   return value;
 }
 
+/** The name of what a replay puts into a page, so that the page waits for it. */
+const HOLD_NAME = '__er-hold';
+const HOLD_ADDRESS = new RegExp(`/${HOLD_NAME}\\?(\\d+)$`);
+const isHold = (address) => HOLD_ADDRESS.test(address);
+
 class Responses {
   /**
    * @param {import('./tab.js').Tab} tab
-   * @param {{sources: import('../sources.js').Sources|null, folder: import('./folder.js').Folder|null, slow: number, longest: number}} options
+   * @param {{sources: import('../sources.js').Sources|null, folder: import('./folder.js').Folder|null, slow: number, salt: number, longest: number,
+   *   steering: import('../replay/steering.js').Steering|null}} options
    *   Without `sources` pages and scripts pass as they are. A file that takes longer than `longest` milliseconds does not come.
+   *   `steering` keeps some of them back; with another `salt`, `slow` holds back others. `leaves` is called with the request for
+   *   another page in the place of this one, which else is not followed.
    */
-  constructor(tab, { sources, folder, slow, longest }) {
-    Object.assign(this, { tab, sources, folder, slow, longest });
+  constructor(tab, { sources, folder, slow, salt = 0, longest, steering = null, leaves = null }) {
+    Object.assign(this, { tab, sources, folder, slow, salt, longest, steering, leaves });
     this.open = new Set();
+    /** Each request as `METHOD ADDRESS`. */
+    this.asked = [];
     this.mainFrame = null;
     this.navigations = 0;
     this.notFollowed = 0;
@@ -38,6 +48,7 @@ class Responses {
     this.mainFrame = await this.tab.mainFrame();
     this.tab.on('Fetch.requestPaused', (event) => this.pass(event).catch((fault) => this.giveUp(event, fault)));
     this.tab.on('Network.requestWillBeSent', (request) => this.isAwaited(request) && this.open.add(request.requestId));
+    this.tab.on('Network.requestWillBeSent', (request) => this.note(request));
     this.tab.on('Network.loadingFinished', ({ requestId }) => this.open.delete(requestId));
     this.tab.on('Network.loadingFailed', ({ requestId }) => this.open.delete(requestId));
     await this.tab.send('Network.enable');
@@ -47,8 +58,18 @@ class Responses {
   }
 
   /** A stream has no end, and the end of a worker's requests (those without a loader) is not told to the page's session. */
-  isAwaited({ type, loaderId }) {
-    return type !== 'EventSource' && type !== 'WebSocket' && loaderId !== '';
+  isAwaited({ type, loaderId, request }) {
+    return type !== 'EventSource' && type !== 'WebSocket' && loaderId !== '' && !isHold(request.url);
+  }
+
+  /** What the page asks for; the icon of a page is asked for by the browser. */
+  note({ type, request: { method, url } }) {
+    if (type !== 'Other' && !/^(data|blob|about):/.test(url) && !isHold(url)) this.asked.push(`${method} ${url}`);
+  }
+
+  /** The requests whose end is waited for. */
+  openRequests() {
+    return this.open.size - (this.steering ? this.steering.countHeld(this.open) : 0);
   }
 
   /** A request that the page gave up meanwhile can't be passed on: nothing is left to do. A file that can't be marked stays as it is. */
@@ -67,13 +88,31 @@ class Responses {
 
   async passRequest(event) {
     if (this.leavesPage(event)) {
+      if (this.leaves) {
+        await this.leaves(event);
+        return;
+      }
       this.notFollowed++;
       await this.tab.send('Fetch.failRequest', { requestId: event.requestId, errorReason: 'Aborted' });
       return;
     }
-    if (this.slow > 0 && event.resourceType !== 'Document') await sleep(hash(event.request.url) % this.slow);
-    if (this.folder && this.folder.has(event.request.url)) await this.answerFromFolder(event);
+    if (isHold(event.request.url)) {
+      await this.answerHold(event);
+      return;
+    }
+    const isHeld = this.steering?.meets(event);
+    if (this.slow > 0 && event.resourceType !== 'Document') await sleep(hash(`${event.request.url}${this.salt || ''}`) % this.slow);
+    const isOfFolder = this.folder && this.folder.has(event.request.url);
+    if (isHeld && isOfFolder) await this.steering.hold(event);
+    if (isOfFolder) await this.answerFromFolder(event);
     else await this.tab.send('Fetch.continueRequest', { requestId: event.requestId });
+  }
+
+  /** What a replay put into the page waits, and does nothing. */
+  async answerHold(event) {
+    await this.steering?.holdFor(Number(HOLD_ADDRESS.exec(event.request.url)[1]), event);
+    const answer = { requestId: event.requestId, responseCode: 200, responseHeaders: [{ name: 'content-type', value: 'text/javascript' }] };
+    await this.tab.send('Fetch.fulfillRequest', { ...answer, body: Buffer.from('__er.removeHold(document.currentScript)').toString('base64') });
   }
 
   /** The page is recorded that was asked for; a click that would load another one in its place is not followed. */
@@ -97,6 +136,7 @@ class Responses {
   // ---- responses
 
   async passResponse(event) {
+    if (this.steering?.isMet(event)) await this.steering.hold(event); // the server has been asked, and has answered
     const status = event.responseStatusCode;
     const hasText = status >= 200 && status < 300 && status !== 204 && this.isText(event, this.contentType(event));
     if (!hasText || !this.sources) {
@@ -143,9 +183,9 @@ class Responses {
     const isPage = event.resourceType === 'Document';
     const text = decodeText(bytes, type, isPage);
     const address = event.request.url.replace(/#.*$/, '');
-    if (isPage) return Buffer.from(this.sources.rewritePage(address, text));
+    if (isPage) return Buffer.from(this.sources.rewritePage(address, text, this.steering?.insertions(address, text)));
     return Buffer.from(this.sources.rewriteScript(address, text));
   }
 }
 
-module.exports = { Responses };
+module.exports = { Responses, HOLD_NAME };

@@ -9,8 +9,8 @@ const ACTION_PAUSE = 120;
 const LONGEST_ACTION = 8000;
 const EARLY_POLL = 10;
 
-/** Runs in the page: where an element of a selector can be clicked, or null. */
-function findTarget(selector) {
+/** Runs in the page: where an element of a selector can be clicked, or null. `inside` is the place in it that was clicked before. */
+function findTarget(selector, inside) {
   const element = document.querySelector(selector);
   if (!element) return null;
   let box = element.getBoundingClientRect();
@@ -19,7 +19,11 @@ function findTarget(selector) {
     box = element.getBoundingClientRect();
   }
   if (box.width < 1) return null;
-  return { x: box.left + Math.min(box.width / 2, 200), y: box.top + Math.min(box.height / 2, 100) };
+  const usual = { x: box.left + Math.min(box.width / 2, 200), y: box.top + Math.min(box.height / 2, 100) };
+  if (!inside) return usual;
+  const boxes = [...element.getClientRects()].map(({ left, top, width, height }) => ({ x: left + width / 2, y: top + height / 2 }));
+  const isHit = ({ x, y }) => element.contains(document.elementFromPoint(x, y));
+  return [{ x: box.left + inside.x, y: box.top + inside.y }, ...boxes].find(isHit) || usual;
 }
 
 /** Runs in the page: one of the things in view that a user may click, by the seed; those that react come first. */
@@ -38,19 +42,32 @@ function pickTarget(seed) {
   const pool = first.length ? first : spots;
   if (!pool.length) return null;
   const { element, x, y } = pool[((seed * 1664525 + 1013904223) >>> 0) % pool.length];
+  /** By the next id above it, and by its place alone: a script may have given the id. */
+  const pathOf = (one, isById) => {
+    if (one === document.documentElement) return 'html';
+    if (isById && one.id && document.querySelectorAll(`#${CSS.escape(one.id)}`).length === 1) return `#${CSS.escape(one.id)}`;
+    const same = [...one.parentElement.children].filter((other) => other.localName === one.localName);
+    return `${pathOf(one.parentElement, isById)} > ${CSS.escape(one.localName)}:nth-of-type(${same.indexOf(one) + 1})`;
+  };
+  const hit = document.elementFromPoint(x, y);
+  const { left, top } = hit.getBoundingClientRect();
   const isText = element.matches('textarea,input:not([type]),input[type=text],input[type=search]');
-  return { x, y, isText, what: element.localName + (element.id ? `#${element.id}` : '') };
+  return { x, y, isText, what: element.localName + (element.id ? `#${element.id}` : ''), target: pathOf(hit, true), place: pathOf(hit, false), inside: { x: x - left, y: y - top } };
 }
 
 class User {
   constructor(tab) {
     this.tab = tab;
     this.did = [];
+    /** What the seed has picked, as acts that can be done again. */
+    this.picks = [];
+    /** Called before each letter that is typed, with its number. */
+    this.beforeLetter = null;
   }
 
   /** What a function answers in the page; null where it does not answer in time, as in a loop without an end, or fails. */
-  call(found, word) {
-    const answer = this.tab.evaluateApart(`(${found})(${JSON.stringify(word)})`).catch(() => null);
+  call(found, ...words) {
+    const answer = this.tab.evaluateApart(`(${found})(${words.map((word) => JSON.stringify(word)).join(', ')})`).catch(() => null);
     return within(answer, LONGEST_ACTION, null);
   }
 
@@ -69,8 +86,11 @@ class User {
   }
 
   async type(text) {
+    let number = 0;
     for (const letter of text) {
-      await this.press(letter, letter);
+      number++;
+      await this.beforeLetter?.(number);
+      await this.guarded(this.press(letter, letter));
       await sleep(KEY_PAUSE);
     }
   }
@@ -82,6 +102,7 @@ class User {
 
   async act(action) {
     if (action.kind === 'wait') await sleep(Number(action.target));
+    else if (action.kind === 'spot') await this.clickSpot(action);
     else if (action.kind === 'key') await this.guarded(this.press(action.target, textOfKey(action.target)));
     else await this.actAt(action, await this.call(findTarget, action.target));
     await sleep(ACTION_PAUSE);
@@ -93,7 +114,7 @@ class User {
       return;
     }
     await this.guarded(this.click(target));
-    if (action.kind === 'type') await this.guarded(this.type(action.text));
+    if (action.kind === 'type') await this.type(action.text);
     this.did.push(action.said);
   }
 
@@ -103,15 +124,24 @@ class User {
     while (Date.now() < until && !(await this.call(findTarget, action.target))) await sleep(EARLY_POLL);
   }
 
-  async clickAround(clicks, seed) {
+  /** Clicks at what the seed picks; `around` does each. */
+  async clickAround(clicks, seed, around = (spot, act) => act()) {
     for (let k = 0; k < clicks; k++) {
       const target = await this.call(pickTarget, seed * 7919 + k * 104729);
       if (!target) return;
-      await this.guarded(this.click(target));
-      if (target.isText) await this.guarded(this.type('in'));
-      this.did.push(`click:${target.what}`);
-      await sleep(ACTION_PAUSE);
+      const spot = { isEarly: false, kind: 'spot', ...target, said: `click:${target.what}` };
+      this.picks.push(spot);
+      await around(spot, () => this.act(spot));
     }
+  }
+
+  /** What the seed has picked in another run may stand elsewhere now. */
+  async clickSpot(spot) {
+    const find = async (selector) => !this.picks.includes(spot) && this.call(findTarget, selector, spot.inside);
+    const found = await find(spot.target) || await find(spot.place);
+    await this.guarded(this.click(found || spot));
+    if (spot.isText) await this.type('in');
+    this.did.push(spot.said);
   }
 }
 

@@ -18,7 +18,8 @@ const CLOSING_BRACE = 125;
 const BLANK_CODE = 32;
 
 /** A script may also be imported by a worker, in which there is no recorder: there its marks do nothing. */
-const IDLE = 'globalThis.__er||(globalThis.__er=new Proxy({},{get:(t,n)=>/^[rwu]o$/.test(n)?o=>o:()=>{}}));';
+const IDLE = 'globalThis.__er||(globalThis.__er=(()=>{const a=o=>o,b=(o,k)=>k,c=(o,n,s,v)=>v,d=()=>{},w=(o,n,s,v,r)=>r,e={ro:a,wo:a,uo:a,p:a,q:a,b:a,g:a,m:a,n:a,i:a,e:a,d:a,o:a,'
+  + 'k:b,l:b,j:b,h:b,a:b,c:b,f:c,z:c,x:w,y:w,t:0,__proto__:null};for(const n of "r w u rh wh uh rm wm um v s asked scriptBegins scriptEnds moduleBegins moduleEnds".split(" "))e[n]=d;return e})());';
 
 const mark = (text) => MARK_BEGIN + text + MARK_END;
 const quote = (name) => JSON.stringify(name);
@@ -38,13 +39,36 @@ function knownProperty(member) {
 class Instrumenter {
   /**
    * @param {string} code
-   * @param {{kind: 'script'|'handler'|'module', builtins: Set<string>, site: (offset: number) => number, module?: number}} options
-   *   `site` hands out a number for a place of the code; `module` is the number of the object that a module's variables belong to.
+   * @param {{kind: 'script'|'handler'|'module', builtins: Set<string>, site: (offset: number) => number, module?: number,
+   *   named?: (start: number, end: number, name: string) => void}} options
+   *   `site` hands out a number for a place of the code; `module` is the number of the object that a module's variables belong to; `named` is
+   *   told of each function that has a name.
    */
   constructor(code, options) {
     this.code = code;
     this.options = options;
     this.edits = [];
+    /** The names that functions without one have from where they stand. */
+    this.namesOf = new Map();
+  }
+
+  /** A function that a variable or a property gets is known by its name. */
+  nameFunction(node, name) {
+    if (node && name && /Function/.test(node.type)) this.namesOf.set(node, name);
+  }
+
+  /** An assignment gives its variable's or property's name. */
+  nameAssigned({ left, right }) {
+    this.nameFunction(right, left.type === 'MemberExpression' ? knownProperty(left) : left.name);
+  }
+
+  nameOfFunction(node) {
+    return node.id?.name || this.namesOf.get(node) || '';
+  }
+
+  tellFunction(node) {
+    const name = this.nameOfFunction(node);
+    if (name) this.options.named?.(node.start, node.end, name);
   }
 
   /** Behind a `/` the mark's own `/` would begin a comment: a blank that no page writes stands between. */
@@ -83,6 +107,24 @@ class Instrumenter {
 
   accesses(mode, names, scope, offset) {
     return names.map((name) => this.access(mode, name, scope, offset)).filter(Boolean).join(',');
+  }
+
+  /** A walk before the one that marks. */
+  lookAhead() {}
+
+  /** What a module declares for its own variables. */
+  declareModule() {
+    return '';
+  }
+
+  /** The scope of a node; a walk that comes twice keeps it. */
+  scopeOf(node, make) {
+    return make();
+  }
+
+  /** The body of a loop whose head has a scope of its own. */
+  visitBody(body, scope) {
+    if (body) this.visit(body, scope);
   }
 
   // ---- walking
@@ -140,6 +182,7 @@ class Instrumenter {
   visitMember(node, scope, mode) {
     const name = knownProperty(node);
     const object = node.object;
+    const helper = mode === 'd' ? 'w' : mode;
     const mayBeWindow = name !== null && object.type === 'Identifier' && WINDOW_NAMES.has(object.name)
       && !this.options.builtins.has(name) && !NEVER_RECORDED.has(name)
       && (scope.where(object.name) === 'local' || this.options.builtins.has(object.name));
@@ -147,7 +190,7 @@ class Instrumenter {
       this.visitChildren(node, scope, node.computed ? undefined : node.property);
       return;
     }
-    this.insert(object.start, `(__er.${mode}o(`);
+    this.insert(object.start, `(__er.${helper}o(`);
     this.insert(object.end, `,${quote(name)},${this.options.site(node.property.start)}))`);
   }
 
@@ -169,6 +212,7 @@ class Instrumenter {
   Property(node, scope) {
     if (!node.shorthand) {
       if (node.computed) this.visit(node.key, scope);
+      else this.nameFunction(node.value, node.key.name);
       this.visit(node.value, scope);
       return;
     }
@@ -178,6 +222,7 @@ class Instrumenter {
 
   MethodDefinition(node, scope) {
     if (node.computed) this.visit(node.key, scope);
+    else this.nameFunction(node.value, node.key.name);
     this.visit(node.value, scope);
   }
 
@@ -198,7 +243,7 @@ class Instrumenter {
       const read = node.operator === 'typeof' && this.access('r', argument.name, scope, argument.start);
       if (read) this.callBefore(node, read)();
     } else if (argument.type === 'MemberExpression' && node.operator === 'delete') {
-      this.visitMember(argument, scope, 'w');
+      this.visitMember(argument, scope, 'd');
     } else {
       this.visitChildren(node, scope);
     }
@@ -216,6 +261,7 @@ class Instrumenter {
 
   AssignmentExpression(node, scope) {
     const mode = node.operator === '=' ? 'w' : 'u';
+    this.nameAssigned(node);
     if (node.left.type === 'MemberExpression') {
       this.visitMember(node.left, scope, mode);
       this.visit(node.right, scope);
@@ -231,7 +277,8 @@ class Instrumenter {
   // ---- functions and classes
 
   visitFunction(node, scope) {
-    const inner = Scope.ofFunction(scope, node);
+    this.tellFunction(node);
+    const inner = this.scopeOf(node, () => Scope.ofFunction(scope, node));
     node.params.forEach((parameter) => this.visitPattern(parameter, inner));
     if (node.body.type === 'BlockStatement') this.visitChildren(node.body, inner);
     else this.visit(node.body, inner);
@@ -242,7 +289,7 @@ class Instrumenter {
   ArrowFunctionExpression(node, scope) { this.visitFunction(node, scope); }
 
   visitClass(node, scope) {
-    const inner = new Scope(scope, node.id ? [node.id.name] : []);
+    const inner = this.scopeOf(node, () => Scope.ofCode(scope, node.id ? [node.id.name] : []));
     this.visitChildren(node, inner, node.id);
   }
 
@@ -254,13 +301,14 @@ class Instrumenter {
   visitDeclarations(node, scope) {
     for (const declarator of node.declarations) {
       this.visitPattern(declarator.id, scope);
-      if (declarator.init) this.visitInitializer(declarator, scope);
+      this.nameFunction(declarator.init, declarator.id.name);
+      if (declarator.init) this.visitInitializer(declarator, scope, node.kind);
     }
   }
 
   /** `var x = f()` becomes `var x = (write,f())`; a function without a name keeps the name that it gets from `x`. */
-  visitInitializer({ id, init }, scope) {
-    const writes = this.accesses('w', namesOfPattern(id), scope, id.start);
+  visitInitializer({ id, init }, scope, kind) {
+    const writes = this.initializes(id, scope, kind);
     if (!writes) {
       this.visit(init, scope);
       return;
@@ -269,6 +317,11 @@ class Instrumenter {
     this.insert(init.start, named ? `(${writes},{${id.name}:` : `(${writes},`);
     this.visit(init, scope);
     this.insert(init.end, named ? `}.${id.name})` : ')');
+  }
+
+  /** The writes of a declaration with a value. */
+  initializes(pattern, scope) {
+    return this.accesses('w', namesOfPattern(pattern), scope, pattern.start);
   }
 
   VariableDeclaration(node, scope) {
@@ -292,9 +345,9 @@ class Instrumenter {
   LabeledStatement(node, scope) { this.visit(node.body, scope); }
   MetaProperty() {}
 
-  BlockStatement(node, scope) { this.visitChildren(node, Scope.ofBlock(scope, node.body)); }
+  BlockStatement(node, scope) { this.visitChildren(node, this.scopeOf(node, () => Scope.ofBlock(scope, node.body))); }
   StaticBlock(node, scope) {
-    const inner = new Scope(scope);
+    const inner = this.scopeOf(node, () => Scope.ofCode(scope));
     node.body.forEach((statement) => addHoisted(statement, inner.names));
     addLexical(node.body, inner.names);
     this.visitChildren(node, inner);
@@ -302,27 +355,28 @@ class Instrumenter {
 
   SwitchStatement(node, scope) {
     this.visit(node.discriminant, scope);
-    const inner = Scope.ofBlock(scope, node.cases.flatMap((one) => one.consequent));
+    const inner = this.scopeOf(node, () => Scope.ofBlock(scope, node.cases.flatMap((one) => one.consequent)));
     node.cases.forEach((one) => this.visitChildren(one, inner));
   }
 
   CatchClause(node, scope) {
-    const inner = new Scope(scope, namesOfPattern(node.param));
+    const inner = this.scopeOf(node, () => new Scope(scope, namesOfPattern(node.param)));
     this.visitPattern(node.param, inner);
     this.visit(node.body, inner);
   }
 
   WithStatement(node, scope) {
     this.visit(node.object, scope);
-    this.visit(node.body, new Scope(scope, [], true));
+    this.visit(node.body, this.scopeOf(node, () => new Scope(scope, [], true)));
   }
 
   ForStatement(node, scope) {
     const isLexical = node.init && node.init.type === 'VariableDeclaration' && node.init.kind !== 'var';
-    const inner = isLexical ? Scope.ofBlock(scope, [node.init]) : scope;
+    const inner = isLexical ? this.scopeOf(node, () => Scope.ofBlock(scope, [node.init])) : scope;
     if (node.init && node.init.type === 'VariableDeclaration') this.visitDeclarations(node.init, inner);
     else if (node.init) this.visit(node.init, inner);
-    this.visitAll([node.test, node.update, node.body], inner);
+    this.visitAll([node.test, node.update], inner);
+    this.visitBody(node.body, inner);
   }
 
   /** The write of the loop's variable is recorded once, where the list of values is asked for. */
@@ -330,14 +384,19 @@ class Instrumenter {
     const isDeclaration = node.left.type === 'VariableDeclaration';
     const pattern = isDeclaration ? node.left.declarations[0].id : node.left;
     const isLexical = isDeclaration && node.left.kind !== 'var';
-    const inner = isLexical ? new Scope(scope, namesOfPattern(pattern)) : scope;
+    const inner = isLexical ? this.scopeOf(node, () => new Scope(scope, namesOfPattern(pattern))) : scope;
     if (!isDeclaration) this.visitPattern(pattern, scope);
     const names = pattern.type === 'MemberExpression' ? [] : namesOfPattern(pattern);
     const writes = this.accesses('w', names, inner, pattern.start);
     const finish = writes ? this.callBefore(node.right, writes) : () => {};
-    this.visit(node.right, inner);
+    this.visitList(node, inner);
     finish();
-    this.visit(node.body, inner);
+    this.visitBody(node.body, inner);
+  }
+
+  /** What a loop goes through. */
+  visitList(node, scope) {
+    this.visit(node.right, scope);
   }
 
   ForInStatement(node, scope) { this.visitForEach(node, scope); }
@@ -411,6 +470,13 @@ function visitProgram(instrumenter, program, scope, kind) {
   }
 }
 
+/** What is marked: global variables, or objects and closures too. */
+function instrumenterFor(code, options) {
+  if (options.depth !== 'objects') return new Instrumenter(code, options);
+  const { ObjectInstrumenter } = require('./objects.js'); // it is made of this one
+  return new ObjectInstrumenter(code, options);
+}
+
 /**
  * The edits that mark a script, a module or the text of a handler attribute.
  * @returns {{edits: {start: number, end: number, insert: string}[]}|{fault: string}} `fault` where the text is no JavaScript
@@ -427,8 +493,9 @@ function instrument(code, options) {
   } catch (fault) {
     return { fault: String(fault.message) };
   }
-  const instrumenter = new Instrumenter(code, options);
+  const instrumenter = instrumenterFor(code, options);
   const scope = topScope(program, options.kind);
+  instrumenter.lookAhead(() => visitProgram(instrumenter, program, scope, options.kind), scope);
   const begin = placeOfBegin(program, code);
   instrumenter.insert(begin, beginCall(instrumenter, program, scope));
   visitProgram(instrumenter, program, scope, options.kind);
@@ -436,12 +503,13 @@ function instrument(code, options) {
   return { edits: instrumenter.edits };
 }
 
-function beginCall({ options }, program, scope) {
+function beginCall(instrumenter, program, scope) {
+  const { options } = instrumenter;
   const site = options.site(0);
   if (options.kind === 'handler') return `;__er.handlerBegins(this,event,${quote(options.type)});try{`;
   if (options.kind === 'address') return ';__er.addressBegins();try{';
-  if (options.kind === 'module') return `;${IDLE}__er.moduleBegins(import.meta.url,${site});`;
-  const functions = declaredFunctions({ options }, program, scope);
+  if (options.kind === 'module') return `;${IDLE}__er.moduleBegins(import.meta.url,${site});${instrumenter.declareModule()}`;
+  const functions = declaredFunctions(instrumenter, program, scope);
   return `;${IDLE}__er.scriptBegins(globalThis.document&&document.currentScript,${site},${JSON.stringify(functions)});`;
 }
 
@@ -451,4 +519,4 @@ function endCall({ kind }) {
   return kind === 'module' ? ';__er.moduleEnds();' : ';__er.scriptEnds();';
 }
 
-module.exports = { instrument };
+module.exports = { instrument, Instrumenter };

@@ -1,7 +1,8 @@
 'use strict';
 // Which names a piece of JavaScript declares where. Works on the trees that acorn gives.
 
-const NOT_CHILDREN = new Set(['type', 'start', 'end', 'loc', 'range', 'name', 'operator', 'raw', 'kind', 'computed', 'optional', 'directive', 'regex', 'bigint']);
+const NOT_CHILDREN = new Set(['type', 'start', 'end', 'loc', 'range', 'name', 'operator', 'raw', 'kind', 'computed', 'optional', 'directive', 'regex', 'bigint',
+  'scope']);
 
 const isNode = (value) => value !== null && typeof value === 'object' && typeof value.type === 'string';
 
@@ -94,6 +95,8 @@ class Scope {
     this.parent = parent;
     this.names = new Set(names);
     this.dynamic = dynamic;
+    /** The scope of the code in which it stands, as of a function; null at the top. */
+    this.code = parent ? parent.code : null;
   }
 
   /** The scope of a block: its parent's, where the block declares nothing for itself. */
@@ -105,7 +108,7 @@ class Scope {
   }
 
   static ofFunction(parent, node) {
-    const scope = new Scope(parent);
+    const scope = Scope.ofCode(parent);
     const { names } = scope;
     node.params.forEach((parameter) => addNames(parameter, names));
     if (node.type !== 'ArrowFunctionExpression') names.add('arguments');
@@ -115,6 +118,21 @@ class Scope {
       addLexical(node.body.body, names);
     }
     return scope;
+  }
+
+  /** The scope of code that runs apart from the code around it. */
+  static ofCode(parent, names) {
+    const scope = new Scope(parent, names);
+    scope.code = scope;
+    return scope;
+  }
+
+  /** The scope that declares a name, or null where none does or a `with` stands between. */
+  ownerOf(name) {
+    for (let scope = this; scope && !scope.dynamic; scope = scope.parent) {
+      if (scope.names.has(name)) return scope;
+    }
+    return null;
   }
 
   /** 'local', 'global', 'module' (a variable of the module itself), or 'unknown' where a `with` stands between. */

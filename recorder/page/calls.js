@@ -98,6 +98,7 @@ class Calls {
         set(value) {
           elements.noteSource(this);
           native.set.call(this, value);
+          elements.nameSource(this);
         },
       }));
     }
@@ -112,6 +113,7 @@ class Calls {
       if (isSource && !page.recording.isOver) page.elements.noteSource(this);
       if (key === 'integrity' && this.localName === 'script') return undefined;
       const result = native.apply(this, arguments);
+      if (isSource && !page.recording.isOver) page.elements.nameSource(this);
       if (/^on[a-z]+$/.test(key) && !page.recording.isOver && page.recording.isRunning()) {
         page.elements.declaredNumber(this);
         page.recording.finishReturned();

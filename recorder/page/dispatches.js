@@ -172,7 +172,7 @@ class Dispatches {
     if (request) recording.begin(`reply ${dispatch.number} ${request.number}`, 'begin', undefined, [request.sender]);
     else if (!page.loading.begin(dispatch) && !page.messages.begin(dispatch)) this.beginAt(dispatch, event, target);
     dispatch.beginning = recording.running;
-    recording.log.name('dispatch', dispatch.number, { type: event.type });
+    recording.log.name('dispatch', dispatch.number, { type: event.type, act: (event.isTrusted && recording.act) || undefined });
   }
 
   beginAt(dispatch, event, target) {

@@ -30,7 +30,8 @@ class Elements {
     const { document } = this.page;
     if (document.documentElement) this.addTree(document.documentElement, 'script');
     this.observer.observe(document, {
-      childList: true, subtree: true, attributes: true, attributeFilter: ['id'], attributeOldValue: true,
+      childList: true, subtree: true, attributes: true, attributeOldValue: true,
+      ...(this.recording.objects ? { characterData: true } : { attributeFilter: ['id'] }),
     });
   }
 
@@ -170,8 +171,16 @@ class Elements {
       id: this.idOf(target) || undefined,
       field: typeof target.name === 'string' && target.name ? target.name : undefined,
       source: source ? source.slice(0, 200) : undefined,
+      loads: this.addressOf(target),
       document: this.page.numberOfDocumentOf(target),
     };
+  }
+
+  /** The whole address of what an element loads. */
+  addressOf(target) {
+    if (!/^(script|img|iframe|frame|link|input)$/.test(target.localName)) return undefined;
+    const address = target.localName === 'link' ? target.href : target.src;
+    return typeof address === 'string' && address ? address.replace(/#.*$/, '').slice(0, 2000) : undefined;
   }
 
   /**
@@ -219,17 +228,44 @@ class Elements {
   }
 
   handleOne(record, maker) {
-    if (record.type === 'attributes') {
+    if (this.isOfHold(record)) return;
+    if (record.type === 'childList') {
+      each(record.removedNodes, (node) => this.removeTree(node, maker));
+      each(record.addedNodes, (node) => {
+        if (maker !== 'parser') this.addTree(node, maker);
+        else {
+          this.add(node, maker);
+          if (this.recording.running.kind === 'parse') this.noteChange(record); // a text behind a script has no action of its own
+        }
+      });
+    } else if (record.type === 'attributes' && record.attributeName === 'id') {
       this.writeId(record.oldValue, maker);
       this.writeId(this.idOf(record.target), maker);
-      return;
     }
-    each(record.removedNodes, (node) => this.removeTree(node, maker));
-    each(record.addedNodes, (node) => (maker === 'parser' ? this.add(node, maker) : this.addTree(node, maker)));
+    if (maker !== 'parser') this.noteChange(record);
+  }
+
+  /** A script at which a replay lets the parser wait comes and goes: the page's content is the same. */
+  isOfHold({ addedNodes, removedNodes }) {
+    const { steering } = this.recording;
+    const isWithout = (nodes) => !findItem(nodes, (node) => !steering.isHold(node));
+    return steering.isActive && addedNodes.length + removedNodes.length > 0 && isWithout(addedNodes) && isWithout(removedNodes);
+  }
+
+  noteChange(record) {
+    const { objects } = this.recording;
+    if (objects) objects.trees.noteChange(record);
   }
 
   writeId(id, maker) {
-    if (id) this.recording.accessNow('w', `elem ${this.page.number} ${spellName(id)}`, maker === 'parser' ? '' : this.placeOfCode());
+    if (!id) return;
+    const isParser = maker === 'parser';
+    this.recording.accessNow('w', `elem ${this.page.number} ${spellName(id)}`, isParser ? '' : this.placeOfCode(), isParser ? 'o' : () => this.find(id));
+  }
+
+  /** The element of an id, or undefined. */
+  find(id) {
+    return this.natives.getElementById.call(this.page.document, id) || undefined;
   }
 
   /** The place of the code that made the changes which are written now. */
@@ -251,7 +287,7 @@ class Elements {
   }
 
   add(node, maker) {
-    if (node.nodeType !== 1) return;
+    if (node.nodeType !== 1 || this.recording.steering.isHold(node)) return;
     if (!this.recording.declared.has(this.number(node))) {
       if (maker === 'parser') this.addParsed(node);
       else this.addMade(node);
@@ -308,6 +344,12 @@ class Elements {
       return first.number;
     }
     return this.furtherDocument(frame);
+  }
+
+  /** What an element loads now. */
+  nameSource(element) {
+    const { recording } = this;
+    if (!recording.isOver && recording.elementNumbers.has(element)) recording.log.name('element', this.number(element), { loads: this.addressOf(element) });
   }
 
   useOnce(load, key) {

@@ -19,6 +19,7 @@ class Fields {
   start() {
     FIELD_PROPERTIES.forEach(([owner, name, variable]) => this.replaceField(this.page.window[owner].prototype, name, variable));
     this.replaceCookie();
+    this.getItem = this.page.window.Storage.prototype.getItem;
     Object.keys(STORAGE_CALLS).forEach((name) => this.replaceStorage(name));
   }
 
@@ -26,20 +27,20 @@ class Fields {
     return `var ${FIRST_FIELD + this.page.elements.number(field)} ${variable}`;
   }
 
-  access(mode, field, variable) {
+  access(mode, field, variable, found) {
     const { recording, page } = this;
-    if (recording.isRunning() && page.natives.isConnected.call(field)) recording.access(mode, this.location(field, variable));
+    if (recording.isRunning() && page.natives.isConnected.call(field)) recording.access(mode, this.location(field, variable), undefined, found);
   }
 
   replaceField(owner, name, variable) {
     const fields = this;
     replaceProperty(owner, name, (native) => ({
       get() {
-        fields.access('r', this, variable);
+        fields.access('r', this, variable, () => native.get.call(this));
         return native.get.call(this);
       },
       set(value) {
-        fields.access('w', this, variable);
+        fields.access('w', this, variable, () => native.get.call(this));
         native.set.call(this, value);
       },
     }));
@@ -67,10 +68,11 @@ class Fields {
   }
 
   replaceStorage(name) {
-    const { recording, page } = this;
+    const { recording, page, getItem } = this;
     replaceMethod(page.window.Storage.prototype, name, (native) => function store(key) {
       const area = isLocal(page.window, this) ? 'localStorage' : 'sessionStorage';
-      recording.access(STORAGE_CALLS[name], `var 0 ${spellName(`${area}.${String(key).slice(0, LONGEST_KEY)}`)}`);
+      const look = () => getItem.call(this, key) ?? undefined;
+      recording.access(STORAGE_CALLS[name], `var 0 ${spellName(`${area}.${String(key).slice(0, LONGEST_KEY)}`)}`, undefined, look);
       return native.apply(this, arguments);
     });
   }

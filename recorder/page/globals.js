@@ -44,25 +44,31 @@ class Globals {
     const isVariable = hasOwn(this.page.window, name);
     if (isVariable && this.isRepeat(site)) return;
     if (this.builtins.has(name)) return;
-    this.recording.accessNow('r', this.location(name), site);
+    this.recording.accessNow('r', this.location(name), site, () => this.valueOf(name));
     if (!isVariable) this.readNamedElement(name, site);
+  }
+
+  /** The value of a variable, without a call of the page's code. */
+  valueOf(name) {
+    const descriptor = Object.getOwnPropertyDescriptor(this.page.window, name);
+    return descriptor && 'value' in descriptor ? descriptor.value : UNSEEN;
   }
 
   /** A name that is no variable is looked up among the elements with an id. */
   readNamedElement(name, site) {
     if (!this.page.natives.getElementById.call(this.page.document, name)) return;
-    this.recording.access('r', `elem ${this.page.number} ${spellName(name)}`, site);
+    this.recording.access('r', `elem ${this.page.number} ${spellName(name)}`, site, 'o');
   }
 
   write(name, site) {
     if (!this.recording.mayAccess() || this.isRepeat(site) || this.builtins.has(name)) return;
-    this.recording.accessNow('w', this.location(name), site);
+    this.recording.accessNow('w', this.location(name), site, () => this.valueOf(name));
   }
 
   update(name, site) {
     if (!this.recording.mayAccess() || this.isRepeat(site) || this.builtins.has(name)) return;
-    this.recording.accessNow('r', this.location(name), site);
-    this.recording.accessNow('w', this.location(name), site);
+    this.recording.accessNow('r', this.location(name), site, () => this.valueOf(name));
+    this.recording.accessNow('w', this.location(name), site, () => this.valueOf(name));
   }
 
   /** To list all properties of a window takes long, so those that no enumeration gives are noted as they are made. */
@@ -96,9 +102,25 @@ class Globals {
   }
 
   compareOne(name) {
-    if (this.builtins.has(name) || /^\d+$/.test(name)) return;
+    const descriptor = this.descriptorOf(name);
+    if (descriptor) this.compareValue(name, descriptor.value);
+  }
+
+  /** The descriptor of a variable that has a value, else undefined. */
+  descriptorOf(name) {
+    if (this.builtins.has(name) || /^\d+$/.test(name)) return undefined;
     const descriptor = Object.getOwnPropertyDescriptor(this.page.window, name);
-    if (descriptor && 'value' in descriptor) this.compareValue(name, descriptor.value);
+    return descriptor && 'value' in descriptor ? descriptor : undefined;
+  }
+
+  /** What a driver's own code wrote between two tasks of the page is no write of the next one. */
+  takeOver() {
+    each(Object.keys(this.page.window), (name) => {
+      const descriptor = this.descriptorOf(name);
+      if (!descriptor || (this.values.has(name) && Object.is(this.values.get(name), descriptor.value))) return;
+      this.values.set(name, descriptor.value);
+      this.recording.log.miss('variables that changed while nothing recorded ran');
+    });
   }
 
   compareValue(name, value) {
@@ -106,6 +128,6 @@ class Globals {
     if (!isNew && Object.is(this.values.get(name), value)) return;
     this.values.set(name, value);
     const isDeclaredOnly = isNew && value === undefined;
-    if (!isDeclaredOnly && this.recording.isRunning()) this.recording.accessNow('w', this.location(name), '');
+    if (!isDeclaredOnly && this.recording.isRunning()) this.recording.accessNow('w', this.location(name), '', digestOf(value));
   }
 }

@@ -3,7 +3,7 @@
 const LINES_A_BATCH = 200;
 const MILLISECONDS_A_BATCH = 100;
 const LONGEST_NAME = 255;
-const STACK_DEPTH = 10;
+const STACK_DEPTH = 16;
 
 const spelledNames = new Map();
 const MOST_SPELLED = 20000;
@@ -57,9 +57,12 @@ function takeStack() {
   return typeof stack === 'string' ? [] : stack;
 }
 
-/** The first place of the page's own code on the stack: `address:line:column` in the browser's copy, or ''. */
+const fileOf = (call) => (call.getScriptNameOrSourceURL() || '').replace(/[?#].*$/, '').replace(/^.*\//, '');
+
+/** The first place of the page's own code on the stack, else of a library's: `address:line:column` in the browser's copy, or ''. */
 function placeOnStack() {
-  const call = findItem(takeStack(), (one) => PAGE_ADDRESS.test(one.getScriptNameOrSourceURL() || ''));
+  const calls = keep(takeStack(), (one) => PAGE_ADDRESS.test(one.getScriptNameOrSourceURL() || ''));
+  const call = (LIBRARIES && findItem(calls, (one) => !LIBRARIES.test(fileOf(one)))) || calls[0];
   return call ? `${call.getScriptNameOrSourceURL()}:${call.getLineNumber()}:${call.getColumnNumber()}` : '';
 }
 
@@ -69,16 +72,24 @@ class Log {
     this.entries = [];
     this.lastSent = 0;
     this.counts = {};
+    /** Where it is set, each line is sent behind the task that wrote it. */
+    this.sendSoon = null;
+    /** What is written behind a task. */
+    this.beforeSending = () => {};
+    this.isSendingSoon = false;
   }
 
-  /** A line of the trace. `place` is a site number, a place on the stack, or nothing. */
-  line(text, place) {
-    this.entries.push(place === undefined || place === '' ? text : `${text}\t${place}`);
+  /** A line of the trace. `place` is a site number, a place on the stack, or nothing; `found` is what an access found (values.js). */
+  line(text, place, found) {
+    const at = place === undefined ? '' : place;
+    this.entries.push(found ? `${text}\t${at}\t${found}` : at === '' ? text : `${text}\t${at}`);
+    if (this.sendSoon) this.askToSend();
   }
 
   /** What a number is, for OUT.names.json. */
   name(kind, number, facts) {
     this.entries.push(`#${this.json({ kind, number, ...facts })}`);
+    if (this.sendSoon) this.askToSend();
   }
 
   /** Counts something that was not recorded. */
@@ -89,6 +100,16 @@ class Log {
   /** Some pages give all objects a `toJSON` of their own. */
   json(facts) {
     return JSON.stringify({ ...facts, toJSON: undefined });
+  }
+
+  askToSend() {
+    if (this.isSendingSoon) return;
+    this.isSendingSoon = true;
+    this.sendSoon(() => {
+      this.beforeSending();
+      this.isSendingSoon = false;
+      if (this.entries.length) this.sendAll(this.lastSent);
+    });
   }
 
   sendIfDue(now) {

@@ -37,7 +37,7 @@ class Lookups {
     const ids = name === 'getElementById' ? [String(key)] : this.idsOf(key);
     if (!ids.length || !this.isInDocument(root)) return;
     for (const id of ids) {
-      if (id) this.recording.access('r', `elem ${this.page.number} ${spellName(id)}`);
+      if (id) this.recording.access('r', `elem ${this.page.number} ${spellName(id)}`, undefined, () => this.page.elements.find(id));
     }
   }
 

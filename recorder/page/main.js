@@ -25,6 +25,7 @@ class Page {
     const { documents } = this.recording;
     documents.splice(0, documents.length, ...keep(documents, (page) => page.window !== this.window), this);
     this.recording.elementNumbers.delete(this.window); // a frame's window stays the same object for its next page
+    if (this.recording.objects) this.startObjects();
     this.beginDocument();
     const parts = [this.handlers, this.dispatches, this.calls, this.lookups, this.fields, this.timers, this.jobs, this.requests, this.connections, this.messages,
       this.globals];
@@ -32,6 +33,13 @@ class Page {
     this.replaceToString();
     this.elements.start();
     this.globals.compare();
+    this.recording.steering.holdLoad(this);
+  }
+
+  startObjects() {
+    const { objects } = this.recording;
+    objects.trees = objects.trees || new Trees(objects, this);
+    objects.addWindow(this);
   }
 
   /** The first action of a document: a step that makes the document itself, and its window. */
@@ -81,8 +89,12 @@ function helpersOf(page) {
   const update = (name, site) => globals.update(name, site);
   const inHandler = (access) => (element, name, site) => { if (!isOfElement(element, name)) access(name, site); };
   const ofObject = (access) => (object, name, site) => { if (object === window) access(name, site); return object; };
-  const ofModule = (modes) => (module, name, site) => each(modes, (mode) => recording.access(mode, `var ${module} ${spellName(name)}`, site));
+  const ofModule = (modes) => (module, name, site) => {
+    if (!recording.mayAccess() || globals.isRepeat(site)) return;
+    each(modes, (mode) => recording.accessNow(mode, `var ${module} ${spellName(name)}`, site));
+  };
   return {
+    ...(recording.objects ? recording.objects.helpers : {}),
     recording,
     r: read, w: write, u: update,
     rh: inHandler(read), wh: inHandler(write), uh: inHandler(update),
@@ -97,6 +109,7 @@ function helpersOf(page) {
     handlerEnds: () => page.dispatches.handlerEnds(dispatches.pop()),
     addressBegins: () => scripts.addressBegins(),
     addressEnds: () => scripts.addressEnds(),
+    removeHold: (script) => recording.steering.removeHold(script),
   };
 }
 
@@ -107,7 +120,13 @@ function idleHelpers() {
     'moduleEnds', 'handlerBegins', 'handlerEnds', 'addressBegins', 'addressEnds'];
   const helpers = Object.fromEntries(names.map((name) => [name, nothing]));
   const same = (object) => object;
-  return { ...helpers, ro: same, wo: same, uo: same };
+  const key = (object, given) => given;
+  const value = (object, name, site, given) => given;
+  each('ro wo uo p q b g m n i e d o'.split(' '), (name) => { helpers[name] = same; });
+  each('k l j h a c'.split(' '), (name) => { helpers[name] = key; });
+  each('v s'.split(' '), (name) => { helpers[name] = nothing; });
+  each('x y'.split(' '), (name) => { helpers[name] = (scope, variable, site, before, result) => result; });
+  return { ...helpers, f: value, z: value, t: null };
 }
 
 /** The recording of the page that a frame stands in, or null where it is of another origin. */
@@ -145,6 +164,7 @@ function startRecorder(window) {
   delete window.__erSend;
   const natives = takeNatives(window);
   const isTop = window.parent === window;
+  if (FIXED) fixChance(window, FIXED);
   const recording = isTop ? new Recording(natives, send) : recordingOfParent(window);
   const number = isTop ? 0 : recording ? numberOfFrame(window, recording) : -1;
   const isRecorded = number >= 0;

@@ -16,8 +16,8 @@ class Messages {
     const messages = this;
     const { window } = this.page;
     replaceMethod(window, 'postMessage', (native) => function postMessage() {
-      messages.post(window);
-      return native.apply(window, arguments);
+      const hold = messages.post(window);
+      messages.recording.steering.post(hold, window, () => native.apply(window, arguments));
     });
     this.replaceChannel(window);
     this.replaceBroadcasts(window);
@@ -30,8 +30,9 @@ class Messages {
     if (!window.BroadcastChannel) return;
     replaceConstructor(window, 'BroadcastChannel', (made) => { channels[channels.length] = made; });
     replaceMethod(window.BroadcastChannel.prototype, 'postMessage', (native) => function postMessage() {
-      each(channels, (one) => { if (one !== this && one.name === this.name) messages.post(one); });
-      return native.apply(this, arguments);
+      let hold;
+      each(channels, (one) => { if (one !== this && one.name === this.name) hold = messages.post(one) || hold; });
+      messages.recording.steering.post(hold, this.name, () => native.apply(this, arguments));
     });
   }
 
@@ -49,20 +50,22 @@ class Messages {
     Object.defineProperty(window, 'MessageChannel', { configurable: true, writable: true, value: MessageChannel });
     replaceMethod(window.MessagePort.prototype, 'postMessage', (native) => function postMessage() {
       const peer = peers.get(this);
-      if (peer) messages.post(peer);
-      return native.apply(this, arguments);
+      const hold = peer && messages.post(peer);
+      messages.recording.steering.post(hold, peer, () => native.apply(this, arguments));
     });
   }
 
+  /** Answers what keeps the message back in a replay. */
   post(receiver) {
     const { recording } = this;
-    if (recording.isOver) return;
+    if (recording.isOver) return undefined;
     const message = recording.next('message');
     const standIn = recording.next('element');
     recording.note(`post ${message} ${this.page.number} ${standIn}`);
     recording.log.name('element', standIn, { why: 'a message' });
     if (!recording.posted.has(receiver)) recording.posted.set(receiver, []);
     recording.posted.get(receiver).push({ message, standIn });
+    return recording.steering.asks('post');
   }
 
   /** Messages to one receiver come in the order of their posting. */

@@ -11,11 +11,14 @@ function takeNatives(window) {
     setAttribute: Element.prototype.setAttribute,
     hasAttribute: Element.prototype.hasAttribute,
     getAttributeNames: Element.prototype.getAttributeNames,
+    remove: Element.prototype.remove,
     isConnected: Object.getOwnPropertyDescriptor(Node.prototype, 'isConnected').get,
     MutationObserver: window.MutationObserver,
     promise: Promise,
     then: Promise.prototype.then,
     queueMicrotask: window.queueMicrotask.bind(window),
+    setTimeout: window.setTimeout.bind(window),
+    URL: window.URL,
     now: window.performance.now.bind(window.performance),
   };
 }

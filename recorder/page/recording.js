@@ -14,6 +14,7 @@ class Recording {
   constructor(natives, send) {
     this.natives = natives;
     this.log = new Log(send);
+    this.values = new Values(this.log);
     this.isOver = false;
     this.numbers = {};
     /** The event of the running action. */
@@ -30,6 +31,12 @@ class Recording {
     this.elementNumbers = new WeakMap();
     this.declared = new Set();
     this.endedEvents = new WeakSet();
+    this.steering = new Steering(natives, HOLDS);
+    this.steering.start(this.log);
+    /** The number of the user's act that the driver does now, or 0. */
+    this.act = 0;
+    this.objects = DEPTH === 'objects' ? new Objects(this) : null;
+    if (this.objects) this.log.beforeSending = () => this.objects.settleWrites(); // no page answers while it is left (--attach)
   }
 
   next(kind) {
@@ -41,11 +48,14 @@ class Recording {
 
   /** `after` are events that a rule puts before this one. */
   begin(line, kind, place, after = []) {
+    if (this.objects) this.objects.settleWrites();
+    this.values.tell();
     this.log.line(line, place);
     this.running = { kind, after: keep(after, Boolean) };
     this.accessed.clear();
     this.hasBegun = true;
     this.actions++;
+    if (this.objects) this.objects.forget();
   }
 
   /** A note belongs to the running action; where nothing recorded runs, to the first action of the trace. */
@@ -64,8 +74,9 @@ class Recording {
     this.log.line(`beside ${element} ${line}`);
   }
 
-  access(mode, location, place) {
-    if (this.mayAccess()) this.accessNow(mode, location, place);
+  /** `found` tells the value (values.js). */
+  access(mode, location, place, found) {
+    if (this.mayAccess()) this.accessNow(mode, location, place, found);
   }
 
   /** Whether an access can be written now. What returned meanwhile is over then. */
@@ -80,11 +91,11 @@ class Recording {
   }
 
   /** An access of the running action, without a look at what returned meanwhile. */
-  accessNow(mode, location, place) {
+  accessNow(mode, location, place, found) {
     const line = `${mode} ${location}`;
     if (this.accessed.has(line)) return;
     this.accessed.add(line);
-    this.log.line(line, place === undefined ? placeOnStack() : place);
+    this.log.line(line, place === undefined ? placeOnStack() : place, this.values.beside(mode, found));
   }
 
   /** Whether rules are known to put an event before the running one: a short search along `after`. */
@@ -122,6 +133,7 @@ class Recording {
   }
 
   enter(kind) {
+    if (IS_DRIVEN && !this.isRunning()) each(this.documents, (document) => document.globals.takeOver());
     this.contexts.push(kind);
   }
 
@@ -132,6 +144,7 @@ class Recording {
   }
 
   leaveCall() {
+    if (this.objects) this.objects.forget();
     this.contexts.pop();
     if (!this.contexts.length) this.startCheckpoint();
   }
@@ -144,6 +157,7 @@ class Recording {
       document.elements.collect('script');
       document.globals.compare();
     }
+    this.values.tell();
   }
 
   startCheckpoint() {
@@ -226,6 +240,7 @@ class Recording {
   }
 
   flush() {
+    if (this.objects) this.objects.settleWrites();
     this.log.sendAll(this.natives.now());
   }
 }

@@ -20,8 +20,17 @@ class Requests {
   send(facts) {
     const number = this.recording.next('request');
     this.recording.note(`send ${number}`);
-    this.recording.log.name('request', number, facts);
+    this.recording.log.name('request', number, { ...facts, url: this.whole(facts?.address) });
     return { number, sender: this.recording.isRunning() ? this.recording.running : null };
+  }
+
+  /** The whole address of what is asked for. */
+  whole(address) {
+    try {
+      return new this.natives.URL(address, this.page.document.baseURI).href.replace(/#.*$/, '');
+    } catch {
+      return undefined; // no address
+    }
   }
 
   replaceXhr(owner) {

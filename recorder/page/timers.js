@@ -13,6 +13,7 @@ class Timers {
     for (const name of ['requestAnimationFrame', 'webkitRequestAnimationFrame', 'requestIdleCallback']) {
       if (window[name]) this.replaceFrame(window, name);
     }
+    this.recording.steering.watchClearing(window, ['clearTimeout', 'clearInterval', 'cancelAnimationFrame', 'cancelIdleCallback']);
   }
 
   /** The delay as a browser takes it: whole, the low 32 bits, not below 0. */
@@ -26,6 +27,11 @@ class Timers {
     const code = String(callback);
     const { window } = this.page;
     return () => window.eval(code);
+  }
+
+  nameCallback(kind, number, callback) {
+    const name = nameOfFunction(callback);
+    if (name) this.recording.log.name(kind, number, { function: name });
   }
 
   run(line, kind, asker, callback, words) {
@@ -44,29 +50,36 @@ class Timers {
   replaceTimeout(window) {
     const timers = this;
     const { recording, page } = this;
+    const { steering } = recording;
     replaceMethod(window, 'setTimeout', (native) => function setTimeout(callback, delay, ...words) {
       if (recording.isOver) return native.call(window, callback, delay, ...words);
       const timeout = recording.next('timeout');
       // a setter that was not seen is no event, so the timeout gets order from nothing
       const isKnown = recording.isRunning();
       recording.note(`set ${timeout} ${timers.delay(delay)} ${isKnown ? page.number : 'unknown'}`);
-      const run = timers.callable(callback);
+      timers.nameCallback('timeout', timeout, callback);
+      const hold = steering.asks('set');
+      const callable = timers.callable(callback);
       const asker = recording.running;
-      return native.call(window, () => timers.run(`timer ${timeout}`, 'timer', isKnown ? asker : null, run, words), delay);
+      const run = () => timers.run(`timer ${timeout}`, 'timer', isKnown ? asker : null, callable, words);
+      return steering.note(hold, native.call(window, steering.callback(hold, run, (again) => native.call(window, again, 0)), delay));
     });
   }
 
   replaceInterval(window) {
     const timers = this;
     const { recording } = this;
+    const { steering } = recording;
     replaceMethod(window, 'setInterval', (native) => function setInterval(callback, delay, ...words) {
       if (recording.isOver) return native.call(window, callback, delay, ...words);
       const interval = recording.next('interval');
       recording.note(`every ${interval} ${timers.delay(delay)}`);
-      recording.log.name('interval', interval, { why: 'setInterval' });
-      const run = timers.callable(callback);
+      recording.log.name('interval', interval, { why: 'setInterval', function: nameOfFunction(callback) });
+      const hold = steering.asks('every');
+      const callable = timers.callable(callback);
       const asker = recording.running;
-      return native.call(window, () => timers.run(`tick ${interval}`, 'tick', asker, run, words), delay);
+      const run = () => timers.run(`tick ${interval}`, 'tick', asker, callable, words);
+      return steering.note(hold, native.call(window, steering.callback(hold, run, (again) => again()), delay));
     });
   }
 
@@ -74,14 +87,17 @@ class Timers {
   replaceFrame(window, name) {
     const timers = this;
     const { recording } = this;
+    const { steering } = recording;
     const words = name === 'requestIdleCallback' ? ['every', 'tick'] : ['ask', 'anim'];
     replaceMethod(window, name, (native) => function request(callback, ...rest) {
       if (recording.isOver || typeof callback !== 'function') return native.call(window, callback, ...rest);
       const number = recording.next('interval');
       recording.note(words[0] === 'every' ? `every ${number} 0` : `ask ${number}`);
-      recording.log.name('interval', number, { why: name });
+      recording.log.name('interval', number, { why: name, function: nameOfFunction(callback) });
+      const hold = steering.asks(words[0]);
       const asker = recording.running;
-      return native.call(window, (time) => timers.run(`${words[1]} ${number}`, 'tick', asker, callback, [time]), ...rest);
+      const run = (time) => timers.run(`${words[1]} ${number}`, 'tick', asker, callback, [time]);
+      return steering.note(hold, native.call(window, steering.callback(hold, run, (again) => native.call(window, again, ...rest)), ...rest));
     });
   }
 }

@@ -27,6 +27,7 @@ exports.cases = [
   },
   {
     page: 'module.html',
+    words: ['--depth', 'globals'],
     due: [
       'parse script defer', 'parse p#text plain', 'parse script defer', 'exec script', 'w fromShared', 'w mine',
       'r #text', 'exec script', 'w fromSecond', 'r fromShared', 'dcl',
@@ -80,6 +81,13 @@ exports.cases = [
     due: [
       'exec script', 'w three', 'w five', 'w one', 'w two', 'w four', 'exec script', 'w seen', 'r one', 'r two', 'r three', 'r five', 'w one',
     ],
+    words: ['--depth', 'globals'],
+  },
+  {
+    page: 'hidden-variables.html',
+    due: [
+      'exec script', 'w one', 'w four', 'w five', 'w three', 'w two', 'exec script', 'w one', 'w four', 'w seen', 'r one', 'r two', 'r three', 'r five',
+    ],
   },
   {
     page: 'own-arrays.html',
@@ -94,6 +102,24 @@ exports.cases = [
       'parse script sync', 'exec script', 'w ready', 'exec script', 'r ready',
     ],
   },
+
+  // ---- objects and closures
+  { page: 'object-property.html', due: ['timer', 'r total of cart', 'timer', 'w total of cart'], never: ['r limit of cart', 'r all of cart'], races: ['total of cart'] },
+  { page: 'closure.html', due: ['timer', 'r count of the closure of shop', 'timer', 'w count of the closure of shop'],
+    never: ['r never of the closure of shop', 'w scratch of the closure of shop', 'r n of fixed'], races: ['count of the closure of shop'] },
+  { page: 'closures-apart.html', due: ['timer', 'timer'] },
+  { page: 'array-items.html', due: ['timer', 'r (items) of list', 'timer', 'w (items) of list'], races: ['(items) of list'] },
+  { page: 'map-keys.html', due: ['timer', 'r [a] of kept', 'timer', 'w [a] of kept'], races: ['[a] of kept'] },
+  { page: 'tree-state.html', due: ['timer', 'r content of p#text', 'r class of p#text', 'timer', 'w content of p#text', 'w class of p#text'],
+    races: ['class of p#text', 'content of p#text', 'style.color of p#text', 'title of p#text'] },
+  { page: 'put-back.html', due: ['timer', 'timer'] },
+  { page: 'private-names.html', due: ['timer', 'r #n of this', 'timer', 'w #n of this'], races: ['#n of this'] },
+  { page: 'late-plugin.html', due: ['timer', 'r hide of Box.prototype', 'timer', 'w hide of Box.prototype'], races: ['hide of Box.prototype'] },
+  { page: 'await-and-write.html', due: ['timer', 'r data of state', 'reply', 'w last of the closure of ?', 'w data of state'],
+    races: ['data of state', 'last of the closure of ?'] },
+  { page: 'proxy.html', due: ['timer', 'r n of t', 'timer', 'w n of t'], never: ['r n of watched'], races: ['n of t', 'traps of the closure of ?'] },
+  { page: 'modules-apart.html', due: ['timer', 'r total of store', 'r last', 'timer', 'w total of store', 'w last'],
+    never: ['w scratch', 'r fixed', 'r scratch'], races: ['last', 'total of store'] },
 
   // ---- timers and jobs
   {

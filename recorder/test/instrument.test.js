@@ -67,6 +67,23 @@ test('a module: its own variables, and those of the window', () => {
   assert.match(text, /__er\.um\(2000000,"x"/);
 });
 
+test('marks at objects and closures stand around what they tell of', () => {
+  const marks = (code) => {
+    const { edits } = instrument(code, { kind: 'script', depth: 'objects', builtins: BUILTINS, site: () => 0 });
+    const { text } = new EditedText(code, edits);
+    return text.replace(/\/\*[<>]\*\//g, '').replace(/^.*?currentScript,0,\[.*?\]\);/, '').replace(/;__er\.scriptEnds.*$/, '').replace(/,0\)/g, ')').replace(/\(__er\.r\("\w+"\),(\w+)\)/g, '$1');
+  };
+  assert.strictEqual(marks('a.b'), '__er.p(a,"b").b');
+  assert.strictEqual(marks('a?.b.c?.d'), '__er.p(__er.p(a,"b")?.b.c,"d")?.d');
+  assert.strictEqual(marks('new a.b()'), 'new (__er.p(a,"b").b)()');
+  assert.strictEqual(marks('delete a.b'), 'delete __er.g(a,"b").b');
+  assert.strictEqual(marks('function f(a, k) { a[k] = 1 }'), 'function f(a, k) { a[__er.l(a,k)] = 1 }');
+  assert.strictEqual(marks('f()[k]'), '(__er.t=f())[__er.k(__er.t,k)]');
+  assert.strictEqual(marks('Math.max([1].length)'), 'Math.max([1].length)');
+  assert.strictEqual(marks('function f() { let n = 0, m = 0; return () => n++ + m }'),
+    'function f() {;var __er_1=__er.s(0); let n = 0, m = 0; return () => __er.y(__er_1,"n",0,n,n++,n) + m }');
+});
+
 test('a statement without a semicolon, where another one follows', () => {
   assert.strictEqual(marked('b = a\na++').text.match(/;\/\*>\*\//g).length, 3); // the begin, the statement, the end
   assert.strictEqual(marked('{ b = a }\nif (a) { b\n}').text.match(/;\/\*>\*\//g).length, 2);

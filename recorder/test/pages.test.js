@@ -4,7 +4,7 @@
 const assert = require('node:assert');
 const { after, before, test } = require('node:test');
 const { Chromium } = require('../browser/chromium.js');
-const { recordPage, judge, firstMissing } = require('./support.js');
+const { recordPage, judge, actorsOf, firstMissing } = require('./support.js');
 const { cases } = require('./cases.js');
 
 let browser;
@@ -21,6 +21,7 @@ for (const one of cases) {
     const { refused, races } = judge(trace);
     assert.strictEqual(refused, '', `${refused}\n${trace.text.split('\n').map((line, k) => `${k + 1} ${line}`).join('\n')}`);
     assert.deepStrictEqual([...new Set(races)].sort(), [...(one.races || [])].sort(), `${trace.text.split('\n').map((line, k) => `${k + 1} ${line}`).join('\n')}`);
+    for (const [first, second] of actorsOf(trace)) assert.notStrictEqual(first, second);
     for (const loss of one.losses || []) assert.ok(trace.losses.some((line) => loss.test(line)), trace.losses.join('\n'));
     if (!one.throws) assert.deepStrictEqual(trace.errors, []);
   });

@@ -2,13 +2,19 @@
 // What the tests share: recording a page of pages/, reading a trace with names in place of numbers, and asking the program.
 
 const { spawnSync } = require('node:child_process');
+const fs = require('node:fs');
 const path = require('node:path');
 require('./cleanup.js');
 const { Recorder } = require('../recorder.js');
 const { parseOptions } = require('../options.js');
+const { writeFiles, namesFile } = require('../record.js');
+const { Replay, withEnd, chance, verdictInWords } = require('../replay/replay.js');
+const { Accesses } = require('../trace/accesses.js');
 const { Names } = require('../trace/names.js');
 const { Spelling, NEWEST_VERSION } = require('../trace/spelling.js');
-const { PROGRAM } = require('../view/program.js');
+const { Actions } = require('../view/actions.js');
+const { PROGRAM, judge: judgeFile } = require('../view/program.js');
+const { Words } = require('../view/words.js');
 
 const LONGEST_ANSWER = 60000;
 const PAGES = path.join(__dirname, 'pages');
@@ -21,8 +27,29 @@ async function recordPage(browser, page, words = [], version = NEWEST_VERSION) {
   return readTrace(recorder, version);
 }
 
+/** Records a page, and runs it again with the first race at a location turned. */
+async function replayPage(browser, page, words, location, folder) {
+  const parsed = parseOptions([...words, page], NEWEST_VERSION, 1);
+  const options = { ...parsed, browser, fixed: chance(parsed) };
+  const recorder = new Recorder(/^https?:/.test(page) ? page : path.resolve(PAGES, page), withEnd(options));
+  await recorder.record();
+  recorder.browser = browser;
+  const own = fs.mkdtempSync(path.join(folder, 'page-'));
+  const traceFile = path.join(own, 'page.trace');
+  writeFiles(recorder, options, traceFile);
+  const { report } = await judgeFile(traceFile);
+  const inWords = new Words(JSON.parse(fs.readFileSync(namesFile(traceFile), 'utf8')), new Actions(fs.readFileSync(traceFile, 'utf8')));
+  const number = report.races.findIndex((race) => inWords.location(race.location).text === location);
+  if (number < 0) throw new Error(`no race at ${location}: ${report.races.map((race) => inWords.race(race)).join('; ')}`);
+  const replay = new Replay(recorder, options, traceFile, report);
+  await replay.runFreely();
+  const result = await replay.turn(report.races[number], number + 1);
+  await replay.pictures.close();
+  return { result, said: verdictInWords(result), race: inWords.race(report.races[number]), replay };
+}
+
 function readTrace(recorder, version) {
-  const records = new Spelling(recorder.intake.entries, version).records();
+  const records = new Spelling(new Accesses(recorder.intake.entries).entries(), version).records();
   const names = new Names(recorder.sources, recorder.intake.names);
   names.addRecords(records);
   const lines = records.map(({ text }) => text);
@@ -46,6 +73,12 @@ function elementName(number, names) {
   return `${facts.tag || '?'}${facts.id ? `#${facts.id}` : ''}`;
 }
 
+/** An object by the text at which it was first met; a scope by its function. */
+function objectName({ scope, text, made }) {
+  if (scope !== undefined) return `the closure of ${scope || '?'}`;
+  return text || made || '?';
+}
+
 const handlerName = (number, names) => names.lists.handlers[number]?.function || names.lists.handlers[number]?.type || '?';
 
 /** A location in words: `count`, `#menu`, `click of button#buy`, `value of input#q`. */
@@ -53,6 +86,7 @@ function locationName(location, names) {
   const [kind, number, name] = location.split(' ');
   if (kind === 'elem') return `#${name}`;
   if (kind === 'slot') return `${name.replace(/\/\d+$/, '')} of ${elementName(number, names)}`;
+  if (number >= 3000000) return `${name} of ${objectName(names.objects[number] || {})}`;
   if (number >= 1000000 && number < 2000000) return `${name} of ${elementName(number - 1000000, names)}`;
   return name;
 }
@@ -87,6 +121,13 @@ function judge(trace) {
   };
 }
 
+/** Who makes the two accesses of each race, in words. */
+function actorsOf(trace) {
+  const { stdout } = spawnSync('/bin/sh', ['-c', `${PROGRAM} --json`], { input: trace.text, encoding: 'utf8', maxBuffer: 1 << 28, timeout: LONGEST_ANSWER });
+  const words = new Words(JSON.parse(trace.names.toJson({})), new Actions(trace.text.replace(/end\n$/, '')));
+  return (JSON.parse(stdout).races || []).map((race) => words.actors(race, words.location(race.location).kind));
+}
+
 /** The first of the records that is not there behind the one before it, or null where all are there in order. */
 function firstMissing(readableLines, due) {
   let at = 0;
@@ -98,4 +139,4 @@ function firstMissing(readableLines, due) {
   return null;
 }
 
-module.exports = { recordPage, judge, firstMissing, PAGES };
+module.exports = { recordPage, replayPage, judge, actorsOf, firstMissing, PAGES };

@@ -63,15 +63,17 @@ const NAMES = {
 
 test('groups in words, a filter, and what folds out', { timeout: 150000 }, async () => {
   const { tab, errors } = await openView('shop', SHOP, NAMES);
-  assert.strictEqual(await textOf(tab, '#found'), '3 groups with 4 races');
+  assert.strictEqual(await textOf(tab, '#found'), '3 problems: 3 groups with 4 races');
+  assert.match(await textOf(tab, 'details.group .look'), /late handler/);
+  await choose(tab, 'order', 'size');
   assert.match(await textOf(tab, 'details.group .sentence'), /"cart" is written by the timeout set at shop\.js:4 .*, and read by the timeout set at shop\.js:3; nothing orders them\./);
   await choose(tab, 'kind', 'element');
-  assert.strictEqual(await textOf(tab, '#found'), '1 group with 1 race');
+  assert.strictEqual(await textOf(tab, '#found'), '1 problem: 1 group with 1 race');
   assert.match(await textOf(tab, 'details.group .sentence'), /"#<b>menu" is added, changed or removed by the parser at button#<b>menu, and looked up by the script shop\.js/);
   assert.strictEqual(await count(tab, 'main b, main i'), 0);
   await choose(tab, 'kind', 'all');
   await choose(tab, 'text', 'SUM');
-  assert.strictEqual(await textOf(tab, '#found'), '1 group with 1 race');
+  assert.strictEqual(await textOf(tab, '#found'), '1 problem: 1 group with 1 race');
   await choose(tab, 'text', '');
   assert.strictEqual(await count(tab, 'svg'), 0);
   await clickAt(tab, 'details.group summary');
@@ -113,7 +115,7 @@ test('why two actions are ordered', { timeout: 150000 }, async () => {
 
 test('a trace without names', { timeout: 150000 }, async () => {
   const { tab, errors } = await openView('bare', SHOP, null);
-  assert.strictEqual(await textOf(tab, '#found'), '3 groups with 4 races');
+  assert.strictEqual(await textOf(tab, '#found'), '3 problems: 3 groups with 4 races');
   await clickAt(tab, 'details.group summary');
   assert.strictEqual(await count(tab, 'details.group svg'), 1);
   assert.deepStrictEqual(errors, []);
@@ -123,14 +125,16 @@ test('ten thousand races', { timeout: 150000 }, async () => {
   const timers = Array.from({ length: 145 }, (_, k) => k + 1);
   const lines = ['parse 0 1 inline', 'exec 1', ...timers.map((k) => `set ${k} ${200 - k}`), ...timers.reverse().flatMap((k) => [`timer ${k}`, 'w var 0 x'])];
   const { tab, errors } = await openView('many', lines, null);
-  assert.strictEqual(await textOf(tab, '#found'), '10440 groups with 10440 races');
+  assert.strictEqual(await textOf(tab, '#found'), '1 problem: 10440 groups with 10440 races');
+  assert.strictEqual(await count(tab, 'details.problem'), 1);
+  await clickAt(tab, 'details.problem summary');
   assert.strictEqual(await count(tab, 'details.group'), 200);
   await clickAt(tab, 'button.more');
   assert.strictEqual(await count(tab, 'details.group'), 400);
   const begin = Date.now();
   await choose(tab, 'text', 'var 0 x');
   await choose(tab, 'order', 'trace');
-  assert.strictEqual(await textOf(tab, '#found'), '10440 groups with 10440 races');
+  assert.strictEqual(await textOf(tab, '#found'), '1 problem: 10440 groups with 10440 races');
   assert.ok(Date.now() - begin < 10000, `filtering took ${Date.now() - begin} ms`);
   assert.deepStrictEqual(errors, []);
 });

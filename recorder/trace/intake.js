@@ -1,14 +1,16 @@
 'use strict';
 // Takes the page's log as it comes: lines of the trace with their places, names of numbers, and counts of what was missed.
 
-const BEGINS = new Set(['parse', 'exec', 'timer', 'tick', 'dcl', 'load', 'eload', 'fire', 'wfire', 'reply', 'inline', 'run', 'close',
-  'back', 'message', 'anim', 'module']);
+const { BEGINS: RECORDS } = require('./records.js');
+
+/** The lines of the log that begin an action: the records that do, and the run of a module, which becomes one of them. */
+const BEGINS = new Set([...RECORDS, 'module']);
 
 const wordOf = (line) => line.slice(0, line.indexOf(' '));
 
 class Intake {
   constructor() {
-    /** @type {{text: string, place: string|undefined}[]} */
+    /** @type {{text: string, place: string|undefined, found: string|undefined}[]} `found` is what an access found (page/values.js) */
     this.entries = [];
     this.names = [];
     this.missed = {};
@@ -24,9 +26,9 @@ class Intake {
   }
 
   takeLine(line) {
-    const [text, place] = line.split('\t');
+    const [text, place, found] = line.split('\t');
     if (BEGINS.has(wordOf(text))) this.actions++;
-    this.entries.push({ text, place });
+    this.entries.push({ text, place: place || undefined, found });
   }
 }
 

@@ -37,8 +37,8 @@ class Spelling {
     return this.out;
   }
 
-  put(text, place) {
-    this.out.push({ text, place });
+  put(text, place, found) {
+    this.out.push({ text, place, found });
   }
 
   // ---- what a whole look at the log tells
@@ -48,11 +48,11 @@ class Spelling {
     const early = [];
     const beside = new Map();
     const rest = [];
-    for (const { text, place } of entries) {
+    for (const { text, place, found } of entries) {
       const words = text.split(' ');
       if (words[0] === 'early') early.push({ text: text.slice(6), place });
       else if (words[0] === 'beside') beside.set(words[1], [...(beside.get(words[1]) || []), { text: words.slice(2).join(' '), place }]);
-      else rest.push({ text, place });
+      else rest.push({ text, place, found });
     }
     const withBeside = (some) => some.flatMap((entry) => [entry, ...this.besideOf(entry, beside)]);
     return [...withBeside(rest.slice(0, 1)), ...(rest.length ? withBeside(early) : []), ...withBeside(rest.slice(1))];
@@ -115,11 +115,11 @@ class Spelling {
 
   // ---- one entry
 
-  spell({ text, place }) {
+  spell({ text, place, found }) {
     const words = text.split(' ');
     const spellWord = this[`spell_${words[0]}`];
     if (spellWord) spellWord.call(this, words, place);
-    else this.put(text, place);
+    else this.put(text, place, found);
   }
 
   spell_look([, element, type], place) {

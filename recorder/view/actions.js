@@ -1,11 +1,7 @@
 'use strict';
 // Reads a trace for showing it: its actions, and for each what asked for it. This says nothing about order.
 
-const BEGINS = new Set(['parse', 'exec', 'timer', 'tick', 'dcl', 'load', 'eload', 'fire', 'wfire', 'reply', 'inline', 'run', 'close',
-  'back', 'message', 'anim', 'job']);
-const DISPATCHES = new Set(['dcl', 'load', 'eload', 'fire', 'wfire', 'reply', 'inline']);
-/** The note that declares what an action's record names. */
-const ASKED_BY = { timer: 'set', tick: 'every', reply: 'send', anim: 'ask', message: 'post', job: 'queue' };
+const { RECORDS, BEGINS, DISPATCHES, NOTES } = require('../trace/records.js');
 
 /**
  * @typedef {{number: number, line: number, words: string[], first: number, origins: {action: number, word: string}[],
@@ -26,7 +22,7 @@ class Actions {
     if (BEGINS.has(words[0])) this.begin(words, line);
     if (words[0] === 'parse' || words[0] === 'new') this.declare(`element ${words[2]}`);
     if (words[3] === 'frame' && (words[0] === 'parse' || words[0] === 'new')) this.declare(`document ${words[4]}`);
-    if (['on', 'set', 'every', 'send', 'ask', 'post', 'queue'].includes(words[0])) this.declare(`${words[0]} ${words[1]}`);
+    if (NOTES.has(words[0])) this.declare(`${words[0]} ${words[1]}`);
   }
 
   declare(key) {
@@ -47,8 +43,8 @@ class Actions {
   originsOf(words, number) {
     const origins = [];
     const add = (action, word) => { if (action !== undefined && action >= 0 && action < number) origins.push({ action, word }); };
-    const asked = ASKED_BY[words[0]];
-    if (asked) add(this.declared.get(`${asked} ${words[words[0] === 'reply' ? 2 : 1]}`), 'asked for by');
+    const { asked, by } = RECORDS[words[0]];
+    if (asked) add(this.declared.get(`${asked} ${words[by]}`), 'asked for by');
     if (words[0] === 'exec') add(this.declared.get(`element ${words[1]}`), 'its element made by');
     if (['eload', 'fire'].includes(words[0])) add(this.declared.get(`element ${words[2]}`), 'its target made by');
     if (words[0] === 'inline') add(number - 1, 'called by');

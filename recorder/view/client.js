@@ -245,13 +245,68 @@ class Picture {
   }
 }
 
+// ---- the run again in the other order
+
+/** What the replay of a race found, by the race's number. */
+const replayOf = new Map((model.replays || []).map((replay) => [model.races[replay.race - 1], replay]));
+const VERDICTS = { differs: 'turned: differs', same: 'turned: no visible difference', not: 'not turned' };
+
+function verdictOf(replay) {
+  if (replay.verdict !== 'turned') return 'not';
+  return replay.differences.length ? 'differs' : 'same';
+}
+
+/** The badge of a race that was run again, or nothing. */
+function verdictBadge(race) {
+  const replay = replayOf.get(race);
+  return replay ? [make('span', { class: `badge verdict ${verdictOf(replay)}` }, VERDICTS[verdictOf(replay)])] : [];
+}
+
+function differenceTable(differences) {
+  const table = make('table', { class: 'differences' }, make('tr', {}, ...['What', 'In the recorded order', 'In the other order'].map((word) => make('th', {}, word))));
+  for (const { kind, subject, recorded, other } of differences) {
+    const what = subject.includes(kind) ? subject : `${kind}: ${subject}`;
+    table.append(make('tr', {}, make('td', {}, what), make('td', {}, recorded), make('td', {}, other)));
+  }
+  return table;
+}
+
+function pictureBox(data, title) {
+  const box = make('figure', { class: 'end' }, make('figcaption', {}, title));
+  if (data) box.append(make('img', { src: `data:image/webp;base64,${data}`, alt: title }));
+  else box.append(make('p', {}, 'No picture was taken.'));
+  return box;
+}
+
+function replayBox(race) {
+  const replay = replayOf.get(race);
+  if (!replay) return [];
+  const box = make('section', { class: 'replay' }, make('h4', {}, 'Run again in the other order'));
+  if (replay.verdict !== 'turned') {
+    box.append(make('p', {}, `Could not be turned: ${replay.why}.`));
+    return [box];
+  }
+  box.append(make('p', {}, `To turn them, ${replay.means}. The two came in the other order then${replay.isListed ? ', and the program lists them as a race of that run too' : ''}.`));
+  if (replay.note) box.append(make('p', {}, `${replay.note}.`));
+  if (replay.differences.length) box.append(make('p', {}, 'What differs at the end:'), differenceTable(replay.differences));
+  else box.append(make('p', {}, 'No visible difference was found at the end.'));
+  if (replay.beside.length) {
+    const summary = make('summary', {}, `${counted(replay.beside.length, 'difference')} that no user sees`);
+    box.append(foldable('others', summary, () => differenceTable(replay.beside)));
+  }
+  const pictures = make('div', { class: 'columns' });
+  pictures.append(pictureBox(model.recordedPicture, 'The end in the recorded order'), pictureBox(replay.picture, 'The end in the other order'));
+  box.append(pictures);
+  return [box];
+}
+
 // ---- races and groups
 
 function raceBox(race) {
   const box = make('article', { class: 'race' });
   const sources = make('div', { class: 'columns' });
   sources.append(sourceBox(race.places[0], 'First:'), sourceBox(race.places[1], 'Second:'));
-  box.append(sources, new Picture(race).draw(), whyBox(race));
+  box.append(sources, ...replayBox(race), new Picture(race).draw(), whyBox(race));
   box.append(make('p', { class: 'lines' }, `In the trace: lines ${race.lines.join(' and ')}, ${race.spelled}`));
   return box;
 }
@@ -270,22 +325,48 @@ function foldable(className, summary, build) {
 
 const badge = (kind) => make('span', { class: `badge ${kind}` }, kind);
 
-function groupBox({ group, number, races }) {
+function groupBox({ group, number, races }, problem = null) {
   const first = model.races[group.race];
-  const summary = make('summary', {}, badge(first.kind), make('span', { class: 'sentence' }, first.words),
+  const badges = problem ? lookBadges(problem) : [];
+  const summary = make('summary', {}, badge(first.kind), make('span', { class: 'sentence' }, first.words), ...badges, ...verdictBadge(first),
     make('span', { class: 'size' }, counted(group.size, 'race')));
   return foldable('group', summary, () => {
-    const box = make('div', { class: 'inside' }, raceBox(first));
+    const box = make('div', { class: 'inside' }, ...(problem?.seen ? [seenBox(problem)] : []), raceBox(first));
     const others = races.filter((race) => race !== first);
     if (others.length) box.append(otherRaces(others, number));
     return box;
   });
 }
 
+// ---- problems
+
+/** What a line looks like, and whether it is known. */
+function lookBadges(problem) {
+  const badges = problem.look === 'other' ? [] : [make('span', { class: `badge look rank${problem.rank}`, title: problem.seen }, problem.look)];
+  return problem.isKnown ? [make('span', { class: 'badge look known' }, 'known'), ...badges] : badges;
+}
+
+/** A problem of one group is that group; one of several folds out to them. */
+function problemBox({ problem, groups }) {
+  if (groups.length === 1) return groupBox(groups[0], problem);
+  const races = groups.reduce((sum, { group }) => sum + group.size, 0);
+  const first = model.races[problem.first ?? groups[0].group.race];
+  const summary = make('summary', {}, badge(first.kind), make('span', { class: 'sentence' }, problem.words), ...lookBadges(problem), ...verdictBadge(first),
+    make('span', { class: 'size' }, `${counted(groups.length, 'group')}, ${counted(races, 'race')}`));
+  return foldable('problem', summary, () => {
+    const box = make('div', { class: 'inside' });
+    if (problem.seen) box.append(seenBox(problem));
+    box.append(pieces(groups, (group) => groupBox(group)));
+    return box;
+  });
+}
+
+const seenBox = ({ look, seen }) => make('p', { class: 'seen' }, `It looks like: ${look}. In this recording: ${seen}.`);
+
 function otherRaces(others, number) {
   const summary = make('summary', {}, `${counted(others.length, 'more race')} that this one covers`);
   return foldable('others', summary, () => pieces(others, (race) => {
-    const line = make('summary', {}, badge(race.kind), make('span', { class: 'sentence' }, race.words));
+    const line = make('summary', {}, badge(race.kind), make('span', { class: 'sentence' }, race.words), ...verdictBadge(race));
     return foldable('one', line, () => raceBox(race));
   }, `group ${number}`));
 }
@@ -327,15 +408,36 @@ function filtered() {
   const text = document.getElementById('text').value.trim().toLowerCase();
   const groups = model.groups.map((group, k) => ({ group, number: k + 1, races: racesOfGroup[k].filter((race) => matches(race, kind, text)) }))
     .filter(({ group, races }) => races.length > 0 || matches(model.races[group.race], kind, text));
-  if (document.getElementById('order').value === 'size') groups.sort((a, b) => b.group.size - a.group.size || a.number - b.number);
   return groups;
+}
+
+const problemOfGroup = [];
+model.problems.forEach((problem) => problem.groups.forEach((group) => { problemOfGroup[group] = problem; }));
+
+const sizeOf = ({ groups }) => groups.reduce((sum, { group }) => sum + group.size, 0);
+const ORDERS = {
+  looks: (a, b) => a.problem.isKnown - b.problem.isKnown || a.problem.rank - b.problem.rank || sizeOf(b) - sizeOf(a) || a.groups[0].number - b.groups[0].number,
+  size: (a, b) => sizeOf(b) - sizeOf(a) || a.groups[0].number - b.groups[0].number,
+  trace: (a, b) => a.groups[0].number - b.groups[0].number,
+};
+
+/** Groups whose first races are of one problem are one line. */
+function folded(groups) {
+  const lines = new Map();
+  for (const group of groups) {
+    const problem = problemOfGroup[group.number - 1];
+    if (!lines.has(problem)) lines.set(problem, { problem, groups: [] });
+    lines.get(problem).groups.push(group);
+  }
+  return [...lines.values()].sort(ORDERS[document.getElementById('order').value]);
 }
 
 function render() {
   const groups = filtered();
   const races = groups.reduce((sum, { races: some }) => sum + some.length, 0);
-  document.getElementById('found').textContent = `${counted(groups.length, 'group')} with ${counted(races, 'race')}`;
-  document.getElementById('groups').replaceChildren(pieces(groups, groupBox));
+  const lines = folded(groups);
+  document.getElementById('found').textContent = `${counted(lines.length, 'problem')}: ${counted(groups.length, 'group')} with ${counted(races, 'race')}`;
+  document.getElementById('groups').replaceChildren(pieces(lines, problemBox));
 }
 
 function start() {

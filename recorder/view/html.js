@@ -14,10 +14,10 @@ function options(pairs) {
 }
 
 const KINDS = options([['all', 'all'], ['variable', 'variables'], ['element', 'elements'], ['handler', 'handlers']]);
-const ORDERS = options([['size', 'largest first'], ['trace', 'as recorded']]);
+const ORDERS = options([['looks', 'by what it looks like'], ['size', 'largest first'], ['trace', 'as recorded']]);
 
 function counts(model) {
-  const all = [['groups', model.groups.length], ['races', model.races.length], ...model.counts];
+  const all = [['problems', model.problems.filter(({ groups }) => groups.length).length], ['groups', model.groups.length], ['races', model.races.length], ...model.counts];
   return all.map(([name, number]) => `${number} ${name}`).join(', ');
 }
 
@@ -26,7 +26,7 @@ function renderPage(model) {
 <html lang="en">
 <head>
 <meta charset="utf-8">
-<meta http-equiv="Content-Security-Policy" content="default-src 'none'; style-src 'unsafe-inline'; script-src 'unsafe-inline'">
+<meta http-equiv="Content-Security-Policy" content="default-src 'none'; style-src 'unsafe-inline'; script-src 'unsafe-inline'; img-src data:">
 <meta name="viewport" content="width=device-width">
 <title>Races of ${escapeText(model.page)}</title>
 <style>

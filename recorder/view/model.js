@@ -1,16 +1,13 @@
 'use strict';
 // All that the page of the view shows, as one plain value: groups, races, actions, and the lines of source around the places.
 
+const { RECORDS, LANES } = require('../trace/records.js');
 const { RULES } = require('./rules.js');
 const { Words } = require('./words.js');
 
 const LINES_AROUND = 2;
 const LONGEST_LINE = 240;
 const MOST_ORIGINS = 400;
-const LANES = ['Parser', 'Scripts', 'Timers', 'Network', 'Loading', 'User and events', 'Handlers'];
-const LANE_OF = {
-  parse: 0, exec: 1, timer: 2, tick: 2, anim: 2, job: 2, reply: 3, message: 3, dcl: 4, load: 4, eload: 4, fire: 5, wfire: 5, inline: 5, close: 5, run: 6,
-};
 
 /** A line of source, cut around a column where it is long. */
 function cutLine(text, column) {
@@ -31,7 +28,6 @@ class Model {
     this.actions = actions;
     this.words = new Words(names, actions);
     this.excerpts = {};
-    this.texts = new Map();
     this.origins = new Map();
   }
 
@@ -67,7 +63,7 @@ class Model {
   action(action) {
     const own = this.actions.list[action.first];
     const origins = action.origins.map(({ action: from, word }) => [word, from]);
-    return [LANE_OF[own.words[0]] ?? 1, action.line, this.words.action(action.number), origins];
+    return [LANES.indexOf(RECORDS[own.words[0]].lane), action.line, this.words.action(action.number), origins];
   }
 
   /** The actions from which one comes, over the notes of the trace, itself among them. */
@@ -120,22 +116,13 @@ class Model {
   }
 
   linesAround([file, line, column]) {
-    const lines = this.linesOf(file);
+    const lines = this.words.sources.linesOf(file);
     const around = [];
     for (let k = Math.max(1, line - LINES_AROUND); k <= line + LINES_AROUND; k++) {
       if (lines[k] === undefined) continue;
       around.push([k, k === line ? cutLine(lines[k], column).text : cutLine(lines[k], 1).text]);
     }
     return { column: lines[line] === undefined ? 0 : cutLine(lines[line], column).column, around };
-  }
-
-  /** The lines of a file by their numbers, from 1. */
-  linesOf(file) {
-    if (!this.texts.has(file)) {
-      const { text, lines } = this.names.files[file];
-      this.texts.set(file, text === undefined ? lines || {} : { ...['', ...text.split('\n')] });
-    }
-    return this.texts.get(file);
   }
 }
 

@@ -25,6 +25,14 @@ const RULES = {
   21: 'a reply comes after its request, and replies in order',
   22: 'an event that code causes begins after what caused it, which goes on behind it',
   23: 'the pieces of one event come in order',
+  24: 'a message comes after it was posted',
+  25: 'messages come in the order of their posting',
+  26: 'an animation callback comes after it was asked for',
+  27: 'animation callbacks come in the order in which they were asked for',
+  28: 'a job runs after it was queued',
+  29: 'jobs run in the order of their queueing',
+  30: 'a job runs before the callbacks that its asker set, posted or asked for',
+  31: 'a job that begins inside a dispatch runs before its close',
 };
 
 const ruleInWords = (number) => (RULES[number] ? `rule ${number}: ${RULES[number]}` : `rule ${number}`);

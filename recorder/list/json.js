@@ -1,0 +1,41 @@
+'use strict';
+// The list as one object for other tools (docs/viewing.md).
+
+const { placesOf, plainPlace } = require('./places.js');
+
+/** One race of a problem in a run. */
+function plainRace(problems, race, run, folder) {
+  const one = problems.report.races[race];
+  return {
+    name: problems.ofRaces[race].name,
+    run: run + 1,
+    race: race + 1,
+    modes: one.modes,
+    lines: one.lines,
+    actions: one.actions,
+    words: problems.words.race(one),
+    places: placesOf(problems, race).map((place) => plainPlace(problems, place, folder)),
+  };
+}
+
+function plainProblem(listing, problem, folder) {
+  const { name, look, words, isKnown, runs, orders, seen } = problem;
+  const names = [...seen].map(([one, { runs: inRuns, orders: own }]) => ({ name: one, runs: [...inRuns], bothOrders: own.size > 1 }));
+  const races = listing.runs.flatMap((run, k) => (run.list.find((one) => one.name === name)?.races || []).map((race) => plainRace(run, race, k, folder)));
+  return { name, look: look.name, part: look.part, seen: look.seen, words, isKnown, hasLine: listing.lines.includes(problem), runs, bothOrders: orders.size > 1, names, races };
+}
+
+/** @param {{page: string, status: number, files: string[], folder: import('../browser/folder.js').Folder|null}} facts */
+function plainListing(listing, { page, status, files, folder }) {
+  return {
+    races: 1,
+    page,
+    status,
+    runs: listing.runs.length,
+    files,
+    problems: listing.problems.map((problem) => plainProblem(listing, problem, folder)),
+    notSeen: listing.notSeen(),
+  };
+}
+
+module.exports = { plainListing };

@@ -1,0 +1,38 @@
+'use strict';
+// The places of a race's two sides for other tools: file, line, column and function.
+
+const path = require('node:path');
+const { pathToFileURL } = require('node:url');
+const { ORIGIN } = require('../browser/folder.js');
+
+/** The place of an access, else that of its action; null where none is known. */
+function placesOf(problems, race) {
+  const { words, report } = problems;
+  const { lines, actions } = report.races[race];
+  return lines.map((line, k) => {
+    const action = words.actions.list[actions[k]];
+    const own = words.actions.list[action.first];
+    return words.placeOfLine(line) || words.placeOfLine(action.line) || words.placeOfLine(own.line) || placeOfElement(words, own);
+  });
+}
+
+const placeOfElement = ({ names }, { words: [word, , element] }) => (word === 'parse' ? names.elements[element]?.place || null : null);
+
+/** Where a file stands: by the path from the current folder where it is inside, else its address. */
+function uriOf(address, folder) {
+  if (!folder || !folder.has(address)) return address;
+  const file = path.join(folder.root, decodeURIComponent(new URL(address).pathname));
+  const inside = path.relative(process.cwd(), file);
+  const isInside = !inside.startsWith('..') && !path.isAbsolute(inside);
+  return isInside ? inside.split(path.sep).map(encodeURIComponent).join('/') : pathToFileURL(file).href;
+}
+
+function plainPlace(problems, place, folder) {
+  if (!place) return null;
+  const { names, sources } = problems.words;
+  const [file, line, column] = place;
+  const name = sources.functionAt(place);
+  return { file: uriOf(names.files[file].address, folder), line, column, ...(name ? { function: name } : {}) };
+}
+
+module.exports = { placesOf, plainPlace, uriOf, ORIGIN };

@@ -1,0 +1,278 @@
+'use strict';
+// What a replay can keep back so that an action comes later: going back from the action, each thing that the network, the clock, the
+// parser or the user chooses. The nearest comes first.
+
+const { explain } = require('../view/links.js');
+const { LETTERS_OF_ACT } = require('../recorder.js');
+const { FIRST_FOREIGN_TIMEOUT } = require('./keys.js');
+
+const FIRST_LONE_MODULE = 3500000000;
+/** Tags in front of which no script may stand, or that may be none of the page's own. */
+const BEFORE_BODY = new Set(['html', 'head']);
+const LONGEST_WAY = 60;
+
+/**
+ * @typedef {object} Cause what is kept back
+ * @property {'response'|'parser'|'load'|'callback'|'act'} means
+ * @property {number} action the first action that cannot come then
+ * @property {string} words what is done, in words
+ */
+
+class Causes {
+  /**
+   * @param {import('./keys.js').Keys} keys of the recorded run
+   * @param {{text: string, place: string|undefined}[]} entries its log
+   * @param {object[]} acts what the user did, with their numbers
+   * @param {(file: number) => {address: string, text: string}} sourceOf the text of a file
+   */
+  constructor(keys, entries, acts, sourceOf) {
+    Object.assign(this, { keys, entries, acts, sourceOf, names: keys.names, list: keys.actions.list, words: keys.words });
+  }
+
+  /** @returns {Cause[]} */
+  of(number) {
+    const causes = [];
+    const seen = new Set();
+    for (let at = number; at !== undefined && !seen.has(at) && seen.size < LONGEST_WAY;) {
+      seen.add(at);
+      const { found = [], from } = this.step(this.list[at]);
+      causes.push(...found.filter(Boolean));
+      at = from;
+    }
+    return causes;
+  }
+
+  /** What an action itself waits for, and the action from which it comes. */
+  step(action) {
+    const [word, a, b] = action.words;
+    const from = action.origins[0]?.action;
+    switch (word) {
+      case 'back': return { from: action.first };
+      case 'run': case 'close': return { from: action.dispatch?.number };
+      case 'inline': return { from: action.number - 1 };
+      case 'parse': return { found: [this.parser(action), this.frameFile(a)], from };
+      case 'exec': return { found: this.script(action), from };
+      case 'timer': return { found: [this.callback('set', a, action)], from };
+      case 'tick': return { found: [this.tick(a, action)], from };
+      case 'anim': return { found: [this.callback('ask', a, action)], from };
+      case 'message': return { found: [this.callback('post', a, action)], from };
+      case 'reply': return { found: [this.reply(b)], from };
+      case 'eload': return { found: [this.file(b, action)], from };
+      case 'dcl': return { found: [this.endOfPage(b, action), this.frameFile(b)], from: this.makerOfFrame(b) };
+      case 'load': return { found: [this.load(b, action), this.endOfPage(b, this.firstOf('dcl', b) || action), this.frameFile(b)], from: this.makerOfFrame(b) };
+      case 'fire': case 'wfire': return { found: [this.act(a)], from };
+      default: return {};
+    }
+  }
+
+  // ---- callbacks
+
+  tick(number, action) {
+    if (number >= FIRST_LONE_MODULE) return null;
+    if (number >= FIRST_FOREIGN_TIMEOUT) return this.callback('set', String(number - FIRST_FOREIGN_TIMEOUT), action);
+    const why = this.names.intervals[number]?.why;
+    return why === 'setInterval' || why === 'requestIdleCallback' ? this.callback('every', number, action) : null;
+  }
+
+  /** A callback is known by the place of the code that asked for it, in the browser's copy, and which of those at this place it is. */
+  callback(word, number, action) {
+    let nth = 0;
+    const counts = new Map();
+    const found = this.entries.find(({ text, place = '' }) => {
+      const words = text.replace(/^early /, '').split(' ');
+      if (words[0] !== word) return false;
+      counts.set(place, (counts.get(place) || 0) + 1);
+      nth = counts.get(place);
+      return words[1] === String(number);
+    });
+    if (!found) return null;
+    const first = word === 'every' ? this.list.find(({ words }) => words[0] === 'tick' && words[1] === String(number)) : action;
+    return { means: 'callback', word, place: found.place, nth, action: first.number, words: `${this.words.action(action.number)} is put off` };
+  }
+
+  // ---- files
+
+  response(address, asksReply, nth, action, what) {
+    if (!address || !/^https?:/.test(address)) return null;
+    return { means: 'response', address, isReply: asksReply, nth, action, words: `the answer for ${what} is kept back` };
+  }
+
+  reply(request) {
+    const facts = this.names.requests[request] || {};
+    if (['EventSource', 'WebSocket'].includes(facts.method) || !facts.url) return null;
+    const sends = this.keys.actions.lines.map((line) => /^send (\d+)$/.exec(line)?.[1]).filter(Boolean);
+    const same = sends.filter((one) => this.names.requests[one]?.url === facts.url);
+    const first = this.list.find(({ words }) => words[0] === 'reply' && words[2] === request);
+    return this.response(facts.url, true, same.indexOf(request) + 1, first.number, this.words.reply(request).replace(/^the reply to /, ''));
+  }
+
+  /** The element that a stand-in stands for. */
+  real(element) {
+    const { standsFor } = this.names.elements[element] || {};
+    return standsFor ? this.real(String(standsFor)) : element;
+  }
+
+  file(element, action) {
+    const real = this.real(element);
+    const { loads, tag, source } = this.names.elements[real] || {};
+    if (!loads) return null;
+    const run = tag === 'script' && this.list.find(({ words }) => words[0] === 'exec' && this.real(words[1]) === real);
+    const name = (source || loads).replace(/[?#].*$/, '').replace(/^.*\//, '');
+    const inner = tag === 'iframe' || tag === 'frame' ? this.firstOfFrame(real) : null;
+    const first = Math.min(action.number, run ? run.number : Infinity, inner ?? Infinity);
+    return this.response(loads, false, this.orderOfLoad(real, loads), first, name || this.words.element(real));
+  }
+
+  /** Which of the elements that load an address one is. */
+  orderOfLoad(element, loads) {
+    const all = [...this.keys.elements.keys()].filter((one) => this.names.elements[one]?.loads === loads);
+    return Math.max(all.indexOf(String(element)), 0) + 1;
+  }
+
+  script(action) {
+    const element = this.real(action.words[1]);
+    const { place, loads } = this.names.elements[element] || {};
+    const kind = this.kindOf(element);
+    const parsed = this.list.find(({ words }) => words[0] === 'parse' && words[2] === element);
+    if (kind === 'inline') return [this.parserAt(place, action.number, this.words.script(element))];
+    const file = this.file(element, action);
+    if (kind === 'defer' && !loads) return [this.endOfPage(parsed?.words[1] || '0', this.firstDeferred() || action)];
+    return [file, kind === 'sync' && !file ? this.parserAt(place, action.number, this.words.script(element)) : null];
+  }
+
+  kindOf(element) {
+    const line = this.keys.actions.lines.find((one) => /^(parse|new) /.test(one) && one.split(' ')[2] === element);
+    return line ? line.split(' ')[3] : 'plain';
+  }
+
+  firstDeferred() {
+    return this.list.find(({ words }) => words[0] === 'exec' && this.kindOf(words[1]) === 'defer');
+  }
+
+  // ---- frames
+
+  makerOfFrame(document) {
+    const element = this.keys.documents.get(document);
+    const maker = element && this.keys.actions.declared.get(`element ${element}`);
+    return maker;
+  }
+
+  firstOfFrame(element) {
+    const [document] = [...this.keys.documents].find(([, of]) => this.real(of) === element) || [];
+    return document === undefined ? null : this.list.find(({ words }) => words[0] === 'parse' && words[1] === document)?.number ?? null;
+  }
+
+  frameFile(document) {
+    const element = this.keys.documents.get(document);
+    if (document === '0' || !element) return null;
+    const first = this.list.find(({ words }) => words[0] === 'parse' && words[1] === document);
+    return first ? this.file(element, first) : null;
+  }
+
+  // ---- the parser
+
+  firstOf(word, document) {
+    return this.list.find(({ words }) => words[0] === word && words[2] === document);
+  }
+
+  /** The parser waits before the tag of the step's element, or of the last one before it that has a tag. */
+  parser(action) {
+    const [, document] = action.words;
+    const steps = this.list.filter(({ words, number }) => words[0] === 'parse' && words[1] === document && number <= action.number);
+    for (const step of steps.reverse()) {
+      const facts = this.names.elements[step.words[2]] || {};
+      if (BEFORE_BODY.has(facts.tag)) return null;
+      if (facts.place) return this.parserAt(facts.place, step.number, this.words.element(step.words[2]));
+    }
+    return null;
+  }
+
+  parserAt(place, action, what) {
+    if (!place) return null;
+    const { address, text } = this.sourceOf(place[0]);
+    const lines = text.split('\n');
+    const offset = lines.slice(0, place[1] - 1).reduce((sum, line) => sum + line.length + 1, 0) + place[2] - 1;
+    if (text[offset] !== '<') return null;
+    return { means: 'parser', address, offset, action, words: `the parser waits before ${what}` };
+  }
+
+  endOfPage(document, action) {
+    const deferred = this.firstDeferred();
+    const first = Math.min(action.number, deferred ? deferred.number : Infinity);
+    return { means: 'parser', address: this.addressOf(document), offset: null, action: first, words: 'the parser waits at the end of the page' };
+  }
+
+  addressOf(document) {
+    return (this.names.documents[document]?.address || '').replace(/#.*$/, '');
+  }
+
+  load(document, action) {
+    const address = this.addressOf(document);
+    if (!/^https?:/.test(address)) return null;
+    return { means: 'load', address, action: action.number, words: 'the load of the window waits' };
+  }
+
+  // ---- the user
+
+  /** The number of the user's act that brought a dispatch. */
+  actOf(dispatch) {
+    return this.names.dispatches[dispatch]?.act || 0;
+  }
+
+  act(dispatch) {
+    const act = this.actOf(dispatch);
+    const letter = act % LETTERS_OF_ACT;
+    const done = this.acts.find(({ number }) => number === wholeAct(act));
+    if (!done) return null;
+    const first = this.list.find(({ words }) => /^w?fire$/.test(words[0]) && this.actOf(words[1]) === act);
+    return { means: 'act', act, behind: 0, action: first.number, words: `the user's "${done.said}" comes later${letter ? ` from letter ${letter} on` : ''}` };
+  }
+
+  /** The user's acts from which an action comes. */
+  actsBefore(number) {
+    const acts = new Set();
+    const seen = new Set([number]);
+    for (const one of seen) {
+      const { words, origins, dispatch, first } = this.list[one];
+      if (/^w?fire$/.test(words[0]) && this.actOf(words[1])) acts.add(this.actOf(words[1]));
+      origins.forEach(({ action }) => seen.add(action));
+      if (dispatch) seen.add(dispatch.number);
+      seen.add(first);
+    }
+    return acts;
+  }
+
+  // ---- what may be kept back for a race
+
+  /**
+   * The causes of one action that another one, which has to come before, does not need by the program's order.
+   * @returns {Promise<{causes: Cause[], why: string}>} `why` where there are none
+   */
+  async toDelay(traceFile, held, other) {
+    const all = this.of(held);
+    const needed = this.actsBefore(other);
+    const causes = [];
+    let why = all.length ? '' : `nothing that brings ${this.words.action(held)} can be kept back`;
+    for (const cause of all) {
+      if (cause.means === 'act' && isNeeded(cause.act, needed)) why = why || 'both come from one act of the user';
+      else if (await this.isBefore(traceFile, cause.action, other)) why = why || `what brings ${this.words.action(held)} has to come before ${this.words.action(other)}`;
+      else causes.push(cause.means === 'act' ? moved(cause, Math.max(0, ...needed)) : cause);
+    }
+    return { causes: distinct(causes), why };
+  }
+
+  /** Whether the program's order puts an action before another one, or they are one. */
+  async isBefore(traceFile, from, to) {
+    return from === to || (from < to && (await explain(traceFile, from, to)).steps !== null);
+  }
+}
+
+const wholeAct = (act) => act - (act % LETTERS_OF_ACT);
+/** Whether an act, or a later letter of it, is one of those needed. */
+const isNeeded = (act, needed) => [...needed].some((one) => wholeAct(one) === wholeAct(act) && one >= act);
+/** An act that comes behind a later one goes there as a whole. */
+const moved = (cause, behind) => (behind > cause.act ? { ...cause, act: wholeAct(cause.act), behind: wholeAct(behind) } : cause);
+
+const distinct = (causes) => causes.filter((one, k) => causes.findIndex(({ words }) => words === one.words) === k);
+
+module.exports = { Causes };

@@ -1,0 +1,112 @@
+'use strict';
+// The file of known races, the list over several runs, and SARIF, without a browser.
+
+const assert = require('node:assert');
+const fs = require('node:fs');
+const path = require('node:path');
+const { test } = require('node:test');
+const { Known, KnownFault } = require('../list/known.js');
+const { Listing } = require('../list/listing.js');
+const { Problems } = require('../list/problems.js');
+const { linesOf } = require('../list/outputs.js');
+const { plainListing } = require('../list/json.js');
+const { sarifOf } = require('../list/sarif.js');
+const { writeWhole, WriteFault } = require('../list/whole-file.js');
+const { LOOKS } = require('../list/looks.js');
+const { temporaryFolder } = require('./cleanup.js');
+const { judgeLines } = require('./list-support.js');
+
+const folder = temporaryFolder('known-test');
+const PAGE = 'http://localhost/a b/page.html';
+const NAMES = {
+  files: [{ address: PAGE, text: '<script>\nx = 1;\nx = 2;\ny = 1;\n</script>' }], elements: { 1: { tag: 'script', source: 'a.js' }, 2: { tag: 'script', source: 'b.js' } },
+  documents: {}, handlers: {}, timeouts: {}, intervals: {}, requests: {}, dispatches: {}, objects: {}, functions: { '0:2:1': 'first' }, values: {}, places: {},
+};
+
+/** Two scripts write x, and others what else is said; the second run has them in the other order. */
+async function run({ isTurned = false, more = [] } = {}) {
+  const scripts = isTurned ? [2, 1] : [1, 2];
+  const lines = ['parse 0 1 async', 'parse 0 2 async', ...scripts.flatMap((number) => [`exec ${number}`, 'w var 0 x', ...more.map((name) => `w var 0 ${name}`)])];
+  const { text, report } = await judgeLines(lines);
+  const places = {};
+  text.split('\n').forEach((line, k) => { if (line === 'w var 0 x') places[k + 1] = [0, Object.keys(places).length === Number(isTurned) ? 2 : 3, 1]; });
+  return new Problems(text, { ...NAMES, places }, report);
+}
+
+const NAME = /^[0-9a-f]{12}$/;
+
+test('a problem that is known is set apart, and the others are told', async () => {
+  const one = await run({ more: ['y'] });
+  const [first] = new Listing([one], null).problems.filter(({ words }) => words.startsWith('"x"'));
+  assert.match(first.name, NAME);
+  const known = new Known(`# why\n${first.name} anything\n0123456789ab gone "z"\n`, 'known');
+  const listing = new Listing([await run({ more: ['y'] })], known);
+  assert.deepStrictEqual(listing.fresh().map(({ words }) => words.slice(0, 3)), ['"y"']);
+  const lines = linesOf(listing);
+  assert.match(lines[0], /^1\. "y" is .* \[[0-9a-f]{12}\]$/);
+  assert.match(lines[1], /^Known, in known:$/);
+  assert.strictEqual(lines[lines.length - 1], 'Known, and not seen: 0123456789ab gone "z"');
+  const all = new Listing([one], new Known(listing.problems.map(({ name }) => name).join('\n'), 'known'));
+  assert.strictEqual(linesOf(all)[0], 'No race that is not known.');
+});
+
+test('a name of a race alone is known too', async () => {
+  const one = await run();
+  const [{ name }] = one.ofRaces;
+  assert.strictEqual(new Listing([one], new Known(`${name}\n`, 'known')).fresh().length, 0);
+});
+
+test('a file of known races keeps its comments, and what is new comes where it belongs', async () => {
+  const listing = new Listing([await run({ more: ['y'] })], null);
+  const empty = Known.readFile(path.join(folder, 'none'), true);
+  const text = empty.textWith(listing.problems);
+  assert.strictEqual(text.split('\n').length, 4);
+  assert.strictEqual(new Known(text, 'known').textWith(listing.problems), text);
+  const [head, x] = text.split('\n');
+  const commented = `${head}\n# ticket 12\n${x} \n\n# the end\n`;
+  const again = new Known(commented, 'known').textWith(listing.problems).split('\n');
+  assert.deepStrictEqual(again.slice(0, 3), [head, '# ticket 12', x]);
+  assert.match(again[3], /^[0-9a-f]{12} "y"/);
+  assert.deepStrictEqual(again.slice(4), ['', '# the end', '']);
+});
+
+test('what is wrong in a file of known races is told with its line', () => {
+  assert.throws(() => new Known('# a\n\nabc race\n', 'known'), (fault) => fault instanceof KnownFault && /^known, line 3: no name of a race/.test(fault.message));
+  assert.throws(() => new Known('0123456789ab\n0123456789ab\n', 'known'), /line 2: the name 0123456789ab stands in an earlier line too/);
+  assert.throws(() => Known.readFile(path.join(folder, 'none'), false), /there is no such file/);
+  assert.throws(() => Known.readFile(folder, true), KnownFault);
+});
+
+test('several runs: how often, and whether in both orders', async () => {
+  const listing = new Listing([await run(), await run({ isTurned: true }), await run({ more: ['y'] })], null);
+  const [x, y] = ['"x"', '"y"'].map((name) => listing.problems.find(({ words }) => words.startsWith(name)));
+  assert.strictEqual(listing.seenInWords(x), 'seen in 3 of 3 runs, in both orders');
+  assert.strictEqual(listing.seenInWords(y), 'seen in 1 of 3 runs: runs/3.html');
+  assert.deepStrictEqual([...x.seen.values()].map(({ runs, orders }) => [runs.size, orders.size]), [[3, 2]]);
+  const plain = plainListing(listing, { page: 'page', status: 1, files: [], folder: null });
+  assert.deepStrictEqual(plain.problems.map(({ runs, bothOrders }) => [runs, bothOrders]).sort(), [[[1, 2, 3], true], [[3], false]]);
+  assert.deepStrictEqual(plain.problems.find(({ bothOrders }) => bothOrders).races[0].places.map((place) => [place.line, place.function]), [[2, 'first'], [3, undefined]]);
+});
+
+test('SARIF has a rule for each kind, and a result for each problem', async () => {
+  const one = await run({ more: ['y'] });
+  const [x] = one.list.filter(({ words }) => words.startsWith('"x"'));
+  const listing = new Listing([one], new Known(`${x.name}\n`, 'known'));
+  const { version, runs: [{ tool, results }] } = sarifOf(listing, { folder: null });
+  assert.strictEqual(version, '2.1.0');
+  assert.strictEqual(tool.driver.rules.length, Object.keys(LOOKS).length);
+  assert.strictEqual(results.length, 2);
+  for (const { ruleId, ruleIndex } of results) assert.strictEqual(tool.driver.rules[ruleIndex].id, ruleId);
+  const [known] = results.filter(({ suppressions }) => suppressions);
+  assert.strictEqual(known.partialFingerprints['raceName/v1'], x.name);
+  assert.deepStrictEqual(known.locations[0].physicalLocation.region, { startLine: 2, startColumn: 1 });
+  assert.deepStrictEqual(known.relatedLocations[0].physicalLocation.region, { startLine: 3, startColumn: 1 });
+});
+
+test('a file is written whole or not at all', () => {
+  const file = path.join(folder, 'whole');
+  writeWhole(file, 'one\n');
+  assert.strictEqual(fs.readFileSync(file, 'utf8'), 'one\n');
+  assert.throws(() => writeWhole(path.join(folder, 'no', 'such', 'folder'), 'x'), WriteFault);
+  assert.deepStrictEqual(fs.readdirSync(folder).filter((name) => name.startsWith('.')), []);
+});

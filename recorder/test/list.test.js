@@ -1,0 +1,136 @@
+'use strict';
+// The list without a browser: names that last, problems, what a race looks like, words that tell both sides apart.
+
+const assert = require('node:assert');
+const fs = require('node:fs');
+const path = require('node:path');
+const { test } = require('node:test');
+const { Known } = require('../list/known.js');
+const { Listing } = require('../list/listing.js');
+const { linesOf } = require('../list/outputs.js');
+const { Problems } = require('../list/problems.js');
+const { Actions } = require('../view/actions.js');
+const { Words } = require('../view/words.js');
+const { RULES } = require('../view/rules.js');
+const { judgeLines } = require('./list-support.js');
+
+const PAGE = 'http://localhost:8080/page.html';
+const SCRIPT = 'setTimeout(slow, 5); setTimeout(quick, 0);\nlet x;\ncount = 1;\ncount = 2;\n';
+const NAMES = {
+  files: [{ address: PAGE, text: '<p id=a>\n<script>\n' }, { address: 'http://localhost:8080/app.3f9a2b71.js', text: SCRIPT }],
+  elements: {}, documents: { 0: { address: PAGE } }, handlers: {}, timeouts: {}, intervals: {}, requests: {}, dispatches: {}, objects: {}, places: {}, values: {}, functions: {},
+};
+
+async function problemsOf(lines, facts = {}) {
+  const { text, report } = await judgeLines(lines);
+  return new Problems(text, { ...NAMES, ...facts }, report);
+}
+
+const TIMERS = ['parse 0 2 inline', 'exec 2', 'set 1 5', 'set 2 0', 'timer 2', 'w var 0 count', 'timer 1', 'w var 0 count'];
+const TIMER_FACTS = { elements: { 2: { tag: 'script', place: [0, 2, 1] } }, places: { 4: [1, 1, 1], 5: [1, 1, 22], 7: [1, 4, 1], 9: [1, 3, 1] } };
+
+test('a name is the same where numbers, ports, lines and the order are others', async () => {
+  const one = await problemsOf(TIMERS, { ...TIMER_FACTS, timeouts: { 1: { place: [1, 1, 1] }, 2: { place: [1, 1, 22] } } });
+  const moved = { ...NAMES.files[1], address: 'http://localhost:9090/app.99aa77bb.js', text: `\n\n${SCRIPT}` };
+  const other = await problemsOf(['parse 0 7 plain', 'parse 0 2 inline', 'exec 2', 'set 3 0', 'set 8 0', 'timer 3', 'w var 0 count', 'tick 1', 'w var 0 count'].flatMap((line) => (line === 'set 8 0' ? ['every 1 0'] : [line])), {
+    ...TIMER_FACTS, files: [NAMES.files[0], moved], places: { 5: [1, 3, 1], 6: [1, 3, 22], 8: [1, 5, 1], 10: [1, 6, 1] },
+  });
+  assert.strictEqual(one.list.length, 1);
+  assert.strictEqual(one.list[0].name, other.list[0].name);
+  assert.match(one.ofRaces[0].name, /^[0-9a-f]{12}\.[0-9a-f]{6}$/);
+});
+
+test('both sides are told apart: by names, by columns, and as two runs', async () => {
+  const named = await problemsOf(TIMERS, { ...TIMER_FACTS, timeouts: { 1: { place: [1, 1, 1], function: 'slow' }, 2: { place: [1, 1, 22], function: 'quick' } }, places: {} });
+  assert.match(named.list[0].words, /written by the timeout quick set at app\.\w+\.js:1, and written by the timeout slow set at app\.\w+\.js:1;/);
+  const columns = await problemsOf(TIMERS, { ...TIMER_FACTS, timeouts: { 1: { place: [1, 1, 1] }, 2: { place: [1, 1, 22] } }, places: {} });
+  assert.match(columns.list[0].words, /set at app\.\w+\.js:1:22, and written by the timeout set at app\.\w+\.js:1:1;/);
+  const twice = await problemsOf(TIMERS, { ...TIMER_FACTS, timeouts: { 1: { place: [1, 1, 1] }, 2: { place: [1, 1, 1] } }, places: {} });
+  assert.match(twice.list[0].words, /by an earlier run of the timeout set at app\.\w+\.js:1, and written by a later run of the timeout/);
+});
+
+test('a problem of an object has one name in both orders, and all items of an array are one', async () => {
+  const lines = (first, second) => ['parse 0 2 inline', 'exec 2', 'set 1 5', 'set 2 0', ...first, ...second];
+  const facts = { ...TIMER_FACTS, timeouts: { 1: { place: [1, 1, 1] }, 2: { place: [1, 1, 22] } } };
+  const objects = (made, place) => ({ objects: { 3000000: { made, text: 'some', place } } });
+  const one = await problemsOf(lines(['timer 2', 'w var 3000000 x'], ['timer 1', 'w var 3000000 x']), { ...facts, ...objects('object', [1, 4, 1]), places: { 7: [1, 4, 1], 9: [1, 3, 1] } });
+  const other = await problemsOf(lines(['timer 1', 'w var 3000000 x'], ['timer 2', 'r var 3000000 x']), { ...facts, ...objects('object', [1, 3, 1]), places: { 7: [1, 3, 1], 9: [1, 4, 1] } });
+  assert.strictEqual(one.list[0].name, other.list[0].name);
+  assert.deepStrictEqual(other.list.map(({ look }) => look.look), ['other']);
+  const items = ['w var 3000000 (items)', 'w var 3000000 0', 'w var 3000000 1'];
+  const list = await problemsOf(lines(['timer 2', ...items], ['timer 1', ...items]), { ...facts, ...objects('array', [1, 4, 1]), places: { 7: [1, 4, 1], 8: [1, 4, 1], 9: [1, 4, 1], 11: [1, 3, 1], 12: [1, 3, 1], 13: [1, 3, 1] } });
+  assert.deepStrictEqual(list.list.map(({ races }) => races.length), [3]);
+});
+
+test('problems at one location are one line, but where their names are asked for', async () => {
+  const lines = ['parse 0 2 inline', 'exec 2', 'set 1 9', 'set 2 5', 'set 3 0', 'timer 3', 'w var 0 count', 'timer 2', 'w var 0 count', 'timer 1', 'w var 0 count'];
+  const places = { 4: [1, 1, 1], 5: [1, 1, 22], 6: [1, 2, 1], 8: [1, 4, 1], 10: [1, 3, 1], 12: [1, 2, 1] };
+  const problems = await problemsOf(lines, { ...TIMER_FACTS, timeouts: { 1: { place: [1, 1, 1] }, 2: { place: [1, 1, 22] }, 3: { place: [1, 2, 1] } }, places });
+  assert.strictEqual(problems.lines().length, 3);
+  const told = linesOf(new Listing([problems], null));
+  assert.strictEqual(told.length, 1);
+  assert.match(told[0], /^1\. "count" is written .*\(and 2 more in 3 problems\)$/);
+  assert.strictEqual(linesOf(new Listing([problems], new Known('', 'known'))).length, 3);
+});
+
+test('a load handler is told with its request', () => {
+  const text = ['webtrace 3', 'parse 0 2 inline', 'exec 2', 'send 1', 'on 1', 'reply 1 1', 'run 1 0 1', 'w var 0 x', 'close 1', ''].join('\n');
+  const words = new Words({ ...NAMES, requests: { 1: { address: 'data/one.json', place: [1, 1, 1] } }, handlers: { 1: { type: 'load', place: [1, 3, 1] } } }, new Actions(text));
+  assert.strictEqual(words.action(3), 'the load handler of the request for one.json at app.3f9a2b71.js:3');
+});
+
+/** A button's handler is set by a timeout; three clicks at elements around it look for it. */
+const CLICKS = ['parse 0 1 plain', 'parse 0 2 plain', 'parse 0 3 inline', 'exec 3', 'set 1 0', 'timer 1', 'on 1', 'w slot 1 click/1',
+  'fire 1 1 click', 'r slot 1 click/1', 'close 1', 'fire 2 2 click', 'r slot 1 click/1', 'close 2'];
+const CLICK_FACTS = {
+  elements: { 1: { tag: 'button', id: 'go' }, 2: { tag: 'a', id: 'link7' }, 3: { tag: 'script', place: [0, 2, 1] } }, handlers: { 1: { type: 'click', target: 1 } },
+  timeouts: { 1: { place: [1, 1, 1] } }, places: { 9: [1, 3, 1] }, dispatches: { 1: { type: 'click', act: 1000 }, 2: { type: 'click', act: 2000 } },
+};
+
+test('one problem of two clicks, told with both', async () => {
+  const { list, report } = await problemsOf(CLICKS, CLICK_FACTS);
+  assert.strictEqual(report.races.length, 2);
+  assert.strictEqual(list.length, 1);
+  assert.strictEqual(list[0].races.length, 2);
+  assert.match(list[0].words, /2 such: the click at button#go, a#link7\.$/);
+  assert.strictEqual(list[0].look.name, 'late handler');
+});
+
+const looksOf = async (lines, facts) => (await problemsOf(lines, facts)).list.map(({ look }) => [look.name, look.seen]);
+
+test('a field written over what a user typed', async () => {
+  const lines = ['parse 0 1 plain', 'parse 0 2 inline', 'exec 2', 'set 1 0', 'fire 1 1 input', 'w var 1000001 value', 'close 1', 'timer 1', 'w var 1000001 value'];
+  const [[name, seen]] = await looksOf(lines, { elements: { 1: { tag: 'input' } }, dispatches: { 1: { type: 'input', act: 1001 } } });
+  assert.strictEqual(name, 'overwritten field');
+  assert.match(seen, /here the user came first, and it was written over$/);
+});
+
+test('a use before the definition, in either order', async () => {
+  const lines = (first, second) => ['parse 0 1 async', 'parse 0 2 async', 'exec 1', first, 'exec 2', second];
+  assert.match((await looksOf(lines('r var 0 x', 'w var 0 x'), { values: { 5: '-' } }))[0].join(), /use before definition.*here nothing was found/);
+  assert.match((await looksOf(lines('w var 0 x', 'r var 0 x'), { values: { 7: 'o' } }))[0].join(), /use before definition.*in the other order nothing is found/);
+  assert.strictEqual((await looksOf(lines('r var 0 x', 'w var 0 x'), { values: { 5: 'o' } }))[0][0], 'other');
+});
+
+test('the same value, overwriting replies, a flag that both ask', async () => {
+  const writes = ['parse 0 1 async', 'parse 0 2 async', 'exec 1', 'w var 0 x', 'exec 2', 'w var 0 x'];
+  assert.strictEqual((await looksOf(writes, { values: { 5: 's1a1', 7: 's1a1' } }))[0][0], 'same value');
+  assert.strictEqual((await looksOf(writes, { values: { 5: 'o', 7: 'o' } }))[0][0], 'other');
+  const replies = ['parse 0 1 inline', 'exec 1', 'send 1', 'send 2', 'reply 1 2', 'w var 0 x', 'close 1', 'reply 2 1', 'w var 0 x', 'close 2'];
+  assert.strictEqual((await looksOf(replies))[0][0], 'overwriting replies');
+  const flag = ['parse 0 1 async', 'parse 0 2 async', 'exec 1', 'r var 0 ready', 'w var 0 loaded', 'exec 2', 'r var 0 loaded', 'w var 0 ready'];
+  const looks = await looksOf(flag, { values: { 5: 'false', 6: 'true', 8: 'true', 9: 'true' } });
+  assert.deepStrictEqual(looks.map(([name]) => name), ['flag that both ask', 'flag that both ask']);
+});
+
+test('two acts of a user stand at the end', async () => {
+  const lines = ['parse 0 1 plain', 'parse 0 2 plain', 'parse 0 3 async', 'exec 3', 'on 1', 'on 2', 'fire 1 1 click', 'run 1 0 1', 'w var 0 x', 'close 1', 'fire 2 2 click', 'run 2 0 2', 'w var 0 x', 'close 2'];
+  const facts = { dispatches: { 1: { type: 'click', act: 1000 }, 2: { type: 'click', act: 2000 } } };
+  assert.strictEqual((await looksOf(lines, facts))[0][0], 'act against act');
+});
+
+test('the steps\' words know all rules', () => {
+  const table = fs.readFileSync(path.join(__dirname, '..', '..', 'docs', 'rules.md'), 'utf8');
+  const known = [...table.matchAll(/^\| (\d+) \| /gm)].map(([, number]) => number);
+  assert.deepStrictEqual(Object.keys(RULES), known);
+});

@@ -1,0 +1,42 @@
+'use strict';
+// What the pages with one race look like (replay-cases.js), in a real browser: what is seen there fits what a replay finds to differ.
+
+const assert = require('node:assert');
+const { after, before, test } = require('node:test');
+const { Chromium } = require('../browser/chromium.js');
+const { Problems } = require('../list/problems.js');
+const { recordPage } = require('./support.js');
+const { judgeText } = require('./list-support.js');
+const { cases } = require('./replay-cases.js');
+
+/**
+ * The looks that are right for a location, in whichever order the run has it. A flag is seen where each side did both; where the second one took the
+ * other branch the trace does not show it.
+ */
+const DUE = {
+  '#offer': ['use before definition'], theme: ['other'], shown: ['overwriting replies'], price: ['use before definition', 'other'], 'load of img#dot': ['late handler of the page'],
+  'click of button#buy': ['late handler'], 'value of input#field': ['overwritten field'], greeting: ['use before definition', 'other'], width: ['use before definition', 'other'],
+  settings: ['use before definition', 'other'], plugin: ['use before definition'], renderFound: ['use before definition'], isLoaded: ['flag that both ask', 'other'],
+  steps: ['act against act'], state: ['act against act'],
+  // what an object's or a closure's variables held is not recorded
+  'price of the closure of shop() at race-closure.html:5': ['other'], 'total of cart, the object first used at race-property.html:11': ['other'],
+  'the items of list, the array first used at race-items.html:9': ['other'], 'the content of p#out': ['other'],
+  'isOpen of page, the object first used at race-put-back.html:8': ['other'],
+};
+
+let browser;
+before(async () => { browser = await Chromium.launch({ width: 1100, height: 800 }); });
+after(async () => { await browser.close(); });
+
+for (const { page, words, location } of cases) {
+  test(`${page} ${(words || []).join(' ')}`, { timeout: 150000 }, async () => {
+    const trace = await recordPage(browser, page, words);
+    const report = await judgeText(trace.text);
+    const problems = new Problems(trace.text, JSON.parse(trace.names.toJson({})), report);
+    const looks = report.races.map((race, k) => [problems.words.location(race.location).text, problems.ofRaces[k].look]).filter(([text]) => text === location);
+    assert.ok(looks.length > 0, `no race at ${location}`);
+    const [best] = looks.sort(([, a], [, b]) => a.rank - b.rank);
+    if (process.env.SHOW) console.error(page, location, best[1].name, '|', best[1].seen);
+    assert.ok(DUE[location].includes(best[1].name), `${best[1].name}: ${best[1].seen}`);
+  });
+}

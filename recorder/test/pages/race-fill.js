@@ -1,0 +1,1 @@
+document.getElementById('offer').textContent = 'Two for one';

@@ -1,0 +1,1 @@
+plugin = function () { return 'a plugin'; };

@@ -1,0 +1,3 @@
+function renderFound(found) {
+  document.getElementById('out').textContent = found.word;
+}

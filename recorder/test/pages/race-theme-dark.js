@@ -1,0 +1,1 @@
+var theme = 'dark'; document.getElementById('out').textContent = theme;

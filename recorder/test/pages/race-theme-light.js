@@ -1,0 +1,1 @@
+var theme = 'light'; document.getElementById('out').textContent = theme;

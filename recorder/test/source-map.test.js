@@ -1,0 +1,40 @@
+'use strict';
+// Source maps: places of a bundle, and those of the files that it was made of. No browser.
+
+const assert = require('node:assert');
+const { test } = require('node:test');
+const { SourceMap, readMap } = require('../trace/source-map.js');
+const { Sources } = require('../sources.js');
+
+// The first line of the bundle has two segments: column 0 is a.js:1:1 `count`, column 10 is node_modules/b.js:3:5. The second line has none.
+const MAP = { version: 3, sources: ['a.js', 'node_modules/b.js'], sourcesContent: ['var count;'], names: ['count'], mappings: 'AAAAA,UCEI;' };
+
+test('segments', () => {
+  const map = new SourceMap(MAP, '');
+  assert.deepStrictEqual(map.original(1, 1), { source: 0, line: 1, column: 1, name: 'count' });
+  assert.deepStrictEqual(map.original(1, 5), { source: 0, line: 1, column: 1, name: undefined });
+  assert.deepStrictEqual(map.original(1, 11), { source: 1, line: 3, column: 5, name: undefined });
+  assert.strictEqual(map.original(2, 1), null);
+  assert.strictEqual(map.original(9, 1), null);
+});
+
+test('where a map stands', async () => {
+  const read = async (address) => (address === 'http://localhost/x/a.map' ? JSON.stringify(MAP) : null);
+  assert.ok(await readMap('var a;\n//# sourceMappingURL=a.map\n', 'http://localhost/x/a.js', read));
+  const inline = `data:application/json;base64,${Buffer.from(JSON.stringify(MAP)).toString('base64')}`;
+  assert.ok(await readMap(`var a;\n//# sourceMappingURL=${inline}`, 'http://localhost/a.js', read));
+  assert.strictEqual(await readMap('var a;\n//# sourceMappingURL=none.map', 'http://localhost/a.js', read), null);
+  assert.strictEqual(await readMap('var a; // sourceMappingURL', 'http://localhost/a.js', read), null);
+  assert.strictEqual(await readMap('var a;\n//# sourceMappingURL=a.map', 'http://localhost/x/a.js', async () => '{"version": 2}'), null);
+});
+
+test('places of a bundle, and what is a library of it', async () => {
+  const sources = new Sources('objects');
+  sources.rewriteScript('http://localhost/x/a.js', 'var n=1;  f.x=1\n//# sourceMappingURL=a.map');
+  await sources.readMaps(async () => JSON.stringify(MAP));
+  const sites = sources.sites.map(({ offset }, site) => ({ offset, place: sources.placeOfSite(site), isLibrary: sources.isLibrary(String(site), /^none$/) }));
+  const own = sites.find(({ offset }) => offset === 4);
+  const other = sites.find(({ offset }) => offset === 12);
+  assert.deepStrictEqual([sources.files[own.place[0]].address, own.place[1], own.isLibrary], ['http://localhost/x/a.js', 1, false]);
+  assert.deepStrictEqual([sources.files[other.place[0]].address, other.place[1], other.isLibrary], ['http://localhost/x/node_modules/b.js', 3, true]);
+});
