@@ -11,11 +11,13 @@ const { writeOutputs } = require('./list/outputs.js');
 const { WriteFault } = require('./list/whole-file.js');
 const { parseOptions, UsageFault, USAGE, REPLAY_USAGE } = require('./options.js');
 const { recordInto } = require('./record.js');
-const { Recorder, RecordingFault } = require('./recorder.js');
-const { Replay, withEnd, chance, verdictInWords, plain } = require('./replay/replay.js');
+const { Recorder } = require('./recorder.js');
+const { replayRaces } = require('./replay/command.js');
+const { withEnd, chance } = require('./replay/replay.js');
+const { stoppable, STOPPED } = require('./stoppable.js');
 const { NEWEST_VERSION } = require('./trace/spelling.js');
 const { runProgram } = require('./view/program.js');
-const { view, writePage, besides } = require('./view.js');
+const { view, besides } = require('./view.js');
 
 const USAGE_STATUS = 2;
 const WRITE_STATUS = 5;
@@ -25,19 +27,6 @@ function folderFor(given) {
   const words = given.replace(/[?#].*$/, '').replace(/^\w+:\/\//, '').replace(/\/index\.html?$/, '').replace(/\.x?html?$/, '').split('/');
   const last = words.filter((word) => word && word !== '.' && word !== '..').pop() || 'page';
   return `${last.replace(/[^\w.-]+/g, '-')}.races`;
-}
-
-const SIGNALS = ['SIGINT', 'SIGTERM', 'SIGHUP'];
-const STOPPED = 130;
-
-/** Does something that a signal stops. */
-async function stoppable(stop, work) {
-  SIGNALS.forEach((signal) => process.on(signal, stop));
-  try {
-    return await work();
-  } finally {
-    SIGNALS.forEach((signal) => process.off(signal, stop));
-  }
 }
 
 /** Records a page once. Answers the status where it ended early, and else what the program and the list say of it. */
@@ -100,64 +89,6 @@ async function tellRuns(runs, known, recorder, { given, folder, options }) {
   const others = [...hasReplays ? ['page.replay.json'] : [], ...runs.length > 1 ? [`runs/2 to runs/${runs.length}`] : []];
   (options.isJson ? console.error : console.log)(`${folder}: ${['page.trace', 'page.names.json', 'page.report', 'page.html', ...others].join(', ')}`);
   return replayed || status;
-}
-
-/** The number of the race by which a problem is told. */
-const raceOf = ({ races, first }) => (first ?? races[0]) + 1;
-
-/** The line of the list in which a race stands, as words. */
-function lineOf(listing, number) {
-  const line = listing.told().findIndex(({ line: told }) => raceOf(told) === number);
-  return line >= 0 ? `${line + 1}.` : `race ${number}:`;
-}
-
-/** The races that are asked for: by their numbers, else the first of each line of the list. */
-function racesToReplay({ races, most }, model, listing) {
-  const numbers = races.length ? races : [...listing.told().map(({ line }) => line), ...listing.knownLines()].map(raceOf);
-  const wrong = numbers.find((number) => !model.races[number - 1]);
-  if (wrong !== undefined) console.error(`er_page: there is no race ${wrong}`);
-  return [...new Set(numbers)].filter((number) => model.races[number - 1]).slice(0, most);
-}
-
-/** Runs the page again for each race. Answers 0, or the status with which it was stopped. */
-async function replayRaces(recorder, options, traceFile, { report, model, listing }) {
-  const replay = new Replay(recorder, options, traceFile, report);
-  const results = [];
-  let status = 0;
-  const say = options.isJson ? console.error : console.log;
-  say('Each run again in the other order:');
-  try {
-    const numbers = racesToReplay(options, model, listing);
-    await stoppable(() => replay.interrupt(), () => turnEach(replay, numbers, results, (number, words) => say(`${lineOf(listing, number)} ${words}`)));
-  } catch (fault) {
-    if (!(fault instanceof RecordingFault)) throw fault;
-    console.error(`er_page: ${fault.message}`);
-    status = fault.status;
-  } finally {
-    await replay.pictures.close();
-  }
-  const turned = results.filter(({ result }) => result.verdict === 'turned');
-  const differing = turned.filter(({ result }) => result.differences.length).length;
-  say(`Of ${results.length}: ${differing} differ, ${turned.length - differing} have no visible difference, ${results.length - turned.length} could not be turned.`);
-  writeReplays(replay, traceFile, results, { report, model });
-  return status;
-}
-
-async function turnEach(replay, numbers, results, say) {
-  await replay.runFreely();
-  for (const number of numbers) {
-    const result = await replay.turn(replay.report.races[number - 1], number);
-    results.push({ number, result });
-    say(number, verdictInWords(result));
-  }
-}
-
-function writeReplays(replay, traceFile, results, { report, model }) {
-  const races = results.map(({ number, result }) => plain(result, report.races[number - 1], number));
-  const unsteady = replay.unsteady.map(({ kind, subject }) => ({ kind, subject }));
-  fs.writeFileSync(besides(traceFile, '.replay.json'), `${JSON.stringify({ replay: 1, page: replay.recorder.given, races, unsteady }, null, 1)}\n`);
-  const pictures = results.map(({ result }) => result.picture || null);
-  writePage(traceFile, { ...model, replays: races.map((race, k) => ({ ...race, picture: pictures[k] })), recordedPicture: replay.recorded.end.picture?.small || null });
 }
 
 async function main(words) {
