@@ -7,6 +7,7 @@ const { AttachedRecorder } = require('./attached-recorder.js');
 const { parseOptions, UsageFault, USAGE } = require('./options.js');
 const { Progress } = require('./progress.js');
 const { Recorder, RecordingFault } = require('./recorder.js');
+const { originOf } = require('./replay/origin.js');
 const { Accesses } = require('./trace/accesses.js');
 const { Names } = require('./trace/names.js');
 const { Spelling, keepWithin, NEWEST_VERSION } = require('./trace/spelling.js');
@@ -31,7 +32,8 @@ function readRun(recorder, options) {
 function writeFiles(recorder, options, traceFile) {
   const { text, names, accesses, leftOut, cut } = readRun(recorder, options);
   fs.writeFileSync(traceFile, text);
-  fs.writeFileSync(namesFile(traceFile), names.toJson({ page: recorder.given, trace: traceFile.replace(/^.*\//, '') }));
+  const recording = originOf(recorder, options, traceFile, text);
+  fs.writeFileSync(namesFile(traceFile), names.toJson({ page: recorder.given, trace: traceFile.replace(/^.*\//, ''), recording }));
   const lines = accesses.lines();
   if (leftOut) lines.push(`parse steps in which nothing happened, left out for the limit on actions: ${leftOut}`);
   if (cut) lines.push(`records behind the limits on actions, accesses and lines, cut off: ${cut}`);

@@ -43,7 +43,7 @@ async function replayRaces(recorder, options, traceFile, judged) {
     await stoppable(() => replay.interrupt(), () => turnEach(replay, numbers, results, (number, words) => say(`${lineOf(judged.listing, number)} ${words}`)));
   } catch (fault) {
     if (!(fault instanceof RecordingFault)) throw fault;
-    console.error(`er_page: ${fault.message}`);
+    console.error(`${options.name || 'er_page'}: ${fault.message}`);
     status = fault.status;
   } finally {
     await replay.pictures.close();
