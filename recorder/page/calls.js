@@ -19,13 +19,24 @@ const DISPATCHERS = [
   ['HTMLDialogElement', ['show', 'showModal', 'close']],
   ['AbortController', ['abort']],
 ];
+/** What an element loads. */
+const SOURCES = [['HTMLImageElement', 'src'], ['HTMLIFrameElement', 'src'], ['HTMLIFrameElement', 'srcdoc'], ['HTMLFrameElement', 'src'],
+  ['HTMLObjectElement', 'data'], ['HTMLEmbedElement', 'src'], ['HTMLLinkElement', 'href']];
+const SOURCE_OF = { img: 'src', iframe: 'src', frame: 'src', object: 'data', embed: 'src', link: 'href' };
 /** Elements that are declared where a script inserts them, as their kind is not known before. */
-const DECLARED_AT_INSERTION = new Set(['script', 'iframe', 'frame', 'link']);
+const DECLARED_AT_INSERTION = new Set(['script', 'iframe', 'frame', 'link', 'object', 'embed']);
 
 class Calls {
   constructor(page) {
     this.page = page;
     this.recording = page.recording;
+    /** How much stands on the stack inside the call of `document.write` that runs. */
+    this.writing = 0;
+  }
+
+  /** Whether `document.write` makes elements now, and no script that it wrote. */
+  isWriting() {
+    return this.writing > 0 && this.recording.contexts.length === this.writing;
   }
 
   start() {
@@ -56,11 +67,22 @@ class Calls {
 
   replaceCall(owner, name, isInsertion) {
     const calls = this;
+    const around = isInsertion && /^write(ln)?$/.test(name) ? (call) => calls.aroundWrite(call) : (call) => calls.around(call, isInsertion);
     replaceMethod(owner, name, (native) => function called(...words) {
-      const result = calls.around(() => native.apply(this, words), isInsertion);
+      const result = around(() => native.apply(this, words));
       if (name === 'open' && isInsertion && this === calls.page.document) calls.page.dispatches.captureAgain();
       return result;
     });
+  }
+
+  aroundWrite(call) {
+    const outer = this.writing;
+    this.writing = this.recording.contexts.length + 1;
+    try {
+      return this.around(call, true);
+    } finally {
+      this.writing = outer;
+    }
   }
 
   replaceSetter(owner, name) {
@@ -92,8 +114,7 @@ class Calls {
   /** What an element loads is set by a script. */
   replaceSources() {
     const { window, elements } = this.page;
-    const owners = [[window.HTMLImageElement, 'src'], [window.HTMLIFrameElement, 'src'], [window.HTMLIFrameElement, 'srcdoc'], [window.HTMLFrameElement, 'src']];
-    for (const [owner, name] of owners) {
+    for (const [owner, name] of SOURCES.map(([interfaceName, name]) => [window[interfaceName], name])) {
       replaceProperty(owner.prototype, name, (native) => ({
         set(value) {
           elements.noteSource(this);
@@ -109,7 +130,7 @@ class Calls {
     const { page } = this;
     replaceMethod(page.window.Element.prototype, 'setAttribute', (native) => function setAttribute(name, value) {
       const key = String(name).toLowerCase();
-      const isSource = key === 'src' && /^(img|iframe|frame)$/.test(this.localName);
+      const isSource = key === SOURCE_OF[this.localName];
       if (isSource && !page.recording.isOver) page.elements.noteSource(this);
       if (key === 'integrity' && this.localName === 'script') return undefined;
       const result = native.apply(this, arguments);

@@ -75,16 +75,16 @@ class Dispatches {
   /** The error event of a script that threw comes inside its run, and the run is over then. */
   sightError(event) {
     const { recording } = this;
-    const isScript = event.target === this.page.window && recording.contexts[recording.contexts.length - 1] === 'script';
-    if (isScript) {
+    const isOfWindow = event.target === this.page.window;
+    if (isOfWindow && recording.contexts[recording.contexts.length - 1] === 'script') {
       recording.endPiece();
       if (this.listened.has('error')) this.begin(event, event.target);
       recording.leaveCall();
       return;
     }
     if (!this.listened.has('error') || this.find(event)) return;
-    const isInHandler = event.target === this.page.window && !recording.contexts.length && recording.isCheckpoint;
-    if (!isInHandler) {
+    const isInEvent = isOfWindow && !recording.contexts.length && (recording.isCheckpoint || this.page.scripts.runBroken(event));
+    if (!isInEvent) {
       this.begin(event, event.currentTarget);
       return;
     }
@@ -110,7 +110,7 @@ class Dispatches {
     if (merged) return merged;
     if (recording.contexts.length || this.isOfJob(event)) {
       if (!this.beginInline(dispatch)) return null;
-    } else if (!this.beginConsequence(dispatch)) {
+    } else if (!this.beginConsequence(dispatch) && !this.page.loading.beginInRun(dispatch)) {
       recording.startTask();
       this.beginAlone(dispatch);
     }
@@ -143,6 +143,7 @@ class Dispatches {
     const standIn = this.page.elements.standIn(dispatch.target, why);
     dispatch.isInline = true;
     dispatch.suspended = recording.running;
+    dispatch.awaits = recording.running.awaits;
     dispatch.number = recording.next('dispatch');
     recording.begin(`inline ${dispatch.number} ${standIn} ${spellName(dispatch.event.type)}`, 'begin', undefined, [dispatch.suspended]);
     dispatch.beginning = recording.running;
@@ -202,12 +203,14 @@ class Dispatches {
     if (!dispatch) dispatch = this.begin(event, current);
     if (!dispatch) return this.unrecorded();
     dispatch.active++;
+    this.page.loading.writeJoins(dispatch);
     const visit = `${event.type}:${event.eventPhase}:${this.page.elements.number(current)}`;
     if (dispatch.visit !== visit) {
       dispatch.visit = visit;
       dispatch.group++;
     }
     recording.begin(`run ${dispatch.number} ${dispatch.group} ${handler}`, 'handler', undefined, [dispatch.beginning, this.registrars.get(handler)]);
+    recording.running.awaits = dispatch.awaits;
     recording.enter('handler');
     return dispatch;
   }

@@ -2,6 +2,9 @@
 
 const JAVASCRIPT_TYPE = /^(text|application)\/(x-)?(java|ecma|j)script(1\.\d)?$/;
 const HTML_NAMESPACE = 'http://www.w3.org/1999/xhtml';
+const SVG_NAMESPACE = 'http://www.w3.org/2000/svg';
+/** Elements that may show a page of its own. */
+const SHOWS_PAGE = /^(i?frame|object|embed)$/;
 
 class Elements {
   constructor(page) {
@@ -12,14 +15,20 @@ class Elements {
     this.staticScripts = new Set();
     this.pendingDeferred = new Set();
     this.hasRunDeferred = false;
+    /** The element of the last parse step, and its number. */
     this.lastParsed = 0;
+    this.lastParsedElement = null;
     this.frameDocuments = new WeakMap();
     this.loads = new WeakMap();
     this.makers = new WeakMap();
+    /** The numbers of elements that no parser made and that the window's load waits for. */
+    this.awaited = new Set();
+    /** And of those that the parser made. */
+    this.staticLoads = new Set();
     this.late = [];
     /** The place of the code whose changes of the tree are written now; it is asked for once. */
     this.placeOfChanges = null;
-    /** What a blocking script made and load waits for: it is written as parse steps directly behind the script's run. */
+    /** What a blocking script made and load waits for, by its number: it is written as parse steps directly behind the script's run. */
     this.joining = new Map();
     this.observer = new this.natives.MutationObserver((records) => {
       if (!this.recording.isOver) this.handle(records, this.recording.isRunning() ? 'script' : 'parser');
@@ -51,15 +60,23 @@ class Elements {
   }
 
   kindOf(element, isStatic) {
-    if (element.namespaceURI !== HTML_NAMESPACE) return 'plain';
+    if (element.namespaceURI !== HTML_NAMESPACE) return element.namespaceURI === SVG_NAMESPACE && element.localName === 'image' ? 'image' : 'plain';
     switch (element.localName) {
       case 'script': return isStatic ? this.kindOfStaticScript(element) : this.kindOfInsertedScript(element);
-      case 'img': return this.attribute(element, 'loading') === 'lazy' ? 'plain' : 'image';
+      case 'img': return this.isLazy(element) ? 'plain' : 'image';
       case 'link': return /\bstylesheet\b/i.test(this.attribute(element, 'rel') || '') ? 'image' : 'plain';
       case 'input': return this.attribute(element, 'type') === 'image' ? 'image' : 'plain';
-      case 'iframe': case 'frame': return 'frame';
+      case 'iframe': return this.isLazy(element) ? 'plain' : 'frame';
+      case 'frame': return 'frame';
+      case 'object': return this.has(element, 'data') ? 'frame' : 'plain';
+      case 'embed': return this.has(element, 'src') ? 'frame' : 'plain';
       default: return 'plain';
     }
+  }
+
+  /** Load does not wait for what the browser fetches once it comes into view. */
+  isLazy(element) {
+    return /^lazy$/i.test(this.attribute(element, 'loading') || '');
   }
 
   /** 'classic', 'module', or null for a data block and for a script that never runs. */
@@ -112,37 +129,51 @@ class Elements {
     const isElement = target.nodeType === 1;
     const kind = isElement ? this.declaration(target, false) : 'plain';
     this.markDeclared(target, kind);
-    if (!this.joinsParsing(target, kind)) {
-      this.recording.note(`new ${this.page.numberOfDocumentOf(target)} ${this.number(target)} ${kind}`);
-    }
+    if (isElement && this.joinsParsing(target, this.number(target), kind)) return;
+    this.noteAwaited(target, this.number(target), kind);
+    this.recording.note(`new ${this.page.numberOfDocumentOf(target)} ${this.number(target)} ${kind}`);
+  }
+
+  /** Whether a parse step may stand directly behind the run of the script that runs. */
+  isBlocking(element) {
+    const { recording, page } = this;
+    const isOwn = element.ownerDocument === page.document && recording.running.blocks === page;
+    return isOwn && !page.loading.hasBegunDomContentLoaded && !this.hasRunDeferred;
   }
 
   /**
-   * The window's load waits for a script or an image that a script makes while the page is parsed, which `new` can't say. Where
-   * the running script is a blocking one, a parse step directly behind its run gives exactly that order.
+   * The window's load waits for a script or an image that a script makes while the page is parsed, and the parser for a script that it writes,
+   * which `new` can't say. Where the running script is a blocking one, a parse step directly behind its run gives exactly that order.
    */
-  joinsParsing(element, kind) {
-    const { recording, page } = this;
-    const isAwaited = kind === 'async' || kind === 'image';
-    const isOwn = element.ownerDocument === page.document && recording.running.blocks === page;
-    if (!isAwaited || !isOwn || page.loading.hasBegunDomContentLoaded || this.hasRunDeferred) return false;
-    this.joining.set(element, kind);
+  joinsParsing(element, number, kind) {
+    if (!/^(async|image|sync|defer)$/.test(kind) || !this.isBlocking(element)) return false;
+    this.joining.set(number, { kind, element });
     return true;
+  }
+
+  /** An element that another event makes than a blocking script: its load comes before the handlers of the window's load (loading.js). */
+  noteAwaited(element, number, kind) {
+    const { running } = this.recording;
+    const isOwn = running.awaits === this.page && element.ownerDocument === this.page.document;
+    if (isOwn && !this.page.loading.hasBegunLoad && /^(async|image|frame)/.test(kind)) this.awaited.add(number);
   }
 
   writeJoining() {
     if (!this.joining.size) return;
     const joining = [...this.joining];
     this.joining.clear();
-    each(joining, ([element, kind]) => this.writeParsed(element, kind));
+    each(joining, ([number, { kind, element }]) => this.writeParsed(element, number, kind));
   }
 
   /** What an event of a script needs now is declared at once. */
   declareJoining(element) {
-    const kind = this.joining.get(element);
-    if (!kind) return;
-    this.joining.delete(element);
-    this.recording.note(`new ${this.page.number} ${this.number(element)} ${kind}`);
+    const number = this.number(element);
+    const found = this.joining.get(number);
+    if (!found) return;
+    this.joining.delete(number);
+    const kind = found.kind === 'image' ? 'image' : 'async';
+    if (this.kinds.has(number)) this.kinds.set(number, kind);
+    this.recording.note(`new ${this.page.number} ${number} ${kind}`);
   }
 
   /** The kind as a declaration spells it: a frame also declares the document inside it. */
@@ -178,8 +209,8 @@ class Elements {
 
   /** The whole address of what an element loads. */
   addressOf(target) {
-    if (!/^(script|img|iframe|frame|link|input)$/.test(target.localName)) return undefined;
-    const address = target.localName === 'link' ? target.href : target.src;
+    if (!/^(script|img|iframe|frame|link|input|object|embed)$/.test(target.localName)) return undefined;
+    const address = target[{ link: 'href', object: 'data' }[target.localName] || 'src'];
     return typeof address === 'string' && address ? address.replace(/#.*$/, '').slice(0, 2000) : undefined;
   }
 
@@ -301,22 +332,27 @@ class Elements {
   addParsed(element) {
     const kind = this.declaration(element, true);
     this.markDeclared(element, kind);
-    this.writeParsed(element, kind);
+    this.writeParsed(element, this.number(element), kind);
   }
 
-  writeParsed(element, kind) {
-    const number = this.number(element);
+  writeParsed(element, number, kind) {
     this.recording.begin(`parse ${this.page.number} ${number} ${kind}`, 'parse');
+    this.recording.running.awaits = this.page;
     this.lastParsed = number;
+    this.lastParsedElement = element;
     if (element.localName === 'script' && kind !== 'plain') this.staticScripts.add(number);
     if (kind === 'defer') this.pendingDeferred.add(number);
+    if (kind !== 'plain') this.staticLoads.add(number);
   }
 
   addMade(element) {
-    const kind = this.declaration(element, false);
+    const isWritten = this.page.calls.isWriting() && this.scriptType(element) !== null && this.isBlocking(element);
+    const kind = this.declaration(element, isWritten && this.kindOfStaticScript(element) !== 'inline');
+    const number = this.number(element);
     this.markDeclared(element, kind);
-    if (this.joinsParsing(element, kind)) return;
-    this.recording.log.line(`new ${this.page.number} ${this.number(element)} ${kind}`, this.placeOfCode());
+    if (this.joinsParsing(element, number, kind)) return;
+    this.noteAwaited(element, number, kind);
+    this.recording.log.line(`new ${this.page.number} ${number} ${kind}`, this.placeOfCode());
   }
 
   // ---- loads
@@ -325,18 +361,24 @@ class Elements {
   noteSource(element) {
     if (!this.recording.isRunning() || !this.recording.declared.has(this.number(element))) return;
     if (this.makers.get(element) === this.recording.running) return;
-    const isFrame = this.kindOf(element, false) === 'frame';
+    if (element.localName === 'link' && this.kindOf(element, false) === 'plain') return;
+    const isFrame = SHOWS_PAGE.test(element.localName);
     const number = this.recording.next('element');
     const inner = isFrame ? this.recording.next('document') : 0;
+    const kind = isFrame ? `frame ${inner}` : 'image';
     this.loads.set(element, { number, inner });
-    this.recording.note(`new ${this.page.numberOfDocumentOf(element)} ${number} ${isFrame ? `frame ${inner}` : 'image'}`);
     this.recording.log.name('element', number, { standsFor: this.number(element), why: 'its source was set' });
     if (isFrame) this.recording.log.name('document', inner, { frame: number });
+    if (!this.isLazy(element)) {
+      if (this.joinsParsing(element, number, kind)) return;
+      this.noteAwaited(element, number, kind);
+    }
+    this.recording.note(`new ${this.page.numberOfDocumentOf(element)} ${number} ${kind}`);
   }
 
   /** The document number for a page that a frame shows now. */
   numberOfInner(frame, isPassing) {
-    const first = this.frameDocuments.get(frame);
+    const first = this.frameDocuments.get(frame); // a lazy frame has none
     const load = this.loads.get(frame);
     if (load && load.inner) return this.useOnce(load, 'inner');
     if (first && !first.isUsed && !isPassing) {

@@ -9,6 +9,8 @@ class Loading {
     this.loaded = new WeakSet();
     /** The dispatch `dcl` or `load` that events at the same moment of loading join, in groups of their own. */
     this.moment = null;
+    /** The handlers that put those of the window's load behind what it has waited for. */
+    this.joins = [];
   }
 
   isOfDocument(event, target) {
@@ -52,6 +54,7 @@ class Loading {
     if (end === 'dcl') this.hasBegunDomContentLoaded = true;
     else this.hasBegunLoad = true;
     dispatch.end = end;
+    if (end === 'dcl') dispatch.awaits = this.page;
     this.moment = dispatch;
     this.recording.begin(`${end} ${dispatch.number} ${this.page.number}`, 'begin');
     return true;
@@ -62,15 +65,58 @@ class Loading {
     const { target } = dispatch;
     const { elements } = this.page;
     const later = elements.loads.get(target);
-    if (later) {
-      elements.loads.delete(target);
-      this.recording.begin(`eload ${dispatch.number} ${later.number}`, 'begin');
-      return true;
-    }
-    if (this.loaded.has(target)) return false;
-    const number = elements.declaredNumber(target);
-    this.loaded.add(target);
+    if (!later && this.loaded.has(target)) return false;
+    const number = later ? later.number : elements.declaredNumber(target);
+    if (later) elements.loads.delete(target);
+    else this.loaded.add(target);
     this.recording.begin(`eload ${dispatch.number} ${number}`, 'begin');
+    this.noteAwaited(dispatch, number);
     return true;
+  }
+
+  /**
+   * The load or error event of a script for which the parser or DOMContentLoaded waits comes inside its run, directly behind its last statement; the
+   * run of a script that failed is empty. Answers whether the event is such a one.
+   */
+  beginInRun(dispatch) {
+    const { event, target } = dispatch;
+    const { scripts, dispatches } = this.page;
+    const isOfScript = event.isTrusted && target.localName === 'script' && /^(load|error)$/.test(event.type) && !this.loaded.has(target);
+    if (!isOfScript) return false;
+    this.recording.finishAll();
+    if (!scripts.isRunning(target) && !scripts.runEmpty(target)) return false;
+    this.loaded.add(target);
+    dispatches.writeInline(dispatch, 'its run is over');
+    return true;
+  }
+
+  // ---- what the window's load waits for
+
+  /**
+   * Where an event for which load waits has made an element that load waits for too, no rule says that the element's load comes before load. So the
+   * close of its load event registers a handler, and load runs it, empty, before its own handlers.
+   */
+  noteAwaited(dispatch, number) {
+    const { elements } = this.page;
+    const isMade = elements.awaited.has(number);
+    if (isMade || elements.staticLoads.has(number)) dispatch.awaits = this.page;
+    if (isMade && !this.hasBegunLoad) dispatch.whenClosed = () => this.join(number);
+  }
+
+  join(number) {
+    const { recording } = this;
+    const handler = recording.next('handler');
+    recording.log.line(`on ${handler}`);
+    recording.log.name('handler', handler, { type: 'what load waits for', target: number });
+    this.joins[this.joins.length] = handler;
+  }
+
+  /** Load runs its first handler. */
+  writeJoins(dispatch) {
+    if (dispatch.end !== 'load' || !this.joins.length) return;
+    const { recording } = this;
+    each(this.joins, (handler) => recording.begin(`run ${dispatch.number} 0 ${handler}`, 'handler', undefined, [dispatch.beginning]));
+    this.joins = [];
+    dispatch.group = 0;
   }
 }

@@ -202,6 +202,7 @@ class Recording {
     dispatch.isClosed = true;
     if (dispatch.event) this.endedEvents.add(dispatch.event);
     this.begin(`close ${dispatch.number}`, 'close');
+    this.running.awaits = dispatch.awaits;
     if (dispatch.whenClosed) dispatch.whenClosed();
   }
 

@@ -7,6 +7,8 @@ class Scripts {
     this.page = page;
     this.recording = page.recording;
     this.hasRun = new Set();
+    /** The script that was the last to run, and the event of its run. */
+    this.last = { element: null, event: null };
     this.modules = [];
     this.asked = [];
     this.clicked = [];
@@ -27,13 +29,59 @@ class Scripts {
       return;
     }
     recording.startTask();
-    const number = this.runnable(element);
-    this.hasRun.add(number);
-    if (this.page.elements.kinds.get(number) === 'defer') this.noteDeferred(number);
-    recording.begin(`exec ${number}`, 'exec', site);
-    if (/^(inline|sync)$/.test(this.page.elements.kinds.get(number))) recording.running.blocks = this.page;
+    this.writeRun(element, this.runnable(element), site);
     recording.enter('script');
     each(functions, ([name, place]) => this.page.globals.write(name, place));
+  }
+
+  writeRun(element, number, site) {
+    const { recording, page } = this;
+    const kind = page.elements.kinds.get(number);
+    this.hasRun.add(number);
+    if (kind === 'defer') this.noteDeferred(number);
+    recording.begin(`exec ${number}`, 'exec', site);
+    if (kind === 'inline' || kind === 'sync') recording.running.blocks = page;
+    this.noteRun(element, number);
+  }
+
+  /** What is known of a run behind its begin: whether load waits for it, and that the script's load event is to come in it. */
+  noteRun(element, number) {
+    const { recording, page } = this;
+    const { elements } = page;
+    if (elements.staticScripts.has(number) || elements.awaited.has(number)) recording.running.awaits = page;
+    this.last = { element, event: recording.running };
+  }
+
+  // ---- load events and failures
+
+  /** Whether the run of a script is the running event, and its load event belongs to the run: the parser, or DOMContentLoaded, waits for both. */
+  isRunning(element) {
+    const kind = this.page.elements.kinds.get(this.page.elements.number(element));
+    return kind !== 'async' && this.last.element === element && this.last.event === this.recording.running;
+  }
+
+  /** A script for which the parser or DOMContentLoaded waits has failed: an empty run says so. Answers whether it can. */
+  runEmpty(element) {
+    const { elements } = this.page;
+    this.recording.startTask();
+    const number = elements.number(element);
+    const kind = elements.kinds.get(number);
+    const isDue = elements.staticScripts.has(number) && kind !== 'async' && !this.hasRun.has(number);
+    if (!isDue || this.whyTooLate(number, kind)) return false;
+    this.writeRun(element, number);
+    return true;
+  }
+
+  /** An error of the window that comes of a script which is no JavaScript: it belongs to the script's empty run. */
+  runBroken({ filename, message }) {
+    const { document, elements, natives } = this.page;
+    if (!/SyntaxError/.test(message)) return false;
+    this.recording.startTask();
+    const last = elements.lastParsedElement;
+    const isInline = last && elements.kinds.get(elements.lastParsed) === 'inline' && filename === document.URL.replace(/#.*$/, '');
+    const scripts = isInline ? [last] : natives.querySelectorAll.call(document.documentElement, 'script[src]');
+    const script = findItem(scripts, (one) => (isInline || one.src === filename) && !this.hasRun.has(elements.number(one)));
+    return !!script && this.runEmpty(script);
   }
 
   /** A script that a script inserts or writes runs inside the running action. */
@@ -108,6 +156,7 @@ class Scripts {
     this.hasRun.add(number);
     recording.moduleRun.element = number;
     if (elements.kinds.get(number) === 'defer') this.noteDeferred(number);
+    this.noteRun(element, number);
     recording.log.line(`is ${recording.moduleRun.number} ${number}`);
   }
 

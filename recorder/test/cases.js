@@ -8,14 +8,14 @@ exports.cases = [
   {
     page: 'blocking-script.html',
     due: [
-      'parse script sync', 'exec script', 'w ready', 'eload script', 'parse p#text plain', 'w #text', 'exec script',
+      'parse script sync', 'exec script', 'w ready', 'inline script load', 'close', 'back', 'parse p#text plain', 'w #text', 'exec script',
       'r ready', 'dcl', 'load',
     ],
   },
   {
     page: 'defer.html',
     due: [
-      'parse script defer', 'parse p#text plain', 'w #text', 'exec script', 'r #text', 'eload script', 'dcl',
+      'parse script defer', 'parse p#text plain', 'w #text', 'exec script', 'r #text', 'inline script load', 'dcl',
     ],
   },
   {
@@ -51,6 +51,36 @@ exports.cases = [
     due: [
       'exec script', 'new p#written plain', 'w #written', 'w afterwards', 'w inside', 'parse p#next plain',
     ],
+  },
+  {
+    page: 'script-written.html',
+    due: [
+      'exec script', 'r ready', 'parse script sync', 'exec script', 'w ready', 'inline script load', 'back', 'parse p#behind plain', 'exec script', 'r ready',
+    ],
+  },
+  {
+    page: 'script-load.html',
+    due: [
+      'parse script sync', 'exec script', 'inline script load', 'run load', 'w loaded', 'close', 'back', 'parse p#text plain', 'exec script', 'r loaded',
+      'exec script', 'inline script load', 'run load', 'w second', 'back', 'exec script', 'inline script load', 'dcl', 'run parsed', 'r second',
+    ],
+  },
+  {
+    page: 'script-fails.html',
+    due: [
+      'parse script sync', 'exec script', 'inline script error', 'run error', 'w failed', 'close', 'back', 'parse p#text plain', 'exec script', 'r failed',
+      'parse script inline', 'exec script', 'inline window error', 'run broken', 'w faults', 'close', 'back', 'exec script', 'r faults',
+      'exec script', 'inline script error', 'run error', 'w late', 'back', 'dcl', 'run parsed', 'r late',
+    ],
+    throws: true,
+  },
+  {
+    page: 'load-waits.html',
+    due: [
+      'on all', 'dcl', 'run parsed', 'new script async', 'exec script', 'w ready', 'eload script', 'close', 'on what load waits for', 'load',
+      'run what load waits for', 'run what load waits for', 'run all', 'r ready', 'run again', 'r pictures', 'r chance',
+    ],
+    races: ['chance'],
   },
   {
     page: 'throws.html',
@@ -423,6 +453,20 @@ exports.cases = [
     races: ['lazyLoaded'],
   },
   {
+    page: 'object-embed.html',
+    due: [
+      'parse object#page frame', 'parse object#picture frame', 'parse embed#second frame', 'parse image#drawn image', 'eload object#page', 'run load', 'w inPage', 'load',
+      'run all', 'r inPage', 'r shown', 'r embedded', 'r svg',
+    ],
+  },
+  {
+    page: 'sources-later.html',
+    due: [
+      'exec script', 'parse img#first image', 'timer', 'w size', 'new img#second image', 'eload img#second', 'run load', 'r size',
+    ],
+    races: ['late'],
+  },
+  {
     page: 'style-sheet.html',
     due: [
       'parse link image', 'eload link', 'run load', 'w styled', 'load', 'r styled',
@@ -456,6 +500,13 @@ exports.cases = [
       'parse iframe#inside frame', 'eload iframe#inside', 'run again', 'new iframe#inside frame',
       'parse p#second plain', 'w secondRan', 'dcl', 'load', 'eload iframe#inside',
     ],
+  },
+  {
+    page: 'frame-lazy.html',
+    due: [
+      'parse iframe#inside plain', 'new iframe#inside frame', 'parse p#child plain', 'exec script', 'dcl', 'load', 'eload iframe#inside', 'run load', 'w whole',
+    ],
+    races: ['whole'],
   },
   {
     page: 'frame-blank.html',

@@ -1,0 +1,3 @@
+var added = new Image();
+added.onload = function shown() { window.pictures = 1; };
+added.src = 'dot.png?2';
