@@ -26,6 +26,7 @@ const REPLAY_USAGE = `  --replay          runs the page again for the race of ea
   --most N          at most so many races (20)
   --known FILE      problems whose names stand in the file are set apart; the status is 0 where no other is left
   --write-known     writes what is new into that file
+  --acts            two acts of a user against each other count too: for the status, and for --write-known
   --json            one object on standard output, for other tools
   --sarif FILE      writes the list as SARIF 2.1.0
   --runs N          records N times: one list, with how often each problem was seen; --seed and --clicks are others each time
@@ -37,7 +38,7 @@ const LIBRARIES = new RegExp(`^(${['jquery', 'react', 'vue', 'angular', 'bootstr
   'htmx', 'alpine', 'highlight', 'prism', 'mathjax', 'leaflet', 'three', 'chart', 'codemirror', 'ckeditor', 'tinymce', 'lunr', 'swagger-ui', 'vendors?'].join('|')})`
   + '([-._][^/]*)?\\.m?js$', 'i');
 const FILES = { '--known': 'known', '--sarif': 'sarif' };
-const FLAGS = { '--write-known': 'writesKnown', '--json': 'isJson' };
+const FLAGS = { '--write-known': 'writesKnown', '--json': 'isJson', '--acts': 'countsActs' };
 const MOST_RUNS = 100;
 const NUMBERS = { '--runs': 'runs', '--clicks': 'clicks', '--seed': 'seed', '--slow': 'slow', '--time': 'time', '--most': 'most' };
 const ACTION = /^(early )?(click:.+|type:.+:[^]*|key:.+|wait:\d+)$/;
@@ -47,7 +48,7 @@ class UsageFault extends Error {}
 function defaults() {
   return {
     actions: [], clicks: 0, seed: 1, slow: 0, time: 30, version: null, root: null, isRaw: false, depth: 'objects', libraries: LIBRARIES, keepsAll: false, attach: null,
-    isReplayed: false, races: [], most: 20, isLive: false, known: null, writesKnown: false, isJson: false, sarif: null, runs: 1, words: [],
+    isReplayed: false, races: [], most: 20, isLive: false, known: null, writesKnown: false, countsActs: false, isJson: false, sarif: null, runs: 1, words: [],
   };
 }
 

@@ -8,7 +8,7 @@ const { resolveAddress } = require('./browser/folder.js');
 const { Known, KnownFault } = require('./list/known.js');
 const { Listing } = require('./list/listing.js');
 const { writeOutputs } = require('./list/outputs.js');
-const { WriteFault } = require('./list/whole-file.js');
+const { writeWhole, WriteFault } = require('./list/whole-file.js');
 const { parseOptions, UsageFault, USAGE, REPLAY_USAGE } = require('./options.js');
 const { recordInto } = require('./record.js');
 const { Recorder } = require('./recorder.js');
@@ -36,10 +36,12 @@ async function recordRun(given, traceFile, options, recorder, known) {
   return stoppable(() => process.exit(STOPPED), () => judgeAndView(traceFile, known)); // a browser may still run
 }
 
+/** The report is that of the trace as it is then: what the program can't take is left out of it. */
 async function judgeAndView(traceFile, known) {
+  const answer = await view(traceFile, 'er_page', known);
   const { output } = await runProgram([], traceFile);
-  fs.writeFileSync(besides(traceFile, '.report'), output);
-  return view(traceFile, 'er_page', known);
+  writeWhole(besides(traceFile, '.report'), output);
+  return answer;
 }
 
 /** A run's files: those of the first one stand in the folder, those of the others in `runs`. */
@@ -79,8 +81,8 @@ async function pageRaces(given, options) {
 
 /** Tells the list of all runs. Answers the status: 0 where no race came, or none that is not known. */
 async function tellRuns(runs, known, recorder, { given, folder, options }) {
-  const listing = new Listing(runs.map(({ problems }) => problems), known);
-  const status = listing.fresh().length ? 1 : 0;
+  const listing = new Listing(runs.map(({ problems }) => problems), known, options);
+  const status = listing.failing().length ? 1 : 0;
   const files = runs.map((run, k) => fileOfRun(folder, k));
   writeOutputs(listing, options, { page: given, status, files, folder: folderOf(given, options) });
   const [{ report, model }] = runs;

@@ -10,13 +10,13 @@ const { Actions } = require('./view/actions.js');
 const { Model } = require('./view/model.js');
 const { renderPage } = require('./view/html.js');
 const { linksBetween } = require('./view/links.js');
-const { judge } = require('./view/program.js');
+const { judgeWithin } = require('./view/within-limits.js');
 const { why } = require('./view/why.js');
 
 const USAGE = `usage: er_view OUT.trace [--why ACTION ACTION]
 Without --why it writes OUT.html. With it, it tells why the one action comes before the other, or that nothing says so.`;
 const STATUS = { usage: 2, noFile: 4, noView: 5 };
-const NO_NAMES = { files: [], elements: {}, documents: {}, handlers: {}, timeouts: {}, intervals: {}, requests: {}, dispatches: {}, objects: {}, places: {} };
+const NO_NAMES = { files: [], elements: {}, documents: {}, handlers: {}, timeouts: {}, intervals: {}, requests: {}, messages: {}, dispatches: {}, objects: {}, places: {} };
 
 const besides = (traceFile, ending) => traceFile.replace(/\.trace$/, '') + ending;
 
@@ -46,7 +46,7 @@ async function writeView(traceFile, report, known) {
   const links = await linksBetween(traceFile, model.pairsToExplain());
   const built = model.build(links);
   const groups = built.groups.map((group, k) => ({ ...group, race: problems.leads[k] }));
-  const shown = { ...built, groups, problems: new Listing([problems], known).problems.map(plainProblem), question: `./er_view ${traceFile} --why` };
+  const shown = { ...built, groups, problems: new Listing([problems], known).problems.map(plainProblem), leftOut: problems.leftOut, question: `./er_view ${traceFile} --why` };
   writePage(traceFile, shown);
   return { model: shown, problems };
 }
@@ -57,7 +57,7 @@ function writePage(traceFile, shown) {
 
 /** Judges a trace and writes its view. Answers the exit status, and the model and the problems where there are some. */
 async function view(traceFile, name, known = null) {
-  const { status, report, fault } = await judge(traceFile);
+  const { status, report, fault, leftOut } = await judgeWithin(traceFile);
   if (fault) {
     console.error(`${name}: the program gave no report: ${fault}`);
     return { status };
@@ -66,7 +66,10 @@ async function view(traceFile, name, known = null) {
     console.error(`${name}: the trace is refused at line ${report.refused.line}: ${report.refused.cause}`);
     return { status };
   }
-  return { status, report, ...await writeView(traceFile, report, known) };
+  const shown = await writeView(traceFile, report, known);
+  if (leftOut.length) console.error(`${name}: the program can't take so much: ${traceFile} is written again without the accesses to`);
+  shown.problems.leftOut.forEach((one) => console.error(`  ${one.words}: ${one.accesses} accesses, ${one.pairs} pairs`));
+  return { status, report, ...shown };
 }
 
 /** Tells why two actions are ordered. */

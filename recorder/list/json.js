@@ -18,22 +18,24 @@ function plainRace(problems, race, run, folder) {
   };
 }
 
-function plainProblem(listing, problem, folder) {
+function plainProblem(listing, problem, failing, folder) {
   const { name, look, words, isKnown, runs, orders, seen } = problem;
   const names = [...seen].map(([one, { runs: inRuns, orders: own }]) => ({ name: one, runs: [...inRuns], bothOrders: own.size > 1 }));
   const races = listing.runs.flatMap((run, k) => (run.list.find((one) => one.name === name)?.races || []).map((race) => plainRace(run, race, k, folder)));
-  return { name, look: look.name, part: look.part, seen: look.seen, words, isKnown, hasLine: listing.lines.includes(problem), runs, bothOrders: orders.size > 1, names, races };
+  return { name, look: look.name, part: look.part, seen: look.seen, words, isKnown, fails: failing.has(problem), hasLine: listing.lines.includes(problem), runs, bothOrders: orders.size > 1, names, races };
 }
 
 /** @param {{page: string, status: number, files: string[], folder: import('../browser/folder.js').Folder|null}} facts */
 function plainListing(listing, { page, status, files, folder }) {
+  const failing = new Set(listing.failing());
   return {
     races: 1,
     page,
     status,
     runs: listing.runs.length,
     files,
-    problems: listing.problems.map((problem) => plainProblem(listing, problem, folder)),
+    leftOut: listing.runs.map(({ leftOut }) => leftOut),
+    problems: listing.problems.map((problem) => plainProblem(listing, problem, failing, folder)),
     notSeen: listing.notSeen(),
   };
 }

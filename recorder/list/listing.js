@@ -1,14 +1,18 @@
 'use strict';
 // The list of one or more recordings of a page: each problem once, in how many of them it was seen, whether in both orders, and whether it is known.
 
+const { APART } = require('./looks.js');
+
 class Listing {
   /**
    * @param {import('./problems.js').Problems[]} runs
    * @param {import('./known.js').Known|null} known
+   * @param {{countsActs?: boolean}} options whether two acts of a user against each other fail a build too
    */
-  constructor(runs, known) {
+  constructor(runs, known, { countsActs = false } = {}) {
     this.runs = runs;
     this.known = known;
+    this.countsActs = countsActs;
     this.problems = this.merge().sort((a, b) => a.isKnown - b.isKnown || a.look.rank - b.look.rank || a.run - b.run || a.races[0] - b.races[0]);
     /** Those with a line: no other problem's line covers them. */
     this.lines = this.problems.filter((one) => one.hasLine || (!one.isKnown && this.isCoveredByKnown(one)));
@@ -53,6 +57,16 @@ class Listing {
 
   fresh() {
     return this.lines.filter(({ isKnown }) => !isKnown);
+  }
+
+  /** Whether a problem counts where it is not known: that a user may do two things in another order is no fault of the page. */
+  counts({ look }) {
+    return this.countsActs || look.part !== APART;
+  }
+
+  /** What a build fails for. */
+  failing() {
+    return this.fresh().filter((one) => this.counts(one));
   }
 
   /**

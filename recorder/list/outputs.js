@@ -2,6 +2,7 @@
 // What er_page gives out of the list: lines for a reader, one object for other tools, SARIF, and the file of known races.
 
 const { plainListing } = require('./json.js');
+const { APART } = require('./looks.js');
 const { sarifOf } = require('./sarif.js');
 const { writeWhole } = require('./whole-file.js');
 
@@ -10,7 +11,8 @@ function linesOf(listing) {
   const lines = [];
   let part = '';
   const told = listing.told();
-  const hasParts = new Set(told.map(({ line }) => line.look.part)).size > 1;
+  const parts = new Set(told.map(({ line }) => line.look.part));
+  const hasParts = parts.size > 1 || parts.has(APART);
   told.forEach(({ line, others }, k) => {
     if (hasParts && line.look.part !== part) lines.push(`-- ${line.look.part}`);
     part = line.look.part;
@@ -30,7 +32,7 @@ function knownLines(listing) {
 /** Writes what was asked for. Fails with a WriteFault. */
 function writeOutputs(listing, options, facts) {
   if (options.sarif) writeWhole(options.sarif, `${JSON.stringify(sarifOf(listing, facts), null, 1)}\n`);
-  if (options.writesKnown) writeWhole(options.known, listing.known.textWith(listing.problems));
+  if (options.writesKnown) writeWhole(options.known, listing.known.textWith(listing.problems.filter((one) => listing.counts(one))));
   if (options.isJson) process.stdout.write(`${JSON.stringify(plainListing(listing, facts))}\n`);
   else linesOf(listing).forEach((line) => console.log(line));
 }

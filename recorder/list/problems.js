@@ -28,6 +28,8 @@ class Problems {
     report.races.forEach((race, k) => this.mayLead(race, k));
     /** @type {Problem[]} */
     this.list = this.fold();
+    /** What was left out of the trace since the program can't take it. */
+    this.leftOut = (names.leftOut || []).map(({ location, accesses, pairs }) => ({ location, words: `"${this.words.location(location).text}"`, accesses, pairs }));
   }
 
   fold() {

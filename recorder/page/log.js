@@ -4,6 +4,9 @@ const LINES_A_BATCH = 200;
 const MILLISECONDS_A_BATCH = 100;
 const LONGEST_NAME = 255;
 const STACK_DEPTH = 16;
+const MOST_STACKS = 20000;
+/** Files that were made small say little to a reader, whoever wrote them. */
+const MINIFIED = /\.min\.m?js$/i;
 
 const spelledNames = new Map();
 const MOST_SPELLED = 20000;
@@ -58,12 +61,19 @@ function takeStack() {
 }
 
 const fileOf = (call) => (call.getScriptNameOrSourceURL() || '').replace(/[?#].*$/, '').replace(/^.*\//, '');
+const isOfPage = (call) => PAGE_ADDRESS.test(call.getScriptNameOrSourceURL() || '');
+const isOwn = (call) => !LIBRARIES.test(fileOf(call));
+const isReadable = (call) => isOwn(call) && !MINIFIED.test(fileOf(call));
+const placeOfCall = (call) => `${call.getScriptNameOrSourceURL()}:${call.getLineNumber()}:${call.getColumnNumber()}`;
 
-/** The first place of the page's own code on the stack, else of a library's: `address:line:column` in the browser's copy, or ''. */
+/** The first place of the page's own code among calls, else of a library's: `address:line:column` in the browser's copy, or ''. */
+function ownPlace(calls) {
+  const call = (LIBRARIES && (findItem(calls, isReadable) || findItem(calls, isOwn))) || calls[0];
+  return call ? placeOfCall(call) : '';
+}
+
 function placeOnStack() {
-  const calls = keep(takeStack(), (one) => PAGE_ADDRESS.test(one.getScriptNameOrSourceURL() || ''));
-  const call = (LIBRARIES && findItem(calls, (one) => !LIBRARIES.test(fileOf(one)))) || calls[0];
-  return call ? `${call.getScriptNameOrSourceURL()}:${call.getLineNumber()}:${call.getColumnNumber()}` : '';
+  return ownPlace(keep(takeStack(), isOfPage));
 }
 
 class Log {
@@ -77,13 +87,33 @@ class Log {
     /** What is written behind a task. */
     this.beforeSending = () => {};
     this.isSendingSoon = false;
+    /** The numbers of the stacks that were told. */
+    this.stacks = new Map();
+    this.lastStack = 0;
   }
 
-  /** A line of the trace. `place` is a site number, a place on the stack, or nothing; `found` is what an access found (values.js). */
-  line(text, place, found) {
-    const at = place === undefined ? '' : place;
-    this.entries.push(found ? `${text}\t${at}\t${found}` : at === '' ? text : `${text}\t${at}`);
+  /**
+   * A line of the trace. `place` is a site number, a place on the stack, or nothing; `found` is what an access found (values.js), and `stack` the
+   * number of the stack of what code asks for.
+   */
+  line(text, place = '', found = '', stack = 0) {
+    const rest = stack ? `\t${place}\t${found}\t${stack}` : found ? `\t${place}\t${found}` : place === '' ? '' : `\t${place}`;
+    this.entries.push(`${text}${rest}`);
     if (this.sendSoon) this.askToSend();
+  }
+
+  /** The number of a stack with several places of the page's code, the innermost first; 0 where there is no more than one. */
+  numberOfStack(calls) {
+    if (calls.length < 2) return 0;
+    let text = '';
+    each(calls, (call) => { text += `${placeOfCall(call)}\n`; });
+    let number = this.stacks.get(text);
+    if (number === undefined) {
+      number = ++this.lastStack;
+      if (this.stacks.size < MOST_STACKS) this.stacks.set(text, number);
+      this.name('stack', number, { places: text.trimEnd() });
+    }
+    return number;
   }
 
   /** What a number is, for OUT.names.json. */

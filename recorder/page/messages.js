@@ -61,7 +61,7 @@ class Messages {
     if (recording.isOver) return undefined;
     const message = recording.next('message');
     const standIn = recording.next('element');
-    recording.note(`post ${message} ${this.page.number} ${standIn}`);
+    recording.noteAsking(`post ${message} ${this.page.number} ${standIn}`);
     recording.log.name('element', standIn, { why: 'a message' });
     if (!recording.posted.has(receiver)) recording.posted.set(receiver, []);
     recording.posted.get(receiver).push({ message, standIn });

@@ -59,14 +59,22 @@ class Recording {
   }
 
   /** A note belongs to the running action; where nothing recorded runs, to the first action of the trace. */
-  note(line, place = placeOnStack()) {
+  note(line, place = placeOnStack(), stack = 0) {
     if (this.isOver) return;
     if (this.isRunning()) {
       this.finishReturned();
-      this.log.line(line, place);
+      this.log.line(line, place, '', stack);
     } else {
-      this.log.line(`early ${line}`, place);
+      this.log.line(`early ${line}`, place, '', stack);
     }
+  }
+
+  /** A note of what code asks for, with the whole way of the call: a library may do it for the page. Answers the place. */
+  noteAsking(line) {
+    const calls = keep(takeStack(), isOfPage);
+    const place = ownPlace(calls);
+    this.note(line, place, this.log.numberOfStack(calls));
+    return place;
   }
 
   /** A note that stands beside the declaration of an element, wherever that was. */

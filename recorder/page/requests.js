@@ -19,7 +19,7 @@ class Requests {
 
   send(facts) {
     const number = this.recording.next('request');
-    this.recording.note(`send ${number}`);
+    this.recording.noteAsking(`send ${number}`);
     this.recording.log.name('request', number, { ...facts, url: this.whole(facts?.address) });
     return { number, sender: this.recording.isRunning() ? this.recording.running : null };
   }

@@ -56,7 +56,7 @@ class Timers {
       const timeout = recording.next('timeout');
       // a setter that was not seen is no event, so the timeout gets order from nothing
       const isKnown = recording.isRunning();
-      recording.note(`set ${timeout} ${timers.delay(delay)} ${isKnown ? page.number : 'unknown'}`);
+      recording.noteAsking(`set ${timeout} ${timers.delay(delay)} ${isKnown ? page.number : 'unknown'}`);
       timers.nameCallback('timeout', timeout, callback);
       const hold = steering.asks('set');
       const callable = timers.callable(callback);
@@ -73,7 +73,7 @@ class Timers {
     replaceMethod(window, 'setInterval', (native) => function setInterval(callback, delay, ...words) {
       if (recording.isOver) return native.call(window, callback, delay, ...words);
       const interval = recording.next('interval');
-      recording.note(`every ${interval} ${timers.delay(delay)}`);
+      recording.noteAsking(`every ${interval} ${timers.delay(delay)}`);
       recording.log.name('interval', interval, { why: 'setInterval', function: nameOfFunction(callback) });
       const hold = steering.asks('every');
       const callable = timers.callable(callback);
@@ -92,7 +92,7 @@ class Timers {
     replaceMethod(window, name, (native) => function request(callback, ...rest) {
       if (recording.isOver || typeof callback !== 'function') return native.call(window, callback, ...rest);
       const number = recording.next('interval');
-      recording.note(words[0] === 'every' ? `every ${number} 0` : `ask ${number}`);
+      recording.noteAsking(words[0] === 'every' ? `every ${number} 0` : `ask ${number}`);
       recording.log.name('interval', number, { why: name, function: nameOfFunction(callback) });
       const hold = steering.asks(words[0]);
       const asker = recording.running;

@@ -46,7 +46,7 @@ test('both sides are told apart: by names, by columns, and as two runs', async (
   const columns = await problemsOf(TIMERS, { ...TIMER_FACTS, timeouts: { 1: { place: [1, 1, 1] }, 2: { place: [1, 1, 22] } }, places: {} });
   assert.match(columns.list[0].words, /set at app\.\w+\.js:1:22, and written by the timeout set at app\.\w+\.js:1:1;/);
   const twice = await problemsOf(TIMERS, { ...TIMER_FACTS, timeouts: { 1: { place: [1, 1, 1] }, 2: { place: [1, 1, 1] } }, places: {} });
-  assert.match(twice.list[0].words, /by an earlier run of the timeout set at app\.\w+\.js:1, and written by a later run of the timeout/);
+  assert.match(twice.list[0].words, /by the first run of the timeout set at app\.\w+\.js:1, and written by the second run of the timeout/);
 });
 
 test('a problem of an object has one name in both orders, and all items of an array are one', async () => {

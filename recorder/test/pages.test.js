@@ -21,7 +21,10 @@ for (const one of cases) {
     const { refused, races } = judge(trace);
     assert.strictEqual(refused, '', `${refused}\n${trace.text.split('\n').map((line, k) => `${k + 1} ${line}`).join('\n')}`);
     assert.deepStrictEqual([...new Set(races)].sort(), [...(one.races || [])].sort(), `${trace.text.split('\n').map((line, k) => `${k + 1} ${line}`).join('\n')}`);
-    for (const [first, second] of actorsOf(trace)) assert.notStrictEqual(first, second);
+    for (const { actors: [first, second], isNumbered, isOneCode } of actorsOf(trace)) {
+      assert.notStrictEqual(first, second);
+      assert.ok(!isNumbered || isOneCode, `told apart by numbers, and not one code: ${first}; ${second}`);
+    }
     for (const loss of one.losses || []) assert.ok(trace.losses.some((line) => loss.test(line)), trace.losses.join('\n'));
     if (!one.throws) assert.deepStrictEqual(trace.errors, []);
   });

@@ -5,6 +5,7 @@ const assert = require('node:assert');
 const { test } = require('node:test');
 const { SourceMap, readMap } = require('../trace/source-map.js');
 const { Sources } = require('../sources.js');
+const { Names } = require('../trace/names.js');
 
 // The first line of the bundle has two segments: column 0 is a.js:1:1 `count`, column 10 is node_modules/b.js:3:5. The second line has none.
 const MAP = { version: 3, sources: ['a.js', 'node_modules/b.js'], sourcesContent: ['var count;'], names: ['count'], mappings: 'AAAAA,UCEI;' };
@@ -37,4 +38,18 @@ test('places of a bundle, and what is a library of it', async () => {
   const other = sites.find(({ offset }) => offset === 12);
   assert.deepStrictEqual([sources.files[own.place[0]].address, own.place[1], own.isLibrary], ['http://localhost/x/a.js', 1, false]);
   assert.deepStrictEqual([sources.files[other.place[0]].address, other.place[1], other.isLibrary], ['http://localhost/x/node_modules/b.js', 3, true]);
+});
+
+test('of a stack in a bundle the first place outside of its libraries', async () => {
+  const address = 'http://localhost/x/a.js';
+  const sources = new Sources('globals');
+  const [line] = sources.rewriteScript(address, 'var n=1;  f(1)\n//# sourceMappingURL=a.map').split('\n');
+  await sources.readMaps(async () => JSON.stringify(MAP));
+  const at = (text) => `${address}:1:${line.indexOf(text) + 1}`;
+  const names = new Names(sources, [{ kind: 'stack', number: 1, places: [at('f/*'), at('n=/*')].join('\n') }], /^none$/);
+  names.addRecords([{ text: 'parse 0 1 inline' }, { text: 'exec 1' }, { text: 'set 1 0', place: at('f/*'), stack: '1' }]);
+  const { places, ways, timeouts, files } = names.facts();
+  const [own, way] = [places[4], ways[4]].map(([file, number]) => `${files[file].address}:${number}`);
+  assert.deepStrictEqual([own, way], ['http://localhost/x/a.js:1', 'http://localhost/x/node_modules/b.js:3']);
+  assert.deepStrictEqual(timeouts[1], { place: places[4], way: ways[4] });
 });

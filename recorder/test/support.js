@@ -50,13 +50,19 @@ async function replayPage(browser, page, words, location, folder) {
 
 function readTrace(recorder, version) {
   const records = new Spelling(new Accesses(recorder.intake.entries).entries(), version).records();
-  const names = new Names(recorder.sources, recorder.intake.names);
-  names.addRecords(records);
+  /** The names, where some files are those of libraries. */
+  const namesOf = (libraries) => {
+    const names = new Names(recorder.sources, recorder.intake.names, libraries);
+    names.addRecords(records);
+    return names;
+  };
   const lines = records.map(({ text }) => text);
+  const names = namesOf(null);
   return {
     text: `webtrace ${version}\n${lines.map((line) => `${line}\n`).join('')}end\n`,
     lines,
     names,
+    namesOf,
     readable: lines.map((line) => readable(line, names)),
     errors: recorder.errors,
     losses: recorder.losses(),
@@ -121,11 +127,34 @@ function judge(trace) {
   };
 }
 
-/** Who makes the two accesses of each race, in words. */
+/** Words that note where the two sides of a race have nothing to tell them apart but their numbers. */
+class NotingWords extends Words {
+  asNumbered(words, number) {
+    this.isNumbered = true;
+    return super.asNumbered(words, number);
+  }
+}
+
+/** What runs or happens in an action: the kind of record, and its code's place, or what it is at. */
+function codeOf(action, names) {
+  const [word, , target, type] = action.words;
+  const place = names.places[action.line];
+  if (place) return `${word} ${place}`;
+  const { standsFor, source, place: own } = names.elements[word === 'exec' ? action.words[1] : target] || {};
+  return `${word.replace('inline', 'fire')} ${standsFor || source || own || target} ${type}`;
+}
+
+/** Who makes the two accesses of each race, in words; `isNumbered` where only their numbers tell them apart, and `isOneCode` where they are the same. */
 function actorsOf(trace) {
   const { stdout } = spawnSync('/bin/sh', ['-c', `${PROGRAM} --json`], { input: trace.text, encoding: 'utf8', maxBuffer: 1 << 28, timeout: LONGEST_ANSWER });
-  const words = new Words(JSON.parse(trace.names.toJson({})), new Actions(trace.text.replace(/end\n$/, '')));
-  return (JSON.parse(stdout).races || []).map((race) => words.actors(race, words.location(race.location).kind));
+  const names = JSON.parse(trace.names.toJson({}));
+  const words = new NotingWords(names, new Actions(trace.text.replace(/end\n$/, '')));
+  return (JSON.parse(stdout).races || []).map((race) => {
+    words.isNumbered = false;
+    const actors = words.actors(race, words.location(race.location).kind);
+    const [first, second] = race.actions.map((number) => codeOf(words.actions.list[words.actions.list[number].first], names));
+    return { actors, isNumbered: words.isNumbered, isOneCode: first === second };
+  });
 }
 
 /** The first of the records that is not there behind the one before it, or null where all are there in order. */

@@ -13,7 +13,7 @@ const MOST_PAIRS = 200000;
 /** And of one variable: a counter that every event counts up has many, and says little. */
 const MOST_PAIRS_OF_ONE = 20000;
 
-/** @typedef {{location: string, isOwn: boolean, accesses: {action: number, mode: string, place: string|undefined}[]}} Variable */
+/** @typedef {{location: string, isOwn: boolean, accesses: {action: number, mode: string, place: string|undefined, found: string|undefined}[]}} Variable */
 
 class Accesses {
   /** @param {{text: string, place: string|undefined}[]} entries the log */
@@ -26,7 +26,7 @@ class Accesses {
   }
 
   /** Answers whether an entry is one of these. */
-  take({ text, place }) {
+  take({ text, place, found }) {
     const word = wordOf(text);
     if (word === 'at') {
       const [, number, kind, object, name, own] = text.split(' ');
@@ -35,7 +35,7 @@ class Accesses {
     }
     if (word !== 'in') return false;
     const [, action, mode, number] = text.split(' ');
-    this.variables.get(number)?.accesses.push({ action: Number(action), mode, place });
+    this.variables.get(number)?.accesses.push({ action: Number(action), mode, place, found });
     return true;
   }
 
@@ -110,9 +110,9 @@ class Accesses {
   placed() {
     const byAction = new Map();
     for (const { location, accesses } of this.variables.values()) {
-      for (const { action, mode, place } of accesses) {
+      for (const { action, mode, place, found } of accesses) {
         if (!byAction.has(action)) byAction.set(action, []);
-        byAction.get(action).push({ text: `${mode} ${location}`, place });
+        byAction.get(action).push({ text: `${mode} ${location}`, place, found });
       }
     }
     const entries = [];

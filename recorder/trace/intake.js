@@ -10,7 +10,7 @@ const wordOf = (line) => line.slice(0, line.indexOf(' '));
 
 class Intake {
   constructor() {
-    /** @type {{text: string, place: string|undefined, found: string|undefined}[]} `found` is what an access found (page/values.js) */
+    /** @type {{text: string, place: string|undefined, found: string|undefined, stack: string|undefined}[]} `found` is what an access found (page/values.js) */
     this.entries = [];
     this.names = [];
     this.missed = {};
@@ -26,9 +26,9 @@ class Intake {
   }
 
   takeLine(line) {
-    const [text, place, found] = line.split('\t');
+    const [text, place, found, stack] = line.split('\t');
     if (BEGINS.has(wordOf(text))) this.actions++;
-    this.entries.push({ text, place: place || undefined, found });
+    this.entries.push({ text, place: place || undefined, found: found || undefined, stack });
   }
 }
 

@@ -6,7 +6,7 @@ const LISTS = {
   element: 'elements', document: 'documents', handler: 'handlers', timeout: 'timeouts', interval: 'intervals', request: 'requests', dispatch: 'dispatches',
 };
 /** The notes whose place is that of what they declare. */
-const DECLARES = { on: 'handlers', set: 'timeouts', every: 'intervals', send: 'requests' };
+const DECLARES = { on: 'handlers', set: 'timeouts', every: 'intervals', ask: 'intervals', send: 'requests', post: 'messages' };
 /** The objects of form fields (by the numbers of their elements) and of modules have numbers from these on. */
 const FIRST_FIELD = 1000000;
 const FIRST_MODULE = 2000000;
@@ -14,6 +14,7 @@ const FIRST_MODULE = 2000000;
 const FIRST_OBJECT = 3000000;
 /** Files that are longer than this keep only the lines around their places. */
 const LONGEST_TEXT = 400000;
+const MINIFIED = /\.min\.m?js(?:[?#].*)?$/i;
 
 class Names {
   /**
@@ -25,21 +26,31 @@ class Names {
     this.sources = sources;
     this.libraries = libraries;
     this.places = {};
+    /** Where a library asked for something in the place of the page's own code, by the line of the note. */
+    this.ways = {};
+    this.stacks = new Map();
+    this.ofStacks = new Map();
     /** The name of the function around a place, by file, line and column. */
     this.functions = {};
-    /** What an access found or wrote, by its line (page/values.js). */
+    /** What an access found or wrote, by its line (page/values.js); and what was there before a write, where that is told. */
     this.values = {};
+    this.befores = {};
+    /** The writes that count a variable up, with a value that nobody uses. */
+    this.counts = {};
     this.objects = {};
     this.tagsLeft = new Map();
-    this.lists = Object.fromEntries(Object.values(LISTS).map((list) => [list, {}]));
+    this.lists = Object.fromEntries([...Object.values(LISTS), 'messages'].map((list) => [list, {}]));
     this.told = new Map();
     this.written = new Map();
-    for (const { kind, number, ...facts } of named) {
-      if (kind === 'object') this.told.set(number, facts);
-      if (kind === 'written') this.written.set(String(number), facts.value);
-      if (LISTS[kind]) this.lists[LISTS[kind]][number] = { ...this.lists[LISTS[kind]][number], ...facts };
-    }
+    named.forEach((one) => this.take(one));
     this.addressOfDocument = (number) => (this.lists.documents[number]?.address || '').replace(/#.*$/, '');
+  }
+
+  take({ kind, number, ...facts }) {
+    if (kind === 'object') this.told.set(number, facts);
+    else if (kind === 'written') this.written.set(String(number), facts.value);
+    else if (kind === 'stack') this.stacks.set(String(number), facts.places.split('\n'));
+    else if (LISTS[kind]) this.lists[LISTS[kind]][number] = { ...this.lists[LISTS[kind]][number], ...facts };
   }
 
   /** @returns {[number, number, number]|null} file, line and column of a place of the log */
@@ -50,26 +61,53 @@ class Names {
     return found && this.sources.placeInCopy(found[1], Number(found[2]), Number(found[3]));
   }
 
+  /**
+   * Of a stack the first place in the page's own code, and where a library stands behind it: the innermost place. Files that were made small are no
+   * library, but say little to a reader: another place is taken before one in them.
+   */
+  placesOfStack(stack) {
+    if (!this.ofStacks.has(stack)) {
+      const places = (this.stacks.get(stack) || []).map((one) => this.resolve(one)).filter(Boolean);
+      const own = [...places].sort((a, b) => this.foreignness(a) - this.foreignness(b))[0];
+      this.ofStacks.set(stack, own && this.foreignness(own) < this.foreignness(places[0]) ? { own, way: places[0] } : {});
+    }
+    return this.ofStacks.get(stack);
+  }
+
+  /** 0 of the page's own code, 1 of a file that was made small, 2 of a library. */
+  foreignness([file]) {
+    const { address } = this.sources.files[file];
+    if (this.sources.isOfLibrary(address, this.libraries)) return 2;
+    return this.libraries && MINIFIED.test(address) ? 1 : 0;
+  }
+
   /** Notes the places of all lines; `records` begin with line 2. */
   addRecords(records) {
-    records.forEach(({ text, place, found }, k) => {
+    records.forEach(({ text, place, found, stack }, k) => {
       const words = text.split(' ');
       if (found) this.addValue(k + 2, found);
       if (words[1] === 'var') this.addObject(Number(words[2]));
-      const known = this.resolve(place) || this.placeOfBegin(words);
+      const { own, way } = this.placesOfStack(stack);
+      const known = own || this.resolve(place) || this.placeOfBegin(words);
       if (words[0] === 'parse' && !known) this.addElementPlace(words);
       const at = known || (words[0] === 'parse' && this.lists.elements[words[2]]?.place);
-      if (!at) return;
-      this.places[k + 2] = at;
-      this.addFunction(at);
-      if (DECLARES[words[0]]) this.entry(DECLARES[words[0]], words[1]).place = at;
+      if (at) this.addPlace(k + 2, words, at, way);
     });
   }
 
-  /** A write is told by its number: what it wrote comes behind it. */
+  addPlace(line, [word, number], place, way) {
+    this.places[line] = place;
+    this.addFunction(place);
+    if (way) this.ways[line] = way;
+    if (DECLARES[word]) Object.assign(this.entry(DECLARES[word], number), { place }, way && { way });
+  }
+
+  /** A write is told by its number, where what it wrote comes behind it; or by what it wrote, and what was there before. */
   addValue(line, found) {
-    const value = found[0] === '=' ? this.written.get(found.slice(1)) : found;
-    if (value) this.values[line] = value;
+    const [value = '', before] = found[0] === '=' ? [this.written.get(found.slice(1))] : found.split('<');
+    if (value.endsWith('+')) this.counts[line] = true;
+    if (value) this.values[line] = value.replace(/\+$/, '');
+    if (before && before !== '?') this.befores[line] = before;
   }
 
   addFunction(place) {
@@ -86,7 +124,8 @@ class Names {
   placeOfBegin(words) {
     switch (words[0]) {
       case 'timer': return this.lists.timeouts[words[1]]?.place;
-      case 'tick': return this.lists.intervals[words[1]]?.place;
+      case 'tick': case 'anim': return this.lists.intervals[words[1]]?.place;
+      case 'message': return this.lists.messages[words[1]]?.place;
       case 'run': return this.lists.handlers[words[3]]?.place;
       default: return null;
     }
@@ -101,10 +140,10 @@ class Names {
   files() {
     const used = new Map();
     const note = ([file, line]) => used.set(file, (used.get(file) || new Set()).add(line));
-    [...Object.values(this.places), ...Object.values(this.objects).map(({ place }) => place).filter(Boolean)].forEach(note);
+    [...Object.values(this.places), ...Object.values(this.ways), ...Object.values(this.objects).map(({ place }) => place).filter(Boolean)].forEach(note);
     return this.sources.files.map(({ address, text }, k) => {
       if (!used.has(k)) return { address };
-      const known = this.sources.isOfLibrary(address, this.libraries) ? { address, isLibrary: true } : { address };
+      const known = this.foreignness([k]) ? { address, isLibrary: true } : { address };
       return text.length <= LONGEST_TEXT ? { ...known, text } : { ...known, lines: linesAround(text, used.get(k)) };
     });
   }
@@ -116,7 +155,7 @@ class Names {
   /** What stands in the file, by default with files that have no lines of their own. */
   facts(files = this.sources.files) {
     const functions = Object.fromEntries(Object.entries(this.functions).filter(([, name]) => name));
-    return { files, ...this.lists, objects: this.objects, functions, values: this.values, places: this.places };
+    return { files, ...this.lists, objects: this.objects, functions, values: this.values, befores: this.befores, counts: this.counts, ways: this.ways, places: this.places };
   }
 
   /** Notes what the number of an object in a location is: a window, a form field or a module. */

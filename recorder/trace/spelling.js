@@ -37,8 +37,10 @@ class Spelling {
     return this.out;
   }
 
-  put(text, place, found) {
-    this.out.push({ text, place, found });
+  /** A record, with what is known of the entry that is spelled. */
+  put(text) {
+    const { place, found, stack } = this.entry;
+    this.out.push({ text, place, found, stack });
   }
 
   // ---- what a whole look at the log tells
@@ -48,11 +50,11 @@ class Spelling {
     const early = [];
     const beside = new Map();
     const rest = [];
-    for (const { text, place, found } of entries) {
-      const words = text.split(' ');
-      if (words[0] === 'early') early.push({ text: text.slice(6), place });
-      else if (words[0] === 'beside') beside.set(words[1], [...(beside.get(words[1]) || []), { text: words.slice(2).join(' '), place }]);
-      else rest.push({ text, place, found });
+    for (const entry of entries) {
+      const words = entry.text.split(' ');
+      if (words[0] === 'early') early.push({ ...entry, text: entry.text.slice(6) });
+      else if (words[0] === 'beside') beside.set(words[1], [...(beside.get(words[1]) || []), { ...entry, text: words.slice(2).join(' ') }]);
+      else rest.push(entry);
     }
     const withBeside = (some) => some.flatMap((entry) => [entry, ...this.besideOf(entry, beside)]);
     return [...withBeside(rest.slice(0, 1)), ...(rest.length ? withBeside(early) : []), ...withBeside(rest.slice(1))];
@@ -115,74 +117,75 @@ class Spelling {
 
   // ---- one entry
 
-  spell({ text, place, found }) {
-    const words = text.split(' ');
+  spell(entry) {
+    this.entry = entry;
+    const words = entry.text.split(' ');
     const spellWord = this[`spell_${words[0]}`];
-    if (spellWord) spellWord.call(this, words, place);
-    else this.put(text, place, found);
+    if (spellWord) spellWord.call(this, words);
+    else this.put(entry.text);
   }
 
-  spell_look([, element, type], place) {
+  spell_look([, element, type]) {
     const slot = `slot ${element} ${type}`;
-    this.put(`r ${slot}`, place);
-    for (const one of this.slots.get(slot) || []) this.put(`r ${one}`, place);
+    this.put(`r ${slot}`);
+    for (const one of this.slots.get(slot) || []) this.put(`r ${one}`);
   }
 
-  spell_set([, timeout, delay], place) {
-    if (this.foreign.has(timeout)) this.put(`every ${FIRST_FOREIGN_TIMEOUT + Number(timeout)} ${delay}`, place);
-    else this.put(`set ${timeout} ${delay}`, place);
+  spell_set([, timeout, delay]) {
+    if (this.foreign.has(timeout)) this.put(`every ${FIRST_FOREIGN_TIMEOUT + Number(timeout)} ${delay}`);
+    else this.put(`set ${timeout} ${delay}`);
   }
 
-  spell_timer([, timeout], place) {
-    if (this.foreign.has(timeout)) this.put(`tick ${FIRST_FOREIGN_TIMEOUT + Number(timeout)}`, place);
-    else this.put(`timer ${timeout}`, place);
+  spell_timer([, timeout]) {
+    if (this.foreign.has(timeout)) this.put(`tick ${FIRST_FOREIGN_TIMEOUT + Number(timeout)}`);
+    else this.put(`timer ${timeout}`);
   }
 
-  spell_ask([, number], place) {
-    this.put(this.version >= 3 ? `ask ${number}` : `every ${number} 0`, place);
+  spell_ask([, number]) {
+    this.put(this.version >= 3 ? `ask ${number}` : `every ${number} 0`);
   }
 
-  spell_anim([, number], place) {
-    this.put(this.version >= 3 ? `anim ${number}` : `tick ${number}`, place);
+  spell_anim([, number]) {
+    this.put(this.version >= 3 ? `anim ${number}` : `tick ${number}`);
   }
 
-  spell_post([, message, document, standIn], place) {
-    this.put(this.version >= 3 ? `post ${message}` : `new ${document} ${standIn} plain`, place);
+  spell_post([, message, document, standIn]) {
+    this.put(this.version >= 3 ? `post ${message}` : `new ${document} ${standIn} plain`);
   }
 
   /** In version 3 a message is one event, and no dispatch with handlers. */
-  spell_message([, message, dispatch, standIn], place) {
+  spell_message([, message, dispatch, standIn]) {
     if (this.version < 3) {
-      this.put(`fire ${dispatch} ${standIn} message`, place);
+      this.put(`fire ${dispatch} ${standIn} message`);
       return;
     }
     this.messageDispatches.add(dispatch);
-    this.put(`message ${message}`, place);
+    this.put(`message ${message}`);
   }
 
-  spell_run(words, place) {
-    if (!this.messageDispatches.has(words[1])) this.put(words.join(' '), place);
+  spell_run(words) {
+    if (!this.messageDispatches.has(words[1])) this.put(words.join(' '));
   }
 
-  spell_close(words, place) {
-    if (!this.messageDispatches.has(words[1])) this.put(words.join(' '), place);
+  spell_close(words) {
+    if (!this.messageDispatches.has(words[1])) this.put(words.join(' '));
   }
 
   /** A module is the run of its script element, or of what `import()` asked for. */
-  spell_module([, run], place) {
+  spell_module([, run]) {
     const element = this.moduleElements.get(run);
     if (element) {
-      this.put(`exec ${element}`, place);
+      this.put(`exec ${element}`);
       return;
     }
     const asked = this.askedIntervals.shift();
     if (asked) {
-      this.put(`tick ${asked}`, place);
+      this.put(`tick ${asked}`);
       return;
     }
     const lone = FIRST_LONE_MODULE + this.loneModules++;
-    this.out.splice(1, 0, { text: `every ${lone} 0`, place });
-    this.put(`tick ${lone}`, place);
+    this.out.splice(1, 0, { text: `every ${lone} 0`, place: this.entry.place });
+    this.put(`tick ${lone}`);
   }
 
   spell_is() {}

@@ -21,6 +21,16 @@ function counts(model) {
   return all.map(([name, number]) => `${number} ${name}`).join(', ');
 }
 
+const MOST_LEFT_OUT = 8;
+
+/** What the program could not take, where there is such. */
+function leftOut({ leftOut: all = [] }) {
+  if (!all.length) return '';
+  const told = all.slice(0, MOST_LEFT_OUT).map(({ words, pairs }) => `${words} (${pairs} pairs)`).join(', ');
+  const more = all.length > MOST_LEFT_OUT ? ` and ${all.length - MOST_LEFT_OUT} more` : '';
+  return `<p class="left-out">Not judged, since it is more than the program takes: the accesses to ${escapeText(told)}${more}.</p>\n`;
+}
+
 function renderPage(model) {
   return `<!doctype html>
 <html lang="en">
@@ -35,7 +45,7 @@ ${read('style.css')}</style>
 <body>
 <h1>Races of ${escapeText(model.page)}</h1>
 <p class="counts">${escapeText(counts(model))}</p>
-<form onsubmit="return false">
+${leftOut(model)}<form onsubmit="return false">
 <label>Kind <select id="kind">${KINDS}</select></label>
 <label>Text <input id="text" type="search" placeholder="a name, a file, a handler"></label>
 <label>Order <select id="order">${ORDERS}</select></label>

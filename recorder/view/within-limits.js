@@ -10,7 +10,7 @@ const TOO_MUCH = /^too-many-(?:pairs|races|classes)$/;
 /** At each further try so many of the pairs may stay. */
 const KEPT = 0.75;
 /** What OUT.names.json tells by the numbers of lines. */
-const BY_LINE = ['places', 'values', 'kept'];
+const BY_LINE = ['places', 'ways', 'values', 'befores', 'kept', 'counts'];
 
 const besides = (traceFile) => `${traceFile.replace(/\.trace$/, '')}.names.json`;
 
@@ -24,7 +24,8 @@ function renumbered(names, numbers) {
 }
 
 /** Writes a trace and its names without the accesses to some locations. */
-function writeWithout(traceFile, lines, locations) {
+function writeWithout(traceFile, lines, gone) {
+  const locations = new Set(gone.map(({ location }) => location));
   const numbers = new Map();
   const kept = lines.filter((line, k) => {
     const stays = !isAt(line, locations);
@@ -33,6 +34,7 @@ function writeWithout(traceFile, lines, locations) {
   });
   const namesFile = besides(traceFile);
   const names = renumbered(JSON.parse(fs.readFileSync(namesFile, 'utf8')), numbers);
+  names.leftOut = [...names.leftOut || [], ...gone];
   writeWhole(namesFile, `${JSON.stringify(names, null, 1)}\n`);
   writeWhole(traceFile, `${kept.join('\n')}\n`);
 }
@@ -53,7 +55,7 @@ async function judgeWithin(traceFile) {
     const gone = beyond(lines, { mostPairs: Math.floor(pairs * KEPT) });
     if (!gone.length) return { ...answer, leftOut };
     leftOut.push(...gone);
-    writeWithout(traceFile, lines, new Set(gone.map(({ location }) => location)));
+    writeWithout(traceFile, lines, gone);
   }
 }
 

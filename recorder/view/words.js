@@ -15,7 +15,8 @@ const INTERVALS = {
   requestIdleCallback: ['the idle callback', ' asked for'], 'import()': ['the module', ' asked for'], 'a javascript: address': ['the run of a javascript: address', ''],
 };
 /** Actions that are no run of code. */
-const NO_RUN = new Set(['fire', 'wfire', 'inline', 'dcl', 'load', 'eload', 'parse']);
+const NO_RUN = new Set(['fire', 'wfire', 'inline', 'dcl', 'load', 'eload', 'parse', 'message']);
+const ORDINALS = ['first', 'second', 'third', 'fourth', 'fifth', 'sixth', 'seventh', 'eighth', 'ninth', 'tenth'];
 
 class Words {
   /**
@@ -26,8 +27,10 @@ class Words {
     this.names = names;
     this.actions = actions;
     this.sources = new SourceText(names);
-    /** Whether each place is told with its column. */
-    this.hasColumns = false;
+    /** Whether two sides are told that are alike else: places with their columns, elements with their places. */
+    this.isApart = false;
+    /** For each action which one it is of those that are told in the same words. */
+    this.nths = null;
   }
 
   // ---- places
@@ -42,12 +45,13 @@ class Words {
   /** A place, with its column where its line is so long that a reader would not find it. */
   place(place) {
     if (!place) return '';
-    const column = this.hasColumns || this.sources.isLong(place) ? `:${place[2]}` : '';
+    const column = this.isApart || this.sources.isLong(place) ? `:${place[2]}` : '';
     return `${this.fileName(place[0])}:${place[1]}${column}`;
   }
 
-  at(place) {
-    return place ? ` at ${this.place(place)}` : '';
+  /** `way` is where a library did what the page's own code at the place asked for. */
+  at(place, way) {
+    return place ? ` at ${this.place(place)}${way ? `, by way of ${this.place(way)}` : ''}` : '';
   }
 
   placeOfLine(line) {
@@ -63,7 +67,16 @@ class Words {
     if (facts.tag === 'HTMLDocument') return 'the document';
     if (facts.tag === 'Window') return 'the window';
     if (!facts.tag) return facts.why || `element ${number}`;
-    return facts.tag + (facts.id ? `#${facts.id}` : '') + (facts.field && !facts.id ? `[name=${facts.field}]` : '');
+    const place = this.isApart && facts.place ? ` (${this.place(facts.place)})` : '';
+    return facts.tag + (facts.id ? `#${facts.id}` : '') + (facts.field && !facts.id ? `[name=${facts.field}]` : '') + place;
+  }
+
+  /** The document of a frame; nothing for the page's own. */
+  ofFrame(number) {
+    if (number === '0') return '';
+    const { address } = this.names.documents[number] || {};
+    const name = (address || '').replace(/[?#].*$/, '').replace(/^.*\/(?=[^/])/, '');
+    return name ? ` of the frame ${name}` : ` of frame ${number}`;
   }
 
   script(number) {
@@ -115,14 +128,14 @@ class Words {
       case 'exec': return this.script(a);
       case 'timer': return this.timeout(this.names.timeouts[a]);
       case 'tick': case 'anim': return this.tick(a);
-      case 'dcl': return 'DOMContentLoaded';
-      case 'load': return 'the load of the window';
+      case 'dcl': return `DOMContentLoaded${this.ofFrame(b)}`;
+      case 'load': return `the load of the window${this.ofFrame(b)}`;
       case 'eload': return `the load of ${this.element(b)}`;
       case 'fire': return `the ${this.unescape(c)} at ${this.element(b)}`;
       case 'inline': return c === 'then' ? 'a promise reaction' : `the ${this.unescape(c)} at ${this.element(b)}`;
-      case 'wfire': return `the ${this.unescape(c)} at the window`;
+      case 'wfire': return `the ${this.unescape(c)} at the window${this.ofFrame(b)}`;
       case 'reply': return this.reply(b);
-      case 'message': return 'a message';
+      case 'message': return this.message(this.names.messages?.[a]);
       case 'run': return this.handler(action);
       case 'close': return `what the browser did behind ${this.dispatch(action)}`;
       case 'back': return this.action(action.first);
@@ -141,14 +154,18 @@ class Words {
   }
 
   timeout(facts) {
-    return `the timeout${this.named(facts)} set${this.at(facts?.place)}`;
+    return `the timeout${this.named(facts)} set${this.at(facts?.place, facts?.way)}`;
+  }
+
+  message(facts) {
+    return facts?.place ? `the message posted${this.at(facts.place, facts.way)}` : 'a message';
   }
 
   tick(number) {
     const facts = this.names.intervals[number] || {};
     if (!facts.why) return this.timeout({ ...this.names.timeouts[number - FIRST_FOREIGN_TIMEOUT], ...facts });
     const [what, asked] = INTERVALS[facts.why] || [facts.why, ''];
-    return `${what}${this.named(facts)}${asked}${this.at(facts.place)}`;
+    return `${what}${this.named(facts)}${asked}${this.at(facts.place, facts.way)}`;
   }
 
   request(number) {
@@ -157,7 +174,8 @@ class Words {
   }
 
   reply(number) {
-    return `the reply to ${this.request(number)}${this.at(this.names.requests[number]?.place)}`;
+    const { place, way } = this.names.requests[number] || {};
+    return `the reply to ${this.request(number)}${this.at(place, way)}`;
   }
 
   dispatch(action) {
@@ -171,7 +189,7 @@ class Words {
     if (facts.type === 'job') return `the promise reaction${name}${this.at(facts.place)}`;
     const place = facts.place || this.names.elements[facts.target]?.place;
     const request = action.dispatch?.words[0] === 'reply' ? ` of ${this.request(action.dispatch.words[2])}` : '';
-    return `the ${facts.type || 'event'} handler${name}${request}${this.at(place)}`;
+    return `the ${facts.type || 'event'} handler${name}${request}${this.at(place, facts.way)}`;
   }
 
   // ---- races
@@ -191,17 +209,52 @@ class Words {
     return `${what} is ${first}, and ${second}; nothing orders them.`;
   }
 
-  /** Who makes the two accesses, told apart: by columns and functions where a line has both, and as two runs where it is one code. */
+  /**
+   * Who makes the two accesses, told apart: by columns, functions and the places of elements where the words are alike, and by their numbers where one
+   * code runs twice.
+   */
   actors({ lines, modes, actions }, kind) {
     const tell = () => [0, 1].map((k) => this.actor(actions[k], lines[k], kind, modes[k]));
     const actors = tell();
     if (actors[0] !== actors[1]) return actors;
-    this.hasColumns = true;
-    const apart = tell();
-    this.hasColumns = false;
-    if (apart[0] !== apart[1]) return apart;
-    const isRun = !NO_RUN.has(this.actions.list[this.actions.list[actions[0]].first].words[0]);
-    return isRun ? [`an earlier run of ${actors[0]}`, `a later run of ${actors[1]}`] : ['an earlier', 'a later'].map((one, k) => actors[k].replace(/^(?:the|an?) (?=\S)/, `${one} `));
+    const apart = this.apart(tell);
+    return apart[0] === apart[1] ? actors.map((words, k) => this.asNumbered(words, actions[k])) : apart;
+  }
+
+  /** What is told with all that tells alike things apart. */
+  apart(tell) {
+    this.isApart = true;
+    try {
+      return tell();
+    } finally {
+      this.isApart = false;
+    }
+  }
+
+  /** "the second run of the timeout set at page.html:3": which one it is of the actions that are told in the same words. */
+  asNumbered(words, number) {
+    const own = this.actions.list[this.actions.list[number].first];
+    const nth = ordinal(this.nthOf(own.number));
+    const [word] = own.words;
+    if (word === 'close' && own.dispatch) return `what the browser did behind ${this.asNumbered(this.dispatch(own), own.dispatch.number)}`;
+    if (word === 'parse') return words.replace(/^the parser at (?:the )?/, `the parser at the ${nth} `);
+    if (NO_RUN.has(word)) return words.replace(/^(?:(?:the|an?) )?/, `the ${nth} `);
+    return `the ${nth} run of ${words}`;
+  }
+
+  /** Which one an action is, from 0, of those that are told in the same words, in the order of the trace. */
+  nthOf(number) {
+    if (!this.nths) {
+      this.nths = [];
+      const counts = new Map();
+      for (const { number: one, first } of this.actions.list) {
+        if (one !== first) continue;
+        const words = this.apart(() => this.action(one));
+        this.nths[one] = counts.get(words) || 0;
+        counts.set(words, this.nths[one] + 1);
+      }
+    }
+    return this.nths[number];
   }
 
   inFunction(place) {
@@ -215,8 +268,16 @@ class Words {
     const place = this.place(this.placeOfLine(line));
     const isLookUp = kind === 'handler' && mode === 'r';
     const isTold = who.split(/[^\w.:$-]+/).includes(place);
-    return place && !isLookUp && !isTold ? `${who} (in ${place}${this.hasColumns ? this.inFunction(this.placeOfLine(line)) : ''})` : who;
+    return place && !isLookUp && !isTold ? `${who} (in ${place}${this.isApart ? this.inFunction(this.placeOfLine(line)) : ''})` : who;
   }
+}
+
+/** The word for an index: "third", and from the eleventh on "11th". */
+function ordinal(index) {
+  if (index < ORDINALS.length) return ORDINALS[index];
+  const number = String(index + 1);
+  const ending = { 1: 'st', 2: 'nd', 3: 'rd' }[/1\d$/.test(number) ? 0 : number.slice(-1)] || 'th';
+  return number + ending;
 }
 
 module.exports = { Words };

@@ -1,0 +1,38 @@
+'use strict';
+// Where the page's own code asks a library for something, both places are told, in a real browser.
+
+const assert = require('node:assert');
+const { after, before, test } = require('node:test');
+const { Chromium } = require('../browser/chromium.js');
+const { parseOptions } = require('../options.js');
+const { Actions } = require('../view/actions.js');
+const { Words } = require('../view/words.js');
+const { recordPage } = require('./support.js');
+
+const LIMIT = { timeout: 150000 };
+const CLICK = ['--do', 'click:button'];
+const { libraries } = parseOptions(['x'], 3, 1);
+let browser;
+before(async () => { browser = await Chromium.launch({ width: 1100, height: 800 }); });
+after(async () => { await browser.close(); });
+
+/** All actions of a page in words. */
+async function actionsOf(words, given = libraries) {
+  const trace = await recordPage(browser, 'by-way-of-library.html', [...CLICK, ...words]);
+  const inWords = new Words(JSON.parse(trace.namesOf(given).toJson({})), new Actions(trace.text.replace(/end\n$/, '')));
+  return inWords.actions.list.map(({ number }) => inWords.action(number));
+}
+
+test('the page\'s own place, with the library\'s behind it', LIMIT, async () => {
+  const actions = await actionsOf([]);
+  for (const due of ['the timeout wrapped set at by-way-of-library.html:7, by way of jquery-tiny.js:1', 'the timeout wrapped set at by-way-of-library.html:8, by way of jquery-tiny.js:1',
+    'the click handler three at by-way-of-library.html:9, by way of jquery-tiny.js:2', 'the load handler four of the request for data.json at by-way-of-library.html:10, by way of jquery-tiny.js:5',
+    'the animation frame five asked for at by-way-of-library.html:11, by way of tiny.min.js:1']) assert.ok(actions.includes(due), `${due}\n${actions.join('\n')}`);
+});
+
+test('no file is a library', LIMIT, async () => {
+  const actions = await actionsOf(['--libraries', 'none'], null);
+  for (const due of ['the timeout wrapped set at jquery-tiny.js:1', 'the click handler three at jquery-tiny.js:2', 'the animation frame five asked for at tiny.min.js:1']) {
+    assert.ok(actions.includes(due), `${due}\n${actions.join('\n')}`);
+  }
+});
