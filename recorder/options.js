@@ -14,7 +14,8 @@ URL is a web address, a file or a folder. With --attach the page is recorded tha
   --slow MS         each file is held back by up to this long, the same in each run
   --time SECONDS    at most this long (30)
   --version 1|2|3   the version of the format (3)
-  --depth DEPTH     what is recorded of scripts: "globals", or "objects": the properties of objects, closures, arrays, the page's tree too
+  --depth globals|objects
+                    what is recorded of scripts: global variables, or the properties of objects, closures, arrays, the page's tree too (objects)
   --libraries NAMES the files of libraries, as a regular expression of their names; "none": what only they touch of objects and closures is left
                     out (jquery, react and others)
   --keep            also accesses by which nothing can race, as to an object that one action alone touches
