@@ -5,9 +5,12 @@ const fs = require('node:fs');
 const path = require('node:path');
 
 const FOLDER = path.join(__dirname, 'page');
-/** What the recorder uses of the window is taken before the page can put something else in its place. */
-const TAKEN = ['Array', 'ArrayBuffer', 'Error', 'Function', 'JSON', 'Map', 'Math', 'Number', 'Object', 'Reflect', 'RegExp', 'Set', 'String', 'Symbol', 'TextEncoder',
-  'Uint8Array', 'WeakMap', 'WeakSet'];
+/** What the recorder uses of the window is taken before the page can put something else in its place (page/taken.js). */
+const TAKEN = ['Array', 'ArrayBuffer', 'Error', 'Function', 'Number', 'RegExp', 'String', 'Symbol', 'TextEncoder', 'Uint8Array'];
+const STATICS = ['JSON', 'Math', 'Object', 'Reflect'];
+const CLASSES = ['Map', 'Set', 'WeakMap', 'WeakSet'];
+const TAKES = [`const { ${TAKEN.join(', ')} } = window;`, ...STATICS.map((name) => `const ${name} = takeStatics(window.${name});`),
+  ...CLASSES.map((name) => `const ${name} = takeClass(window.${name});`), 'const { apply, construct } = Reflect;'];
 
 /**
  * @param {string[]} handlerOwners the interfaces of the browser that have `on..` properties
@@ -17,7 +20,7 @@ const TAKEN = ['Array', 'ArrayBuffer', 'Error', 'Function', 'JSON', 'Map', 'Math
 function pageScript(handlerOwners, { depth, keepsAll, libraries, holds = null, fixed = null, isDriven = false }) {
   const order = JSON.parse(fs.readFileSync(path.join(FOLDER, 'order.json'), 'utf8'));
   const files = order.map((name) => fs.readFileSync(path.join(FOLDER, `${name}.js`), 'utf8'));
-  const lines = ["'use strict';", `const { ${TAKEN.join(', ')} } = window;`, `const HANDLER_OWNERS = ${JSON.stringify(handlerOwners)};`,
+  const lines = ["'use strict';", ...TAKES, `const HANDLER_OWNERS = ${JSON.stringify(handlerOwners)};`,
     `const DEPTH = ${JSON.stringify(depth)};`, `const KEEPS_ALL = ${!!keepsAll};`, `const LIBRARIES = ${libraries};`,
     `const HOLDS = ${JSON.stringify(holds)};`, `const FIXED = ${JSON.stringify(fixed)};`, `const IS_DRIVEN = ${isDriven};`, ...files];
   return `(function (window) {\n${lines.join('\n')}\n})(window);\n//# sourceURL=__er-recorder`;

@@ -9,6 +9,7 @@ const { Progress } = require('./progress.js');
 const { Recorder, RecordingFault } = require('./recorder.js');
 const { originOf } = require('./replay/origin.js');
 const { Accesses } = require('./trace/accesses.js');
+const { beyond, isAt } = require('./trace/limits.js');
 const { Names } = require('./trace/names.js');
 const { Spelling, keepWithin, NEWEST_VERSION } = require('./trace/spelling.js');
 
@@ -16,25 +17,34 @@ const USAGE_STATUS = 2;
 
 const namesFile = (traceFile) => `${traceFile.replace(/\.trace$/, '')}.names.json`;
 
-/** The trace of what was recorded so far, and its names; `accesses` knows what was left out. */
+/** The entries of a recording: all of them, or those that the rules leave. */
+function entriesOf(accesses, recorder, { keepsAll, libraries }) {
+  if (keepsAll) return accesses.whole();
+  return accesses.entries({ isLibrary: (place) => recorder.sources.isLibrary(place, libraries) });
+}
+
+/** The trace of what was recorded so far, and its names; `accesses` and `large` know what was left out. */
 function readRun(recorder, options) {
   const accesses = new Accesses(recorder.intake.entries);
-  const isLibrary = (place) => recorder.sources.isLibrary(place, options.libraries);
-  const spelled = new Spelling(accesses.entries({ keepsAll: options.keepsAll, isLibrary }), options.version).records();
+  const all = new Spelling(entriesOf(accesses, recorder, options), options.version).records();
+  const large = beyond(all.map(({ text }) => text));
+  const locations = new Set(large.map(({ location }) => location));
+  const spelled = large.length ? all.filter(({ text }) => !isAt(text, locations)) : all;
   const { records, leftOut, cut } = keepWithin(spelled);
   const text = [`webtrace ${options.version}`, ...records.map((one) => one.text), 'end'].join('\n');
   const names = new Names(recorder.sources, recorder.intake.names, options.libraries);
   names.addRecords(records);
-  return { text: `${text}\n`, names, accesses, leftOut, cut };
+  return { text: `${text}\n`, names, accesses, large, leftOut, cut };
 }
 
 /** Writes the trace and its names, also of a recording that ended early. Answers what the limits left out, as lines. */
 function writeFiles(recorder, options, traceFile) {
-  const { text, names, accesses, leftOut, cut } = readRun(recorder, options);
+  const { text, names, accesses, large, leftOut, cut } = readRun(recorder, options);
   fs.writeFileSync(traceFile, text);
   const recording = originOf(recorder, options, traceFile, text);
   fs.writeFileSync(namesFile(traceFile), names.toJson({ page: recorder.given, trace: traceFile.replace(/^.*\//, ''), recording }));
   const lines = accesses.lines();
+  for (const { location, accesses: count } of large) lines.push(`${location}, too large for a trace: ${count} accesses`);
   if (leftOut) lines.push(`parse steps in which nothing happened, left out for the limit on actions: ${leftOut}`);
   if (cut) lines.push(`records behind the limits on actions, accesses and lines, cut off: ${cut}`);
   return lines;

@@ -19,7 +19,10 @@ class Globals {
     for (let owner = page.window; owner; owner = Object.getPrototypeOf(owner)) {
       Object.getOwnPropertyNames(owner).forEach((name) => this.builtins.add(name));
     }
+    /** The values behind the last piece of code, by name. */
     this.values = new Map();
+    /** With objects, global variables are told as theirs are (variables.js). */
+    this.holder = null;
     /** Names of properties that an enumeration of the window does not give. */
     this.hidden = [];
     /** For each site in marked code the number of the last action that had its access. */
@@ -44,31 +47,55 @@ class Globals {
     const isVariable = hasOwn(this.page.window, name);
     if (isVariable && this.isRepeat(site)) return;
     if (this.builtins.has(name)) return;
-    this.recording.accessNow('r', this.location(name), site, () => this.valueOf(name));
+    this.touch(name, READ, site);
     if (!isVariable) this.readNamedElement(name, site);
+  }
+
+  write(name, site) {
+    if (this.isDue(name, site)) this.touch(name, WRITE, site);
+  }
+
+  update(name, site) {
+    if (!this.isDue(name, site)) return;
+    this.touch(name, READ, site);
+    this.touch(name, WRITE, site);
+  }
+
+  isDue(name, site) {
+    return this.recording.mayAccess() && !this.isRepeat(site) && !this.builtins.has(name);
+  }
+
+  touch(name, mode, site) {
+    if (this.holder) this.recording.objects.variables.touchName(this.holder, name, mode, site);
+    else this.recording.accessNow(mode === READ ? 'r' : 'w', this.location(name), site, () => this.valueOf(name));
+  }
+
+  /** A function that a script declares is there before its code tells it: what was there before, the last look at the window has. */
+  declare(name, site) {
+    if (!this.holder) this.write(name, site);
+    else if (this.isDue(name, site)) this.stage(name, site);
+  }
+
+  stage(name, site) {
+    const before = this.values.has(name) ? this.values.get(name) : MISSING;
+    this.recording.objects.variables.stage(this.holder, this.holder.variable(name), site, before);
   }
 
   /** The value of a variable, without a call of the page's code. */
   valueOf(name) {
     const descriptor = Object.getOwnPropertyDescriptor(this.page.window, name);
-    return descriptor && 'value' in descriptor ? descriptor.value : UNSEEN;
+    return descriptor && 'value' in descriptor ? descriptor.value : MISSING;
+  }
+
+  /** A write that was told is none that no mark saw. */
+  noteValue(name, value) {
+    if (value !== MISSING) this.values.set(name, value);
   }
 
   /** A name that is no variable is looked up among the elements with an id. */
   readNamedElement(name, site) {
     if (!this.page.natives.getElementById.call(this.page.document, name)) return;
     this.recording.access('r', `elem ${this.page.number} ${spellName(name)}`, site, 'o');
-  }
-
-  write(name, site) {
-    if (!this.recording.mayAccess() || this.isRepeat(site) || this.builtins.has(name)) return;
-    this.recording.accessNow('w', this.location(name), site, () => this.valueOf(name));
-  }
-
-  update(name, site) {
-    if (!this.recording.mayAccess() || this.isRepeat(site) || this.builtins.has(name)) return;
-    this.recording.accessNow('r', this.location(name), site, () => this.valueOf(name));
-    this.recording.accessNow('w', this.location(name), site, () => this.valueOf(name));
   }
 
   /** To list all properties of a window takes long, so those that no enumeration gives are noted as they are made. */
@@ -126,8 +153,13 @@ class Globals {
   compareValue(name, value) {
     const isNew = !this.values.has(name);
     if (!isNew && Object.is(this.values.get(name), value)) return;
-    this.values.set(name, value);
     const isDeclaredOnly = isNew && value === undefined;
-    if (!isDeclaredOnly && this.recording.isRunning()) this.recording.accessNow('w', this.location(name), '', digestOf(value));
+    if (!isDeclaredOnly && this.recording.isRunning()) this.writeUnseen(name, value);
+    this.values.set(name, value);
+  }
+
+  writeUnseen(name, value) {
+    if (this.holder) this.stage(name, -1);
+    else this.recording.accessNow('w', this.location(name), '', digestOf(value));
   }
 }

@@ -25,7 +25,7 @@ class Page {
     const { documents } = this.recording;
     documents.splice(0, documents.length, ...keep(documents, (page) => page.window !== this.window), this);
     this.recording.elementNumbers.delete(this.window); // a frame's window stays the same object for its next page
-    if (this.recording.objects) this.startObjects();
+    if (this.recording.objects) this.recording.objects.addWindow(this);
     this.beginDocument();
     const parts = [this.handlers, this.dispatches, this.calls, this.lookups, this.fields, this.timers, this.jobs, this.requests, this.connections, this.messages,
       this.globals];
@@ -34,12 +34,6 @@ class Page {
     this.elements.start();
     this.globals.compare();
     this.recording.steering.holdLoad(this);
-  }
-
-  startObjects() {
-    const { objects } = this.recording;
-    objects.trees = objects.trees || new Trees(objects, this);
-    objects.addWindow(this);
   }
 
   /** The first action of a document: a step that makes the document itself, and its window. */

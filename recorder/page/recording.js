@@ -36,7 +36,7 @@ class Recording {
     /** The number of the user's act that the driver does now, or 0. */
     this.act = 0;
     this.objects = DEPTH === 'objects' ? new Objects(this) : null;
-    if (this.objects) this.log.beforeSending = () => this.objects.settleWrites(); // no page answers while it is left (--attach)
+    if (this.objects) this.log.beforeSending = () => this.objects.settleEarly(); // no page answers while it is left (--attach)
   }
 
   next(kind) {
@@ -249,7 +249,7 @@ class Recording {
   }
 
   flush() {
-    if (this.objects) this.objects.settleWrites();
+    if (this.objects) this.objects.settleEarly();
     this.log.sendAll(this.natives.now());
   }
 }

@@ -31,7 +31,7 @@ class Scripts {
     recording.startTask();
     this.writeRun(element, this.runnable(element), site);
     recording.enter('script');
-    each(functions, ([name, place]) => this.page.globals.write(name, place));
+    each(functions, ([name, place]) => this.page.globals.declare(name, place));
   }
 
   writeRun(element, number, site) {
@@ -87,7 +87,7 @@ class Scripts {
   /** A script that a script inserts or writes runs inside the running action. */
   beginInside(functions) {
     this.recording.enter('script');
-    each(functions, ([name, place]) => this.page.globals.write(name, place));
+    each(functions, ([name, place]) => this.page.globals.declare(name, place));
   }
 
   ends() {

@@ -16,24 +16,36 @@ const READS_CONTENT = new Set(['hasChildNodes', 'contains']);
 const READS_ATTRIBUTE = new Set(['getAttribute', 'hasAttribute']);
 /** Their variables are those of the properties of the same name (fields.js), and look-ups (lookups.js). */
 const OTHERS = new Set(['id', 'value', 'checked']);
+const isOther = (attribute) => OTHERS.has(attribute) || attribute.slice(0, 2) === 'on';
+/** Names of a style that are no properties of it. */
+const NO_STYLES = { length: 1, parentRule: 1, item: 1, getPropertyValue: 1, getPropertyPriority: 1, setProperty: 1, removeProperty: 1, __proto__: null };
+/** What of the classes of an element reads them. */
+const READS_CLASSES = new Set(['value', 'length', 'contains', 'toggle']);
+const nameOfData = (name) => `data-${name.replace(/[A-Z]/g, (letter) => `-${letter.toLowerCase()}`)}`;
 
 class Trees {
+  /** @param {Objects} objects */
   constructor(objects, page) {
-    this.objects = objects;
     this.recording = page.recording;
+    this.kinds = objects.kinds;
+    this.variables = objects.variables;
     this.elements = page.elements;
     this.nodeType = getOwnPropertyDescriptor(page.window.Node.prototype, 'nodeType').get;
     this.getters = [];
+  }
+
+  /** The elements of each frame have getters of their own. */
+  addWindow({ window }) {
     each(['HTMLElement', 'SVGElement', 'Element'], (name) => each(Object.keys(PARTS), (part) => {
-      const found = Object.getOwnPropertyDescriptor(page.window[name].prototype, part);
-      if (found && found.get) this.getters[this.getters.length] = { owner: page.window[name], part, get: found.get };
+      const found = getOwnPropertyDescriptor(window[name].prototype, part);
+      if (found && found.get) this.getters[this.getters.length] = { owner: window[name], part, get: found.get };
     }));
   }
 
   /** A prototype of an element is none itself. */
   isNode(object) {
     try {
-      return this.nodeType.call(object) > 0;
+      return apply(this.nodeType, object, []) > 0;
     } catch {
       return false;
     }
@@ -46,8 +58,26 @@ class Trees {
     return number;
   }
 
-  variableOf(node, name) {
-    return node.nodeType === 1 ? SHOWN[name] || null : null;
+  // ---- what marked code touches
+
+  access(node, name, modes, site) {
+    if (this.notePart(node, name, site)) return;
+    const shown = typeof name === 'string' && node.nodeType === 1 ? SHOWN[name] || null : null;
+    if (shown !== null) this.variables.touchModes(this.kinds.hold(node, site), shown, modes, site);
+    else if (modes === 'r') this.readOwn(node, name, site);
+    else if (hasOwn(node, name) ? !isAccessor(node, name) : !(name in node)) this.variables.touchModes(this.kinds.hold(node, site), `${name}`, modes, site);
+  }
+
+  /** A property that scripts put at a node, or look for there. */
+  readOwn(node, name, site) {
+    if (hasOwn(node, name)) {
+      if (!isAccessor(node, name)) this.variables.touchName(this.kinds.hold(node, site), `${name}`, READ, site);
+      return;
+    }
+    const known = this.kinds.holders.get(node);
+    const gone = known === undefined ? null : known.find(`${name}`);
+    if (gone !== null) this.variables.touch(known, gone, READ, site);
+    else if (!(name in node)) this.variables.touchName(this.kinds.hold(node, site), `${name}`, READ, site);
   }
 
   /** The style, the classes and the data of an element are objects: their properties are variables of the element. */
@@ -55,43 +85,50 @@ class Trees {
     if (PARTS[name] === undefined) return false;
     const found = findItem(this.getters, (one) => one.part === name && node instanceof one.owner);
     if (!found) return false;
-    const part = found.get.call(node);
-    if (!this.objects.holders.has(part)) this.objects.holders.set(part, new Holder(PARTS[name], site, node));
+    const part = apply(found.get, node, []);
+    if (!this.kinds.holders.has(part)) this.kinds.holders.set(part, new Holder(PARTS[name], site, node));
     return true;
+  }
+
+  /** A style, the classes or the data of an element. */
+  accessPart({ kind, object: node }, part, name, modes, site) {
+    if (typeof name !== 'string') return;
+    const owner = this.kinds.hold(node, site);
+    if (kind === CLASSES) {
+      if (READS_CLASSES.has(name)) this.variables.touchName(owner, 'class', READ, site);
+    } else if (kind === DATA) this.variables.touchModes(owner, nameOfData(name), modes, site);
+    else if (name === 'cssText') this.variables.touchModes(owner, 'style', modes, site);
+    else if (name in part && NO_STYLES[name] === undefined) this.variables.touchModes(owner, `style.${name}`, modes, site);
   }
 
   call(holder, name, site) {
     if (holder.object.nodeType !== 1) return;
-    if (CHANGES_CONTENT.has(name)) this.objects.touchName(holder, CONTENT, WRITE, site);
-    else if (READS_CONTENT.has(name)) this.objects.touchName(holder, CONTENT, READ, site);
+    if (CHANGES_CONTENT.has(name)) this.variables.touchName(holder, CONTENT, WRITE, site);
+    else if (READS_CONTENT.has(name)) this.variables.touchName(holder, CONTENT, READ, site);
   }
 
   accessAttribute(holder, key, method, site) {
-    if (typeof key !== 'string' || OTHERS.has(key) || key.slice(0, 2) === 'on') return;
-    this.objects.touchName(holder, key.toLowerCase(), READS_ATTRIBUTE.has(method) ? READ : WRITE, site);
+    if (typeof key === 'string' && !isOther(key)) this.variables.touchName(holder, key.toLowerCase(), READS_ATTRIBUTE.has(method) ? READ : WRITE, site);
   }
 
   valueOf(node, name) {
     if (name === CONTENT || node.nodeType !== 1 || name.slice(0, 6) === 'style.') return UNKNOWN;
     const found = getOwnPropertyDescriptor(node, name);
-    if (found) return found.value;
-    return this.elements.attribute(node, name);
+    return found ? found.value : this.elements.attribute(node, name);
   }
 
   // ---- changes
 
-  noteChange(record) {
-    const { target, type, attributeName } = record;
-    if (type === 'childList') this.write(target, CONTENT);
-    else if (type === 'characterData') this.write(target.parentNode, CONTENT);
-    else if (!OTHERS.has(attributeName) && attributeName.slice(0, 2) !== 'on' && record.oldValue !== this.elements.attribute(target, attributeName)) {
-      this.write(target, attributeName);
-    }
+  noteChange({ target, type, attributeName, oldValue }) {
+    if (type === 'childList') this.write(target, CONTENT, UNKNOWN);
+    else if (type === 'characterData') this.write(target.parentNode, CONTENT, UNKNOWN);
+    else if (!isOther(attributeName)) this.write(target, attributeName, oldValue);
   }
 
-  write(node, variable) {
+  /** A mark may have told it, with its place. */
+  write(node, name, before) {
     if (!node || node.nodeType !== 1 || !this.recording.hasBegun) return;
-    const holder = this.objects.hold(node, -1);
-    this.objects.stage(holder, this.objects.variable(holder, variable), this.recording.actions, -1, UNKNOWN);
+    const holder = this.kinds.hold(node, -1);
+    this.variables.stage(holder, holder.variable(name), -1, before);
   }
 }

@@ -1,13 +1,17 @@
 // What an access found or wrote: a short digest of the value, told beside the line. No record of the trace has it.
 
-const LONGEST_DIGESTED = 2000;
+/** Of a longer text the begin and the end are digested, and its length. */
+const LONGEST_DIGESTED = 200;
 const NOTHING = '-';
-/** A name that is no property of the window: nothing, or a variable that stands in no object. */
-const UNSEEN = {};
+/** The value is not known. */
+const UNKNOWN = {};
+/** There is no such property. A name that is none of the window is nothing, or a variable that stands in no object. */
+const MISSING = {};
 
 function hashOf(text) {
+  const digested = text.length > LONGEST_DIGESTED ? text.slice(0, LONGEST_DIGESTED / 2) + text.slice(-LONGEST_DIGESTED / 2) : text;
   let value = 0x811c9dc5;
-  for (let k = 0; k < text.length && k < LONGEST_DIGESTED; k++) value = Math.imul(value ^ text.charCodeAt(k), 0x01000193) >>> 0;
+  for (let k = 0; k < digested.length; k++) value = Math.imul(value ^ digested.charCodeAt(k), 0x01000193) >>> 0;
   return value.toString(36);
 }
 
@@ -19,7 +23,7 @@ function digestOf(value) {
     case 'string': case 'number': case 'bigint': return `${(typeof value)[0]}${hashOf(String(value))}${String(value).length}`;
     case 'function': return 'f';
     case 'symbol': return 'y';
-    default: return value === null ? 'null' : value === UNSEEN ? '?' : 'o';
+    default: return value === null ? 'null' : value === MISSING || value === UNKNOWN ? '?' : 'o';
   }
 }
 

@@ -20,11 +20,17 @@ const shortened = (name) => createHash('md5').update(name).digest('hex').slice(0
 const withoutKeys = (name) => name.replace(/^\[object%20\d+\]$/, '[object]');
 /** The name by which an access is looked for. */
 const nameOf = (kind, spelled) => (kind === 'slot' ? spelled.replace(/\/\d+$/, '') : withoutKeys(spelled));
+/** What stands in cookies and in storage, by its spelling. */
+const STORED = /^(document\.cookie$|localStorage\.|sessionStorage\.)/;
 /**
  * A write of these that puts what was there before is told as a read, or not at all where the action has read it before: which it is, and at which
  * place, may be another one in the other order.
  */
-const isByValue = (location) => isOfTree(location) || (location.startsWith('var ') && location.split(' ')[1] >= FIRST_MODULE);
+function isByValue(location) {
+  const [kind, number, name] = location.split(' ');
+  if (kind !== 'var' || STORED.test(name)) return false;
+  return number >= FIRST_MODULE || number < FIRST_FIELD || isOfTree(location);
+}
 
 /** A variable of an element that is not what a user puts into it. */
 function isOfTree(location) {

@@ -1,10 +1,12 @@
 'use strict';
-// Small pages of one thing each, in a real browser: the records that are due, in order, and the races by name.
+// Small pages of one thing each, in a real browser: the records that are due, in order, and the races by name. And of each the rules that leave
+// accesses out are tested against the whole recording: no race of it is missing that they don't explain.
 
 const assert = require('node:assert');
 const { after, before, test } = require('node:test');
 const { Chromium } = require('../browser/chromium.js');
-const { recordPage, judge, actorsOf, firstMissing } = require('./support.js');
+const { Comparison } = require('./rules.js');
+const { recordPage, judge, reportOf, actorsOf, firstMissing } = require('./support.js');
 const { cases } = require('./cases.js');
 
 let browser;
@@ -17,7 +19,7 @@ for (const one of cases) {
     const trace = await recordPage(browser, one.page, one.words, one.version);
     const missing = firstMissing(trace.readable, one.due || []);
     assert.strictEqual(missing, null, `missing or out of its order: ${missing}\n${trace.readable.join('\n')}`);
-    for (const record of one.never || []) assert.ok(!trace.readable.includes(record), `not due: ${record}\n${trace.readable.join('\n')}`);
+    for (const record of one.never || []) assert.ok(!trace.left.includes(record), `not due: ${record}\n${trace.left.join('\n')}`);
     const { refused, races } = judge(trace);
     assert.strictEqual(refused, '', `${refused}\n${trace.text.split('\n').map((line, k) => `${k + 1} ${line}`).join('\n')}`);
     assert.deepStrictEqual([...new Set(races)].sort(), [...(one.races || [])].sort(), `${trace.text.split('\n').map((line, k) => `${k + 1} ${line}`).join('\n')}`);
@@ -25,6 +27,8 @@ for (const one of cases) {
       assert.notStrictEqual(first, second);
       assert.ok(!isNumbered || isOneCode, `told apart by numbers, and not one code: ${first}; ${second}`);
     }
+    const { unexplained, foreign } = new Comparison({ ...trace.whole, report: reportOf(trace.whole) }, { report: reportOf(trace) });
+    assert.deepStrictEqual({ unexplained, foreign }, { unexplained: [], foreign: [] }, trace.readable.join('\n'));
     for (const loss of one.losses || []) assert.ok(trace.losses.some((line) => loss.test(line)), trace.losses.join('\n'));
     if (!one.throws) assert.deepStrictEqual(trace.errors, []);
   });

@@ -19,9 +19,9 @@ const { Words } = require('../view/words.js');
 const LONGEST_ANSWER = 60000;
 const PAGES = path.join(__dirname, 'pages');
 
-/** Records a page of pages/ in a browser that runs. */
+/** Records a page of pages/ in a browser that runs: all of it, and what the rules leave. */
 async function recordPage(browser, page, words = [], version = NEWEST_VERSION) {
-  const options = parseOptions([...words, page], NEWEST_VERSION, 1);
+  const options = parseOptions([...words, '--keep', page], NEWEST_VERSION, 1);
   const recorder = new Recorder(/^https?:/.test(page) ? page : path.resolve(PAGES, page), { ...options, browser });
   await recorder.record();
   return readTrace(recorder, version);
@@ -48,8 +48,16 @@ async function replayPage(browser, page, words, location, folder) {
   return { result, said: verdictInWords(result), race: inWords.race(report.races[number]), replay };
 }
 
+/** The trace that the rules leave, and in `whole` the one of the whole recording; `readable` are the records of the whole one. */
 function readTrace(recorder, version) {
-  const records = new Spelling(new Accesses(recorder.intake.entries).entries(), version).records();
+  const accesses = new Accesses(recorder.intake.entries);
+  const whole = traceOf(recorder, accesses.whole(), version);
+  const short = traceOf(recorder, accesses.entries(), version);
+  return { ...short, left: short.readable, readable: whole.readable, whole, errors: recorder.errors, losses: recorder.losses() };
+}
+
+function traceOf(recorder, entries, version) {
+  const records = new Spelling(entries, version).records();
   /** The names, where some files are those of libraries. */
   const namesOf = (libraries) => {
     const names = new Names(recorder.sources, recorder.intake.names, libraries);
@@ -60,12 +68,11 @@ function readTrace(recorder, version) {
   const names = namesOf(null);
   return {
     text: `webtrace ${version}\n${lines.map((line) => `${line}\n`).join('')}end\n`,
+    records,
     lines,
     names,
     namesOf,
     readable: lines.map((line) => readable(line, names)),
-    errors: recorder.errors,
-    losses: recorder.losses(),
   };
 }
 
@@ -127,6 +134,12 @@ function judge(trace) {
   };
 }
 
+/** The program's report of a trace; it has no races where the trace is refused. */
+function reportOf(trace) {
+  const { stdout } = spawnSync('/bin/sh', ['-c', `${PROGRAM} --json`], { input: trace.text, encoding: 'utf8', maxBuffer: 1 << 28, timeout: LONGEST_ANSWER });
+  return { races: [], ...JSON.parse(stdout) };
+}
+
 /** Words that note where the two sides of a race have nothing to tell them apart but their numbers. */
 class NotingWords extends Words {
   asNumbered(words, number) {
@@ -146,10 +159,9 @@ function codeOf(action, names) {
 
 /** Who makes the two accesses of each race, in words; `isNumbered` where only their numbers tell them apart, and `isOneCode` where they are the same. */
 function actorsOf(trace) {
-  const { stdout } = spawnSync('/bin/sh', ['-c', `${PROGRAM} --json`], { input: trace.text, encoding: 'utf8', maxBuffer: 1 << 28, timeout: LONGEST_ANSWER });
   const names = JSON.parse(trace.names.toJson({}));
   const words = new NotingWords(names, new Actions(trace.text.replace(/end\n$/, '')));
-  return (JSON.parse(stdout).races || []).map((race) => {
+  return reportOf(trace).races.map((race) => {
     words.isNumbered = false;
     const actors = words.actors(race, words.location(race.location).kind);
     const [first, second] = race.actions.map((number) => codeOf(words.actions.list[words.actions.list[number].first], names));
@@ -168,4 +180,4 @@ function firstMissing(readableLines, due) {
   return null;
 }
 
-module.exports = { recordPage, replayPage, judge, actorsOf, firstMissing, PAGES };
+module.exports = { recordPage, replayPage, judge, reportOf, actorsOf, firstMissing, PAGES };

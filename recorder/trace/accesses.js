@@ -1,33 +1,39 @@
 'use strict';
-// Accesses to objects and scopes: the page tells each with the number of its action, once it may race. Here they are put to their actions,
-// and what can't race, or is too much for the format, is left out.
+// Accesses to objects, scopes and global variables: the page tells each with the number of its action, once it may race. Here they are put to
+// their actions, and what can't race is left out. With `--keep` the page tells each access in its own place too, whatever the rules say of it:
+// so that one recording gives both the trace that the rules leave and the whole one.
 
 const { BEGINS, wordOf } = require('./intake.js');
 
 /**
- * How many accesses to objects are written, and how many pairs of them: with all of them races the trace is not refused for too many, and
- * the format's limits leave room for the other accesses.
+ * @typedef {{text: string, place: string|undefined, found: string|undefined, isKept?: boolean, why?: string}} Entry
+ *   `isKept` where a write that left the old value is told as a read; `why` is, of a whole recording, what a rule says of the access: `own`
+ *   (a read behind a write of its action), `first` (a first value), `same` (a write that leaves the old value)
+ * @typedef {{location: string, isOwn: boolean, accesses: object[]}} Variable
  */
-const MOST_ACCESSES = 900000;
-const MOST_PAIRS = 200000;
-/** And of one variable: a counter that every event counts up has many, and says little. */
-const MOST_PAIRS_OF_ONE = 20000;
-
-/** @typedef {{location: string, isOwn: boolean, accesses: {action: number, mode: string, place: string|undefined, found: string|undefined}[]}} Variable */
 
 class Accesses {
-  /** @param {{text: string, place: string|undefined}[]} entries the log */
+  /** @param {Entry[]} entries the log */
   constructor(entries) {
     /** @type {Map<string, Variable>} */
     this.variables = new Map();
+    this.log = entries;
     this.rest = entries.filter((entry) => !this.take(entry));
     this.leftOut = new Map();
-    this.found = this.variables.size;
+    /** The places of the steps of the parser among the actions. */
+    this.parsers = new Set();
+    let action = 0;
+    for (const { text } of this.rest) {
+      const word = wordOf(text);
+      if (BEGINS.has(word)) action++;
+      if (word === 'parse') this.parsers.add(action);
+    }
   }
 
   /** Answers whether an entry is one of these. */
   take({ text, place, found }) {
     const word = wordOf(text);
+    if (word === 'all' || word === 'same') return true;
     if (word === 'at') {
       const [, number, kind, object, name, own] = text.split(' ');
       this.variables.set(number, { location: `${kind} ${object} ${name}`, isOwn: own === 'own', accesses: [] });
@@ -35,23 +41,20 @@ class Accesses {
     }
     if (word !== 'in') return false;
     const [, action, mode, number] = text.split(' ');
-    this.variables.get(number)?.accesses.push({ action: Number(action), mode, place, found });
+    this.variables.get(number)?.accesses.push({ action: Number(action), mode: mode === 'k' ? 'r' : mode, place, found, isKept: mode === 'k' });
     return true;
   }
 
   /**
-   * The log with each access behind the begin of its action.
-   * @param {{keepsAll?: boolean, most?: number, mostPairs?: number, isLibrary?: (place: string|undefined) => boolean}} options
+   * The log with each access behind the begin of its action, without what the rules leave out.
+   * @param {{isLibrary?: (place: string|undefined) => boolean}} options
+   * @returns {Entry[]}
    */
-  entries({ keepsAll = false, most = MOST_ACCESSES, mostPairs = MOST_PAIRS, isLibrary = () => false } = {}) {
-    if (!this.variables.size) return this.rest;
-    const kinds = this.rest.filter(({ text }) => BEGINS.has(wordOf(text))).map(({ text }) => wordOf(text));
-    for (const variable of this.variables.values()) this.thin(variable, kinds);
-    if (!keepsAll) {
-      this.leaveOutAlone();
-      this.leaveOutLibraries(isLibrary);
+  entries({ isLibrary = () => false } = {}) {
+    for (const [number, variable] of this.variables) {
+      this.thin(variable);
+      if (this.isAlone(variable) || this.isOfLibraries(variable, isLibrary)) this.variables.delete(number);
     }
-    this.leaveOutMost(most, mostPairs);
     return this.placed();
   }
 
@@ -59,60 +62,43 @@ class Accesses {
     if (number) this.leftOut.set(why, (this.leftOut.get(why) || 0) + number);
   }
 
-  /** The parser's steps come one after the other: of those that write one variable the first and the last say it all. */
-  thin(variable, kinds) {
-    const isParser = ({ action, mode }) => mode === 'w' && kinds[action - 1] === 'parse';
-    const steps = variable.accesses.filter(isParser);
-    if (steps.length < 3) return;
-    const kept = new Set([steps[0], steps[steps.length - 1]]);
-    variable.accesses = variable.accesses.filter((access) => !isParser(access) || kept.has(access));
-    this.count('further steps of the parser that write one variable', steps.length - kept.size);
+  /**
+   * The parser's steps come one after the other. Of those that write one variable with no other access between them the first and the last say
+   * it all: what nothing orders with a step between is ordered with neither behind the last nor before the first.
+   */
+  thin(variable) {
+    const { accesses } = variable;
+    accesses.sort((a, b) => a.action - b.action);
+    const isBetween = (access, k) => [accesses[k - 1], access, accesses[k + 1]].every((one) => this.isStep(one));
+    variable.accesses = accesses.filter((access, k) => !isBetween(access, k));
+    this.count('further steps of the parser that write one variable', accesses.length - variable.accesses.length);
+  }
+
+  isStep(access) {
+    return access !== undefined && access.mode === 'w' && this.parsers.has(access.action);
   }
 
   /** What one action alone touches, what is only read, and what the parser alone writes. */
-  leaveOutAlone() {
-    for (const [number, { accesses }] of this.variables) {
-      const actions = new Set(accesses.map(({ action }) => action));
-      if (actions.size > 1 && accesses.some(({ mode }) => mode === 'w')) continue;
-      this.count('accesses by which nothing can race', accesses.length);
-      this.variables.delete(number);
-    }
+  isAlone({ accesses }) {
+    const isShared = accesses.some(({ action }) => action !== accesses[0].action);
+    if (isShared && accesses.some(({ mode }) => mode === 'w') && !accesses.every((access) => this.isStep(access))) return false;
+    this.count('accesses by which nothing can race', accesses.length);
+    return true;
   }
 
-  /** What the code of libraries alone touches is their own. The page's tree is the page's. */
-  leaveOutLibraries(isLibrary) {
-    for (const [number, { isOwn, accesses }] of this.variables) {
-      if (!isOwn || !accesses.every(({ place }) => isLibrary(place))) continue;
-      this.count('variables that only libraries touch (--libraries none keeps them)', 1);
-      this.variables.delete(number);
-    }
-  }
-
-  /** Those variables go first that most actions touch, as a counter does. */
-  leaveOutMost(most, mostPairs) {
-    const pairsOf = ({ accesses }) => {
-      const writes = accesses.filter(({ mode }) => mode === 'w').length;
-      return writes * (accesses.length - writes) + writes * (writes - 1) / 2;
-    };
-    const sized = [...this.variables].map(([number, variable]) => ({ number, pairs: pairsOf(variable), size: variable.accesses.length }));
-    sized.sort((a, b) => b.pairs - a.pairs);
-    let pairs = sized.reduce((sum, one) => sum + one.pairs, 0);
-    let size = sized.reduce((sum, one) => sum + one.size, 0);
-    for (const one of sized) {
-      if (pairs <= mostPairs && size <= most && one.pairs <= MOST_PAIRS_OF_ONE) break;
-      pairs -= one.pairs;
-      size -= one.size;
-      this.variables.delete(one.number);
-      this.count('variables that too many actions touch', 1);
-    }
+  /** What the code of libraries alone touches is their own. Global variables and the page's tree are the page's. */
+  isOfLibraries({ isOwn, accesses }, isLibrary) {
+    if (!isOwn || !accesses.every(({ place }) => isLibrary(place))) return false;
+    this.count('variables that only libraries touch (--libraries none keeps them)', 1);
+    return true;
   }
 
   placed() {
     const byAction = new Map();
     for (const { location, accesses } of this.variables.values()) {
-      for (const { action, mode, place, found } of accesses) {
+      for (const { action, mode, ...told } of accesses) {
         if (!byAction.has(action)) byAction.set(action, []);
-        byAction.get(action).push({ text: `${mode} ${location}`, place, found });
+        byAction.get(action).push({ text: `${mode} ${location}`, ...told });
       }
     }
     const entries = [];
@@ -123,6 +109,41 @@ class Accesses {
       for (const one of byAction.get(++action) || []) entries.push(one);
     }
     return entries;
+  }
+
+  // ---- the whole recording
+
+  /** The log with all accesses, each in its own place: once an action, as it was first. */
+  whole() {
+    const same = this.sameWrites();
+    const entries = [];
+    let action = 0;
+    let seen = new Set();
+    for (const entry of this.log) {
+      const [word, mode, number, why] = entry.text.split(' ');
+      if (BEGINS.has(word)) {
+        action++;
+        seen = new Set();
+      }
+      if (word === 'all' && !seen.has(`${mode} ${number}`)) {
+        seen.add(`${mode} ${number}`);
+        const isSame = mode === 'w' && same.has(`${action} ${number}`);
+        entries.push({ ...entry, text: `${mode} ${this.variables.get(number).location}`, why: isSame ? 'same' : why });
+      } else if (word !== 'all' && word !== 'at' && word !== 'in' && word !== 'same') entries.push(entry);
+    }
+    return entries;
+  }
+
+  /** The writes behind which the variable had its old value, by action and variable: it is known when the action is over. */
+  sameWrites() {
+    const same = new Set();
+    let action = 0;
+    for (const { text } of this.log) {
+      const word = wordOf(text);
+      if (BEGINS.has(word)) action++;
+      if (word === 'same') same.add(`${action} ${text.slice('same '.length)}`);
+    }
+    return same;
   }
 
   /** What was left out, as lines. */

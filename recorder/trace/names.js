@@ -37,6 +37,8 @@ class Names {
     this.befores = {};
     /** The writes that count a variable up, with a value that nobody uses. */
     this.counts = {};
+    /** The lines of reads that are writes of the value that was there. */
+    this.kept = {};
     this.objects = {};
     this.tagsLeft = new Map();
     this.lists = Object.fromEntries([...Object.values(LISTS), 'messages'].map((list) => [list, {}]));
@@ -83,9 +85,10 @@ class Names {
 
   /** Notes the places of all lines; `records` begin with line 2. */
   addRecords(records) {
-    records.forEach(({ text, place, found, stack }, k) => {
+    records.forEach(({ text, place, found, stack, isKept }, k) => {
       const words = text.split(' ');
       if (found) this.addValue(k + 2, found);
+      if (isKept) this.kept[k + 2] = true;
       if (words[1] === 'var') this.addObject(Number(words[2]));
       const { own, way } = this.placesOfStack(stack);
       const known = own || this.resolve(place) || this.placeOfBegin(words);
@@ -155,7 +158,7 @@ class Names {
   /** What stands in the file, by default with files that have no lines of their own. */
   facts(files = this.sources.files) {
     const functions = Object.fromEntries(Object.entries(this.functions).filter(([, name]) => name));
-    return { files, ...this.lists, objects: this.objects, functions, values: this.values, befores: this.befores, counts: this.counts, ways: this.ways, places: this.places };
+    return { files, ...this.lists, objects: this.objects, functions, values: this.values, befores: this.befores, counts: this.counts, kept: this.kept, ways: this.ways, places: this.places };
   }
 
   /** Notes what the number of an object in a location is: a window, a form field or a module. */

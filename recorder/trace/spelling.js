@@ -122,7 +122,7 @@ class Spelling {
     const words = entry.text.split(' ');
     const spellWord = this[`spell_${words[0]}`];
     if (spellWord) spellWord.call(this, words);
-    else this.put(entry.text);
+    else this.out.push(entry);
   }
 
   spell_look([, element, type]) {

@@ -1,0 +1,117 @@
+// Accesses to properties by their names: of which object of the prototype chain they are, and what they touch.
+
+class Properties {
+  /** @param {Objects} objects */
+  constructor(objects) {
+    this.objects = objects;
+    this.recording = objects.recording;
+    this.kinds = objects.kinds;
+    this.variables = objects.variables;
+  }
+
+  /** An access by a name or a key that is known. `modes` is 'r', 'w', 'u' or 'd'. */
+  access(object, name, modes, site) {
+    const { kinds, variables } = this;
+    const known = kinds.holders.get(object);
+    if (known !== undefined && known.kind >= LEFT_OUT) return;
+    if (typeof name === 'string' && name[0] === '#' && name.length > 1) {
+      variables.touchModes(kinds.hold(object, site), name, modes, site);
+      return;
+    }
+    switch (known === undefined ? kinds.kindOf(object) : known.kind) {
+      case LIST: this.objects.collections.accessItem(kinds.hold(object, site), name, modes, site); break;
+      case BYTES: if (typeof name === 'number') variables.touchModes(kinds.hold(object, site), WHOLE, modes, site); break;
+      case TREE: this.objects.trees.access(object, name, modes, site); break;
+      case STYLE: case CLASSES: case DATA: this.objects.trees.accessPart(known, object, name, modes, site); break;
+      case WINDOW: this.accessWindow(known.object, name, modes, site); break;
+      default: this.accessPlain(object, typeof name === 'number' ? `${name}` : name, modes, site);
+    }
+  }
+
+  accessPlain(object, name, modes, site) {
+    if (modes === 'r' || modes === 'u') this.read(object, name, site);
+    if (modes === 'r') return;
+    const holder = this.kinds.hold(object, site);
+    this.write(holder, object, name, site);
+    if (modes === 'd') this.variables.touchName(holder, NAMES, WRITE, site);
+  }
+
+  accessWindow(page, name, modes, site) {
+    const text = `${name}`;
+    if (/^\d+$/.test(text)) return; // a frame
+    if (modes === 'r') page.globals.read(text, site);
+    else if (modes === 'u') page.globals.update(text, site);
+    else page.globals.write(text, site);
+  }
+
+  /** A read by a name: of the object that has it, or of all that were asked where none has it. */
+  read(object, name, site) {
+    const { kinds } = this;
+    let at = object;
+    for (let depth = 0; at !== null && depth < LONGEST_PROTOTYPE_CHAIN; depth++) {
+      const holder = depth === 0 ? kinds.holders.get(at) : kinds.holdPrototype(at);
+      if (holder !== undefined && holder.kind === LEFT_OUT) return;
+      if (hasOwn(at, name)) {
+        if (holder === undefined || holder.kind !== BUILTIN) this.readOwn(holder || kinds.hold(at, site), at, name, site);
+        return;
+      }
+      const gone = holder === undefined ? null : holder.find(name);
+      if (gone !== null && !(gone.flags & IS_LEFT_OUT)) this.variables.touch(holder, gone, READ, site);
+      at = getPrototypeOf(at);
+    }
+    this.readMissing(object, name, site);
+  }
+
+  readOwn(holder, object, name, site) {
+    if (holder.site < 0) holder.site = site;
+    let variable = holder.find(name);
+    if (variable === null) {
+      variable = holder.add(name);
+      if (isAccessor(object, name)) variable.flags |= IS_LEFT_OUT;
+    }
+    if (!(variable.flags & IS_LEFT_OUT)) this.variables.touch(holder, variable, READ, site);
+  }
+
+  readMissing(object, name, site) {
+    let at = object;
+    for (let depth = 0; at !== null && depth < LONGEST_PROTOTYPE_CHAIN; depth++) {
+      const holder = depth === 0 ? this.kinds.hold(at, site) : this.kinds.holdPrototype(at);
+      if (holder.kind >= LEFT_OUT) return;
+      if (holder.site < 0) holder.site = site;
+      this.variables.touchName(holder, name, READ, site);
+      at = getPrototypeOf(at);
+    }
+  }
+
+  write(holder, object, name, site) {
+    let variable = holder.find(name);
+    const isNew = !hasOwn(object, name);
+    if (variable === null) {
+      const isCode = isNew ? this.hasSetter(object, name) : isAccessor(object, name);
+      if (isCode && isNew) return;
+      variable = holder.add(name);
+      if (isCode) variable.flags |= IS_LEFT_OUT;
+    }
+    if (variable.flags & IS_LEFT_OUT) return;
+    this.variables.touch(holder, variable, WRITE, site);
+    if (isNew) this.noteNewName(holder, site);
+  }
+
+  /** An object mostly gets its names where it was made, and most are never asked for all their names: so this is no variable at once. */
+  noteNewName(holder, site) {
+    if (KEEPS_ALL || holder.since !== this.recording.actions || holder.find(NAMES) !== null) this.variables.touchName(holder, NAMES, WRITE, site);
+    else if (holder.namesSite < 0) holder.namesSite = site;
+  }
+
+  /** Whether a write by this name calls a setter, or goes to code of the page. */
+  hasSetter(object, name) {
+    let at = getPrototypeOf(object);
+    for (let depth = 0; at !== null && depth < LONGEST_PROTOTYPE_CHAIN; depth++) {
+      const holder = this.kinds.holders.get(at);
+      if (holder !== undefined && holder.kind === LEFT_OUT) return true;
+      if (hasOwn(at, name)) return isAccessor(at, name);
+      at = getPrototypeOf(at);
+    }
+    return false;
+  }
+}

@@ -1,0 +1,195 @@
+// The helpers that marked code calls for objects and closures. Each begins with the shortest question: whether this place of the code (its
+// site) had this object in this action already. So a place in a loop over one object costs no more.
+
+/** A place in the code that touches more objects than this in one action is told no further in it. */
+const MOST_OBJECTS_OF_SITE = 2000;
+/** The bits of the items of an array that a site has had: one each, and one for all others. */
+const ALL_OTHERS = 1 << SINGLE_ITEMS;
+const ALL_ITEMS = 2 * ALL_OTHERS - 1;
+const bitOf = (item) => 1 << (item < SINGLE_ITEMS ? item : SINGLE_ITEMS);
+const isThing = (object) => object !== null && (typeof object === 'object' || typeof object === 'function');
+
+/**
+ * What each site had in the running action: `objects`, the last one, else null; `keys`, its last key, or the place of what it wrote among
+ * the staged ones; `items`, the bits of the items. And how many objects it had in which action.
+ */
+class Sites {
+  constructor(recording) {
+    this.recording = recording;
+    this.objects = [];
+    this.keys = [];
+    this.items = [];
+    this.counts = [];
+    this.countedIn = [];
+    /** The sites that have an object. */
+    this.touched = [];
+  }
+
+  /** What begins or ends may change the running action. Nothing of the page is kept alive here. */
+  forget() {
+    const { touched, objects, keys } = this;
+    for (let k = 0; k < touched.length; k++) {
+      objects[touched[k]] = null;
+      keys[touched[k]] = null;
+    }
+    touched.length = 0;
+  }
+
+  makeRoom(site) {
+    for (let k = this.objects.length; k <= site; k++) {
+      this.objects[k] = null;
+      this.keys[k] = null;
+      this.items[k] = 0;
+      this.counts[k] = 0;
+      this.countedIn[k] = 0;
+    }
+  }
+
+  /** Whether an access is to be looked at. Then its site knows of it. */
+  isDue(object, site) {
+    const { recording } = this;
+    if (!isThing(object) || recording.isOver || !recording.mayAccess()) return false;
+    if (site >= this.objects.length) this.makeRoom(site);
+    if (this.isTooMany(site)) return false;
+    if (this.objects[site] === null) this.touched[this.touched.length] = site;
+    this.objects[site] = object;
+    this.keys[site] = null;
+    this.items[site] = 0;
+    return true;
+  }
+
+  isTooMany(site) {
+    const { actions, log } = this.recording;
+    if (this.countedIn[site] !== actions) {
+      this.countedIn[site] = actions;
+      this.counts[site] = 0;
+    }
+    this.counts[site]++;
+    if (this.counts[site] === MOST_OBJECTS_OF_SITE) log.miss(`further objects of places in the code that touch more than ${MOST_OBJECTS_OF_SITE} in one action; such places`);
+    return this.counts[site] >= MOST_OBJECTS_OF_SITE;
+  }
+
+  noteKey(object, key, site) {
+    if (typeof key === 'number' && isArray(object)) this.items[site] |= bitOf(key);
+    else if (typeof key === 'number' && isView(object)) this.items[site] = ALL_ITEMS;
+    else this.keys[site] = key;
+  }
+}
+
+/** The helpers. What answers the object or the key stands around it in marked code. */
+function helpersOfObjects({ recording, sites, kinds, variables, properties, collections }) {
+  const { objects: lastObjects, keys: lastKeys, items: lastItems } = sites;
+  const { staged } = variables;
+
+  /** To look at an object of another origin fails. */
+  const look = (visit) => {
+    try {
+      visit();
+    } catch {
+      recording.log.miss('accesses that could not be looked at');
+    }
+  };
+  const access = (object, name, modes, site) => {
+    try {
+      properties.access(object, name, modes, site);
+    } catch {
+      recording.log.miss('accesses that could not be looked at');
+    }
+  };
+
+  const byName = (modes) => (object, name, site) => {
+    if (lastObjects[site] === object) return object;
+    if (sites.isDue(object, site)) access(object, name, modes, site);
+    return object;
+  };
+
+  const hasHad = (key, site) => lastKeys[site] === key || (typeof key === 'number' && (lastItems[site] & bitOf(key)) !== 0);
+  const accessByKey = (object, key, modes, site) => {
+    if (typeof key !== 'string' && typeof key !== 'number') return;
+    const items = lastObjects[site] === object ? lastItems[site] : 0;
+    if (!sites.isDue(object, site)) return;
+    lastItems[site] = items;
+    access(object, key, modes, site);
+    sites.noteKey(object, key, site);
+  };
+  const byKey = (modes) => (object, key, site) => {
+    if (lastObjects[site] === object && hasHad(key, site)) return key;
+    accessByKey(object, key, modes, site);
+    return key;
+  };
+
+  const readScope = (scope, name, site) => {
+    if (lastObjects[site] === scope || scope === undefined) return;
+    if (sites.isDue(scope, site)) variables.touchName(scope, name, READ, site);
+  };
+  /** A pattern tells no values. */
+  const stageScope = (scope, variable, site, before, isKnown) => {
+    variables.stage(scope, variable, site, isKnown ? before : UNKNOWN);
+    lastKeys[site] = indexOfStaged(staged, variable);
+  };
+  /** `before` and `after` are the values of the variable, and `result` is that of the expression. */
+  const writeScope = (isUpdate) => (scope, name, site, before, result, after) => {
+    if (lastObjects[site] !== scope) {
+      if (scope === undefined || !sites.isDue(scope, site)) return result;
+      const variable = scope.variable(name);
+      if (isUpdate) variables.touch(scope, variable, READ, site);
+      stageScope(scope, variable, site, before, before !== undefined || result !== undefined);
+    }
+    staged[lastKeys[site]] = after;
+    return result;
+  };
+
+  const whole = (visit) => (object, site) => {
+    if (lastObjects[site] === object) return object;
+    if (sites.isDue(object, site) && !kinds.isLeftOut(object)) look(() => visit(object, site));
+    return object;
+  };
+
+  const readByKey = byKey('r');
+  const writeByName = byName('w');
+  const write = writeScope(false);
+  return {
+    p: byName('r'), q: writeByName, b: byName('u'), g: byName('d'),
+    k: readByKey, l: byKey('w'), j: byKey('u'), h: byKey('d'),
+    v: readScope, x: write, y: writeScope(true),
+    z: (scope, name, site, value) => write(scope, name, site, UNKNOWN, value, value),
+    t: null,
+    o: (object, key, site) => { readByKey(object, key, site); return object; },
+    f: (object, name, site, value) => { writeByName(object, name, site); return value; },
+    s: (site, number) => {
+      const scope = new Holder(SCOPE, site, null);
+      if (number !== undefined) scope.number = number;
+      return scope;
+    },
+    n: whole((object, site) => collections.enumerate(object, site)),
+    e: whole((object, site) => collections.spread(object, site)),
+    i: whole((object, site) => collections.iterate(object, site)),
+    c: (target, object, site) => {
+      if (sites.isDue(object, site) && !kinds.isLeftOut(object)) look(() => collections.assign(target, object, site));
+      return object;
+    },
+    d(object, site) {
+      if (lastObjects[site] === object || !sites.isDue(object, site)) return object;
+      for (let k = 2; k < arguments.length; k++) access(object, arguments[k], 'r', site);
+      return object;
+    },
+    m: (object, name, site) => {
+      if (lastObjects[site] !== object && sites.isDue(object, site)) look(() => collections.call(object, name, site));
+      return object;
+    },
+    a: (object, key, site, method) => {
+      if (lastObjects[site] === object && lastKeys[site] === key) return key;
+      if (!sites.isDue(object, site)) return key;
+      lastKeys[site] = key;
+      look(() => collections.accessKey(object, key, site, method));
+      return key;
+    },
+  };
+}
+
+/** Where the value behind a write of the running action is kept. */
+function indexOfStaged(staged, variable) {
+  let k = staged.length - OF_STAGED;
+  while (k >= 0 && staged[k + 1] !== variable) k -= OF_STAGED;
+  return k + AFTER;
+}

@@ -1,0 +1,193 @@
+// Accesses to variables: which of them are told, and when.
+//
+// An access is not written at once. It waits at its variable, until two actions have touched this one and one of them has written it: most
+// variables never come that far, as no race is possible there. So the log has only what may race, and a page of many objects costs memory
+// for each variable that it touches, and no line. docs/recording.md has the rules by which the rest is left out, with their reasons; with
+// KEEPS_ALL each access is written beside, in its place, so that they can be tested against the whole.
+
+/** So many accesses wait at a variable; then further reads are not kept. */
+const MOST_WAITING = 4000;
+/** An access that waits is three entries of a list: the access as a number, its place, what it found. */
+const OF_WAITING = 3;
+/** A write of the running action is five: holder, variable, place, the values before and behind it. */
+const OF_STAGED = 5;
+const AFTER = 4;
+
+class Variables {
+  constructor(recording, objectNames) {
+    this.recording = recording;
+    this.objectNames = objectNames;
+    this.trees = null;
+    this.lines = 0;
+    /** The writes of the running action: what they changed is known when it is over. */
+    this.staged = [];
+  }
+
+  touchName(holder, name, mode, site) {
+    this.touch(holder, holder.variable(name), mode, site);
+  }
+
+  /** `modes` is 'r', 'w', 'u' or 'd'. */
+  touchModes(holder, name, modes, site) {
+    if (modes === 'r' || modes === 'u') this.touchName(holder, name, READ, site);
+    if (modes !== 'r') this.touchName(holder, name, WRITE, site);
+  }
+
+  /** An access of the running action. A read of what this action itself has written tells nothing of another one. */
+  touch(holder, variable, mode, site) {
+    const { actions } = this.recording;
+    if (mode === WRITE) {
+      if (variable.lastWrite !== actions) this.stage(holder, variable, site, this.valueOf(holder, variable));
+    } else if (variable.lastWrite === actions) {
+      if (KEEPS_ALL) this.keep(holder, variable, 'r', site, ' own');
+    } else if (variable.lastRead !== actions) {
+      this.read(holder, variable, site, this.valueOf(holder, variable));
+    }
+  }
+
+  read(holder, variable, site, value) {
+    const { actions } = this.recording;
+    variable.lastRead = actions;
+    variable.flags |= IS_READ;
+    if (KEEPS_ALL) this.keep(holder, variable, 'r', site);
+    this.settle(holder, variable, accessOf(actions, READ), site, value === UNKNOWN ? undefined : digestFor(holder, value));
+  }
+
+  /** A write that is about to come, or has come; `before` is what was there. */
+  stage(holder, variable, site, before) {
+    const { actions } = this.recording;
+    if (variable.lastWrite === actions) return;
+    variable.lastWrite = actions;
+    if (KEEPS_ALL) this.keep(holder, variable, 'w', site);
+    const { staged } = this;
+    const at = staged.length;
+    staged[at] = holder;
+    staged[at + 1] = variable;
+    staged[at + 2] = site;
+    staged[at + 3] = before;
+    staged[at + AFTER] = UNKNOWN;
+  }
+
+  /** The value of a variable, where a look at it runs nothing of the page. */
+  valueOf({ kind, object }, { name }) {
+    if (kind === WINDOW) return object.globals.valueOf(name);
+    if (kind === TREE) return this.trees.valueOf(object, name);
+    if (typeof name === 'string' ? kind !== PLAIN || name[0] === '(' || name[0] === '#' : kind !== LIST) return UNKNOWN;
+    const found = getOwnPropertyDescriptor(object, name);
+    return found === undefined ? MISSING : found.value;
+  }
+
+  // ---- the end of an action
+
+  /**
+   * The running action is over. A write behind which the variable has the value that it had before is told as a read, as libraries make
+   * one that put something in its place around a call: whoever else really writes the variable has a race with this action all the same,
+   * and who only reads it finds the same in either order.
+   */
+  settleWrites() {
+    const { staged } = this;
+    for (let k = 0; k < staged.length; k += OF_STAGED) {
+      const after = staged[k].kind === SCOPE ? staged[k + AFTER] : this.valueOf(staged[k], staged[k + 1]);
+      this.settleWrite(staged[k], staged[k + 1], staged[k + 2], staged[k + 3], after);
+    }
+    staged.length = 0;
+  }
+
+  settleWrite(holder, variable, site, before, after) {
+    const { actions } = this.recording;
+    if (holder.kind === WINDOW) holder.object.globals.noteValue(variable.name, after);
+    const isKept = isSame(holder, before, after);
+    if (isKept && KEEPS_ALL) this.recording.log.line(`same ${variable.line}`);
+    if (isKept && variable.lastRead === actions) return;
+    if (isKept) variable.lastRead = actions;
+    else variable.flags |= IS_WRITTEN;
+    const found = after === UNKNOWN ? undefined : isKept ? digestFor(holder, after) : `${digestFor(holder, after)}<${digestFor(holder, before)}`;
+    this.settle(holder, variable, accessOf(actions, isKept ? KEPT : WRITE), site, found);
+  }
+
+  /** Between two lines that are sent the action may go on: what it writes then is another write. */
+  settleEarly() {
+    const { staged } = this;
+    for (let k = 0; k < staged.length; k += OF_STAGED) staged[k + 1].lastWrite = 0;
+    this.settleWrites();
+  }
+
+  // ---- what waits, and what is told
+
+  settle(holder, variable, access, site, found) {
+    if (variable.flags & MAY_RACE) {
+      this.write(variable, access, site, found);
+      return;
+    }
+    if (variable.firstAccess === 0) {
+      variable.firstAccess = access;
+      variable.firstSite = site;
+      variable.firstFound = found;
+    } else {
+      if (actionOf(variable.firstAccess) !== actionOf(access)) variable.flags |= IS_SHARED;
+      if (!this.wait(variable, access, site, found)) return;
+    }
+    if (mayRace(holder, variable)) this.writeAll(holder, variable);
+  }
+
+  wait(variable, access, site, found) {
+    if (variable.waiting === null) {
+      variable.waiting = [access, site, found];
+      return true;
+    }
+    const { waiting } = variable;
+    const at = waiting.length;
+    if (at >= OF_WAITING * MOST_WAITING && modeOf(access) !== WRITE) {
+      this.recording.log.miss(`reads of variables that more than ${MOST_WAITING} actions have read before any writes them`);
+      return false;
+    }
+    waiting[at] = access;
+    waiting[at + 1] = site;
+    waiting[at + 2] = found;
+    return true;
+  }
+
+  /** From now on the variable may race. */
+  writeAll(holder, variable) {
+    const { waiting } = variable;
+    variable.waiting = null;
+    variable.flags |= MAY_RACE;
+    this.declare(holder, variable);
+    this.write(variable, variable.firstAccess, variable.firstSite, variable.firstFound);
+    for (let k = 0; waiting !== null && k < waiting.length; k += OF_WAITING) this.write(variable, waiting[k], waiting[k + 1], waiting[k + 2]);
+  }
+
+  declare(holder, variable) {
+    if (variable.line) return;
+    variable.line = ++this.lines;
+    const { log } = this.recording;
+    log.line(`at ${variable.line} var ${this.objectNames.numberOf(holder)} ${spellName(variable.name)}${this.objectNames.attributesOf(holder, variable.name)}`);
+  }
+
+  /** The driver puts the access to its action. */
+  write(variable, access, site, found) {
+    this.recording.log.line(`in ${actionOf(access)} ${'rwk'[modeOf(access)]} ${variable.line}`, site < 0 ? undefined : site, found);
+  }
+
+  /** An access in its own place, whatever the rules say of it. */
+  keep(holder, variable, mode, site, why = '') {
+    this.declare(holder, variable);
+    this.recording.log.line(`all ${mode} ${variable.line}${why}`, site < 0 ? undefined : site);
+  }
+}
+
+/** A variable of a closure that no action reads before it writes it hands nothing from one to the other. */
+function mayRace({ kind }, { flags }) {
+  return (flags & IS_SHARED) !== 0 && (flags & IS_WRITTEN) !== 0 && (kind !== SCOPE || (flags & IS_READ) !== 0);
+}
+
+/** What stands in no object, as a `let` at the top of a script, is not there before or behind a write of it. */
+function isSame({ kind }, before, after) {
+  return before !== UNKNOWN && after !== UNKNOWN && Object.is(before, after) && (kind !== WINDOW || after !== MISSING);
+}
+
+function digestFor({ kind }, value) {
+  if (value === UNKNOWN) return '?';
+  if (value === MISSING) return kind === WINDOW ? '?' : NOTHING;
+  return digestOf(value);
+}
