@@ -65,7 +65,7 @@ class Recorder {
     this.options = options;
     this.given = given;
     this.intake = new Intake();
-    this.sources = options.sources || new Sources(options.depth);
+    this.sources = options.sources || new Sources(options.depth, options.keepsAll);
     this.steering = options.steering || null;
     this.errors = [];
     /** What a user or an author is told beside errors. */

@@ -34,6 +34,7 @@ class Source {
       kind,
       builtins: this.sources.builtins,
       depth: this.sources.depth,
+      keepsAll: this.sources.keepsAll,
       site: (inside, about) => this.sources.addSite(this, offset + (wholeAtStart ? 0 : inside), wholeAtStart && about?.object ? undefined : about, offset),
       module: kind === 'module' ? this.sources.addModule(this) : undefined,
       named: wholeAtStart ? undefined : (start, end, name) => this.functions.push({ start: offset + start, end: offset + end, name }),
@@ -92,9 +93,13 @@ function wholeAddress(name, bundle) {
 }
 
 class Sources {
-  /** @param {'globals'|'objects'} depth what is marked */
-  constructor(depth = 'globals') {
+  /**
+   * @param {'globals'|'objects'} depth what is marked
+   * @param {boolean} keepsAll whether first values are marked too
+   */
+  constructor(depth = 'globals', keepsAll = false) {
     this.depth = depth;
+    this.keepsAll = keepsAll;
     this.builtins = new Set();
     this.files = [];
     this.byAddress = new Map();

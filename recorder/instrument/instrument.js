@@ -18,8 +18,8 @@ const CLOSING_BRACE = 125;
 const BLANK_CODE = 32;
 
 /** A script may also be imported by a worker, in which there is no recorder: there its marks do nothing. */
-const IDLE = 'globalThis.__er||(globalThis.__er=(()=>{const a=o=>o,b=(o,k)=>k,c=(o,n,s,v)=>v,d=()=>{},w=(o,n,s,v,r)=>r,e={ro:a,wo:a,uo:a,p:a,q:a,b:a,g:a,m:a,n:a,i:a,e:a,d:a,o:a,'
-  + 'k:b,l:b,j:b,h:b,a:b,c:b,f:c,z:c,x:w,y:w,t:0,__proto__:null};for(const n of "r w u rh wh uh rm wm um v s asked scriptBegins scriptEnds moduleBegins moduleEnds".split(" "))e[n]=d;return e})());';
+const IDLE = 'globalThis.__er||(globalThis.__er=(()=>{const a=o=>o,b=(o,k)=>k,c=(o,n,s,v)=>v,d=()=>{},w=(o,n,s,v,r)=>r,e={ro:a,wo:a,uo:a,p:a,q:a,b:a,g:a,m:a,n:a,i:a,e:a,d:a,o:a,L:a,'
+  + 'k:b,l:b,j:b,h:b,a:b,c:b,f:c,z:c,x:w,y:w,t:0,__proto__:null};for(const n of "r w u rh wh uh rm wm um v s F asked scriptBegins scriptEnds moduleBegins moduleEnds".split(" "))e[n]=d;return e})());';
 
 const mark = (text) => MARK_BEGIN + text + MARK_END;
 const quote = (name) => JSON.stringify(name);

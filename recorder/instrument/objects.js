@@ -82,7 +82,8 @@ class ObjectInstrumenter extends Instrumenter {
     this.isLooking = false;
     let labels = 0;
     for (const { scope } of this.declarable) {
-      scope.recorded = new Set([...scope.assigned || []].filter((name) => scope.captured?.has(name)));
+      const isDue = (name) => this.options.keepsAll || scope.assigned.has(name);
+      scope.recorded = new Set([...scope.captured || []].filter(isDue));
       if (scope.recorded.size) scope.label = `__er_${++labels}`;
     }
   }
@@ -149,11 +150,27 @@ class ObjectInstrumenter extends Instrumenter {
   /** The first value of a variable comes before any function that uses it; a `var` in a loop gets it again. */
   initializes(pattern, scope, kind) {
     const isAgain = kind === 'var' && this.loops > 0;
-    const names = namesOfPattern(pattern).filter((name) => {
+    const isWrite = (name) => {
       const owner = this.ownerIn(scope, name);
       return isAgain || !owner || this.isSecond(owner, name, pattern, kind);
-    });
-    return this.accesses('w', names, scope, pattern.start);
+    };
+    const names = namesOfPattern(pattern);
+    const [writes, firsts] = [names.filter(isWrite), names.filter((name) => !isWrite(name))];
+    return [this.accesses('w', writes, scope, pattern.start), ...this.firstValues(firsts, scope, pattern.start)].filter(Boolean).join(',');
+  }
+
+  /** A whole recording (`--keep`) has the first values too. */
+  firstValues(names, scope, offset) {
+    if (!this.options.keepsAll || this.isLooking) return [];
+    const told = names.map((name) => [name, this.ownerIn(scope, name)]).filter(([name, owner]) => this.isRecorded(owner, name));
+    return told.map(([name, owner]) => `__er.F(${owner.label},${quote(name)},${this.site(offset)})`);
+  }
+
+  /** And so it has what stands in a literal. */
+  visitLiteral(node, visit) {
+    const close = this.options.keepsAll ? this.wrap(node, '__er.L(', `,${this.siteOfWhole(node)})`) : nothing;
+    visit();
+    close();
   }
 
   isSecond(owner, name, pattern, kind) {
@@ -387,10 +404,14 @@ class ObjectInstrumenter extends Instrumenter {
   }
 
   ObjectExpression(node, scope) {
-    for (const property of node.properties) {
+    this.visitLiteral(node, () => node.properties.forEach((property) => {
       if (property.type === 'SpreadElement') this.visitSpread(property.argument, property.argument, scope, 'e');
       else this.visit(property, scope);
-    }
+    }));
+  }
+
+  ArrayExpression(node, scope) {
+    this.visitLiteral(node, () => this.visitChildren(node, scope));
   }
 
   // ---- operators

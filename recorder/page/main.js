@@ -116,9 +116,9 @@ function idleHelpers() {
   const same = (object) => object;
   const key = (object, given) => given;
   const value = (object, name, site, given) => given;
-  each('ro wo uo p q b g m n i e d o'.split(' '), (name) => { helpers[name] = same; });
+  each('ro wo uo p q b g m n i e d o L'.split(' '), (name) => { helpers[name] = same; });
   each('k l j h a c'.split(' '), (name) => { helpers[name] = key; });
-  each('v s'.split(' '), (name) => { helpers[name] = nothing; });
+  each('v s F'.split(' '), (name) => { helpers[name] = nothing; });
   each('x y'.split(' '), (name) => { helpers[name] = (scope, variable, site, before, result) => result; });
   return { ...helpers, f: value, z: value, t: null };
 }

@@ -164,6 +164,13 @@ function helpersOfObjects({ recording, sites, kinds, variables, properties, coll
     n: whole((object, site) => collections.enumerate(object, site)),
     e: whole((object, site) => collections.spread(object, site)),
     i: whole((object, site) => collections.iterate(object, site)),
+    L: (object, site) => {
+      if (recording.mayAccess()) variables.keepFirsts(kinds.hold(object, site), site);
+      return object;
+    },
+    F: (scope, name, site) => {
+      if (scope !== undefined && recording.mayAccess()) variables.keep(scope, scope.variable(name), 'w', site, ' first');
+    },
     c: (target, object, site) => {
       if (sites.isDue(object, site) && !kinds.isLeftOut(object)) look(() => collections.assign(target, object, site));
       return object;

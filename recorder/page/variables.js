@@ -174,6 +174,20 @@ class Variables {
     this.declare(holder, variable);
     this.recording.log.line(`all ${mode} ${variable.line}${why}`, site < 0 ? undefined : site);
   }
+
+  /** What stands in the literal of an object or an array. */
+  keepFirsts(holder, site) {
+    const { kind, object } = holder;
+    const names = kind === LIST ? [ITEMS, ...itemsOf(object)] : [NAMES, ...keep(Object.keys(object), (name) => !isAccessor(object, name))];
+    each(names, (name) => this.keep(holder, holder.variable(name), 'w', site, ' first'));
+  }
+}
+
+function itemsOf({ length }) {
+  const items = [];
+  for (let k = 0; k < length && k < SINGLE_ITEMS; k++) items[k] = k;
+  if (length > SINGLE_ITEMS) items[SINGLE_ITEMS] = OTHER_ITEMS;
+  return items;
 }
 
 /** A variable of a closure that no action reads before it writes it hands nothing from one to the other. */

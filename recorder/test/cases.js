@@ -140,7 +140,7 @@ exports.cases = [
   { page: 'closures-apart.html', due: ['timer', 'timer'] },
   { page: 'array-items.html', due: ['timer', 'r (items) of list', 'timer', 'w (items) of list'], races: ['(items) of list'] },
   { page: 'map-keys.html', due: ['timer', 'r [a] of kept', 'timer', 'w [a] of kept'], races: ['[a] of kept'] },
-  { page: 'tree-state.html', due: ['timer', 'r content of p#text', 'r class of p#text', 'timer', 'w content of p#text', 'w class of p#text'],
+  { page: 'tree-state.html', due: ['timer', 'r class of p#text', 'r content of p#text', 'timer', 'w class of p#text', 'w content of p#text'],
     races: ['class of p#text', 'content of p#text', 'style.color of p#text', 'title of p#text'] },
   { page: 'put-back.html', due: ['timer', 'timer'] },
   { page: 'private-names.html', due: ['timer', 'r #n of this', 'timer', 'w #n of this'], races: ['#n of this'] },

@@ -12,6 +12,9 @@ const { BEGINS, wordOf } = require('./intake.js');
  * @typedef {{location: string, isOwn: boolean, accesses: object[]}} Variable
  */
 
+/** The lines of the log that are no whole accesses. */
+const OF_PAGE = new Set(['at', 'in', 'same']);
+
 class Accesses {
   /** @param {Entry[]} entries the log */
   constructor(entries) {
@@ -117,21 +120,28 @@ class Accesses {
   whole() {
     const same = this.sameWrites();
     const entries = [];
+    const seen = new Map();
     let action = 0;
-    let seen = new Set();
     for (const entry of this.log) {
       const [word, mode, number, why] = entry.text.split(' ');
       if (BEGINS.has(word)) {
         action++;
-        seen = new Set();
+        seen.clear();
       }
-      if (word === 'all' && !seen.has(`${mode} ${number}`)) {
-        seen.add(`${mode} ${number}`);
-        const isSame = mode === 'w' && same.has(`${action} ${number}`);
-        entries.push({ ...entry, text: `${mode} ${this.variables.get(number).location}`, why: isSame ? 'same' : why });
-      } else if (word !== 'all' && word !== 'at' && word !== 'in' && word !== 'same') entries.push(entry);
+      if (OF_PAGE.has(word)) continue;
+      if (word !== 'all') entries.push(entry);
+      else this.addWhole(entries, seen, { ...entry, text: `${mode} ${this.variables.get(number).location}`, why: mode === 'w' && same.has(`${action} ${number}`) ? 'same' : why });
     }
     return entries;
+  }
+
+  /** A write behind the first value is a write. */
+  addWhole(entries, seen, entry) {
+    const known = seen.get(entry.text);
+    if (known && known.why === 'first' && entry.why !== 'first') known.why = entry.why;
+    if (known) return;
+    seen.set(entry.text, entry);
+    entries.push(entry);
   }
 
   /** The writes behind which the variable had its old value, by action and variable: it is known when the action is over. */

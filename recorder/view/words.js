@@ -194,10 +194,11 @@ class Words {
 
   // ---- races
 
-  /** What an access does, with "is" before it. */
-  verb(kind, mode) {
+  /** What an access does, with "is" before it. A write of the value that was there counts as a read. */
+  verb(kind, mode, line) {
     if (kind === 'handler') return mode === 'w' ? 'set' : 'looked for';
     if (kind === 'element') return mode === 'w' ? 'added, changed or removed' : 'looked up';
+    if (mode === 'r' && this.names.kept?.[line]) return 'set to the value that it had';
     return mode === 'w' ? 'written' : 'read';
   }
 
@@ -205,7 +206,7 @@ class Words {
     const { kind, text } = this.location(location);
     const what = kind === 'handler' ? `The handler "${text}"` : `"${text}"`;
     const actors = this.actors({ lines, modes, actions }, kind);
-    const [first, second] = [0, 1].map((k) => `${this.verb(kind, modes[k])} by ${actors[k]}`);
+    const [first, second] = [0, 1].map((k) => `${this.verb(kind, modes[k], lines[k])} by ${actors[k]}`);
     return `${what} is ${first}, and ${second}; nothing orders them.`;
   }
 
