@@ -18,9 +18,20 @@ function placesOf(problems, race) {
 
 const placeOfElement = ({ names }, { words: [word, , element] }) => (word === 'parse' ? names.elements[element]?.place || null : null);
 
+/** An address as the standard for URIs has it; names out of a source map may be no addresses. */
+function asUri(address) {
+  let known;
+  try {
+    known = new URL(address).href;
+  } catch {
+    known = encodeURI(address);
+  }
+  return known.replace(/[ "<>\\^`{|}]/g, encodeURIComponent);
+}
+
 /** Where a file stands: by the path from the current folder where it is inside, else its address. */
 function uriOf(address, folder) {
-  if (!folder || !folder.has(address)) return address;
+  if (!folder || !folder.has(address)) return asUri(address);
   const file = path.join(folder.root, decodeURIComponent(new URL(address).pathname));
   const inside = path.relative(process.cwd(), file);
   const isInside = !inside.startsWith('..') && !path.isAbsolute(inside);

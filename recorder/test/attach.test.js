@@ -9,11 +9,12 @@ const path = require('node:path');
 const { after, before, test } = require('node:test');
 const { AttachedChromium, AttachedTab } = require('../browser/attached.js');
 const { sleep } = require('../browser/time.js');
+const { PROGRAM } = require('../view/program.js');
 const { run, start, temporaryFolder } = require('./cleanup.js');
 const { serveFolder } = require('./server.js');
 
 const TOP = path.join(__dirname, '..', '..');
-const PROGRAM = process.env.CHROMIUM || '/usr/bin/chromium';
+const CHROMIUM = process.env.CHROMIUM || '/usr/bin/chromium';
 const LIMIT = { timeout: 120000 };
 const LONGEST_RUN = 90000;
 const folder = temporaryFolder('attach-test');
@@ -45,7 +46,7 @@ async function waitFor(isThere, what) {
 async function startDriven(name) {
   const port = await freePort();
   const words = ['--headless', '--no-sandbox', '--disable-gpu', '--no-first-run', `--remote-debugging-port=${port}`, `--user-data-dir=${path.join(folder, name)}`, 'about:blank'];
-  const browser = spawn(PROGRAM, words, { stdio: 'ignore' });
+  const browser = spawn(CHROMIUM, words, { stdio: 'ignore' });
   process.on('exit', () => browser.kill('SIGKILL'));
   let driver = null;
   const connect = () => AttachedChromium.connect({ host: '127.0.0.1', port }).then((one) => { driver = one; return true; }, () => false);
@@ -140,7 +141,7 @@ test('a test with Selenium, and its races', { ...LIMIT, skip: hasSelenium ? fals
   const { status, stdout, stderr } = await run('/usr/bin/python3', [path.join(__dirname, 'drivers', 'selenium_clicks.py'), String(port), address], { env, longest: LONGEST_RUN });
   assert.strictEqual(status, 0, stderr);
   assert.match(stdout, /^count: \d/);
-  const { status: judged, stdout: report } = await run('/bin/sh', ['-c', `${path.join(TOP, 'er_cli')} < ${file}`], { longest: LONGEST_RUN });
+  const { status: judged, stdout: report } = await run('/bin/sh', ['-c', `${PROGRAM} < ${file}`], { longest: LONGEST_RUN });
   assert.strictEqual(judged, 1, stderr);
   assert.match(report, /^race .* var 0 cart$/m);
   assert.ok(!/se_exportedFunctionSymbol/.test(report), 'the driver\'s own variables are not the page\'s');

@@ -2,6 +2,7 @@
 // The file of known races, the list over several runs, and SARIF, without a browser.
 
 const assert = require('node:assert');
+const { spawnSync } = require('node:child_process');
 const fs = require('node:fs');
 const path = require('node:path');
 const { test } = require('node:test');
@@ -101,6 +102,43 @@ test('SARIF has a rule for each kind, and a result for each problem', async () =
   assert.strictEqual(known.partialFingerprints['raceName/v1'], x.name);
   assert.deepStrictEqual(known.locations[0].physicalLocation.region, { startLine: 2, startColumn: 1 });
   assert.deepStrictEqual(known.relatedLocations[0].physicalLocation.region, { startLine: 3, startColumn: 1 });
+});
+
+const hasSarifClasses = fs.existsSync('/usr/lib/python3/dist-packages/sarif_om');
+
+test('SARIF as the standard has it', { skip: hasSarifClasses ? false : 'python3-sarif-python-om is not installed' }, async () => {
+  const one = await run({ more: ['y', 'z'] });
+  const [x] = one.list.filter(({ words }) => words.startsWith('"x"'));
+  const file = path.join(folder, 'out.sarif');
+  const check = (log) => {
+    writeWhole(file, JSON.stringify(log));
+    return spawnSync('/usr/bin/python3', [path.join(__dirname, 'drivers', 'check_sarif.py'), file], { encoding: 'utf8' });
+  };
+  const log = sarifOf(new Listing([one], new Known(`${x.name}\n`, 'known')), { folder: null });
+  const { status, stdout } = check(log);
+  assert.strictEqual(status, 0, stdout);
+  assert.match(stdout, /^\d{2,} objects$/m);
+  log.runs[0].results[0].level = 'bad';
+  log.runs[0].results[0].place = 1;
+  assert.match(check(log).stdout, /level: bad is none of .*\n.*place: Result has no such member/);
+});
+
+test('two acts of a user fail no build unless it is asked for', async () => {
+  const lines = ['parse 0 1 plain', 'parse 0 2 plain', 'parse 0 3 async', 'exec 3', 'on 1', 'on 2', 'fire 1 1 click', 'run 1 0 1', 'w var 0 x', 'close 1', 'fire 2 2 click', 'run 2 0 2', 'w var 0 x', 'close 2'];
+  const { text, report } = await judgeLines(lines);
+  const problems = new Problems(text, { ...NAMES, dispatches: { 1: { type: 'click', act: 1000 }, 2: { type: 'click', act: 2000 } } }, report);
+  const plain = new Listing([problems], new Known('', 'known'));
+  const asked = new Listing([problems], new Known('', 'known'), { countsActs: true });
+  assert.deepStrictEqual([plain, asked].map((one) => [one.fresh().length, one.failing().length]), [[1, 0], [1, 1]]);
+  assert.strictEqual(linesOf(plain)[0], '-- another input, not another order');
+  assert.deepStrictEqual(plainListing(plain, { page: '', status: 0, files: [], folder: null }).problems.map(({ fails }) => fails), [false]);
+});
+
+test('what was left out of the trace is told', async () => {
+  const { text, report } = await judgeLines(['parse 0 1 async', 'exec 1']);
+  const leftOut = [{ location: 'var 0 steps', accesses: 40000, pairs: 799980000 }];
+  const listing = new Listing([new Problems(text, { ...NAMES, leftOut }, report)], null);
+  assert.deepStrictEqual(plainListing(listing, { page: '', status: 0, files: [], folder: null }).leftOut, [[{ ...leftOut[0], words: '"steps"' }]]);
 });
 
 test('a file is written whole or not at all', () => {

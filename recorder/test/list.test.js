@@ -79,6 +79,25 @@ test('a load handler is told with its request', () => {
   assert.strictEqual(words.action(3), 'the load handler of the request for one.json at app.3f9a2b71.js:3');
 });
 
+test('buttons without an id, messages and frames are told apart', async () => {
+  const facts = { ...NAMES, documents: { 0: { address: PAGE }, 1: { address: 'http://localhost:8080/inside.html' } }, elements: { 2: { tag: 'button', place: [0, 1, 1] }, 3: { tag: 'button', place: [0, 2, 1] } }, messages: { 1: { place: [1, 3, 1] } } };
+  const text = ['webtrace 3', 'parse 0 2 plain', 'parse 0 3 frame 1', 'fire 1 2 click', 'close 1', 'fire 2 3 click', 'close 2', 'fire 3 2 click', 'close 3', 'load 4 1', 'wfire 5 1 resize', 'message 1', ''].join('\n');
+  const words = new Words(facts, new Actions(text));
+  assert.deepStrictEqual(words.actors({ actions: [2, 4], lines: [4, 6], modes: 'ww' }, 'variable'), ['the click at button (page.html:1:1)', 'the click at button (page.html:2:1)']);
+  assert.deepStrictEqual(words.actors({ actions: [2, 6], lines: [4, 8], modes: 'ww' }, 'variable'), ['the first click at button', 'the second click at button']);
+  assert.deepStrictEqual(words.actors({ actions: [3, 7], lines: [5, 9], modes: 'ww' }, 'variable'), ['what the browser did behind the first click at button', 'what the browser did behind the second click at button']);
+  assert.deepStrictEqual([8, 9, 10].map((number) => words.action(number)), ['the load of the window of the frame inside.html', 'the resize at the window of the frame inside.html', 'the message posted at app.3f9a2b71.js:3']);
+});
+
+test('which run it is, in words', async () => {
+  const timers = Array.from({ length: 23 }, (none, k) => k + 1);
+  const text = ['webtrace 3', 'parse 0 2 inline', 'exec 2', ...timers.map((k) => `set ${k} 0`), ...timers.map((k) => `timer ${k}`), ''].join('\n');
+  const words = new Words({ ...NAMES, timeouts: Object.fromEntries(timers.map((k) => [k, { place: [1, 1, 1] }])) }, new Actions(text));
+  const [first, last] = words.actors({ actions: [12, 24], lines: [1, 1], modes: 'ww' }, 'variable');
+  assert.match(first, /^the 11th run of the timeout set at app/);
+  assert.match(last, /^the 23rd run of the timeout set at app/);
+});
+
 /** A button's handler is set by a timeout; three clicks at elements around it look for it. */
 const CLICKS = ['parse 0 1 plain', 'parse 0 2 plain', 'parse 0 3 inline', 'exec 3', 'set 1 0', 'timer 1', 'on 1', 'w slot 1 click/1',
   'fire 1 1 click', 'r slot 1 click/1', 'close 1', 'fire 2 2 click', 'r slot 1 click/1', 'close 2'];
@@ -121,6 +140,27 @@ test('the same value, overwriting replies, a flag that both ask', async () => {
   const flag = ['parse 0 1 async', 'parse 0 2 async', 'exec 1', 'r var 0 ready', 'w var 0 loaded', 'exec 2', 'r var 0 loaded', 'w var 0 ready'];
   const looks = await looksOf(flag, { values: { 5: 'false', 6: 'true', 8: 'true', 9: 'true' } });
   assert.deepStrictEqual(looks.map(([name]) => name), ['flag that both ask', 'flag that both ask']);
+});
+
+test('objects and closures: a use before the definition, a flag, a counter, the same value put back', async () => {
+  const at = (mode, name) => `${mode} var 3000000 ${name}`;
+  const lines = (first, second) => ['parse 0 1 async', 'parse 0 2 async', 'exec 1', ...first, 'exec 2', ...second];
+  const objects = { 3000000: { made: 'object', text: 'app' } };
+  const look = async (first, second, facts) => (await looksOf(lines(first, second), { objects, ...facts })).map(([name]) => name);
+  assert.deepStrictEqual(await look([at('w', 'x')], [at('r', 'x')], { values: { 5: 'o' }, befores: { 5: '-' } }), ['use before definition']);
+  assert.deepStrictEqual(await look([at('r', 'x')], [at('w', 'x')], { values: { 7: 'o' }, befores: { 7: 'null' } }), ['use before definition']);
+  assert.deepStrictEqual(await look([at('w', 'x')], [at('r', 'x')], { values: { 5: 'o' }, befores: { 5: 'o' } }), ['other']);
+  assert.deepStrictEqual(await look([at('w', 'x')], [at('r', 'x')], { values: { 5: 'o' } }), ['other']);
+  assert.deepStrictEqual(await look([at('r', 'a'), at('w', 'b')], [at('r', 'b'), at('w', 'a')], { values: { 6: 'true', 9: 'true' }, befores: { 6: 'false', 9: 'false' } }), ['flag that both ask', 'flag that both ask']);
+  assert.deepStrictEqual(await look([at('r', 'n'), at('w', 'n')], [at('r', 'n'), at('w', 'n')], { values: { 6: 'n1x1', 9: 'n1y1' }, befores: { 6: 'n1w1', 9: 'n1x1' }, counts: { 6: true, 9: true }, places: { 5: [1, 3, 1], 6: [1, 3, 1], 8: [1, 4, 1], 9: [1, 4, 1] } }), ['counter']);
+  assert.deepStrictEqual(await look([at('w', 'x')], [at('r', 'x')], { values: { 5: 'true', 7: 'true' }, befores: { 5: 'false' }, kept: { 7: true } }), ['same value']);
+});
+
+test('the first ticks of two intervals of one delay', async () => {
+  const lines = ['parse 0 1 inline', 'exec 1', 'every 1 50', 'every 2 50', 'tick 1', 'w var 0 x', 'tick 2', 'w var 0 x'];
+  const intervals = { 1: { why: 'setInterval' }, 2: { why: 'setInterval' } };
+  assert.deepStrictEqual((await looksOf(lines, { intervals }))[0], ['first ticks of intervals', 'the first ticks of two intervals of 50 ms, which come in the order in which they were set']);
+  assert.strictEqual((await looksOf(lines.map((line) => line.replace('every 2 50', 'every 2 40')), { intervals }))[0][0], 'other');
 });
 
 test('two acts of a user stand at the end', async () => {

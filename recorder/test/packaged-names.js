@@ -1,23 +1,50 @@
 #!/usr/bin/env node
 'use strict';
-// packaged-names.js FOLDER: of pages that were recorded several times, FOLDER/PAGE/RUN/page.trace with page.json (the program's report) beside it,
-// how many names of races and problems are the same in all runs, how many lines the list has, and what they look like.
+// packaged-names.js [--record N] FOLDER [PACKAGE..]: of pages that were recorded several times, FOLDER/PAGE/RUN/page.trace, what the list is worth: lines before
+// and after folding, the share of places outside of libraries, how many names are the same in all runs, and what the races look like. With --record the
+// pages of packaged.json are recorded before, N times each.
 
 const fs = require('node:fs');
 const path = require('node:path');
+const { Listing } = require('../list/listing.js');
+const { placesOf } = require('../list/places.js');
 const { Problems } = require('../list/problems.js');
+const { LOOKS } = require('../list/looks.js');
+const { judgeWithin } = require('../view/within-limits.js');
+const { run } = require('./cleanup.js');
 
-function read(folder) {
-  const report = JSON.parse(fs.readFileSync(path.join(folder, 'page.json'), 'utf8'));
-  if (report.refused) throw new Error(`${folder}: refused`);
-  const names = JSON.parse(fs.readFileSync(path.join(folder, 'page.names.json'), 'utf8'));
-  return new Problems(fs.readFileSync(path.join(folder, 'page.trace'), 'utf8'), names, report);
+const RECORD = path.join(__dirname, '..', '..', 'er_record');
+const LONGEST_RUN = 120000;
+
+async function record({ page, root = '/usr/share', words }, folder) {
+  fs.mkdirSync(folder, { recursive: true });
+  const file = path.join(folder, 'page.trace');
+  const { status, stderr } = await run(RECORD, [page, file, '--root', root, ...words], { longest: LONGEST_RUN });
+  fs.writeFileSync(path.join(folder, 'page.log'), stderr);
+  if (status !== 0) throw new Error(`${page}: status ${status}: ${stderr}`);
 }
+
+async function recordAll(times, folder, only) {
+  const pages = JSON.parse(fs.readFileSync(path.join(__dirname, 'packaged.json'), 'utf8'));
+  for (const one of pages.filter(({ package: name }) => !only.length || only.includes(name))) {
+    if (!fs.existsSync(one.page.replace(/\?.*$/, ''))) console.log(`${one.package}: not installed`);
+    else for (let k = 1; k <= times; k++) await record(one, path.join(folder, one.package, String(k)));
+  }
+}
+
+async function read(folder) {
+  const file = path.join(folder, 'page.trace');
+  const { report, fault } = await judgeWithin(file);
+  if (fault || report.refused) throw new Error(`${folder}: ${fault || report.refused.cause}`);
+  return new Problems(fs.readFileSync(file, 'utf8'), JSON.parse(fs.readFileSync(path.join(folder, 'page.names.json'), 'utf8')), report);
+}
+
+// ---- what is measured
 
 function share(sets) {
   const all = new Set(sets.flatMap((one) => [...one]));
   const equal = [...all].filter((name) => sets.every((one) => one.has(name)));
-  return { text: `${equal.length} of ${all.size}`, others: [...all].filter((name) => !equal.includes(name)) };
+  return { equal: equal.length, all: all.size, others: [...all].filter((name) => !equal.includes(name)) };
 }
 
 /** A problem in words alone: no numbers, and its sides in one order. */
@@ -28,33 +55,90 @@ function plainWords({ words }) {
 
 /** Names that are not in all runs though the problem is, in words: those that do not last. */
 function lost(runs, names) {
-  const wordsOf = runs.map((run) => new Set(run.list.map(plainWords)));
+  const wordsOf = runs.map((one) => new Set(one.list.map(plainWords)));
   const problemOf = (name) => runs.flatMap(({ list }) => list).find((one) => one.name === name);
   return names.filter((name) => wordsOf.every((words) => words.has(plainWords(problemOf(name)))));
 }
 
-function tell(page, runs) {
-  const races = share(runs.map((run) => new Set(run.ofRaces.map(({ name }) => name))));
-  const problems = share(runs.map((run) => new Set(run.list.map(({ name }) => name))));
-  const [first] = runs;
-  const looks = first.list.map(({ look }) => look.name);
-  const counts = [...new Set(looks)].map((name) => `${looks.filter((one) => one === name).length} ${name}`).join(', ');
-  console.log(`${page}: races ${races.text}, problems ${problems.text} equal in ${runs.length} runs (of the others ${lost(runs, problems.others).length} came in all by their words); ${first.report.races.length} races, ${first.report.groups.length} groups, ${first.lines().length} lines; ${counts}`);
-  for (const name of problems.others) {
-    const at = runs.findIndex((run) => run.list.some((one) => one.name === name));
-    const one = runs[at].list.find((some) => some.name === name);
-    console.log(`  ${name} in ${runs.map((run, k) => (run.list.some((some) => some.name === name) ? k + 1 : '-')).join(' ')}: ${one.words}`);
+/** Of the two places of each race: how many stand in the page's own code, in a library, nowhere; and how many are own by way of a library. */
+function countPlaces(problems, counts) {
+  const { names, actions } = problems.words;
+  problems.report.races.forEach((race, k) => placesOf(problems, k).forEach((place, side) => {
+    counts[!place ? 'none' : names.files[place[0]].isLibrary ? 'library' : 'own']++;
+    if (hasWay(actions.list[race.actions[side]], names)) counts.byWay++;
+  }));
+}
+
+/** Whether a library asked for an action in the place of the page's own code. */
+function hasWay({ words: [word, number, , handler] }, names) {
+  const facts = { timer: names.timeouts[number], tick: names.intervals[number], anim: names.intervals[number], run: names.handlers[handler] }[word];
+  return !!facts?.way;
+}
+
+function countLooks(problems, counts) {
+  problems.lines().forEach(({ look }) => { counts[look.name] = (counts[look.name] || 0) + 1; });
+}
+
+const inWords = (counts) => Object.values(LOOKS).filter(({ name }) => counts[name]).map(({ name }) => `${counts[name]} ${name}`).join(', ') || 'none';
+const percent = (part, all) => `${all ? Math.round((100 * part) / all) : 0} %`;
+
+/** The measures of one page. */
+function measure(runs) {
+  const places = { own: 0, library: 0, none: 0, byWay: 0 };
+  const looks = {};
+  runs.forEach((one) => countPlaces(one, places));
+  countLooks(runs[0], looks);
+  const problems = share(runs.map((one) => new Set(one.list.map(({ name }) => name))));
+  return {
+    races: runs[0].report.races.length,
+    groups: runs[0].report.groups.length,
+    problems: runs[0].lines().length,
+    lines: new Listing([runs[0]], null).told().length,
+    ofRaces: share(runs.map((one) => new Set(one.ofRaces.map(({ name }) => name)))),
+    ofProblems: problems,
+    lost: lost(runs, problems.others).length,
+    places,
+    looks,
+  };
+}
+
+function tell(name, { races, groups, problems, lines, ofRaces, ofProblems, lost: lostNames, places, looks }) {
+  console.log(`${name}: ${races} races, ${groups} groups, ${problems} problems, ${lines} lines; names equal in all runs: problems ${ofProblems.equal} of ${ofProblems.all}, races ${ofRaces.equal} of ${ofRaces.all}, `
+    + `and ${lostNames} that came in all by their words have another name; places: ${places.own} own (${places.byWay} by way of a library), ${places.library} in libraries, ${places.none} unknown; ${inWords(looks)}`);
+}
+
+function tellOthers(runs, names) {
+  for (const name of names) {
+    const one = runs.flatMap(({ list }) => list).find((some) => some.name === name);
+    console.log(`  ${name} in ${runs.map(({ list }, k) => (list.some((some) => some.name === name) ? k + 1 : '-')).join(' ')}: ${one.words}`);
     if (process.env.SITES) console.log(`    ${one.sites.join('\n    ')}`);
   }
 }
 
-function main([folder]) {
-  for (const page of fs.readdirSync(folder).sort()) {
+function tellAll(measures) {
+  const sum = (what) => measures.reduce((total, one) => total + what(one), 0);
+  const looks = {};
+  measures.forEach((one) => Object.entries(one.looks).forEach(([name, count]) => { looks[name] = (looks[name] || 0) + count; }));
+  const [own, library, none] = ['own', 'library', 'none'].map((kind) => sum(({ places }) => places[kind]));
+  console.log(`together: ${sum(({ races }) => races)} races, ${sum(({ groups }) => groups)} groups, ${sum(({ problems }) => problems)} problems, ${sum(({ lines }) => lines)} lines; `
+    + `problems ${sum(({ ofProblems }) => ofProblems.equal)} of ${sum(({ ofProblems }) => ofProblems.all)} equal, races ${sum(({ ofRaces }) => ofRaces.equal)} of ${sum(({ ofRaces }) => ofRaces.all)}, ${sum((one) => one.lost)} strayed; `
+    + `places outside of libraries ${percent(own, own + library + none)} (in libraries ${percent(library, own + library + none)}), ${sum(({ places }) => places.byWay)} by way of a library; ${inWords(looks)}`);
+}
+
+async function main(words) {
+  const times = words[0] === '--record' ? Number(words.splice(0, 2)[1]) : 0;
+  const [folder, ...only] = words;
+  if (times) await recordAll(times, folder, only);
+  const measures = [];
+  for (const page of fs.readdirSync(folder).filter((name) => !only.length || only.includes(name)).sort()) {
     const own = path.join(folder, page);
-    if (!fs.statSync(own).isDirectory()) continue;
-    const runs = fs.readdirSync(own).sort().map((run) => path.join(own, run)).filter((run) => fs.existsSync(path.join(run, 'page.json')) && fs.statSync(path.join(run, 'page.json')).size);
-    if (runs.length) tell(page, runs.map(read));
+    const runs = [];
+    for (const one of fs.readdirSync(own).sort()) runs.push(await read(path.join(own, one)));
+    measures.push(measure(runs));
+    tell(page, measures[measures.length - 1]);
+    tellOthers(runs, measures[measures.length - 1].ofProblems.others);
   }
+  tellAll(measures);
 }
 
 main(process.argv.slice(2));
