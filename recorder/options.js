@@ -16,7 +16,7 @@ URL is a web address, a file or a folder. With --attach the page is recorded tha
   --version 1|2|3   the version of the format (3)
   --depth globals|objects
                     what is recorded of scripts: global variables, or the properties of objects, closures, arrays, the page's tree too (objects)
-  --libraries NAMES the files of libraries, as a regular expression of their names; "none": what only they touch of objects and closures is left
+  --libraries NAMES the files of libraries, as a regular expression of their names, or "none": what only they touch of objects and closures is left
                     out (jquery, react and others)
   --keep            also accesses by which nothing can race, as to an object that one action alone touches
   --root DIR        the folder that is served, where URL is a file (the file's own folder)

@@ -83,8 +83,9 @@ class Listing {
     return [...lines.values()];
   }
 
+  /** All that stands in the style of an element is one. */
   locationOf({ run, first, races }) {
-    return this.runs[run].report.races[first ?? races[0]].location;
+    return this.runs[run].report.races[first ?? races[0]].location.replace(/ style(?:\.\S+)?$/, ' style');
   }
 
   knownLines() {

@@ -5,15 +5,11 @@ const path = require('node:path');
 const { pathToFileURL } = require('node:url');
 const { ORIGIN } = require('../browser/folder.js');
 
-/** The place of an access, else that of its action; null where none is known. */
+/** The place of an access, or that of its action; null where none is known. */
 function placesOf(problems, race) {
   const { words, report } = problems;
   const { lines, actions } = report.races[race];
-  return lines.map((line, k) => {
-    const action = words.actions.list[actions[k]];
-    const own = words.actions.list[action.first];
-    return words.placeOfLine(line) || words.placeOfLine(action.line) || words.placeOfLine(own.line) || placeOfElement(words, own);
-  });
+  return lines.map((line, k) => words.placeOfAccess(line, actions[k]) || placeOfElement(words, words.actions.list[words.actions.list[actions[k]].first]));
 }
 
 const placeOfElement = ({ names }, { words: [word, , element] }) => (word === 'parse' ? names.elements[element]?.place || null : null);

@@ -103,13 +103,20 @@ class Problems {
   }
 }
 
-/** The first few of a list; what all begin with is told once. */
+/** The first few of a list; the words with which all begin and end are told once. */
 function listed(texts) {
-  const some = texts.slice(0, MOST_TOLD);
-  const common = /^.* at (?=[^ ]+$)/.exec(some[0])?.[0];
-  const isCommon = common && some.every((text) => text.startsWith(common));
-  const told = isCommon ? common + some.map((text) => text.slice(common.length)).join(', ') : some.join(', ');
-  return texts.length > MOST_TOLD ? `${told}, ..` : `${told}.`;
+  const some = texts.slice(0, MOST_TOLD).map((text) => text.split(' '));
+  const shortest = Math.min(...some.map(({ length }) => length));
+  const countCommon = (wordAt, most) => {
+    let count = 0;
+    while (count < most && some.every((words) => wordAt(words, count) === wordAt(some[0], count))) count++;
+    return count;
+  };
+  const begin = countCommon((words, k) => words[k], shortest - 1);
+  const end = countCommon((words, k) => words[words.length - 1 - k], shortest - 1 - begin);
+  const middles = some.map((words) => words.slice(begin, words.length - end).join(' ')).join(', ');
+  const told = [...some[0].slice(0, begin), middles + (texts.length > MOST_TOLD ? ', ..' : ''), ...some[0].slice(some[0].length - end)].join(' ');
+  return told.endsWith('..') ? told : `${told}.`;
 }
 
 module.exports = { Problems };

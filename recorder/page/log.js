@@ -4,6 +4,8 @@ const LINES_A_BATCH = 200;
 const MILLISECONDS_A_BATCH = 100;
 const LONGEST_NAME = 255;
 const STACK_DEPTH = 16;
+/** The way from the page's own code through a library to what it asks for may be long. */
+const LONGEST_WAY = 64;
 const MOST_STACKS = 20000;
 /** Files that were made small say little to a reader, whoever wrote them. */
 const MINIFIED = /\.min\.m?js$/i;
@@ -50,9 +52,9 @@ const PAGE_ADDRESS = /^(?:https?|file|about|data|blob):/;
 /** Gives the calls of a stack in place of its text, which would cost many times as much. */
 const callsOfStack = (error, calls) => calls;
 
-function takeStack() {
+function takeStack(depth = STACK_DEPTH) {
   const { stackTraceLimit, prepareStackTrace } = Error;
-  Error.stackTraceLimit = STACK_DEPTH;
+  Error.stackTraceLimit = depth;
   Error.prepareStackTrace = callsOfStack;
   const { stack } = new Error();
   Error.stackTraceLimit = stackTraceLimit;

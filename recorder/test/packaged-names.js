@@ -60,11 +60,17 @@ function lost(runs, names) {
   return names.filter((name) => wordsOf.every((words) => words.has(plainWords(problemOf(name)))));
 }
 
-/** Of the two places of each race: how many stand in the page's own code, in a library, nowhere; and how many are own by way of a library. */
+/**
+ * Of the two sides of each race: for how many a place in the page's own code is told, that of the access or of its action; else one in a library, or none.
+ * `access` and `byWay` count how many are the access's own, and how many are told by way of a library.
+ */
 function countPlaces(problems, counts) {
-  const { names, actions } = problems.words;
+  const { words, words: { names, actions } } = problems;
   problems.report.races.forEach((race, k) => placesOf(problems, k).forEach((place, side) => {
-    counts[!place ? 'none' : names.files[place[0]].isLibrary ? 'library' : 'own']++;
+    const isOwn = place && !words.isOfLibrary(place);
+    counts[!place ? 'none' : isOwn ? 'own' : 'library']++;
+    const access = words.placeOfLine(race.lines[side]);
+    if (access && !words.isOfLibrary(access)) counts.access++;
     if (hasWay(actions.list[race.actions[side]], names)) counts.byWay++;
   }));
 }
@@ -84,7 +90,7 @@ const percent = (part, all) => `${all ? Math.round((100 * part) / all) : 0} %`;
 
 /** The measures of one page. */
 function measure(runs) {
-  const places = { own: 0, library: 0, none: 0, byWay: 0 };
+  const places = { own: 0, library: 0, none: 0, access: 0, byWay: 0 };
   const looks = {};
   runs.forEach((one) => countPlaces(one, places));
   countLooks(runs[0], looks);
@@ -104,7 +110,7 @@ function measure(runs) {
 
 function tell(name, { races, groups, problems, lines, ofRaces, ofProblems, lost: lostNames, places, looks }) {
   console.log(`${name}: ${races} races, ${groups} groups, ${problems} problems, ${lines} lines; names equal in all runs: problems ${ofProblems.equal} of ${ofProblems.all}, races ${ofRaces.equal} of ${ofRaces.all}, `
-    + `and ${lostNames} that came in all by their words have another name; places: ${places.own} own (${places.byWay} by way of a library), ${places.library} in libraries, ${places.none} unknown; ${inWords(looks)}`);
+    + `and ${lostNames} that came in all by their words have another name; places: ${places.own} own (${places.access} of the access itself, ${places.byWay} by way of a library), ${places.library} in libraries, ${places.none} unknown; ${inWords(looks)}`);
 }
 
 function tellOthers(runs, names) {
@@ -122,7 +128,7 @@ function tellAll(measures) {
   const [own, library, none] = ['own', 'library', 'none'].map((kind) => sum(({ places }) => places[kind]));
   console.log(`together: ${sum(({ races }) => races)} races, ${sum(({ groups }) => groups)} groups, ${sum(({ problems }) => problems)} problems, ${sum(({ lines }) => lines)} lines; `
     + `problems ${sum(({ ofProblems }) => ofProblems.equal)} of ${sum(({ ofProblems }) => ofProblems.all)} equal, races ${sum(({ ofRaces }) => ofRaces.equal)} of ${sum(({ ofRaces }) => ofRaces.all)}, ${sum((one) => one.lost)} strayed; `
-    + `places outside of libraries ${percent(own, own + library + none)} (in libraries ${percent(library, own + library + none)}), ${sum(({ places }) => places.byWay)} by way of a library; ${inWords(looks)}`);
+    + `places outside of libraries ${percent(own, own + library + none)} (of the access itself ${percent(sum(({ places }) => places.access), own + library + none)}), in libraries ${percent(library, own + library + none)}, by way of a library ${percent(sum(({ places }) => places.byWay), own + library + none)}; ${inWords(looks)}`);
 }
 
 async function main(words) {

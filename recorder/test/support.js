@@ -153,8 +153,10 @@ function codeOf(action, names) {
   const [word, , target, type] = action.words;
   const place = names.places[action.line];
   if (place) return `${word} ${place}`;
-  const { standsFor, source, place: own } = names.elements[word === 'exec' ? action.words[1] : target] || {};
-  return `${word.replace('inline', 'fire')} ${standsFor || source || own || target} ${type}`;
+  const number = word === 'exec' ? action.words[1] : target;
+  const { standsFor } = names.elements[number] || {};
+  const { source, tag, id, place: own } = names.elements[standsFor || number] || {};
+  return `${word.replace('inline', 'fire')} ${source || tag || number} ${id} ${own} ${type}`;
 }
 
 /** Who makes the two accesses of each race, in words; `isNumbered` where only their numbers tell them apart, and `isOneCode` where they are the same. */

@@ -12,7 +12,9 @@ class Actions {
     this.lines = text.split('\n');
     /** @type {Action[]} */
     this.list = [];
+    /** The action and the line in which a number is declared, by its word and itself. */
     this.declared = new Map();
+    this.declaredAt = new Map();
     this.begins = new Map();
     this.suspended = new Map();
     this.lines.forEach((line, k) => k > 0 && this.read(line.split(' '), k + 1));
@@ -20,13 +22,14 @@ class Actions {
 
   read(words, line) {
     if (BEGINS.has(words[0])) this.begin(words, line);
-    if (words[0] === 'parse' || words[0] === 'new') this.declare(`element ${words[2]}`);
-    if (words[3] === 'frame' && (words[0] === 'parse' || words[0] === 'new')) this.declare(`document ${words[4]}`);
-    if (NOTES.has(words[0])) this.declare(`${words[0]} ${words[1]}`);
+    if (words[0] === 'parse' || words[0] === 'new') this.declare(`element ${words[2]}`, line);
+    if (words[3] === 'frame' && (words[0] === 'parse' || words[0] === 'new')) this.declare(`document ${words[4]}`, line);
+    if (NOTES.has(words[0])) this.declare(`${words[0]} ${words[1]}`, line);
   }
 
-  declare(key) {
+  declare(key, line) {
     this.declared.set(key, this.list.length - 1);
+    this.declaredAt.set(key, line);
   }
 
   begin(words, line) {

@@ -97,14 +97,8 @@ class Model {
       common: this.commonOrigin(race.actions),
       group: race.group - 1,
       words: this.words.race(race),
-      places: race.lines.map((line, k) => this.excerpt(this.placeOfAccess(line, race.actions[k]))),
+      places: race.lines.map((line, k) => this.excerpt(this.words.placeOfAccess(line, race.actions[k]))),
     };
-  }
-
-  /** The place of an access, else that of its action. */
-  placeOfAccess(line, action) {
-    const own = this.actions.list[this.actions.list[action].first];
-    return this.words.placeOfLine(line) || this.words.placeOfLine(this.actions.list[action].line) || this.words.placeOfLine(own.line);
   }
 
   /** Notes the lines around a place; answers the key under which they stand. */

@@ -58,6 +58,17 @@ class Words {
     return this.names.places[line] || null;
   }
 
+  isOfLibrary([file]) {
+    return !!this.names.files[file]?.isLibrary;
+  }
+
+  /** The place to look at for an access: its own, or that of its action, where this one is in the page's own code and the other is a library's. */
+  placeOfAccess(line, number) {
+    const action = this.actions.list[number];
+    const known = [line, action.line, this.actions.list[action.first].line].map((one) => this.placeOfLine(one)).filter(Boolean);
+    return known.find((place) => !this.isOfLibrary(place)) || known[0] || null;
+  }
+
   // ---- things
 
   element(number) {
@@ -67,8 +78,13 @@ class Words {
     if (facts.tag === 'HTMLDocument') return 'the document';
     if (facts.tag === 'Window') return 'the window';
     if (!facts.tag) return facts.why || `element ${number}`;
-    const place = this.isApart && facts.place ? ` (${this.place(facts.place)})` : '';
+    const place = this.isApart ? this.inFile(this.placeOfElement(number)) : '';
     return facts.tag + (facts.id ? `#${facts.id}` : '') + (facts.field && !facts.id ? `[name=${facts.field}]` : '') + place;
+  }
+
+  /** The place of an element's tag, or of the code that made it. */
+  placeOfElement(number) {
+    return this.names.elements[number]?.place || this.placeOfLine(this.actions.declaredAt.get(`element ${number}`));
   }
 
   /** The document of a frame; nothing for the page's own. */
@@ -124,7 +140,7 @@ class Words {
     const action = this.actions.list[number];
     const [word, a, b, c] = action.words;
     switch (word) {
-      case 'parse': return `the parser at ${this.element(b)}${this.inFile(this.names.elements[b]?.place)}`;
+      case 'parse': return `the parser at ${this.element(b)}${this.isApart ? '' : this.inFile(this.names.elements[b]?.place)}`;
       case 'exec': return this.script(a);
       case 'timer': return this.timeout(this.names.timeouts[a]);
       case 'tick': case 'anim': return this.tick(a);
@@ -216,10 +232,9 @@ class Words {
    */
   actors({ lines, modes, actions }, kind) {
     const tell = () => [0, 1].map((k) => this.actor(actions[k], lines[k], kind, modes[k]));
-    const actors = tell();
-    if (actors[0] !== actors[1]) return actors;
-    const apart = this.apart(tell);
-    return apart[0] === apart[1] ? actors.map((words, k) => this.asNumbered(words, actions[k])) : apart;
+    const isAlike = () => this.action(actions[0]) === this.action(actions[1]);
+    if (!isAlike()) return tell();
+    return this.apart(isAlike) ? tell().map((words, k) => this.asNumbered(words, actions[k])) : this.apart(tell);
   }
 
   /** What is told with all that tells alike things apart. */
