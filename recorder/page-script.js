@@ -3,6 +3,7 @@
 
 const fs = require('node:fs');
 const path = require('node:path');
+const { ANSWERS, WITHOUT_ANSWER } = require('./instrument/marks.js');
 
 const FOLDER = path.join(__dirname, 'page');
 /** What the recorder uses of the window is taken before the page can put something else in its place (page/taken.js). */
@@ -22,8 +23,9 @@ function pageScript(handlerOwners, { depth, keepsAll, libraries, holds = null, f
   const files = order.map((name) => fs.readFileSync(path.join(FOLDER, `${name}.js`), 'utf8'));
   const lines = ["'use strict';", ...TAKES, `const HANDLER_OWNERS = ${JSON.stringify(handlerOwners)};`,
     `const DEPTH = ${JSON.stringify(depth)};`, `const KEEPS_ALL = ${!!keepsAll};`, `const LIBRARIES = ${libraries};`,
-    `const HOLDS = ${JSON.stringify(holds)};`, `const FIXED = ${JSON.stringify(fixed)};`, `const IS_DRIVEN = ${isDriven};`, ...files];
+    `const HOLDS = ${JSON.stringify(holds)};`, `const FIXED = ${JSON.stringify(fixed)};`, `const IS_DRIVEN = ${isDriven};`,
+    `const ANSWERS_OF_HELPERS = ${JSON.stringify(ANSWERS)};`, `const HELPERS_WITHOUT_ANSWER = ${JSON.stringify(WITHOUT_ANSWER)};`, ...files];
   return `(function (window) {\n${lines.join('\n')}\n})(window);\n//# sourceURL=__er-recorder`;
 }
 
-module.exports = { pageScript };
+module.exports = { pageScript, TAKES };

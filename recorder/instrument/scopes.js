@@ -109,6 +109,7 @@ class Scope {
 
   static ofFunction(parent, node) {
     const scope = Scope.ofCode(parent);
+    scope.madeAt = node.type === 'FunctionDeclaration' ? 0 : node.start;
     const { names } = scope;
     node.params.forEach((parameter) => addNames(parameter, names));
     if (node.type !== 'ArrowFunctionExpression') names.add('arguments');
@@ -124,6 +125,15 @@ class Scope {
   static ofCode(parent, names) {
     const scope = new Scope(parent, names);
     scope.code = scope;
+    /** Where it is made: 0 where it is there from the begin. */
+    scope.madeAt = 0;
+    return scope;
+  }
+
+  static ofStaticBlock(parent, { body }) {
+    const scope = Scope.ofCode(parent);
+    addHoistedOfAll(body, scope.names);
+    addLexical(body, scope.names);
     return scope;
   }
 

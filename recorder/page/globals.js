@@ -21,6 +21,9 @@ class Globals {
     }
     /** The values behind the last piece of code, by name. */
     this.values = new Map();
+    /** Variables that scripts declare and that are no properties of the window, by name; and that of each site, or null. */
+    this.lexicals = new Map();
+    this.cells = [];
     /** With objects, global variables are told as theirs are (variables.js). */
     this.holder = null;
     /** Names of properties that an enumeration of the window does not give. */
@@ -44,21 +47,40 @@ class Globals {
 
   read(name, site) {
     if (!this.recording.mayAccess()) return;
-    const isVariable = hasOwn(this.page.window, name);
+    const isVariable = hasOwn(this.page.window, name) || this.lexicals.has(name);
     if (isVariable && this.isRepeat(site)) return;
     if (this.builtins.has(name)) return;
     this.touch(name, READ, site);
     if (!isVariable) this.readNamedElement(name, site);
   }
 
+  /** A write that has happened, or is about to. */
   write(name, site) {
-    if (this.isDue(name, site)) this.touch(name, WRITE, site);
+    if (this.isDue(name, site)) this.touchWritten(name, site);
   }
 
   update(name, site) {
     if (!this.isDue(name, site)) return;
     this.touch(name, READ, site);
-    this.touch(name, WRITE, site);
+    this.touchWritten(name, site);
+  }
+
+  touchWritten(name, site) {
+    if (this.holder) this.stage(name, site);
+    else this.touch(name, WRITE, site);
+  }
+
+  /** A `let`, a `const` or a class at the top of a script has its value in a cell of its own, as no property of the window has it. */
+  noteValueAt(site, name, value) {
+    let cell = this.cells[site];
+    if (cell === undefined) cell = this.cells[site] = this.cellOf(name);
+    if (cell !== null) cell.now = value;
+  }
+
+  cellOf(name) {
+    if (hasOwn(this.page.window, name)) return null;
+    if (!this.lexicals.has(name)) this.lexicals.set(name, { now: MISSING });
+    return this.lexicals.get(name);
   }
 
   isDue(name, site) {
@@ -84,7 +106,9 @@ class Globals {
   /** The value of a variable, without a call of the page's code. */
   valueOf(name) {
     const descriptor = Object.getOwnPropertyDescriptor(this.page.window, name);
-    return descriptor && 'value' in descriptor ? descriptor.value : MISSING;
+    if (descriptor) return 'value' in descriptor ? descriptor.value : MISSING;
+    const cell = this.lexicals.get(name);
+    return cell === undefined ? MISSING : cell.now;
   }
 
   /** A write that was told is none that no mark saw. */

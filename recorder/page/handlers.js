@@ -4,7 +4,7 @@
 const OF_WINDOW = new Set(['load', 'error', 'blur', 'focus', 'resize', 'scroll', 'hashchange', 'popstate', 'beforeunload', 'unload', 'message',
   'messageerror', 'offline', 'online', 'pagehide', 'pageshow', 'storage', 'afterprint', 'beforeprint', 'languagechange', 'rejectionhandled',
   'unhandledrejection']);
-const MARKED = /^\/\*<\*\/;?__er\.handlerBegins\(/;
+const MARKED = /^(\v|\/\*<\*\/);?__er\.handlerBegins\(/;
 
 class Handlers {
   constructor(page) {

@@ -66,8 +66,7 @@ class Page {
   /** The page sees the texts of its functions without marks. */
   replaceToString() {
     replaceMethod(this.window.Function.prototype, 'toString', (native) => function toString() {
-      const text = native.call(replacedFunctions.get(this) || this);
-      return text.includes('__er') ? text.replace(/\u2005?\/\*<\*\/[^]*?\/\*>\*\//g, '') : text;
+      return withoutMarks(native.call(replacedFunctions.get(this) || this));
     });
   }
 }
@@ -79,13 +78,26 @@ function helpersOf(page) {
   const isOfElement = (element, name) => element && element.nodeType === 1
     && (name in element || name in page.document || (element.form && name in element.form));
   const read = (name, site) => globals.read(name, site);
-  const write = (name, site) => globals.write(name, site);
-  const update = (name, site) => globals.update(name, site);
-  const inHandler = (access) => (element, name, site) => { if (!isOfElement(element, name)) access(name, site); };
+  const write = (name, site, value) => {
+    globals.noteValueAt(site, name, value);
+    globals.write(name, site);
+    return value;
+  };
+  /** `change` is what an expression adds that answers the value before. */
+  const update = (name, site, result, change) => {
+    globals.noteValueAt(site, name, change === undefined ? result : result + (typeof result === 'bigint' ? BigInt(change) : change));
+    globals.update(name, site);
+    return result;
+  };
+  const inHandler = (access) => (element, name, site, ...values) => {
+    if (!isOfElement(element, name)) access(name, site, ...values);
+    return values[0];
+  };
   const ofObject = (access) => (object, name, site) => { if (object === window) access(name, site); return object; };
-  const ofModule = (modes) => (module, name, site) => {
-    if (!recording.mayAccess() || globals.isRepeat(site)) return;
+  const ofModule = (modes) => (module, name, site, value) => {
+    if (!recording.mayAccess() || globals.isRepeat(site)) return value;
     each(modes, (mode) => recording.accessNow(mode, `var ${module} ${spellName(name)}`, site));
+    return value;
   };
   return {
     ...(recording.objects ? recording.objects.helpers : {}),
@@ -93,6 +105,7 @@ function helpersOf(page) {
     r: read, w: write, u: update,
     rh: inHandler(read), wh: inHandler(write), uh: inHandler(update),
     ro: ofObject(read), wo: ofObject(write), uo: ofObject(update),
+    fo: (object, name, site, value) => { if (object === window) globals.write(name, site); return value; },
     rm: ofModule(['r']), wm: ofModule(['w']), um: ofModule(['r', 'w']),
     asked: (site) => scripts.importAsked(site),
     scriptBegins: (element, site, functions) => scripts.begins(element, site, functions),
@@ -107,20 +120,12 @@ function helpersOf(page) {
   };
 }
 
-/** The helpers of a document that is not recorded, whose scripts are marked all the same. */
+/** The helpers of a document that is not recorded, whose scripts are marked all the same: each answers one of its words. */
 function idleHelpers() {
-  const nothing = () => {};
-  const names = ['r', 'w', 'u', 'rh', 'wh', 'uh', 'rm', 'wm', 'um', 'asked', 'scriptBegins', 'scriptEnds', 'moduleBegins',
-    'moduleEnds', 'handlerBegins', 'handlerEnds', 'addressBegins', 'addressEnds'];
-  const helpers = Object.fromEntries(names.map((name) => [name, nothing]));
-  const same = (object) => object;
-  const key = (object, given) => given;
-  const value = (object, name, site, given) => given;
-  each('ro wo uo p q b g m n i e d o L'.split(' '), (name) => { helpers[name] = same; });
-  each('k l j h a c'.split(' '), (name) => { helpers[name] = key; });
-  each('v s F'.split(' '), (name) => { helpers[name] = nothing; });
-  each('x y'.split(' '), (name) => { helpers[name] = (scope, variable, site, before, result) => result; });
-  return { ...helpers, f: value, z: value, t: null };
+  const helpers = { t: null, __proto__: null };
+  each(HELPERS_WITHOUT_ANSWER.split(' '), (name) => { helpers[name] = () => {}; });
+  each(ANSWERS_OF_HELPERS, (names, k) => each(names.split(' '), (name) => { helpers[name] = (...words) => words[k]; }));
+  return helpers;
 }
 
 /** The recording of the page that a frame stands in, or null where it is of another origin. */

@@ -8,6 +8,7 @@ class Objects {
     this.variables = new Variables(recording, this.objectNames);
     this.properties = new Properties(this);
     this.collections = new Collections(this);
+    this.patterns = new Patterns(this);
     this.sites = new Sites(recording);
     this.trees = null;
     this.helpers = helpersOfObjects(this);

@@ -200,8 +200,8 @@ class Scripts {
   /** A link that a script made gets the same marks as one in the page's text. */
   markAddress(element) {
     const { natives } = this.page;
-    const found = /^\s*javascript:(?!\/\*<\*\/)([^]*)$/i.exec(natives.getAttribute.call(element, 'href') || '');
-    if (!found || /^%2F\*%3C\*/i.test(found[1])) return;
+    const found = /^\s*javascript:([^]*)$/i.exec(natives.getAttribute.call(element, 'href') || '');
+    if (!found || /^(\/|%2F)\*(<|%3C)\*|^(\v|%0B)/i.test(found[1])) return;
     let code = found[1];
     try {
       code = decodeURIComponent(code);

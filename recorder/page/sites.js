@@ -77,7 +77,7 @@ class Sites {
 }
 
 /** The helpers. What answers the object or the key stands around it in marked code. */
-function helpersOfObjects({ recording, sites, kinds, variables, properties, collections }) {
+function helpersOfObjects({ recording, sites, kinds, variables, properties, collections, patterns }) {
   const { objects: lastObjects, keys: lastKeys, items: lastItems } = sites;
   const { staged } = variables;
 
@@ -122,40 +122,51 @@ function helpersOfObjects({ recording, sites, kinds, variables, properties, coll
     if (lastObjects[site] === scope || scope === undefined) return;
     if (sites.isDue(scope, site)) variables.touchName(scope, name, READ, site);
   };
-  /** A pattern tells no values. */
-  const stageScope = (scope, variable, site, before, isKnown) => {
-    variables.stage(scope, variable, site, isKnown ? before : UNKNOWN);
-    lastKeys[site] = indexOfStaged(staged, variable);
-  };
-  /** `before` and `after` are the values of the variable, and `result` is that of the expression. */
-  const writeScope = (isUpdate) => (scope, name, site, before, result, after) => {
+  /** `before` and `after` are the values of the variable. */
+  const writeScope = (scope, name, site, isUpdate, before, after) => {
     if (lastObjects[site] !== scope) {
-      if (scope === undefined || !sites.isDue(scope, site)) return result;
+      if (scope === undefined || !sites.isDue(scope, site)) return;
       const variable = scope.variable(name);
       if (isUpdate) variables.touch(scope, variable, READ, site);
-      stageScope(scope, variable, site, before, before !== undefined || result !== undefined);
+      variables.stage(scope, variable, site, before);
+      lastKeys[site] = indexOfStaged(staged, variable);
     }
     staged[lastKeys[site]] = after;
-    return result;
   };
 
-  const whole = (visit) => (object, site) => {
+  const whole = (visit) => (object, site, shape) => {
     if (lastObjects[site] === object) return object;
-    if (sites.isDue(object, site) && !kinds.isLeftOut(object)) look(() => visit(object, site));
+    if (sites.isDue(object, site) && !kinds.isLeftOut(object)) look(() => visit(object, site, shape));
     return object;
+  };
+  /** `super.x` is a property of what is behind the object. */
+  const readPrototype = (object, name, site) => {
+    if (lastObjects[site] === object || !sites.isDue(object, site) || kinds.isLeftOut(object)) return;
+    const prototype = getPrototypeOf(object);
+    if (prototype !== null && !kinds.isLeftOut(prototype)) access(prototype, name, 'r', site);
   };
 
   const readByKey = byKey('r');
   const writeByName = byName('w');
-  const write = writeScope(false);
+  const writeByKey = byKey('w');
   return {
     p: byName('r'), q: writeByName, b: byName('u'), g: byName('d'),
-    k: readByKey, l: byKey('w'), j: byKey('u'), h: byKey('d'),
-    v: readScope, x: write, y: writeScope(true),
-    z: (scope, name, site, value) => write(scope, name, site, UNKNOWN, value, value),
+    k: readByKey, l: writeByKey, j: byKey('u'), h: byKey('d'),
+    v: readScope,
+    /** What reads a variable first is told with its values before and behind. */
+    y: (scope, name, site, before, result, after) => { writeScope(scope, name, site, true, before, after); return result; },
+    /** A write is told with its value and the one before, where they are known. */
+    z(scope, name, site, value, before) {
+      const { length } = arguments;
+      writeScope(scope, name, site, false, length > 4 ? before : UNKNOWN, length > 3 ? value : UNKNOWN);
+      return value;
+    },
     t: null,
     o: (object, key, site) => { readByKey(object, key, site); return object; },
     f: (object, name, site, value) => { writeByName(object, name, site); return value; },
+    fk: (object, key, site, value) => { writeByKey(object, key, site); return value; },
+    sp: readPrototype,
+    sk: (object, key, site) => { if (typeof key === 'string' || typeof key === 'number') readPrototype(object, `${key}`, site); return key; },
     s: (site, number) => {
       const scope = new Holder(SCOPE, site, null);
       if (number !== undefined) scope.number = number;
@@ -163,21 +174,18 @@ function helpersOfObjects({ recording, sites, kinds, variables, properties, coll
     },
     n: whole((object, site) => collections.enumerate(object, site)),
     e: whole((object, site) => collections.spread(object, site)),
-    i: whole((object, site) => collections.iterate(object, site)),
+    i: whole((object, site, shape) => (shape === undefined ? collections.iterate(object, site) : patterns.takeEach(object, site, patterns.shapeOf(shape)))),
+    d: whole((object, site, shape) => patterns.takeApart(object, site, patterns.shapeOf(shape))),
     L: (object, site) => {
       if (recording.mayAccess()) variables.keepFirsts(kinds.hold(object, site), site);
       return object;
     },
-    F: (scope, name, site) => {
+    F: (scope, name, site, value) => {
       if (scope !== undefined && recording.mayAccess()) variables.keep(scope, scope.variable(name), 'w', site, ' first');
+      return value;
     },
     c: (target, object, site) => {
       if (sites.isDue(object, site) && !kinds.isLeftOut(object)) look(() => collections.assign(target, object, site));
-      return object;
-    },
-    d(object, site) {
-      if (lastObjects[site] === object || !sites.isDue(object, site)) return object;
-      for (let k = 2; k < arguments.length; k++) access(object, arguments[k], 'r', site);
       return object;
     },
     m: (object, name, site) => {

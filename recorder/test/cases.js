@@ -30,7 +30,7 @@ exports.cases = [
     words: ['--depth', 'globals'],
     due: [
       'parse script defer', 'parse p#text plain', 'parse script defer', 'exec script', 'w fromShared', 'w mine',
-      'r #text', 'exec script', 'w fromSecond', 'r fromShared', 'dcl',
+      'r #text', 'exec script', 'r fromShared', 'w fromSecond', 'dcl',
     ],
   },
   {
@@ -104,19 +104,19 @@ exports.cases = [
   },
   {
     page: 'class-and-call.html',
-    due: ['exec script', 'w made', 'w Shop', 'r Shop', 'w Other', 'exec script', 'w seen', 'r Other'],
+    due: ['exec script', 'w made', 'w Shop', 'r Shop', 'w Other', 'exec script', 'r Other', 'w seen'],
   },
   {
     page: 'hidden-variables.html',
     due: [
-      'exec script', 'w three', 'w five', 'w one', 'w two', 'w four', 'exec script', 'w seen', 'r one', 'r two', 'r three', 'r five', 'w one',
+      'exec script', 'w three', 'w five', 'w one', 'w two', 'w four', 'exec script', 'r one', 'r two', 'r three', 'r five', 'w seen', 'w one',
     ],
     words: ['--depth', 'globals'],
   },
   {
     page: 'hidden-variables.html',
     due: [
-      'exec script', 'w one', 'w four', 'w five', 'w three', 'w two', 'exec script', 'w one', 'w four', 'w seen', 'r one', 'r two', 'r three', 'r five',
+      'exec script', 'w one', 'w four', 'w five', 'w three', 'w two', 'exec script', 'w one', 'w four', 'r one', 'r two', 'r three', 'r five', 'w seen',
     ],
   },
   {
@@ -143,6 +143,9 @@ exports.cases = [
   { page: 'tree-state.html', due: ['timer', 'r class of p#text', 'r content of p#text', 'timer', 'w class of p#text', 'w content of p#text'],
     races: ['class of p#text', 'content of p#text', 'style.color of p#text', 'title of p#text'] },
   { page: 'put-back.html', due: ['timer', 'timer'] },
+  { page: 'late-writes.html', never: ['w neverSet'], races: ['inVar', 'inLet', 'inClosure of the closure of store', 'parts of kept'] },
+  { page: 'late-writes-module.html', races: ['last'] },
+  { page: 'late-writes-module.html', words: ['--depth', 'globals'], races: ['last'] },
   { page: 'private-names.html', due: ['timer', 'r #n of this', 'timer', 'w #n of this'], races: ['#n of this'] },
   { page: 'late-plugin.html', due: ['timer', 'r hide of Box.prototype', 'timer', 'w hide of Box.prototype'], races: ['hide of Box.prototype'] },
   { page: 'await-and-write.html', due: ['timer', 'r data of state', 'reply', 'w last of the closure of ?', 'w data of state'],

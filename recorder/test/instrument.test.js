@@ -5,6 +5,7 @@ const assert = require('node:assert');
 const { test } = require('node:test');
 const { EditedText } = require('../instrument/edits.js');
 const { instrument } = require('../instrument/instrument.js');
+const { withoutMarks } = require('../instrument/marks.js');
 const { scanTags } = require('../instrument/html-scanner.js');
 const { warmUp, MINIFIED } = require('../instrument/warm-up.js');
 const { Sources } = require('../sources.js');
@@ -18,14 +19,13 @@ function marked(code, kind = 'script') {
   return new EditedText(code, result.edits);
 }
 
-const strip = (text) => text.replace(/\u2005?\/\*<\*\/[^]*?\/\*>\*\//g, '');
 
 /** The accesses of a piece of code, as it runs. */
 function accessesOf(code) {
   const seen = [];
-  const note = (mode) => (name) => { seen.push(`${mode} ${name}`); };
+  const note = (mode) => (name, site, value) => { seen.push(`${mode} ${name}`); return value; };
   const ofObject = (mode) => (object, name) => { seen.push(`${mode} ${name}`); return object; };
-  const helpers = { r: note('r'), w: note('w'), u: note('u'), ro: ofObject('r'), wo: ofObject('w'), uo: ofObject('u'), scriptBegins() {}, scriptEnds() {} };
+  const helpers = { r: note('r'), w: note('w'), u: note('u'), ro: ofObject('r'), wo: ofObject('w'), uo: ofObject('u'), fo: (object, name, site, value) => { seen.push(`w ${name}`); return value; }, scriptBegins() {}, scriptEnds() {} };
   new Function('__er', 'document', 'window', marked(code).text)(helpers, {}, {});
   return seen;
 }
@@ -49,21 +49,21 @@ const PIECES = [
 
 for (const code of PIECES) {
   test(`runs as before: ${code.slice(0, 40).replace(/\n/g, ' ')}`, () => {
-    assert.strictEqual(strip(marked(code).text), code);
+    assert.strictEqual(withoutMarks(marked(code).text), code);
     assert.doesNotThrow(() => accessesOf(code));
   });
 }
 
 test('accesses to global variables alone', () => {
   assert.deepStrictEqual(accessesOf('var a = 1; function f(a) { return a + b.c } a = typeof d; a++; var b = {}; f(a); String(a)'),
-    ['w a', 'w a', 'r d', 'u a', 'w b', 'r f', 'r a', 'r b', 'r a']);
+    ['w a', 'r d', 'w a', 'u a', 'w b', 'r f', 'r a', 'r b', 'r a']);
 });
 
 test('a module: its own variables, and those of the window', () => {
   const { text } = marked('import { a } from "./a.mjs";\nexport const own = a;\nwindow.shared = own;\nlet { x } = a; x++', 'module');
   assert.match(text, /__er\.wm\(2000000,"own"/);
   assert.match(text, /__er\.rm\(2000000,"own"/);
-  assert.match(text, /,"shared",\d+\)\)/);
+  assert.match(text, /__er\.fo\(window,"shared",\d+,/);
   assert.match(text, /__er\.um\(2000000,"x"/);
 });
 
@@ -71,13 +71,14 @@ test('marks at objects and closures stand around what they tell of', () => {
   const marks = (code) => {
     const { edits } = instrument(code, { kind: 'script', depth: 'objects', builtins: BUILTINS, site: () => 0 });
     const { text } = new EditedText(code, edits);
-    return text.replace(/\/\*[<>]\*\//g, '').replace(/^.*?currentScript,0,\[.*?\]\);/, '').replace(/;__er\.scriptEnds.*$/, '').replace(/,0\)/g, ')').replace(/\(__er\.r\("\w+"\),(\w+)\)/g, '$1');
+    return text.replace(/[\v\f]/g, '').replace(/^.*?currentScript,0,\[.*?\]\);/, '').replace(/;__er\.scriptEnds.*$/, '').replace(/,0\)/g, ')').replace(/\(__er\.r\("\w+"\),(\w+)\)/g, '$1');
   };
   assert.strictEqual(marks('a.b'), '__er.p(a,"b").b');
   assert.strictEqual(marks('a?.b.c?.d'), '__er.p(__er.p(a,"b")?.b.c,"d")?.d');
   assert.strictEqual(marks('new a.b()'), 'new (__er.p(a,"b").b)()');
   assert.strictEqual(marks('delete a.b'), 'delete __er.g(a,"b").b');
   assert.strictEqual(marks('function f(a, k) { a[k] = 1 }'), 'function f(a, k) { a[__er.l(a,k)] = 1 }');
+  assert.strictEqual(marks('function f(a) { a.b = g() }'), 'function f(a) { a.b = __er.f(a,"b",0,g()) }');
   assert.strictEqual(marks('f()[k]'), '(__er.t=f())[__er.k(__er.t,k)]');
   assert.strictEqual(marks('Math.max([1].length)'), 'Math.max([1].length)');
   assert.strictEqual(marks('function f() { let n = 0, m = 0; return () => n++ + m }'),
@@ -85,13 +86,13 @@ test('marks at objects and closures stand around what they tell of', () => {
 });
 
 test('a statement without a semicolon, where another one follows', () => {
-  assert.strictEqual(marked('b = a\na++').text.match(/;\/\*>\*\//g).length, 3); // the begin, the statement, the end
-  assert.strictEqual(marked('{ b = a }\nif (a) { b\n}').text.match(/;\/\*>\*\//g).length, 2);
+  assert.strictEqual(marked('b = a\na++').text.match(/;\f/g).length, 3); // the begin, the statement, the end
+  assert.strictEqual(marked('{ b = a }\nif (a) { b\n}').text.match(/;\f/g).length, 2);
 });
 
 test('code to mark before the page comes', () => {
   assert.doesNotThrow(warmUp);
-  assert.strictEqual(strip(marked(MINIFIED).text), MINIFIED);
+  assert.strictEqual(withoutMarks(marked(MINIFIED).text), MINIFIED);
 });
 
 test('text that is no JavaScript', () => {
@@ -102,8 +103,8 @@ test('places lead back to the original', () => {
   const code = 'var a = 1;\nfoo(a, bar);\n';
   const edited = marked(code);
   const line = edited.text.split('\n')[1];
-  assert.deepStrictEqual(edited.originalPlace(2, line.indexOf('bar/') + 1), { line: 2, column: 8 });
-  assert.deepStrictEqual(edited.originalPlace(2, line.indexOf(');/*<*/;') + 1), { line: 2, column: 11 });
+  assert.deepStrictEqual(edited.originalPlace(2, line.indexOf('bar\v') + 1), { line: 2, column: 8 });
+  assert.deepStrictEqual(edited.originalPlace(2, line.indexOf(');\v;') + 1), { line: 2, column: 11 });
 });
 
 test('a page: scripts, handlers, addresses, and what is dropped', () => {
@@ -111,11 +112,11 @@ test('a page: scripts, handlers, addresses, and what is dropped', () => {
   const page = '<p id=a onclick="n++; say(&quot;x&quot;)">\n<a href="javascript:go()">x</a><script integrity="sha" src=a.js></script>\n<script>\nvar n = 1 // <p>\n</script>\n<script type="application/json">{"a": 1}</script><!-- <script>x</script> -->';
   const text = sources.rewritePage('http://localhost/', page);
   assert.match(text, /handlerBegins\(this,event,&quot;click&quot;\)/);
-  assert.match(text, /javascript:%2F\*%3C\*%2F%3B__er\.addressBegins/);
+  assert.match(text, /javascript:%0B%3B__er\.addressBegins/);
   assert.ok(!text.includes('integrity'));
   assert.ok(text.includes('{"a": 1}'));
   assert.ok(text.includes('<!-- <script>x</script> -->'));
-  assert.match(text, /scriptEnds\(\);\/\*>\*\/ \/\/ <p>/);
+  assert.match(text, /scriptEnds\(\);\f \/\/ <p>/);
   assert.strictEqual(text.split('\n').length, page.split('\n').length);
   assert.deepStrictEqual([...sources.dropped], [['integrity attributes', 1]]);
   assert.deepStrictEqual(sources.nextTag('http://localhost/', 'a'), [0, 2, 1]);

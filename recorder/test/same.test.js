@@ -9,31 +9,41 @@ const vm = require('node:vm');
 const { test } = require('node:test');
 const { EditedText } = require('../instrument/edits.js');
 const { instrument } = require('../instrument/instrument.js');
+const { withoutMarks } = require('../instrument/marks.js');
+const { TAKES } = require('../page-script.js');
 const { pieces } = require('./pieces.js');
 
 const PAGE = path.join(__dirname, '..', 'page');
-const MARKS = /\u2005?\/\*<\*\/[^]*?\/\*>\*\//g;
 
-/** The helpers of page/objects.js, in a world, with a recording in which one action runs. */
-function helpersIn(context) {
-  const files = ['lists', 'natives', 'log', 'objects'].map((name) => fs.readFileSync(path.join(PAGE, `${name}.js`), 'utf8'));
-  return vm.runInContext(`(function (window) { 'use strict';
-    const { hasOwn } = Object;
-    const FIRST_FIELD = 1000000;
-    const KEEPS_ALL = true;
-    ${files.join('\n')}
-    const lines = [];
-    const recording = { actions: 1, isOver: false, mayAccess: () => true, log: { line: (text) => lines.push(text), name() {}, miss() {} }, next: () => 1 };
-    const objects = new Objects(recording);
-    objects.trees = { notePart: () => false, variableOf: () => null, call() {}, accessAttribute() {}, number: () => 1, isNode: () => false, valueOf: () => UNKNOWN };
-    window.Node = class {};
-    objects.addWindow({ window, globals: { read() {}, write() {}, update() {} } }, []);
-    const { toString } = Function.prototype;
-    Function.prototype.toString = function () { return toString.call(this).replace(${MARKS}, ''); };
-    const nothing = () => {};
-    return { ...objects.helpers, r: nothing, w: nothing, u: nothing, scriptBegins: nothing, scriptEnds: nothing, lines, act() { recording.actions++; objects.forget(); } };
-  })(globalThis)`, context);
+/** The recorder's files up to the helpers of objects. */
+function filesOfHelpers() {
+  const order = JSON.parse(fs.readFileSync(path.join(PAGE, 'order.json'), 'utf8'));
+  return order.slice(0, order.indexOf('objects') + 1).map((name) => fs.readFileSync(path.join(PAGE, `${name}.js`), 'utf8')).join('\n');
 }
+
+const HELPERS = `(function (window) { 'use strict';
+  ${TAKES.join('\n')}
+  const { hasOwn } = Object;
+  const FIRST_FIELD = 1000000;
+  const KEEPS_ALL = true;
+  const HOLDS = null;
+  ${filesOfHelpers()}
+  const nothing = () => {};
+  const lines = [];
+  const recording = { actions: 1, isOver: false, mayAccess: () => true, log: { line: (text) => lines.push(text), name() {}, miss() {} }, next: () => 1 };
+  const objects = new Objects(recording);
+  objects.addTrees({ addWindow() {}, notePart: () => false, variableOf: () => null, call() {}, accessAttribute() {}, number: () => 1, isNode: () => false, valueOf: () => UNKNOWN });
+  window.Node = class {};
+  objects.addWindow({ window, globals: { read() {}, write() {}, update() {}, valueOf: () => MISSING, noteValue() {} } });
+  const { toString } = Function.prototype;
+  Function.prototype.toString = function () { return withoutMarks(toString.call(this)); };
+  const third = (name, site, value) => value;
+  const act = () => { objects.settleWrites(); recording.actions++; objects.forget(); };
+  return { ...objects.helpers, r: nothing, w: third, u: third, scriptBegins: nothing, scriptEnds: nothing, lines, act };
+})(globalThis)`;
+
+/** The helpers, in a world, with a recording in which one action runs. */
+const helpersIn = (context) => vm.runInContext(HELPERS, context);
 
 /** What a piece of code tells with `say`, and how it ends. */
 async function outcome(code, isMarked, actions) {
@@ -47,7 +57,7 @@ async function outcome(code, isMarked, actions) {
     const result = instrument(code, { kind: 'script', depth: 'objects', builtins: new Set(['say', 'Math', 'Object']), site: () => sites++ });
     assert.strictEqual(result.fault, undefined);
     text = new EditedText(code, result.edits).text;
-    assert.strictEqual(text.replace(MARKS, ''), code);
+    assert.strictEqual(withoutMarks(text), code);
     if (actions) text = text.replace(/__er\.[pqbgkljhvxy]\(/g, (call) => call.replace('__er.', '__er.act(),__er.'));
   }
   try {

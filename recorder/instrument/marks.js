@@ -1,0 +1,43 @@
+'use strict';
+// What marks are made of: where they begin and end in a text, and what the calls in them answer.
+
+/** Two characters that count as blanks, and that hardly a script has. */
+const SHORT = { begin: '\v', end: '\f', behindSlash: '' };
+/** For a script that has one of them. Behind a `/` the mark's own `/` would begin a comment: a blank that no page writes stands between. */
+const LONG = { begin: '/*<*/', end: '/*>*/', behindSlash: '\u2005' };
+/** A mark, as page/natives.js has it too. */
+const MARKS = /\v[^\f]*\f|\u2005?\/\*<\*\/[^]*?\/\*>\*\//g;
+
+/** What the marks of a text stand between. */
+const delimitersOf = (text) => (/[\v\f]/.test(text) ? LONG : SHORT);
+
+const withoutMarks = (text) => text.replace(MARKS, '');
+
+/** A text as it stands in a mark. It ends neither the mark nor the script of a page. */
+const quote = (text) => JSON.stringify(text).replace(/\*\/|<[/!]/g, ([first, second]) => `${first}\\${second}`);
+/** The same for a text that has many quotation marks. */
+const quoteList = (list) => `'${quote(list).replace(/'/g, "\\'")}'`;
+
+/**
+ * Which of its words each call answers: the call stands around this word. A document that is not recorded, and a worker, have calls that
+ * do this alone.
+ */
+const ANSWERS = [
+  'ro wo uo p q b g m n i e d o L',
+  'k l j h a c sk',
+  'w u',
+  'wh uh wm um fo f fk z F',
+  'y',
+];
+const WITHOUT_ANSWER = 'r rh rm v s sp asked scriptBegins scriptEnds moduleBegins moduleEnds handlerBegins handlerEnds addressBegins addressEnds';
+
+const membersOf = (names, value) => names.split(' ').map((name) => `${name}:${value}`);
+
+/** A script may also be imported by a worker, in which there is no recorder: there its marks do nothing. */
+function idleCalls() {
+  const members = ANSWERS.flatMap((names, k) => membersOf(names, `$${k}`));
+  const functions = ANSWERS.map((names, k) => `$${k}=(${ANSWERS.slice(0, k + 1).map((one, n) => `a${n}`).join()})=>a${k}`);
+  return `globalThis.__er||(globalThis.__er=(()=>{const ${functions.join()},$=()=>{};return{${[...members, ...membersOf(WITHOUT_ANSWER, '$')].join()},t:0,__proto__:null}})());`;
+}
+
+module.exports = { delimitersOf, withoutMarks, quote, quoteList, ANSWERS, WITHOUT_ANSWER, IDLE: idleCalls() };
