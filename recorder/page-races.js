@@ -38,8 +38,8 @@ async function recordRun(given, traceFile, options, recorder, known) {
 
 /** The report is that of the trace as it is then: what the program can't take is left out of it. */
 async function judgeAndView(traceFile, known) {
-  const answer = await view(traceFile, 'er_page', known);
-  const { output } = await runProgram([], traceFile);
+  const [answer, told] = await Promise.all([view(traceFile, 'er_page', known), runProgram([], traceFile)]);
+  const { output } = answer.isRewritten ? await runProgram([], traceFile) : told;
   writeWhole(besides(traceFile, '.report'), output);
   return answer;
 }

@@ -42,9 +42,10 @@ function writeFiles(recorder, options, traceFile) {
   const { text, names, accesses, large, leftOut, cut } = readRun(recorder, options);
   fs.writeFileSync(traceFile, text);
   const recording = originOf(recorder, options, traceFile, text);
-  fs.writeFileSync(namesFile(traceFile), names.toJson({ page: recorder.given, trace: traceFile.replace(/^.*\//, ''), recording }));
+  const facts = { page: recorder.given, trace: traceFile.replace(/^.*\//, ''), recording, ...(large.length ? { leftOut: large } : {}) };
+  fs.writeFileSync(namesFile(traceFile), names.toJson(facts));
   const lines = accesses.lines();
-  for (const { location, accesses: count } of large) lines.push(`${location}, too large for a trace: ${count} accesses`);
+  for (const { location, accesses: count, pairs } of large) lines.push(`${location}, more than the program takes: ${count} accesses, ${pairs} pairs`);
   if (leftOut) lines.push(`parse steps in which nothing happened, left out for the limit on actions: ${leftOut}`);
   if (cut) lines.push(`records behind the limits on actions, accesses and lines, cut off: ${cut}`);
   return lines;
@@ -101,7 +102,7 @@ async function main(words) {
   try {
     options = parseOptions(words, NEWEST_VERSION, 2);
     if (options.isReplayed) throw new UsageFault('--replay and --race are options of er_page');
-    if (options.known || options.isJson || options.sarif || options.runs > 1) throw new UsageFault('--known, --json, --sarif and --runs are options of er_page');
+    if (options.known || options.countsActs || options.isJson || options.sarif || options.runs > 1) throw new UsageFault('--known, --acts, --json, --sarif and --runs are options of er_page');
   } catch (fault) {
     if (!(fault instanceof UsageFault)) throw fault;
     if (fault.message) console.error(`er_record: ${fault.message}`);

@@ -16,6 +16,8 @@ const { why } = require('./view/why.js');
 const USAGE = `usage: er_view OUT.trace [--why ACTION ACTION]
 Without --why it writes OUT.html. With it, it tells why the one action comes before the other, or that nothing says so.`;
 const STATUS = { usage: 2, noFile: 4, noView: 5 };
+/** Of a trace with more actions the program is not asked why these are ordered: each question takes as long as the report, seconds. */
+const MOST_TO_ASK = 8000;
 const NO_NAMES = { files: [], elements: {}, documents: {}, handlers: {}, timeouts: {}, intervals: {}, requests: {}, messages: {}, dispatches: {}, objects: {}, places: {} };
 
 const besides = (traceFile, ending) => traceFile.replace(/\.trace$/, '') + ending;
@@ -43,7 +45,7 @@ async function writeView(traceFile, report, known) {
   const names = readNames(traceFile);
   const model = new Model(report, names, new Actions(text.replace(/end\n$/, '')));
   const problems = new Problems(text, names, report);
-  const links = await linksBetween(traceFile, model.pairsToExplain());
+  const links = report.actions <= MOST_TO_ASK ? await linksBetween(traceFile, model.pairsToExplain()) : [];
   const built = model.build(links);
   const groups = built.groups.map((group, k) => ({ ...group, race: problems.leads[k] }));
   const shown = { ...built, groups, problems: new Listing([problems], known).problems.map(plainProblem), leftOut: problems.leftOut, question: `./er_view ${traceFile} --why` };
@@ -67,9 +69,9 @@ async function view(traceFile, name, known = null) {
     return { status };
   }
   const shown = await writeView(traceFile, report, known);
-  if (leftOut.length) console.error(`${name}: the program can't take so much: ${traceFile} is written again without the accesses to`);
-  shown.problems.leftOut.forEach((one) => console.error(`  ${one.words}: ${one.accesses} accesses, ${one.pairs} pairs`));
-  return { status, report, ...shown };
+  if (leftOut.length) console.error(`${name}: ${traceFile} is written again, since it had more than the program takes`);
+  shown.problems.leftOut.forEach((one) => console.error(`${name}: not judged: ${one.words}, with ${one.accesses} accesses and ${one.pairs} pairs`));
+  return { status, report, isRewritten: leftOut.length > 0, ...shown };
 }
 
 /** Tells why two actions are ordered. */

@@ -8,11 +8,13 @@ const { test } = require('node:test');
 const { run, temporaryFolder } = require('./cleanup.js');
 
 const TOP = path.join(__dirname, '..', '..');
-const PAGE = path.join(__dirname, 'pages', 'race-timeouts.html');
+const PAGES = path.join(__dirname, 'pages');
+const PAGE = path.join(PAGES, 'race-timeouts.html');
 const LIMIT = { timeout: 150000 };
 const LONGEST_RUN = 120000;
 const folder = temporaryFolder('build-test');
-const page = (...words) => run(path.join(TOP, 'er_page'), [PAGE, ...words], { cwd: folder, longest: LONGEST_RUN });
+const pageOf = (name, ...words) => run(path.join(TOP, 'er_page'), [path.join(PAGES, name), ...words], { cwd: folder, longest: LONGEST_RUN });
+const page = (...words) => pageOf('race-timeouts.html', ...words);
 const read = (name) => fs.readFileSync(path.join(folder, name), 'utf8');
 
 test('a build fails on a new race alone', LIMIT, async () => {
@@ -36,6 +38,44 @@ test('several runs are one list', LIMIT, async () => {
   assert.strictEqual(status, 1, stderr);
   assert.match(stdout, /^1\. .*\(seen in 2 of 2 runs/m);
   assert.ok(fs.existsSync(path.join(folder, 'race-timeouts.races', 'runs', '2.html')));
+});
+
+test('two acts of a user against each other fail no build unless it is asked for', LIMIT, async () => {
+  const words = ['two-buttons.html', '--do', 'click:#list', '--do', 'click:#table', '--known', 'acts'];
+  const plain = await pageOf(...words, '--write-known');
+  assert.strictEqual(plain.status, 0, plain.stderr);
+  assert.match(plain.stdout, /^-- another input, not another order\n1\. "mode" is written by the click handler at two-buttons\.html:5/m);
+  assert.strictEqual(read('acts').split('\n').filter((line) => line && !line.startsWith('#')).length, 0);
+  const asked = await pageOf(...words, '--acts');
+  assert.strictEqual(asked.status, 1, asked.stderr);
+});
+
+test('a page of more steps than the program takes', LIMIT, async () => {
+  const { status, stdout, stderr } = await pageOf('many-steps.html');
+  assert.strictEqual(status, 1, stderr);
+  assert.match(stderr, /^er_page: not judged: "steps", with \d{5} accesses and \d{9} pairs$/m);
+  assert.match(stdout, /^1\. "word" is written by the timeout soon set at many-steps\.html:6/m);
+  assert.match(read('many-steps.races/page.html'), /Not judged, since it is more than the program takes: the accesses to .*steps/);
+  assert.match(read('many-steps.races/page.report'), /^report 1$/m);
+});
+
+/** The job that docs/viewing.md has to copy. */
+const jobOfDocument = () => /^#!\/usr\/bin\/env bash\n[^`]*/m.exec(fs.readFileSync(path.join(TOP, 'docs', 'viewing.md'), 'utf8'))[0];
+
+test('the job that the document has', LIMIT, async () => {
+  const own = path.join(folder, 'job');
+  fs.mkdirSync(path.join(own, 'build'), { recursive: true });
+  fs.copyFileSync(PAGE, path.join(own, 'build', 'index.html'));
+  fs.writeFileSync(path.join(own, 'er_page'), `#!/bin/sh\nexec '${path.join(TOP, 'er_page')}' "$@"\n`, { mode: 0o755 });
+  const job = () => run('/bin/bash', ['-c', jobOfDocument()], { cwd: own, longest: LONGEST_RUN });
+  fs.writeFileSync(path.join(own, 'races.known'), '');
+  const fresh = await job();
+  assert.strictEqual(fresh.status, 1, fresh.stderr);
+  assert.match(fresh.stderr, /a new race: see races\.sarif/);
+  const { problems } = JSON.parse(fs.readFileSync(path.join(own, 'races.json'), 'utf8'));
+  fs.writeFileSync(path.join(own, 'races.known'), problems.map(({ name }) => `${name}\n`).join(''));
+  const again = await job();
+  assert.strictEqual(again.status, 0, again.stderr);
 });
 
 test('what is wrong is told before anything is recorded', LIMIT, async () => {

@@ -24,6 +24,12 @@ const DUE = {
   'isOpen of page, the object first used at race-put-back.html:8': ['other'],
 };
 
+/** What the objects and closures of look-objects.html look like, by the begin of their location. */
+const DUE_OF_OBJECTS = [
+  [/^render of app,/, 'use before definition'], [/^count of visits,/, 'counter'], [/^isReady of the closure of shop/, 'flag that both ask'],
+  [/^last of the closure of shop/, 'first ticks of intervals'], [/^name of app,/, 'same value'],
+];
+
 let browser;
 before(async () => { browser = await Chromium.launch({ width: 1100, height: 800 }); });
 after(async () => { await browser.close(); });
@@ -40,3 +46,14 @@ for (const { page, words, location } of cases) {
     assert.ok(DUE[location].includes(best[1].name), `${best[1].name}: ${best[1].seen}`);
   });
 }
+
+test('look-objects.html', { timeout: 150000 }, async () => {
+  const trace = await recordPage(browser, 'look-objects.html', []);
+  const report = await judgeText(trace.text);
+  const problems = new Problems(trace.text, JSON.parse(trace.names.toJson({})), report);
+  const found = report.races.map((race, k) => [problems.words.location(race.location).text, problems.ofRaces[k].look.name]);
+  for (const [location, look] of DUE_OF_OBJECTS) {
+    const looks = [...new Set(found.filter(([text]) => location.test(text)).map(([, name]) => name))];
+    assert.deepStrictEqual(looks, [look], `${location}: ${JSON.stringify(found)}`);
+  }
+});
