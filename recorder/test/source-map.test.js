@@ -45,9 +45,11 @@ test('of a stack in a bundle the first place outside of its libraries', async ()
   const sources = new Sources('globals');
   const [line] = sources.rewriteScript(address, 'var n=1;  f(1)\n//# sourceMappingURL=a.map').split('\n');
   await sources.readMaps(async () => JSON.stringify(MAP));
-  const at = (text) => `${address}:1:${line.indexOf(text) + 1}`;
-  const names = new Names(sources, [{ kind: 'stack', number: 1, places: [at('f/*'), at('n=/*')].join('\n') }], /^none$/);
-  names.addRecords([{ text: 'parse 0 1 inline' }, { text: 'exec 1' }, { text: 'set 1 0', place: at('f/*'), stack: '1' }]);
+  const [source] = sources.files;
+  /** The place in the marked copy that stands for a column of the original. */
+  const at = (column) => `${address}:1:${[...line].findIndex((sign, k) => source.edited.originalPlace(1, k + 1).column === column) + 1}`;
+  const names = new Names(sources, [{ kind: 'stack', number: 1, places: [at(11), at(5)].join('\n') }], /^none$/);
+  names.addRecords([{ text: 'parse 0 1 inline' }, { text: 'exec 1' }, { text: 'set 1 0', place: at(11), stack: '1' }]);
   const { places, ways, timeouts, files } = names.facts();
   const [own, way] = [places[4], ways[4]].map(([file, number]) => `${files[file].address}:${number}`);
   assert.deepStrictEqual([own, way], ['http://localhost/x/a.js:1', 'http://localhost/x/node_modules/b.js:3']);
