@@ -169,9 +169,12 @@ class ClosureInstrumenter extends GlobalInstrumenter {
 
   CatchClause(node, scope) {
     const inner = this.scopeOf(node, () => new Scope(scope, namesOfPattern(node.param)));
+    inner.isHidden = true;
+    this.visitPattern(node.param, inner);
+    inner.isHidden = false;
     const number = this.declaration(inner, 'let', node.start, '{');
     if (number) this.insert(node.body.start + 1, number);
-    super.CatchClause(node, scope);
+    this.visit(node.body, inner);
   }
 
   /** The variables of a loop's head are each iteration's own; what the head itself does with them is no access. */

@@ -1,7 +1,7 @@
 'use strict';
 // The walk over a tree of acorn's that marks the reads and writes of global variables (page/globals.js), and of a module's own.
 
-const { delimitersOf, quote } = require('./marks.js');
+const { delimitersOf, quote, LONG } = require('./marks.js');
 const { Scope, keysOf, isNode, namesOfPattern } = require('./scopes.js');
 
 /** Names by which scripts commonly reach the window; whether one does is asked when the code runs. */
@@ -76,6 +76,12 @@ class GlobalInstrumenter {
   tellFunction(node) {
     const name = this.nameOfFunction(node);
     if (name) this.options.named?.(node.start, node.end, name);
+    this.noteDelimiters(node);
+  }
+
+  /** In a text of its own blanks each function tells by an empty mark what its marks stand between. */
+  noteDelimiters({ body }) {
+    if (this.delimiters === LONG) this.insert(body.start, '');
   }
 
   insert(offset, text) {
@@ -380,6 +386,7 @@ class GlobalInstrumenter {
 
   visitClass(node, scope) {
     const inner = this.scopeOf(node, () => Scope.ofCode(scope, node.id ? [node.id.name] : []));
+    this.noteDelimiters(node);
     this.visitChildren(node, inner, node.id);
   }
 

@@ -3,15 +3,17 @@
 
 /** Two characters that count as blanks, and that hardly a script has. */
 const SHORT = { begin: '\v', end: '\f', behindSlash: '' };
-/** For a script that has one of them. Behind a `/` the mark's own `/` would begin a comment: a blank that no page writes stands between. */
-const LONG = { begin: '/*<*/', end: '/*>*/', behindSlash: '\u2005' };
-/** A mark, as page/natives.js has it too. */
-const MARKS = /\v[^\f]*\f|\u2005?\/\*<\*\/[^]*?\/\*>\*\//g;
+/** For a script that has one of them: two comments. Behind a `/` the mark's own `/` would begin another one, so a blank stands between. */
+const LONG = { begin: '/*\v\f<*/', end: '/*\v\f>*/', behindSlash: '\u2005' };
 
 /** What the marks of a text stand between. */
 const delimitersOf = (text) => (/[\v\f]/.test(text) ? LONG : SHORT);
 
-const withoutMarks = (text) => text.replace(MARKS, '');
+/** A text as it was; page/marks.js does the same. */
+function withoutMarks(text) {
+  if (text.includes(LONG.begin)) return text.replace(/\u2005?\/\*\v\f<\*\/[^]*?\/\*\v\f>\*\//g, '');
+  return text.replace(/\v[^\f]*\f/g, '');
+}
 
 /** A text as it stands in a mark. It ends neither the mark nor the script of a page. */
 const quote = (text) => JSON.stringify(text).replace(/\*\/|<[/!]/g, ([first, second]) => `${first}\\${second}`);
@@ -40,4 +42,4 @@ function idleCalls() {
   return `globalThis.__er||(globalThis.__er=(()=>{const ${functions.join()},$=()=>{};return{${[...members, ...membersOf(WITHOUT_ANSWER, '$')].join()},t:0,__proto__:null}})());`;
 }
 
-module.exports = { delimitersOf, withoutMarks, quote, quoteList, ANSWERS, WITHOUT_ANSWER, IDLE: idleCalls() };
+module.exports = { LONG, delimitersOf, withoutMarks, quote, quoteList, ANSWERS, WITHOUT_ANSWER, IDLE: idleCalls() };

@@ -4,7 +4,7 @@
 const OF_WINDOW = new Set(['load', 'error', 'blur', 'focus', 'resize', 'scroll', 'hashchange', 'popstate', 'beforeunload', 'unload', 'message',
   'messageerror', 'offline', 'online', 'pagehide', 'pageshow', 'storage', 'afterprint', 'beforeprint', 'languagechange', 'rejectionhandled',
   'unhandledrejection']);
-const MARKED = /^(\v|\/\*<\*\/);?__er\.handlerBegins\(/;
+const MARKED = /^(\v|\/\*\v\f<\*\/);?__er\.handlerBegins\(/;
 
 class Handlers {
   constructor(page) {
@@ -201,7 +201,7 @@ class Handlers {
   }
 
   markText(type, text) {
-    return `/*<*/__er.handlerBegins(this,event,${JSON.stringify(type)});try{/*>*/${text}/*<*/\n}finally{__er.handlerEnds()}/*>*/`;
+    return markIn(text, `__er.handlerBegins(this,event,${JSON.stringify(type)});try{`) + text + markIn(text, '\n}finally{__er.handlerEnds()}');
   }
 
   /** The handler of an attribute begins to run; its text calls this. */

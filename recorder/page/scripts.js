@@ -201,7 +201,7 @@ class Scripts {
   markAddress(element) {
     const { natives } = this.page;
     const found = /^\s*javascript:([^]*)$/i.exec(natives.getAttribute.call(element, 'href') || '');
-    if (!found || /^(\/|%2F)\*(<|%3C)\*|^(\v|%0B)/i.test(found[1])) return;
+    if (!found || /^((\/|%2F)\*)?(\v|%0B)/i.test(found[1])) return;
     let code = found[1];
     try {
       code = decodeURIComponent(code);
@@ -209,7 +209,7 @@ class Scripts {
       // a `%` that escapes nothing stands for itself
     }
     if (DOES_NOTHING.test(code)) return;
-    const marked = `/*<*/__er.addressBegins();try{/*>*/${code}/*<*/\n}finally{__er.addressEnds()}/*>*/`;
+    const marked = markIn(code, '__er.addressBegins();try{') + code + markIn(code, '\n}finally{__er.addressEnds()}');
     natives.setAttribute.call(element, 'href', `javascript:${encodeURIComponent(marked)}`);
   }
 

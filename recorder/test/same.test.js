@@ -12,6 +12,7 @@ const { instrument } = require('../instrument/instrument.js');
 const { withoutMarks } = require('../instrument/marks.js');
 const { TAKES } = require('../page-script.js');
 const { pieces } = require('./pieces.js');
+const { further } = require('./pieces-further.js');
 
 const PAGE = path.join(__dirname, '..', 'page');
 
@@ -36,55 +37,73 @@ const HELPERS = `(function (window) { 'use strict';
   window.Node = class {};
   objects.addWindow({ window, globals: { read() {}, write() {}, update() {}, valueOf: () => MISSING, noteValue() {} } });
   const { toString } = Function.prototype;
-  Function.prototype.toString = function () { return withoutMarks(toString.call(this)); };
+  Function.prototype.toString = { toString() { return withoutMarks(toString.call(this)); } }.toString;
   const third = (name, site, value) => value;
   const act = () => { objects.settleWrites(); recording.actions++; objects.forget(); };
-  return { ...objects.helpers, r: nothing, w: third, u: third, scriptBegins: nothing, scriptEnds: nothing, lines, act };
+  const first = (object) => object;
+  const fo = (object, name, site, value) => value;
+  return { ...objects.helpers, r: nothing, w: third, u: third, ro: first, wo: first, uo: first, fo, scriptBegins: nothing, scriptEnds: nothing, lines, act };
 })(globalThis)`;
 
 /** The helpers, in a world, with a recording in which one action runs. */
 const helpersIn = (context) => vm.runInContext(HELPERS, context);
 
-/** What a piece of code tells with `say`, and how it ends. */
-async function outcome(code, isMarked, actions) {
+/** How code is marked: the options of `instrument`, and whether each call of a helper comes in an action of its own. */
+const WAYS = {
+  'global variables': { depth: 'globals' },
+  objects: { depth: 'objects' },
+  'the whole recording': { depth: 'objects', keepsAll: true },
+  'an action for each access': { depth: 'objects', isApart: true },
+};
+
+const BEGINS_ACTION = /__er\.([pqbgkljhvyzdinem]|fk?)\(/g;
+
+function markedText(code, { isApart, ...options }) {
+  let sites = 0;
+  const result = instrument(code, { kind: 'script', builtins: new Set(['say', 'Math', 'Object']), site: () => sites++, ...options });
+  assert.strictEqual(result.fault, undefined);
+  const { text } = new EditedText(code, result.edits);
+  assert.strictEqual(withoutMarks(text), code);
+  return isApart ? text.replace(BEGINS_ACTION, (call) => call.replace('__er.', '(__er.act(),__er).')) : text;
+}
+
+/** What a piece of code tells with `say`, and how it ends; with marks in one of the WAYS. */
+async function outcome(code, way) {
   const said = [];
-  const context = vm.createContext({ say: (...words) => { said.push(words.map((word) => textOf(word)).join(' ')); } });
-  const helpers = helpersIn(context);
-  if (isMarked) context.__er = helpers;
-  let text = code;
-  if (isMarked) {
-    let sites = 0;
-    const result = instrument(code, { kind: 'script', depth: 'objects', builtins: new Set(['say', 'Math', 'Object']), site: () => sites++ });
-    assert.strictEqual(result.fault, undefined);
-    text = new EditedText(code, result.edits).text;
-    assert.strictEqual(withoutMarks(text), code);
-    if (actions) text = text.replace(/__er\.[pqbgkljhvxy]\(/g, (call) => call.replace('__er.', '__er.act(),__er.'));
-  }
+  const context = vm.createContext({ TextEncoder, say: (...words) => { said.push(words.map((word) => textOf(word)).join(' ')); } });
+  if (way) Object.defineProperty(context, '__er', { value: helpersIn(context), configurable: true });
   try {
-    vm.runInContext(text, context);
-    for (let k = 0; k < 20; k++) await null;
+    vm.runInContext(way ? markedText(code, way) : code, context);
+    for (let k = 0; k < 60; k++) await null;
   } catch (fault) {
-    said.push(`throws ${fault.name}: ${isMarked || true ? fault.message.replace(/^.*(?= is not (a function|iterable|a constructor))/, '') : ''}`);
+    if (fault.code === 'ERR_ASSERTION') throw fault;
+    said.push(`throws ${fault.name}: ${messageOf(fault.message)}`);
   }
   return said;
 }
 
+/** What a message says, without the code that some tell: that may have marks. */
+function messageOf(message) {
+  return message.replace(/^.*( is not (?:a function|iterable|a constructor)).*$/, '$1').replace(/^(Cannot destructure .*? of ').*(' as it is)/, '$1..$2');
+}
+
 function textOf(word) {
   if (typeof word === 'symbol' || typeof word === 'function') return typeof word === 'symbol' ? String(word) : `function ${word.name}`;
+  if (typeof word === 'string') return JSON.stringify(messageOf(word));
   if (typeof word === 'bigint') return `${word}n`;
   if (Object.is(word, -0)) return '-0';
   try {
-    return typeof word === 'object' || typeof word === 'string' ? JSON.stringify(word) : String(word);
+    return typeof word === 'object' ? JSON.stringify(word) : String(word);
   } catch {
     return 'object';
   }
 }
 
-for (const [name, code] of Object.entries(pieces)) {
+for (const [name, code] of Object.entries({ ...pieces, ...further })) {
   test(`the same: ${name}`, async () => {
-    const expected = await outcome(code, false);
+    const expected = await outcome(code);
     assert.ok(expected.length, 'it says something');
-    assert.deepStrictEqual(await outcome(code, true), expected);
+    for (const [marks, way] of Object.entries(WAYS)) assert.deepStrictEqual(await outcome(code, way), expected, marks);
   });
 }
 
@@ -93,7 +112,7 @@ test('the same: a whole program', async () => {
   const acorn = fs.readFileSync('/usr/share/nodejs/acorn/dist/acorn.js', 'utf8');
   const read = `for (const code of ${JSON.stringify(Object.values(pieces))}) say(module.exports.parse(code, { ecmaVersion: 2022, locations: true }))`;
   const code = `var exports = {}, module = { exports };\n${acorn}\n${read}`;
-  const expected = await outcome(code, false);
+  const expected = await outcome(code);
   assert.strictEqual(expected.length, Object.keys(pieces).length);
-  assert.deepStrictEqual(await outcome(code, true), expected);
+  assert.deepStrictEqual(await outcome(code, WAYS.objects), expected);
 });
