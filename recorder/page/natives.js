@@ -1,7 +1,7 @@
 // The browser's own functions, taken before any script of the page can change them.
 
 function takeNatives(window) {
-  const { Document, Element, Event, EventTarget, Node, Object, Promise } = window;
+  const { CharacterData, Document, Element, Event, EventTarget, Node, Object, Promise } = window;
   return {
     addEventListener: EventTarget.prototype.addEventListener,
     composedPath: Event.prototype.composedPath,
@@ -13,6 +13,8 @@ function takeNatives(window) {
     getAttributeNames: Element.prototype.getAttributeNames,
     remove: Element.prototype.remove,
     isConnected: Object.getOwnPropertyDescriptor(Node.prototype, 'isConnected').get,
+    firstChild: Object.getOwnPropertyDescriptor(Node.prototype, 'firstChild').get,
+    data: Object.getOwnPropertyDescriptor(CharacterData.prototype, 'data'),
     MutationObserver: window.MutationObserver,
     promise: Promise,
     then: Promise.prototype.then,

@@ -31,6 +31,8 @@ class Recording {
     this.elementNumbers = new WeakMap();
     this.declared = new Set();
     this.endedEvents = new WeakSet();
+    /** Texts of scripts whose marks were taken away, until the observer tells so. */
+    this.ownTexts = new WeakSet();
     this.steering = new Steering(natives, HOLDS);
     this.steering.start(this.log);
     /** The number of the user's act that the driver does now, or 0. */

@@ -1,5 +1,6 @@
 // Runs of scripts: what marked code calls at its begin and end.
 
+const TEXT = 3;
 const DOES_NOTHING = /^\s*(void\s*\(?\s*0\s*\)?)?\s*;?\s*$/;
 
 class Scripts {
@@ -19,6 +20,7 @@ class Scripts {
   /** `element` is null in a module that looks like a classic script, as one without imports. */
   begins(element, site, functions) {
     const { recording } = this;
+    if (element) this.showOwnText(element);
     if (recording.isOver) return;
     if (!element) {
       this.moduleBegins(placeOnStack().replace(/:\d+:\d+$/, ''), site);
@@ -32,6 +34,18 @@ class Scripts {
     this.writeRun(element, this.runnable(element), site);
     recording.enter('script');
     each(functions, ([name, place]) => this.page.globals.declare(name, place));
+  }
+
+  /** In the page a script has its text without marks: it has begun, and what it holds is not run again. */
+  showOwnText(element) {
+    const { firstChild, data } = this.page.natives;
+    const text = firstChild.call(element);
+    if (!text || text.nodeType !== TEXT) return;
+    const marked = data.get.call(text);
+    const own = withoutMarks(marked);
+    if (own === marked) return;
+    this.recording.ownTexts.add(text);
+    data.set.call(text, own);
   }
 
   writeRun(element, number, site) {

@@ -120,6 +120,7 @@ class Trees {
   // ---- changes
 
   noteChange({ target, type, attributeName, oldValue }) {
+    if (type === 'characterData' && this.recording.ownTexts.delete(target)) return; // what the recorder did (page/scripts.js)
     if (type === 'childList') this.write(target, CONTENT, UNKNOWN);
     else if (type === 'characterData') this.write(target.parentNode, CONTENT, UNKNOWN);
     else if (!isOther(attributeName)) this.write(target, attributeName, oldValue);

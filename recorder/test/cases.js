@@ -26,6 +26,10 @@ exports.cases = [
     races: ['#text'],
   },
   {
+    page: 'script-text.html',
+    due: ['w content of script#first', 'exec script#first', 'w count', 'r content of script#first', 'exec script#second', 'w count', 'timer', 'w count'],
+  },
+  {
     page: 'module.html',
     words: ['--depth', 'globals'],
     due: [
