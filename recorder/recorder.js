@@ -13,6 +13,7 @@ const { warmUp } = require('./instrument/warm-up.js');
 const { Sources } = require('./sources.js');
 const { Intake } = require('./trace/intake.js');
 const { pageScript } = require('./page-script.js');
+const { shown, withoutCommands } = require('./view/shown.js');
 
 const SIZE = { width: 1100, height: 800 };
 const POLL = 50;
@@ -205,7 +206,7 @@ class Recorder {
     tab.on('Runtime.bindingCalled', ({ name, payload }) => name === '__erSend' && this.take(payload));
     tab.on('Runtime.exceptionThrown', ({ exceptionDetails }) => this.errors.push(errorOf(exceptionDetails)));
     tab.on('Runtime.consoleAPICalled', ({ type, args }) => (type === 'error' || type === 'assert') && this.consoleErrors.push(textOf(args)));
-    tab.on('Page.javascriptDialogOpening', ({ type, message }) => this.dialogs.push(`${type}: ${message}`));
+    tab.on('Page.javascriptDialogOpening', ({ type, message }) => this.dialogs.push(`${type}: ${shown(message)}`));
     tab.on('Page.loadEventFired', () => { this.isLoaded = true; });
     if (this.answersDialogs()) tab.on('Page.javascriptDialogOpening', () => tab.send('Page.handleJavaScriptDialog', { accept: true }).catch(() => {}));
     tab.on('Inspector.targetCrashed', () => this.stop(new RecordingFault('the page crashed the browser', STATUS.noBrowser)));
@@ -362,11 +363,11 @@ class Recorder {
 
 /** An error's text has the code around it as the browser got it. */
 const withoutMarks = (text) => text.replace(/__er\.\w+\(\.\.\.\)/g, '…');
-const textOf = (values) => withoutMarks(values.map(({ value, description, type }) => (value !== undefined ? String(value) : description || type)).join(' ').split('\n')[0]).slice(0, 300);
+const textOf = (values) => withoutCommands(withoutMarks(values.map(({ value, description, type }) => (value !== undefined ? String(value) : description || type)).join(' ').split('\n')[0]).slice(0, 300));
 
 function errorOf({ exception, text, url, lineNumber }) {
   const message = (exception && exception.description ? exception.description.split('\n')[0] : text) || '';
-  return `${withoutMarks(message)} (${(url || '').replace(/^.*\//, '')}:${lineNumber + 1})`;
+  return `${shown(withoutMarks(message))} (${shown((url || '').replace(/^.*\//, ''))}:${lineNumber + 1})`;
 }
 
 module.exports = { Recorder, RecordingFault, numberOfAct, LETTERS_OF_ACT };

@@ -5,6 +5,7 @@ const fs = require('node:fs');
 const { RecordingFault } = require('../recorder.js');
 const { stoppable } = require('../stoppable.js');
 const { besides, writePage } = require('../view.js');
+const { withoutCommands } = require('../view/shown.js');
 const { Replay, verdictInWords, plain } = require('./replay.js');
 
 /** The number of the race by which a problem is told. */
@@ -36,7 +37,8 @@ async function replayRaces(recorder, options, traceFile, judged) {
   const replay = new Replay(recorder, options, traceFile, judged.report);
   const results = [];
   let status = 0;
-  const say = options.isJson ? console.error : console.log;
+  const print = options.isJson ? console.error : console.log;
+  const say = (line) => print(withoutCommands(line));
   say('Each run again in the other order:');
   try {
     const numbers = racesToReplay(options, judged.model, judged.listing);

@@ -2,6 +2,7 @@
 // Actions, locations and races in words, with the places in the page's source.
 
 const { SourceText } = require('../list/source-text.js');
+const { shown } = require('./shown.js');
 
 const FIRST_FIELD = 1000000;
 const FIRST_MODULE = 2000000;
@@ -39,7 +40,7 @@ class Words {
     const address = this.names.files[file]?.address || '';
     const parts = address.replace(/[?#].*$/, '').split('/');
     const name = parts[parts.length - 1];
-    return /^index\.(ts|js|mjs|tsx|jsx)$/.test(name) ? parts.slice(-2).join('/') : name || address;
+    return shown(/^index\.(ts|js|mjs|tsx|jsx)$/.test(name) ? parts.slice(-2).join('/') : name || address);
   }
 
   /** A place, with its column where its line is so long that a reader would not find it. */
@@ -79,7 +80,7 @@ class Words {
     if (facts.tag === 'Window') return 'the window';
     if (!facts.tag) return facts.why || `element ${number}`;
     const place = this.isApart ? this.inFile(this.placeOfElement(number)) : '';
-    return facts.tag + (facts.id ? `#${facts.id}` : '') + (facts.field && !facts.id ? `[name=${facts.field}]` : '') + place;
+    return shown(facts.tag + (facts.id ? `#${facts.id}` : '') + (facts.field && !facts.id ? `[name=${facts.field}]` : '')) + place;
   }
 
   /** The place of an element's tag, or of the code that made it. */
@@ -92,19 +93,19 @@ class Words {
     if (number === '0') return '';
     const { address } = this.names.documents[number] || {};
     const name = (address || '').replace(/[?#].*$/, '').replace(/^.*\/(?=[^/])/, '');
-    return name ? ` of the frame ${name}` : ` of frame ${number}`;
+    return name ? ` of the frame ${shown(name)}` : ` of frame ${number}`;
   }
 
   script(number) {
     const facts = this.names.elements[number] || {};
     if (facts.standsFor) return this.script(facts.standsFor);
-    if (facts.source) return `the script ${facts.source.replace(/[?#].*$/, '').replace(/^.*\//, '')}`;
+    if (facts.source) return `the script ${shown(facts.source.replace(/[?#].*$/, '').replace(/^.*\//, ''))}`;
     return `the script${this.at(facts.place)}`;
   }
 
   unescape(name) {
     const bytes = name.replace(/%([0-9A-F]{2})/g, (whole, digits) => String.fromCharCode(parseInt(digits, 16)));
-    return Buffer.from(bytes, 'latin1').toString('utf8');
+    return shown(Buffer.from(bytes, 'latin1').toString('utf8'));
   }
 
   /** @returns {{kind: 'variable'|'element'|'handler', text: string}} */
@@ -121,16 +122,16 @@ class Words {
 
   module(number) {
     const { module } = (this.names.objects || {})[number] || {};
-    return module ? `the module ${module.replace(/[?#].*$/, '').replace(/^.*\//, '')}` : 'a module';
+    return module ? `the module ${shown(module.replace(/[?#].*$/, '').replace(/^.*\//, ''))}` : 'a module';
   }
 
   /** An object is known by where it was first met, and a scope by its function. */
   object(number) {
     const { scope, text, made, name, place } = (this.names.objects || {})[number] || {};
     if (scope === '{') return `the block${this.at(place)}`;
-    if (scope !== undefined) return scope ? `the closure of ${scope}()${this.at(place)}` : `the closure of the function${this.at(place)}`;
-    const what = made === 'function' && name ? `the function ${name}` : `the ${made || 'object'}`;
-    const known = text ? `${text}, ${what}` : what;
+    if (scope !== undefined) return scope ? `the closure of ${shown(scope)}()${this.at(place)}` : `the closure of the function${this.at(place)}`;
+    const what = made === 'function' && name ? `the function ${shown(name)}` : `the ${shown(made || 'object')}`;
+    const known = text ? `${shown(text)}, ${what}` : what;
     return place ? `${known} first used${this.at(place)}` : known;
   }
 
@@ -166,7 +167,7 @@ class Words {
   /** A function that was bound has a name that says so. */
   named(facts) {
     const name = (facts?.function || '').replace(/^(?:bound )+/, '').trim();
-    return name ? ` ${name}` : '';
+    return name ? ` ${shown(name)}` : '';
   }
 
   timeout(facts) {
@@ -186,7 +187,7 @@ class Words {
 
   request(number) {
     const { address } = this.names.requests[number] || {};
-    return `the request${address ? ` for ${address.replace(/^.*\/(?=[^/])/, '')}` : ''}`;
+    return `the request${address ? ` for ${shown(address.replace(/^.*\/(?=[^/])/, ''))}` : ''}`;
   }
 
   reply(number) {
@@ -205,7 +206,7 @@ class Words {
     if (facts.type === 'job') return `the promise reaction${name}${this.at(facts.place)}`;
     const place = facts.place || this.names.elements[facts.target]?.place;
     const request = action.dispatch?.words[0] === 'reply' ? ` of ${this.request(action.dispatch.words[2])}` : '';
-    return `the ${facts.type || 'event'} handler${name}${request}${this.at(place, facts.way)}`;
+    return `the ${shown(facts.type || 'event')} handler${name}${request}${this.at(place, facts.way)}`;
   }
 
   // ---- races
