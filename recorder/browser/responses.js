@@ -2,7 +2,7 @@
 // Takes each response on its way (the protocol's Fetch domain): answers from a folder, marks pages and scripts, holds files back.
 
 const { BrowserFault } = require('./chromium.js');
-const { decodeText } = require('./text.js');
+const { readText } = require('./text.js');
 const { sleep } = require('./time.js');
 
 const PAGE_TYPE = /^text\/html\b/i;
@@ -42,6 +42,8 @@ class Responses {
     this.notFollowed = 0;
     this.hasPageBegun = false;
     this.failures = [];
+    /** The encoding of the page, where its copy is in another one: scripts that name none are in it. */
+    this.ofPage = null;
   }
 
   async start() {
@@ -169,8 +171,7 @@ class Responses {
   /** Answers a request; pages and scripts are marked before. */
   async fulfill(event, status, headers, type, bytes) {
     const isMarked = this.sources && status === 200 && this.isText(event, type);
-    const body = isMarked ? this.mark(event, type, bytes) : bytes;
-    const contentType = isMarked ? `${type.replace(/;.*$/, '') || 'text/javascript'}; charset=utf-8` : type;
+    const { body, type: contentType } = isMarked ? this.mark(event, type || 'text/javascript', bytes) : { body: bytes, type };
     await this.tab.send('Fetch.fulfillRequest', {
       requestId: event.requestId,
       responseCode: status,
@@ -179,12 +180,14 @@ class Responses {
     });
   }
 
+  /** The marked copy of a page or a script, and its content type: the browser reads it as it would have read the original. */
   mark(event, type, bytes) {
     const isPage = event.resourceType === 'Document';
-    const text = decodeText(bytes, type, isPage);
+    const { text, write, charset, label } = readText(bytes, type, isPage, isPage ? null : this.ofPage);
+    if (isPage && charset) this.ofPage = label;
     const address = event.request.url.replace(/#.*$/, '');
-    if (isPage) return Buffer.from(this.sources.rewritePage(address, text, this.steering?.insertions(address, text)));
-    return Buffer.from(this.sources.rewriteScript(address, text));
+    const marked = isPage ? this.sources.rewritePage(address, text, this.steering?.insertions(address, text)) : this.sources.rewriteScript(address, text);
+    return { body: write(marked), type: charset ? `${type.replace(/;.*$/, '')}; charset=${charset}` : type };
   }
 }
 

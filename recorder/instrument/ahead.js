@@ -1,7 +1,7 @@
 'use strict';
 // Marks the scripts that a page of this machine names while the browser starts, so that the page does not wait for them.
 
-const { decodeText } = require('../browser/text.js');
+const { readText } = require('../browser/text.js');
 const { scanTags, attributeOf, decodeValue } = require('./html-scanner.js');
 const { kindOfScript } = require('./page.js');
 
@@ -31,16 +31,17 @@ const isWhole = (answer) => answer !== null && answer.status === 200;
 
 /** The answers for the scripts that a page names and that stand in the same place as the page. */
 async function scriptsOf(page, place) {
-  const tags = scanTags(decodeText(page.body, page.type, true));
+  const { text, charset, label } = readText(page.body, page.type, true);
+  const tags = scanTags(text);
   const addresses = new Set(tags.map((tag) => addressOfScript(tag, page.address)).filter((address) => address && place.has(address)));
   const answers = await Promise.all([...addresses].map(async (address) => ({ address, ...await place.answer(address) })));
-  return answers.filter(isWhole);
+  return answers.filter(isWhole).map((answer) => ({ ...answer, ofPage: charset ? label : null }));
 }
 
 /** A script that can't be marked is tried again when the browser asks for it, and told then. */
-function isMarked(sources, { address, type, body }) {
+function isMarked(sources, { address, type, body, ofPage }) {
   try {
-    sources.rewriteScript(address, decodeText(body, type, false));
+    sources.rewriteScript(address, readText(body, type, false, ofPage).text);
     return true;
   } catch {
     return false;

@@ -18,7 +18,10 @@ function decodeValue(value) {
   return known ? text : null;
 }
 
-const encodeValue = (text) => `"${text.replace(/&/g, '&amp;').replace(/"/g, '&quot;')}"`;
+const codeOf = (sign) => (sign === '&' ? '&amp;' : sign === '"' ? '&quot;' : `&#${sign.codePointAt(0)};`);
+
+/** The value of an attribute as it stands in a page. Signs that do not stand in the original value may be none of the page's encoding. */
+const encodeValue = (text, original) => `"${text.replace(/[&"]|[^\x00-\x7f]/gu, (sign) => (sign > '\x7f' && original.includes(sign) ? sign : codeOf(sign)))}"`;
 
 class Scanner {
   constructor(html) {

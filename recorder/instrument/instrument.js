@@ -22,7 +22,8 @@ const isDirective = (statement) => statement.type === 'ExpressionStatement' && s
 
 /** Where the run's first call may stand: behind the directives, which count only at the begin. */
 function placeOfBegin(program, code) {
-  const directives = program.body.filter((statement, k) => program.body.slice(0, k + 1).every(isDirective));
+  const first = program.body.findIndex((statement) => !isDirective(statement));
+  const directives = first < 0 ? program.body : program.body.slice(0, first);
   if (directives.length) return directives[directives.length - 1].end;
   if (program.body.length) return program.body[0].start;
   return code.startsWith('#!') || code.includes('<!--') ? code.length : 0;

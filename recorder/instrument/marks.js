@@ -15,8 +15,9 @@ function withoutMarks(text) {
   return text.replace(/\v[^\f]*\f/g, '');
 }
 
-/** A text as it stands in a mark. It ends neither the mark nor the script of a page. */
-const quote = (text) => JSON.stringify(text).replace(/\*\/|<[/!]/g, ([first, second]) => `${first}\\${second}`);
+const spelled = (sign) => `\\u${sign.charCodeAt(0).toString(16).padStart(4, '0')}`;
+/** A text as it stands in a mark. It ends neither the mark nor the script of a page, and is the same in all encodings. */
+const quote = (text) => JSON.stringify(text).replace(/\*\/|<[/!]/g, ([first, second]) => `${first}\\${second}`).replace(/[\u007f-\uffff]/g, spelled);
 /** The same for a text that has many quotation marks. */
 const quoteList = (list) => `'${quote(list).replace(/'/g, "\\'")}'`;
 

@@ -109,7 +109,7 @@ class PageRewriter {
   }
 
   replace(attribute, text) {
-    this.edits.push({ start: attribute.start, end: attribute.end, insert: `${attribute.name}=${encodeValue(text)}` });
+    this.edits.push({ start: attribute.start, end: attribute.end, insert: `${attribute.name}=${encodeValue(text, attribute.value)}` });
   }
 }
 

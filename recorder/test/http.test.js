@@ -34,7 +34,7 @@ const ANSWERS = {
   '/source': [200, { 'content-type': 'text/html' }, '<!doctype html><script>var last; var source = new EventSource("stream"); source.onmessage = function onMessage(event) { last = event.data; };</script>'],
   '/start': [302, { location: '/page' }, ''],
   '/page': [200, { 'content-type': 'text/html; charset=iso-8859-1', 'content-security-policy': "script-src 'none'" }, PAGE],
-  '/code.js': [200, { 'content-type': 'text/javascript', 'content-encoding': 'gzip' }, zlib.gzipSync("var word = document.getElementById('caf\u00e9').textContent;\nif (word !== 'caf\u00e9') throw new Error(word);\n")],
+  '/code.js': [200, { 'content-type': 'text/javascript; charset=utf-8', 'content-encoding': 'gzip' }, zlib.gzipSync("var word = document.getElementById('caf\u00e9').textContent;\nif (word !== 'caf\u00e9') throw new Error(word);\n")],
 };
 
 const asked = [];
@@ -76,7 +76,7 @@ after(async () => {
 
 test('a page that is redirected, compressed, in another encoding, under a policy', { timeout: 150000 }, async () => {
   const trace = await recordPage(browser, `${origin}/start`);
-  const due = ['parse p#caf\u00e9 plain', 'parse script sync', 'exec script', 'w word', 'eload script', 'parse script sync', 'parse script inline', 'exec script', 'r word', 'dcl', 'load'];
+  const due = ['parse p#caf\u00e9 plain', 'parse script sync', 'exec script', 'w word', 'inline script load', 'parse script sync', 'parse script inline', 'exec script', 'r word', 'dcl', 'load'];
   assert.strictEqual(firstMissing(trace.readable, due), null, trace.readable.join('\n'));
   assert.ok(trace.lines.includes('w elem 0 caf%C3%A9'));
   assert.deepStrictEqual(trace.errors, []);

@@ -107,6 +107,19 @@ test('places lead back to the original', () => {
   assert.deepStrictEqual(edited.originalPlace(2, line.indexOf(');\v;') + 1), { line: 2, column: 11 });
 });
 
+test('marking takes time by the length of a script, also of one with many statements', () => {
+  const timeOf = (count) => {
+    const code = 'v = { a: 1 };\n'.repeat(count);
+    const begin = process.cpuUsage();
+    marked(code);
+    const { user, system } = process.cpuUsage(begin);
+    return user + system;
+  };
+  timeOf(3000);
+  const [short, long] = [timeOf(3000), timeOf(60000)];
+  assert.ok(long < 100 * short, `${short} and ${long} microseconds`);
+});
+
 test('a page: scripts, handlers, addresses, and what is dropped', () => {
   const sources = new Sources();
   const page = '<p id=a onclick="n++; say(&quot;x&quot;)">\n<a href="javascript:go()">x</a><script integrity="sha" src=a.js></script>\n<script>\nvar n = 1 // <p>\n</script>\n<script type="application/json">{"a": 1}</script><!-- <script>x</script> -->';
