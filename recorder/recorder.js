@@ -5,7 +5,7 @@ const { Chromium, BrowserFault } = require('./browser/chromium.js');
 const { Tab } = require('./browser/tab.js');
 const { Responses } = require('./browser/responses.js');
 const { resolveAddress } = require('./browser/folder.js');
-const { LocalServer } = require('./browser/local-server.js');
+const { LocalServer, ServerOfScript } = require('./browser/local-server.js');
 const { User } = require('./browser/user.js');
 const { sleep, within } = require('./browser/time.js');
 const { markAhead } = require('./instrument/ahead.js');
@@ -121,11 +121,12 @@ class Recorder {
     await this.options.whenOver?.(this);
   }
 
-  /** Source maps stand beside their scripts: in the folder, or on a web server of this machine. */
+  /** Source maps stand beside their scripts: in the folder, or on a web server of this machine. No other server is asked but the script's own. */
   async readMaps() {
     const places = [this.folder, new LocalServer()].filter(Boolean);
-    await this.sources.readMaps(async (address) => {
-      const answer = await places.find((one) => one.has(address))?.answer(address);
+    await this.sources.readMaps(async (address, script) => {
+      const place = places.find((one) => one.has(address)) || new ServerOfScript(script);
+      const answer = place.has(address) ? await place.answer(address) : null;
       return answer && answer.status === 200 ? answer.body.toString() : null;
     });
   }
@@ -354,6 +355,7 @@ class Recorder {
     const lines = Object.entries(this.intake.missed).map(([what, count]) => `${what}: ${count}`);
     for (const [what, count] of this.sources.missed) lines.push(`${what}, kept as they are: ${count}`);
     for (const [what, count] of this.sources.dropped) lines.push(`${what} dropped in the copy that the page sees: ${count}`);
+    for (const [what, count] of this.sources.leftOut) lines.push(`${what}: ${count}`);
     if (this.responses?.notFollowed) lines.push(`steps to another page not followed: ${this.responses.notFollowed}`);
     if (this.hasAnswered && !this.isUsed) lines.push('what came later: the recording ended before the page was quiet');
     if (this.windows) lines.push(`windows that the page opened, closed at once: ${this.windows}`);

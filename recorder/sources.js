@@ -107,6 +107,8 @@ class Sources {
     this.modules = [];
     this.dropped = new Map();
     this.missed = new Map();
+    /** What was left out of the names alone. */
+    this.leftOut = new Map();
   }
 
   count(counts, what) {
@@ -157,7 +159,7 @@ class Sources {
   async readMaps(read) {
     await Promise.all(this.files.filter(({ edited, isMapRead }) => edited && !isMapRead).map(async (source) => {
       source.isMapRead = true;
-      source.map = await readMap(source.text, source.address, read);
+      source.map = await readMap(source.text, source.address, (address) => read(address, source.address), (why) => this.count(this.leftOut, why));
     }));
   }
 

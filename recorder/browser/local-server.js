@@ -54,4 +54,30 @@ class LocalServer {
   }
 }
 
-module.exports = { LocalServer };
+/** The server that a script came from, for the map that this one names. */
+class ServerOfScript {
+  constructor(script) {
+    this.script = script;
+  }
+
+  has(address) {
+    try {
+      const { protocol, origin } = new URL(address);
+      return /^https?:$/.test(protocol) && origin === new URL(this.script).origin;
+    } catch {
+      return false; // no address
+    }
+  }
+
+  /** What it answers by itself; null where it names another place, or nothing comes in time. */
+  async answer(address) {
+    try {
+      const answer = await fetch(address, { redirect: 'error', signal: AbortSignal.timeout(LONGEST_ANSWER) });
+      return { address, status: answer.status, type: '', body: Buffer.from(await answer.arrayBuffer()) };
+    } catch {
+      return null;
+    }
+  }
+}
+
+module.exports = { LocalServer, ServerOfScript };

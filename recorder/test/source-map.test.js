@@ -5,6 +5,7 @@ const assert = require('node:assert');
 const { test } = require('node:test');
 const { SourceMap, readMap } = require('../trace/source-map.js');
 const { Sources } = require('../sources.js');
+const { ServerOfScript } = require('../browser/local-server.js');
 const { Names } = require('../trace/names.js');
 
 // The first line of the bundle has two segments: column 0 is a.js:1:1 `count`, column 10 is node_modules/b.js:3:5. The second line has none.
@@ -27,6 +28,50 @@ test('where a map stands', async () => {
   assert.strictEqual(await readMap('var a;\n//# sourceMappingURL=none.map', 'http://localhost/a.js', read), null);
   assert.strictEqual(await readMap('var a; // sourceMappingURL', 'http://localhost/a.js', read), null);
   assert.strictEqual(await readMap('var a;\n//# sourceMappingURL=a.map', 'http://localhost/x/a.js', async () => '{"version": 2}'), null);
+});
+
+test('maps of several parts', async () => {
+  const sections = [{ offset: { line: 0, column: 0 }, map: MAP }, { offset: { line: 1, column: 4 }, map: { ...MAP, sources: ['c.js'], sourcesContent: ['c'], mappings: 'AAAAA;AACA' } }];
+  const map = await readMap('x\n//# sourceMappingURL=a.map', 'http://localhost/a.js', async () => JSON.stringify({ version: 3, sections }));
+  assert.deepStrictEqual(map.sources, ['a.js', 'node_modules/b.js', 'c.js']);
+  assert.deepStrictEqual(map.texts, ['var count;', undefined, 'c']);
+  assert.deepStrictEqual(map.original(1, 11), { source: 1, line: 3, column: 5, name: undefined });
+  assert.deepStrictEqual(map.original(2, 5), { source: 2, line: 1, column: 1, name: 'count' });
+  assert.deepStrictEqual(map.original(3, 1), { source: 2, line: 2, column: 1, name: undefined });
+});
+
+test('maps that are left out are told', async () => {
+  const told = async (answer, name = 'a.map') => {
+    const why = [];
+    assert.strictEqual(await readMap(`x\n//# sourceMappingURL=${name}`, 'http://localhost/a.js', async () => answer, (one) => why.push(one)), null);
+    return why.join();
+  };
+  const of = (change) => JSON.stringify({ ...MAP, ...change });
+  assert.match(await told(null), /not among the page's files/);
+  assert.match(await told('<!doctype html>'), /no JSON/);
+  assert.match(await told(of({ version: 2 })), /no known version/);
+  assert.match(await told(of({ sources: 'a.js' })), /missing or is no such thing/);
+  assert.match(await told(of({ names: [1] })), /missing or is no such thing/);
+  assert.match(await told(of({ mappings: 'A A' })), /digit that is none/);
+  assert.match(await told(of({ mappings: ';'.repeat(17 * 1024 * 1024) })), /more than 16777216 characters/);
+  assert.match(await told(JSON.stringify({ version: 3, sections: [{ offset: { line: 0 }, map: MAP }] })), /missing or is no such thing/);
+  assert.match(await told(JSON.stringify({ version: 3, sections: [{ offset: { line: 0, column: 0 }, url: 'b.map' }] })), /missing or is no such thing/);
+  assert.match(await told('null'), /no known version/);
+  assert.match(await told('', 'data:application/json;base64,bm8='), /no JSON/);
+  assert.match(await told('', 'data:application/json,%E0%A4%A'), /can't be read/);
+});
+
+test('a map that names what it has not', () => {
+  const map = new SourceMap({ ...MAP, mappings: 'AAAAA,UEAA,UAFA,UADGD' }, '');
+  assert.strictEqual(map.original(1, 1).name, 'count');
+  for (const column of [12, 22, 32]) assert.doesNotThrow(() => map.original(1, column));
+  assert.strictEqual(map.original(1, 12), null);
+});
+
+test('which servers are asked for a map', () => {
+  const server = new ServerOfScript('https://cdn.example/x/a.js');
+  assert.ok(server.has('https://cdn.example/maps/a.js.map'));
+  for (const other of ['https://example/a.js.map', 'http://cdn.example/a.js.map', 'file:///etc/passwd', 'no address']) assert.ok(!server.has(other), other);
 });
 
 test('places of a bundle, and what is a library of it', async () => {
