@@ -5,7 +5,7 @@ const MILLISECONDS_A_BATCH = 100;
 const LONGEST_NAME = 255;
 const STACK_DEPTH = 16;
 /** The way from the page's own code through a library to what it asks for may be long. */
-const LONGEST_WAY = 64;
+const LONGEST_WAY = 32;
 const MOST_STACKS = 20000;
 /** Files that were made small say little to a reader, whoever wrote them. */
 const MINIFIED = /\.min\.m?js$/i;
