@@ -51,7 +51,6 @@ class Looks {
     this.values = names.values || {};
     this.befores = names.befores || {};
     this.kept = names.kept || {};
-    this.counts = names.counts || {};
     this.words = words;
     this.actions = words.actions;
     this.ofPairs = new Map();
@@ -163,10 +162,15 @@ class Looks {
 
   /** Whether a side counts a variable up, and nothing else: where it reads, that is the read of the count. */
   isCount({ lines, modes, location, actions }, k) {
-    if (modes[k] === 'w') return !!this.counts[lines[k]];
+    if (modes[k] === 'w') return this.isCountAt(lines[k]);
     const place = String(this.names.places[lines[k]]);
     const next = this.actions.list[actions[k] + 1]?.line ?? Infinity;
-    return (this.writesOf.get(location) || []).some((line) => line > lines[k] && line < next && this.counts[line] && String(this.names.places[line]) === place);
+    return (this.writesOf.get(location) || []).some((line) => line > lines[k] && line < next && this.isCountAt(line) && String(this.names.places[line]) === place);
+  }
+
+  isCountAt(line) {
+    const place = this.names.places[line];
+    return !!place && this.words.sources.isCount(place);
   }
 
   /** The first ticks of two intervals of one delay come in the order in which these were set, which no rule says. */

@@ -35,6 +35,15 @@ class SourceText {
     return this.names.functions?.[place.join(':')] || '';
   }
 
+  /** Whether a variable is counted up or down at a place, in a statement of its own: then nobody uses the value. */
+  isCount([file, line, column]) {
+    const text = this.linesOf(file)[line] || '';
+    const before = text.slice(0, column - 1);
+    const after = text.slice(column - 1);
+    if (/(?:^|[;{}])\s*(?:[\w$]+\.)*$/.test(before)) return /^[\w$]+\s*(?:\+\+|--)\s*(?:[;}]|$)/.test(after) || /^(?:\+\+|--)\s*[\w$.]+\s*(?:[;}]|$)/.test(after);
+    return /(?:^|[;{}])\s*(?:\+\+|--)\s*(?:[\w$]+\.)*$/.test(before) && /^[\w$]+\s*(?:[;}]|$)/.test(after);
+  }
+
   /** What stands at a place: its file, the function around it, and the text of its line. */
   at(place) {
     const [file, line, column] = place;

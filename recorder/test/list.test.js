@@ -9,6 +9,7 @@ const { Known } = require('../list/known.js');
 const { Listing } = require('../list/listing.js');
 const { linesOf } = require('../list/outputs.js');
 const { Problems } = require('../list/problems.js');
+const { SourceText } = require('../list/source-text.js');
 const { Actions } = require('../view/actions.js');
 const { Words } = require('../view/words.js');
 const { RULES } = require('../view/rules.js');
@@ -152,8 +153,16 @@ test('objects and closures: a use before the definition, a flag, a counter, the 
   assert.deepStrictEqual(await look([at('w', 'x')], [at('r', 'x')], { values: { 5: 'o' }, befores: { 5: 'o' } }), ['other']);
   assert.deepStrictEqual(await look([at('w', 'x')], [at('r', 'x')], { values: { 5: 'o' } }), ['other']);
   assert.deepStrictEqual(await look([at('r', 'a'), at('w', 'b')], [at('r', 'b'), at('w', 'a')], { values: { 6: 'true', 9: 'true' }, befores: { 6: 'false', 9: 'false' } }), ['flag that both ask', 'flag that both ask']);
-  assert.deepStrictEqual(await look([at('r', 'n'), at('w', 'n')], [at('r', 'n'), at('w', 'n')], { values: { 6: 'n1x1', 9: 'n1y1' }, befores: { 6: 'n1w1', 9: 'n1x1' }, counts: { 6: true, 9: true }, places: { 5: [1, 3, 1], 6: [1, 3, 1], 8: [1, 4, 1], 9: [1, 4, 1] } }), ['counter']);
+  assert.deepStrictEqual(await look([at('r', 'n'), at('w', 'n')], [at('r', 'n'), at('w', 'n')], { values: { 6: 'n1x1', 9: 'n1y1' }, befores: { 6: 'n1w1', 9: 'n1x1' }, files: [{ address: PAGE, text: 'n++;\nif (n++) go();\n{ app.n--; }\n' }], places: { 5: [0, 1, 1], 6: [0, 1, 1], 8: [0, 3, 7], 9: [0, 3, 7] } }), ['counter']);
   assert.deepStrictEqual(await look([at('w', 'x')], [at('r', 'x')], { values: { 5: 'true', 7: 'true' }, befores: { 5: 'false' }, kept: { 7: true } }), ['same value']);
+});
+
+test('where a variable is counted, and nobody uses the value', () => {
+  const lines = ['n++;', 'app.n--', '++n;', '{ ++app.n; }', 'if (n++) go();', 'x = n++;', '() => n++', 'for (;; n++) go();', 'n++, go();'];
+  const text = new SourceText({ files: [{ address: PAGE, text: lines.join('\n') }] });
+  const isCount = lines.map((line, k) => text.isCount([0, k + 1, line.search(/n(?![a-z])/) + 1]));
+  assert.deepStrictEqual(isCount, [true, true, true, true, false, false, false, false, false]);
+  assert.ok(text.isCount([0, 3, 1]));
 });
 
 test('the first ticks of two intervals of one delay', async () => {

@@ -36,7 +36,7 @@ after(async () => { await browser.close(); });
 
 for (const { page, words, location } of cases) {
   test(`${page} ${(words || []).join(' ')}`, { timeout: 150000 }, async () => {
-    const trace = await recordPage(browser, page, words);
+    const trace = await recordPage(browser, page, words, undefined, false);
     const report = await judgeText(trace.text);
     const problems = new Problems(trace.text, JSON.parse(trace.names.toJson({})), report);
     const looks = report.races.map((race, k) => [problems.words.location(race.location).text, problems.ofRaces[k].look]).filter(([text]) => text === location);
@@ -48,7 +48,7 @@ for (const { page, words, location } of cases) {
 }
 
 test('look-objects.html', { timeout: 150000 }, async () => {
-  const trace = await recordPage(browser, 'look-objects.html', []);
+  const trace = await recordPage(browser, 'look-objects.html', [], undefined, false);
   const report = await judgeText(trace.text);
   const problems = new Problems(trace.text, JSON.parse(trace.names.toJson({})), report);
   const found = report.races.map((race, k) => [problems.words.location(race.location).text, problems.ofRaces[k].look.name]);

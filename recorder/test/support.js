@@ -19,9 +19,9 @@ const { Words } = require('../view/words.js');
 const LONGEST_ANSWER = 60000;
 const PAGES = path.join(__dirname, 'pages');
 
-/** Records a page of pages/ in a browser that runs: all of it, and what the rules leave. */
-async function recordPage(browser, page, words = [], version = NEWEST_VERSION) {
-  const options = parseOptions([...words, '--keep', page], NEWEST_VERSION, 1);
+/** Records a page of pages/ in a browser that runs: all of it, and what the rules leave. With `isWhole` false it is recorded as a user does. */
+async function recordPage(browser, page, words = [], version = NEWEST_VERSION, isWhole = true) {
+  const options = parseOptions([...words, ...(isWhole ? ['--keep'] : []), page], NEWEST_VERSION, 1);
   const recorder = new Recorder(/^https?:/.test(page) ? page : path.resolve(PAGES, page), { ...options, browser });
   await recorder.record();
   return readTrace(recorder, version);
