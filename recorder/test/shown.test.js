@@ -26,6 +26,8 @@ test('words of a page with odd names', () => {
   const words = new Words(names, new Actions(trace));
   const told = [...words.actions.list.map(({ number }) => words.action(number)), words.location('var 3000001 %1B%0Ax').text, words.location('elem 0 %1B').text, words.location('slot 2 %1B').text, words.fileName(0)];
   assert.ok(told.length >= 10);
+  const asked = new Words({ ...names, requests: { 1: { address: 'http://localhost/data/list.json?from=/a/b#c/d' }, 2: { address: 'http://localhost/' } } }, new Actions(trace));
+  assert.deepStrictEqual([asked.request(1), asked.request(2)], ['the request for list.json?from=/a/b#c/d', 'the request for localhost/']);
   for (const text of told) {
     assert.match(text, /^[ -~…]+$/);
     assert.ok(text.length < 1000, text);

@@ -3,9 +3,10 @@
 
 const fs = require('node:fs');
 const path = require('node:path');
+const { withoutCommands } = require('./shown.js');
 
 const read = (name) => fs.readFileSync(path.join(__dirname, name), 'utf8');
-const escapeText = (text) => String(text).replace(/[&<>"']/g, (one) => `&#${one.charCodeAt(0)};`);
+const escapeText = (text) => withoutCommands(text).replace(/[&<>"']/g, (one) => `&#${one.charCodeAt(0)};`);
 /** JSON inside a script element: no tag can begin in it. */
 const escapeJson = (value) => JSON.stringify(value).replace(/[<>&\u2028\u2029]/g, (one) => `\\u${one.charCodeAt(0).toString(16).padStart(4, '0')}`);
 

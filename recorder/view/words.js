@@ -187,7 +187,7 @@ class Words {
 
   request(number) {
     const { address } = this.names.requests[number] || {};
-    return `the request${address ? ` for ${shown(address.replace(/^.*\/(?=[^/])/, ''))}` : ''}`;
+    return `the request${address ? ` for ${shown(address.replace(/^[^?#]*\/(?=[^/?#])/, ''))}` : ''}`;
   }
 
   reply(number) {
