@@ -12,6 +12,7 @@ import signal
 import subprocess
 import sys
 import tempfile
+import time
 from concurrent.futures import FIRST_COMPLETED, ThreadPoolExecutor, wait
 
 TOP = os.path.dirname(os.path.dirname(os.path.abspath(__file__)))
@@ -165,18 +166,24 @@ def move(source, target):
             os.rename(f"{source}/{name}", f"{target}/{name}")
 
 
+def hold(folder, name, tell):
+    """Waits until no other rt works in a crate."""
+    while True:
+        try:
+            return fcntl.flock(folder, fcntl.LOCK_EX | fcntl.LOCK_NB)
+        except BlockingIOError:
+            tell([], f"waiting for another rt to finish in crates/{name}")
+            time.sleep(1)
+
+
 @contextlib.contextmanager
-def held(names):
+def held(names, tell):
     """Keeps every other rt out of these crates, as rt itself does, and removes rooms that a killed run left."""
     with contextlib.ExitStack() as stack:
         for name in sorted(names):
             folder = os.open(f"{TOP}/crates/{name}", os.O_RDONLY)
             stack.callback(os.close, folder)
-            try:
-                fcntl.flock(folder, fcntl.LOCK_EX | fcntl.LOCK_NB)
-            except BlockingIOError:
-                print(f"waiting for another rt to finish in crates/{name}", file=sys.stderr, flush=True)
-                fcntl.flock(folder, fcntl.LOCK_EX)
+            hold(folder, name, tell)
             for room in glob.glob(f"{TOP}/crates/{name}/out/room-*"):
                 shutil.rmtree(room, ignore_errors=True)
         yield
@@ -209,14 +216,14 @@ class NotBuilt(Exception):
 
 
 def build_all(names, tell, keeps=False):
-    """Builds these crates, each once those below it are built, and first those with most to do behind them. Calls tell with those that are built and those in work, each second."""
+    """Builds these crates, each once those below it are built, and first those with most to do behind them. Calls tell with those that are built, and words for what is in work, each second."""
     lines, below = read_crates()
     behind = {}
     for name in sorted(names, key=lambda it: -len(below[it])):
         behind[name] = size_of(name) + max((behind[it] for it in behind if name in below[it]), default=0)
     left, built, running = sorted(names, key=lambda it: -behind[it]), [], {}
     most = lanes()
-    with held(names), workers(most) as pool:
+    with held(names, tell), workers(most) as pool:
         while left or running:
             free = most - sum(jobs for _, jobs in running.values())
             ready = [it for it in left if all(low in built for low in below[it])][:free]
@@ -231,4 +238,4 @@ def build_all(names, tell, keeps=False):
                 if not is_built:
                     raise NotBuilt(name, said)
                 built.append(name)
-            tell(built, [name for name, _ in running.values()])
+            tell(built, " ".join(name for name, _ in running.values()))

@@ -3,11 +3,15 @@
 
 const { parseEndpoint } = require('./browser/attached.js');
 
-const USAGE = `usage: er_record URL OUT.trace [options]
+const RECORD_USAGE = `usage: er_record URL OUT.trace [options]
    or: er_record --attach HOST:PORT OUT.trace [--time SECONDS] [--slow MS]
+   or: er_record --help | --version
 URL is a web address, a file or a folder. With --attach the page is recorded that the first tab of a running Chromium loads next
-(--remote-debugging-port), until its driver ends it or loads another one. HOST is this machine's: localhost, 127.0.0.1 or [::1]. Options:
-  --do ACTION       what a user does, in order: "click:SELECTOR", "type:SELECTOR:TEXT", "key:NAME", "wait:MS";
+(--remote-debugging-port), until its driver ends it or loads another one. HOST is this machine's: localhost, 127.0.0.1 or [::1]. Options:`;
+const PAGE_USAGE = `usage: er_page URL [options]
+   or: er_page --help | --version
+URL is a web address, a file or a folder. The page is recorded, its races told, and trace, names, report and view written into a folder. Options:`;
+const OPTIONS = `  --do ACTION       what a user does, in order: "click:SELECTOR", "type:SELECTOR:TEXT", "key:NAME", "wait:MS";
                     with "early " in front as soon as its target is there, else once the page is loaded
   --clicks N        then N clicks on what is in view, picked by the seed
   --seed N          (1)
@@ -19,10 +23,11 @@ URL is a web address, a file or a folder. With --attach the page is recorded tha
   --libraries NAMES the files of libraries, as a regular expression of their names, or "none": what only they touch of objects and closures is left
                     out (jquery, react and others)
   --keep            also accesses by which nothing can race, as to an object that one action alone touches
-  --root DIR        the folder that is served, where URL is a file (the file's own folder)
-  --raw             nothing is recorded: the page's own errors and times, to compare with`;
+  --root DIR        the folder that is served, where URL is a file (the file's own folder)`;
+/** What er_record takes besides. */
+const RAW_OPTION = "  --raw             nothing is recorded: the page's own errors and times, to compare with";
 /** What er_page takes besides. */
-const REPLAY_USAGE = `  --replay          runs the page again for the race of each line, with its two accesses in the other order, and tells what differs
+const REPLAY_OPTIONS = `  --replay          runs the page again for the race of each line, with its two accesses in the other order, and tells what differs
   --race K          the same for race K of the report; may stand several times
   --most N          at most so many races (20)
   --known FILE      problems whose names stand in the file are set apart; the status is 0 where no other is left
@@ -32,6 +37,7 @@ const REPLAY_USAGE = `  --replay          runs the page again for the race of ea
   --sarif FILE      writes the list as SARIF 2.1.0
   --runs N          records N times: one list, with how often each problem was seen; --seed and --clicks are others each time
   --live            random numbers and the clock are not the same in each run`;
+const USAGE = { er_record: `${RECORD_USAGE}\n${OPTIONS}\n${RAW_OPTION}`, er_page: `${PAGE_USAGE}\n${OPTIONS}\n${REPLAY_OPTIONS}` };
 
 /** Libraries by the names of their files, as `jquery-ui.min.js` and `react-dom.production.min.js`. */
 const LIBRARIES = new RegExp(`^(${['jquery', 'react', 'vue', 'angular', 'bootstrap', 'popper', 'underscore', 'lodash', 'backbone', 'prototype', 'effects', 'controls',
@@ -114,6 +120,16 @@ function actionOf(text) {
   return { isEarly: !!found[1], kind, target: rest.slice(0, cut), text: rest.slice(cut + 1), said: text };
 }
 
+/** Whether a word is to be a web address, and is none: no browser is asked for it. */
+function isNoAddress(word) {
+  if (!/^https?:/i.test(word)) return false;
+  try {
+    return !new URL(word).hostname;
+  } catch {
+    return true;
+  }
+}
+
 /** @param {number} versions the newest version that may be asked for */
 function parseOptions(words, versions, count) {
   const options = defaults();
@@ -124,6 +140,7 @@ function parseOptions(words, versions, count) {
     else options.words.push(word);
   }
   if (options.words.length !== count) throw new UsageFault('');
+  if (isNoAddress(options.words[0])) throw new UsageFault(`no web address: ${options.words[0]}`);
   options.version = options.version ?? versions;
   if (options.attach && (options.actions.length || options.clicks || options.isRaw)) throw new UsageFault('with --attach the driver acts: --do, --clicks and --raw do not go with it');
   if (options.writesKnown && !options.known) throw new UsageFault('--write-known takes --known FILE besides');
@@ -133,4 +150,4 @@ function parseOptions(words, versions, count) {
   return options;
 }
 
-module.exports = { parseOptions, UsageFault, USAGE, REPLAY_USAGE };
+module.exports = { parseOptions, UsageFault, USAGE };

@@ -9,14 +9,14 @@ const { Known, KnownFault } = require('./list/known.js');
 const { Listing } = require('./list/listing.js');
 const { writeOutputs } = require('./list/outputs.js');
 const { writeWhole, WriteFault } = require('./list/whole-file.js');
-const { parseOptions, UsageFault, USAGE, REPLAY_USAGE } = require('./options.js');
+const { parseOptions, UsageFault, USAGE } = require('./options.js');
 const { recordInto } = require('./record.js');
 const { Recorder } = require('./recorder.js');
-const { replayRaces } = require('./replay/command.js');
+const { canReplay, replayRaces } = require('./replay/command.js');
 const { withEnd, chance } = require('./replay/replay.js');
 const { stoppable, STOPPED } = require('./stoppable.js');
 const { NEWEST_VERSION } = require('./trace/spelling.js');
-const { runProgram } = require('./view/program.js');
+const { askAhead, endAsking, programState, runProgram, NO_PROGRAM } = require('./view/program.js');
 const { view, besides } = require('./view.js');
 
 const USAGE_STATUS = 2;
@@ -29,18 +29,11 @@ function folderFor(given) {
   return `${last.replace(/[^\w.-]+/g, '-')}.races`;
 }
 
-/** Records a page once. Answers the status where it ended early, and else what the program and the list say of it. */
-async function recordRun(given, traceFile, options, recorder, known) {
-  const recorded = await recordInto(given, traceFile, options, recorder);
-  if (recorded !== 0) return { status: recorded };
-  return stoppable(() => process.exit(STOPPED), () => judgeAndView(traceFile, known)); // a browser may still run
-}
-
 /** The report is that of the trace as it is then: what the program can't take is left out of it. */
 async function judgeAndView(traceFile, known) {
   const [answer, told] = await Promise.all([view(traceFile, 'er_page', known), runProgram([], traceFile)]);
   const { output } = answer.isRewritten ? await runProgram([], traceFile) : told;
-  writeWhole(besides(traceFile, '.report'), output);
+  if (output) writeWhole(besides(traceFile, '.report'), output);
   return answer;
 }
 
@@ -53,6 +46,31 @@ function fileOfRun(folder, k) {
 
 const folderOf = (given, options) => resolveAddress(given, options.root).folder;
 
+/** Records a page as often as is asked. Answers the traces of the runs before one that failed, and the status of that one. */
+async function recordRuns(given, folder, options, first) {
+  const files = [];
+  for (let k = 0; k < options.runs; k++) {
+    const own = { ...options, seed: options.seed + k, salt: k };
+    const file = fileOfRun(folder, k);
+    const status = await recordInto(given, file, own, k === 0 ? first : new Recorder(given, own));
+    if (status !== 0) return { files, failed: status };
+    files.push(file);
+  }
+  return { files, failed: 0 };
+}
+
+/** Has the runs judged, and writes their views. Answers what the program and the list say of each before one that was not judged, and the status of that one. */
+async function judgeRuns(files, known) {
+  await askAhead(files);
+  const runs = [];
+  for (const file of files) {
+    const run = await judgeAndView(file, known);
+    if (!run.model) return { runs, failed: run.status };
+    runs.push(run);
+  }
+  return { runs, failed: 0 };
+}
+
 async function pageRaces(given, options) {
   const known = options.known ? Known.readFile(options.known, options.writesKnown) : null;
   const folder = folderFor(given);
@@ -60,20 +78,15 @@ async function pageRaces(given, options) {
   fs.rmSync(path.join(folder, 'runs'), { recursive: true, force: true });
   fs.rmSync(path.join(folder, 'page.replay.json'), { force: true });
   const first = new Recorder(given, options.isReplayed ? withEnd({ ...options, keepsBrowser: true, fixed: chance(options) }) : options);
-  const runs = [];
   try {
-    for (let k = 0; k < options.runs; k++) {
-      const own = { ...options, seed: options.seed + k, salt: k };
-      const run = await recordRun(given, fileOfRun(folder, k), own, k === 0 ? first : new Recorder(given, own), known);
-      if (!run.model && !runs.length) return run.status;
-      if (!run.model) {
-        console.error(`er_page: run ${k + 1} of ${options.runs} failed: the list is that of the runs before`);
-        await tellRuns(runs, known, first, { given, folder, options });
-        return run.status;
-      }
-      runs.push(run);
-    }
-    return await tellRuns(runs, known, first, { given, folder, options });
+    const recorded = await recordRuns(given, folder, options, first);
+    const judged = await stoppable(() => endAsking(STOPPED), () => judgeRuns(recorded.files, known)); // a browser may still run
+    const { runs } = judged;
+    const failed = judged.failed || recorded.failed;
+    if (!runs.length) return failed;
+    if (failed) console.error(`er_page: run ${runs.length + 1} of ${options.runs} failed: the list is that of the runs before`);
+    const status = await tellRuns(runs, known, first, { given, folder, options });
+    return failed || status;
   } finally {
     if (options.isReplayed) await first.browser?.close();
   }
@@ -97,7 +110,8 @@ async function main(words) {
   try {
     const options = parseOptions(words, NEWEST_VERSION, 1);
     if (options.attach) throw new UsageFault('--attach is an option of er_record');
-    if (options.isReplayed && options.isRaw) throw new UsageFault('--raw records nothing that could be replayed');
+    if (options.isRaw) throw new UsageFault('--raw is an option of er_record: it records nothing that has races');
+    if (programState() === 'missing' || (options.isReplayed && !canReplay('er_page'))) return NO_PROGRAM;
     return await pageRaces(options.words[0], options);
   } catch (fault) {
     if (fault instanceof KnownFault || fault instanceof WriteFault) {
@@ -106,7 +120,7 @@ async function main(words) {
     }
     if (!(fault instanceof UsageFault)) throw fault;
     if (fault.message) console.error(`er_page: ${fault.message}`);
-    console.error(`${USAGE.replace('er_record URL OUT.trace', 'er_page URL')}\n${REPLAY_USAGE}`);
+    console.error(USAGE.er_page);
     return USAGE_STATUS;
   }
 }

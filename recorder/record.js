@@ -106,7 +106,7 @@ async function main(words) {
   } catch (fault) {
     if (!(fault instanceof UsageFault)) throw fault;
     if (fault.message) console.error(`er_record: ${fault.message}`);
-    console.error(USAGE);
+    console.error(USAGE.er_record);
     return USAGE_STATUS;
   }
   const recorder = options.attach ? new AttachedRecorder(options.words[0], options) : undefined;

@@ -8,11 +8,11 @@ const { LastingNames } = require('./list/lasting.js');
 const { Listing } = require('./list/listing.js');
 const { recordInto } = require('./record.js');
 const { Recorder } = require('./recorder.js');
-const { replayRaces } = require('./replay/command.js');
+const { canReplay, replayRaces } = require('./replay/command.js');
 const { readOrigin, OriginFault } = require('./replay/origin.js');
 const { withEnd, chance } = require('./replay/replay.js');
 const { stoppable, STOPPED } = require('./stoppable.js');
-const { judge, runProgram } = require('./view/program.js');
+const { judge, runProgram, NO_PROGRAM } = require('./view/program.js');
 const { view, besides } = require('./view.js');
 
 const USAGE = `usage: er_replay OUT.trace --race K [options]
@@ -132,7 +132,8 @@ async function main(words) {
     return STATUS.found;
   }
   try {
-    return await replayTrace(parseWords(words));
+    const given = parseWords(words);
+    return canReplay('er_replay') ? await replayTrace(given) : NO_PROGRAM;
   } catch (fault) {
     if (fault instanceof OriginFault) console.error(`er_replay: ${fault.message}`);
     else if (fault instanceof ReplayFault) console.error(`er_replay: ${fault.message}`);

@@ -4,17 +4,19 @@
 // er_view OUT.trace --why A B: tells why action A comes before action B, where the program has the mode `explain`.
 
 const fs = require('node:fs');
+const { HELP } = require('./help.js');
 const { Listing } = require('./list/listing.js');
 const { Problems } = require('./list/problems.js');
+const { writeWhole, WriteFault } = require('./list/whole-file.js');
+const { stoppable, STOPPED } = require('./stoppable.js');
 const { Actions } = require('./view/actions.js');
 const { Model } = require('./view/model.js');
 const { renderPage } = require('./view/html.js');
 const { linksBetween } = require('./view/links.js');
+const { endAsking, programState, NO_PROGRAM } = require('./view/program.js');
 const { judgeWithin } = require('./view/within-limits.js');
 const { why } = require('./view/why.js');
 
-const USAGE = `usage: er_view OUT.trace [--why ACTION ACTION]
-Without --why it writes OUT.html. With it, it tells why the one action comes before the other, or that nothing says so.`;
 const STATUS = { usage: 2, noFile: 4, noView: 5 };
 /** Of a trace with more actions the program is not asked why these are ordered: each question takes as long as the report, seconds. */
 const MOST_TO_ASK = 8000;
@@ -46,15 +48,15 @@ async function writeView(traceFile, report, known) {
   const model = new Model(report, names, new Actions(text.replace(/end\n$/, '')));
   const problems = new Problems(text, names, report);
   const links = report.actions <= MOST_TO_ASK ? await linksBetween(traceFile, model.pairsToExplain()) : [];
-  const built = model.build(links);
+  const built = model.build(links || []);
   const groups = built.groups.map((group, k) => ({ ...group, race: problems.leads[k] }));
-  const shown = { ...built, groups, problems: new Listing([problems], known).problems.map(plainProblem), leftOut: problems.leftOut, question: `./er_view ${traceFile} --why` };
+  const shown = { ...built, groups, problems: new Listing([problems], known).problems.map(plainProblem), leftOut: problems.leftOut, isUnproved: !links, command: `./er_view ${traceFile}` };
   writePage(traceFile, shown);
   return { model: shown, problems };
 }
 
 function writePage(traceFile, shown) {
-  fs.writeFileSync(besides(traceFile, '.html'), renderPage(shown));
+  writeWhole(besides(traceFile, '.html'), renderPage(shown));
 }
 
 /** Judges a trace and writes its view. Answers the exit status, and the model and the problems where there are some. */
@@ -84,14 +86,26 @@ async function tellWhy(traceFile, from, to) {
 async function main(words) {
   const asksWhy = words.length === 4 && words[1] === '--why' && words.slice(2).every((word) => /^\d{1,9}$/.test(word));
   if ((words.length !== 1 && !asksWhy) || words[0].startsWith('--')) {
-    console.error(USAGE);
+    console.error(HELP.er_view);
     return STATUS.usage;
   }
   if (!fs.existsSync(words[0])) {
     console.error(`er_view: there is no file ${words[0]}`);
     return STATUS.noFile;
   }
-  return asksWhy ? tellWhy(words[0], words[2], words[3]) : (await view(words[0], 'er_view')).status;
+  if (programState() === 'missing') return NO_PROGRAM;
+  return stoppable(() => endAsking(STOPPED), () => (asksWhy ? tellWhy(words[0], words[2], words[3]) : tellView(words[0])));
+}
+
+/** Answers the exit status. */
+async function tellView(traceFile) {
+  try {
+    return (await view(traceFile, 'er_view')).status;
+  } catch (fault) {
+    if (!(fault instanceof WriteFault)) throw fault;
+    console.error(`er_view: ${fault.message}`);
+    return STATUS.noView;
+  }
 }
 
 module.exports = { view, writePage, besides };

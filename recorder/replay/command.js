@@ -4,9 +4,20 @@
 const fs = require('node:fs');
 const { RecordingFault } = require('../recorder.js');
 const { stoppable } = require('../stoppable.js');
+const { answersAtOnce, programState } = require('../view/program.js');
 const { besides, writePage } = require('../view.js');
 const { withoutCommands } = require('../view/shown.js');
 const { Replay, verdictInWords, plain } = require('./replay.js');
+
+/** Whether races can be run again: each is judged several times, so it takes the built program. Where not, it is said why. */
+function canReplay(name) {
+  if (programState() === 'missing') return false; // which is said
+  if (!answersAtOnce()) {
+    console.error(`${name}: nothing done: races that are run again are judged many times, which takes the built program. ./er_cli --build proves and builds it`
+      + ' (about 25 minutes on four processors); without --replay, er_page tells the races of a page in a minute');
+  }
+  return answersAtOnce();
+}
 
 /** The number of the race by which a problem is told. */
 const raceOf = ({ races, first }) => (first ?? races[0]) + 1;
@@ -79,4 +90,4 @@ function writeReplays(replay, traceFile, results, { report, model }) {
   writePage(traceFile, { ...model, replays: races.map((race, k) => ({ ...race, picture: pictures[k] })), recordedPicture: replay.recorded.end.picture?.small || null });
 }
 
-module.exports = { replayRaces };
+module.exports = { canReplay, replayRaces };

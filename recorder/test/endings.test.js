@@ -59,7 +59,7 @@ test('a recording writes the trace and its names', { timeout: 150000 }, async ()
 });
 
 test('words that ask for nothing', { timeout: 150000 }, async () => {
-  for (const words of [[], ['a'], ['a', 'b', '--what'], ['a', 'b', '--do', 'jump:x'], ['a', 'b', '--version', '9'], ['a', 'b', '--time', 'x']]) {
+  for (const words of [[], ['a'], ['a', 'b', '--what'], ['a', 'b', '--do', 'jump:x'], ['a', 'b', '--version', '9'], ['a', 'b', '--time', 'x'], ['http://', 'b']]) {
     const { status, stderr } = await run('er_record', words, temporary('usage'));
     assert.strictEqual(status, 2, words.join(' '));
     assert.match(stderr, /usage: er_record/);

@@ -5,7 +5,7 @@ const assert = require('node:assert');
 const fs = require('node:fs');
 const path = require('node:path');
 const { test } = require('node:test');
-const { parseOptions, USAGE, REPLAY_USAGE } = require('../options.js');
+const { parseOptions, USAGE } = require('../options.js');
 const { NEWEST_VERSION } = require('../trace/spelling.js');
 
 const VIEWING = path.join(__dirname, '..', '..', 'docs', 'viewing.md');
@@ -20,13 +20,13 @@ function optionsOfTables(text) {
 }
 
 test('the options of docs/viewing.md are those of the programs', () => {
-  const told = new Set([...optionsOfUsage(USAGE), ...optionsOfUsage(REPLAY_USAGE)]);
+  const told = new Set(Object.values(USAGE).flatMap(optionsOfUsage));
   assert.ok(told.size > 15, [...told].join(', '));
   assert.deepStrictEqual([...new Set(optionsOfTables(fs.readFileSync(VIEWING, 'utf8')))].sort(), [...told].sort());
 });
 
 test('each version that the text of the option names is taken, and no further one', () => {
-  const [, versions] = /--version ([\d|]+) /.exec(USAGE);
+  const [, versions] = /--version ([\d|]+) /.exec(USAGE.er_page);
   assert.deepStrictEqual(versions.split('|').map(Number), Array.from({ length: NEWEST_VERSION }, (_, k) => k + 1));
   for (const version of versions.split('|')) assert.strictEqual(parseOptions(['--version', version, 'x'], NEWEST_VERSION, 1).version, Number(version));
   assert.throws(() => parseOptions(['--version', String(NEWEST_VERSION + 1), 'x'], NEWEST_VERSION, 1), /--version/);

@@ -124,7 +124,7 @@ function pairBox(from, to) {
   const steps = stepsBetween(from, to);
   if (steps) return make('div', {}, make('p', {}, `From action ${from} these steps lead to action ${to}, as the program explains it:`), stepList(steps));
   const box = make('div', {}, make('p', {}, `This page does not hold whether something orders ${both}. The program tells it:`));
-  box.append(make('pre', { class: 'question' }, `${model.question} ${from} ${to}`));
+  box.append(make('pre', { class: 'question' }, `${model.command} --why ${from} ${to}`));
   return box;
 }
 

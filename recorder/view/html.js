@@ -32,6 +32,13 @@ function leftOut({ leftOut: all = [] }) {
   return `<p class="left-out">Not judged, since it is more than the program takes: the accesses to ${escapeText(told)}${more}.</p>\n`;
 }
 
+/** Where the program was not built: what that says of this page, and how the rest is had. */
+function unproved({ isUnproved, command }) {
+  if (!isUnproved) return '';
+  return `<p class="unproved">The program that tells these races was not built when this page was made: the same source told them, compiled without its proof. The ways that lead
+from one action to another are left for later: after <code>./er_cli --build</code>, <code>${escapeText(command)}</code> writes this page with them.</p>\n`;
+}
+
 function renderPage(model) {
   return `<!doctype html>
 <html lang="en">
@@ -46,7 +53,7 @@ ${read('style.css')}</style>
 <body>
 <h1>Races of ${escapeText(model.page)}</h1>
 <p class="counts">${escapeText(counts(model))}</p>
-${leftOut(model)}<form onsubmit="return false">
+${unproved(model)}${leftOut(model)}<form onsubmit="return false">
 <label>Kind <select id="kind">${KINDS}</select></label>
 <label>Text <input id="text" type="search" placeholder="a name, a file, a handler"></label>
 <label>Order <select id="order">${ORDERS}</select></label>

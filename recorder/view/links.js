@@ -2,7 +2,7 @@
 // Links between actions, as the program prints them where it explains why one action comes before another. The view shows
 // these and no others.
 
-const { runProgram } = require('./program.js');
+const { answersAtOnce, runProgram } = require('./program.js');
 
 const AT_ONCE = 4;
 const MOST_PAIRS = 300;
@@ -21,8 +21,12 @@ async function explain(traceFile, from, to) {
   return { steps, fault: '' };
 }
 
-/** The links on the ways from the first action of each pair to its second, each `[from, to, rule]` once. */
+/**
+ * The links on the ways from the first action of each pair to its second, each `[from, to, rule]` once.
+ * @returns {Promise<[number, number, number][]|null>} null where they are left for later, since each answer would take a minute
+ */
 async function linksBetween(traceFile, pairs) {
+  if (!answersAtOnce()) return null;
   const until = Date.now() + LONGEST;
   const links = new Map();
   const left = pairs.slice(0, MOST_PAIRS);

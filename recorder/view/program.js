@@ -1,15 +1,33 @@
 'use strict';
 // Asks the proved program about a trace. Nothing else here decides what races.
 
-const { spawn } = require('node:child_process');
+const { spawn, spawnSync } = require('node:child_process');
 const fs = require('node:fs');
 const path = require('node:path');
+const { Unproved } = require('./unproved.js');
 
+const TOP = path.join(__dirname, '..', '..');
 /** A command of the shell. `ER_CLI` puts another one in its place, with the same words, input and output. */
-const PROGRAM = process.env.ER_CLI || `'${path.join(__dirname, '..', '..', 'er_cli')}'`;
+const PROGRAM = process.env.ER_CLI || `'${path.join(TOP, 'er_cli')}'`;
+const NO_PROGRAM = 10;
+
+const unproved = new Unproved();
+let state = process.env.ER_CLI ? 'built' : '';
+
+/** `built`, or `older` or `unbuilt` where an answer takes a minute, or `missing`, which is said on standard error. */
+function programState() {
+  if (state !== 'built') {
+    const { status, stdout } = spawnSync(path.join(TOP, 'bench', 'program'), { encoding: 'utf8', stdio: ['ignore', 'pipe', 'inherit'] });
+    state = status === 0 ? stdout.split(/\s/)[0] : 'missing';
+  }
+  return state;
+}
+
+const answersAtOnce = () => programState() === 'built';
 
 /** @returns {Promise<{status: number, output: string, fault: string}>} */
 function runProgram(words, traceFile) {
+  if (!answersAtOnce()) return unproved.ask(words, traceFile);
   return new Promise((resolve, reject) => {
     const input = fs.openSync(traceFile, 'r');
     const child = spawn('/bin/sh', ['-c', `${PROGRAM} ${words.join(' ')}`], { stdio: [input, 'pipe', 'pipe'] });
@@ -24,6 +42,11 @@ function runProgram(words, traceFile) {
   });
 }
 
+/** Has the reports of several traces ready, where each answer would take a minute: in one go they take no longer than one. */
+async function askAhead(traceFiles) {
+  if (!answersAtOnce()) await unproved.askReports(traceFiles);
+}
+
 /** A trace that the program judged: its report, or the refusal. */
 async function judge(traceFile) {
   const { status, output, fault } = await runProgram(['--json'], traceFile);
@@ -31,4 +54,10 @@ async function judge(traceFile) {
   return { status, report: JSON.parse(output) };
 }
 
-module.exports = { judge, runProgram, PROGRAM };
+/** Ends what is asked, and this process with a status: for a signal. */
+async function endAsking(status) {
+  await unproved.end();
+  process.exit(status);
+}
+
+module.exports = { judge, runProgram, askAhead, answersAtOnce, programState, endAsking, PROGRAM, NO_PROGRAM };
