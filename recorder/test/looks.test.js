@@ -26,8 +26,8 @@ const DUE = {
 
 /** What the objects and closures of look-objects.html look like, by the begin of their location. */
 const DUE_OF_OBJECTS = [
-  [/^render of app,/, 'use before definition'], [/^count of visits,/, 'counter'], [/^isReady of the closure of shop/, 'flag that both ask'],
-  [/^last of the closure of shop/, 'first ticks of intervals'], [/^name of app,/, 'same value'],
+  [/^render of /, 'use before definition'], [/^count of /, 'counter'], [/^isReady of the closure of shop/, 'flag that both ask'],
+  [/^last of the closure of shop/, 'first ticks of intervals'], [/^name of /, 'same value'],
 ];
 
 let browser;
