@@ -89,11 +89,12 @@ test('no answer: nothing is written', { timeout: LONGEST_TEST }, async () => {
 
 /** Processes of these tests, by the folder for temporary files that they were given. */
 function processesLeft() {
-  return fs.readdirSync('/proc').filter((name) => /^\d+$/.test(name)).filter((name) => {
+  return fs.readdirSync('/proc').filter((name) => /^\d+$/.test(name)).flatMap((name) => {
     try {
-      return fs.readFileSync(`/proc/${name}/environ`, 'utf8').includes(`TMPDIR=${temporary}\0`);
+      const isOwn = fs.readFileSync(`/proc/${name}/environ`, 'utf8').includes(`TMPDIR=${temporary}\0`);
+      return isOwn ? [fs.readFileSync(`/proc/${name}/cmdline`, 'utf8')] : [];
     } catch {
-      return false; // it has ended
+      return []; // it has ended
     }
   });
 }
@@ -101,8 +102,7 @@ function processesLeft() {
 test('a signal ends all', { timeout: LONGEST_TEST }, async () => {
   const file = traceOf('stopped');
   const command = start(path.join(clone, 'er_view'), [file], { cwd: folder, env: { ...env, DOES: 'sleep' } });
-  while (processesLeft().length < 4) await new Promise((resolve) => setTimeout(resolve, 50));
-  await new Promise((resolve) => setTimeout(resolve, 300));
+  while (!processesLeft().some((words) => words.startsWith('sleep\0'))) await new Promise((resolve) => setTimeout(resolve, 50));
   command.kill('SIGTERM');
   assert.strictEqual(await command.ended, 130);
   assert.deepStrictEqual([processesLeft(), fs.readdirSync(temporary)], [[], []]);
