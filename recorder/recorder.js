@@ -176,7 +176,7 @@ class Recorder {
     this.listen();
     for (const domain of ['Page', 'Runtime', 'Inspector']) await tab.send(`${domain}.enable`);
     const { names, handlerOwners } = await this.browserFacts(`(${browserFacts})()`);
-    this.sources.builtins = new Set(names);
+    this.sources.builtins.set(names);
     const longest = options.time * 1000 + GRACE;
     const { holds, leaves, isDriven } = this.pageOptions();
     this.responses = new Responses(tab, { leaves, sources: options.isRaw ? null : this.sources, folder, slow: options.slow, salt: options.salt, longest, steering: this.steering });

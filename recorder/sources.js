@@ -4,6 +4,7 @@
 
 const { EditedText, Lines } = require('./instrument/edits.js');
 const { instrument } = require('./instrument/instrument.js');
+const { BrowserNames } = require('./instrument/own-names.js');
 const { PageRewriter } = require('./instrument/page.js');
 const { readMap } = require('./trace/source-map.js');
 
@@ -29,16 +30,21 @@ class Source {
   }
 
   /** Options of `instrument` for code that stands at an offset of this text. */
-  options(kind, offset, { wholeAtStart = false } = {}) {
+  options(kind, offset, { wholeAtStart = false, isFile = false } = {}) {
     return {
       kind,
       builtins: this.sources.builtins,
       depth: this.sources.depth,
       keepsAll: this.sources.keepsAll,
       site: (inside, about) => this.sources.addSite(this, offset + (wholeAtStart ? 0 : inside), wholeAtStart && about?.object ? undefined : about, offset),
-      module: kind === 'module' ? this.sources.addModule(this) : undefined,
+      module: kind === 'module' ? this.numberOfModule(isFile) : undefined,
+      numberOfModule: (name) => this.sources.numberOfModule(name, this.address),
       named: wholeAtStart ? undefined : (start, end, name) => this.functions.push({ start: offset + start, end: offset + end, name }),
     };
+  }
+
+  numberOfModule(isFile) {
+    return isFile ? this.sources.moduleAt(this.address) : this.sources.addModule(this.address);
   }
 
   /** The name of the innermost function that has one and holds a place, or ''. */
@@ -100,11 +106,14 @@ class Sources {
   constructor(depth = 'globals', keepsAll = false) {
     this.depth = depth;
     this.keepsAll = keepsAll;
-    this.builtins = new Set();
+    /** The names of the browser that no script of the page has taken for its own. */
+    this.builtins = new BrowserNames();
     this.files = [];
     this.byAddress = new Map();
     this.sites = [];
     this.modules = [];
+    /** The numbers of the modules that have an address of their own. */
+    this.numbersOfModules = new Map();
     this.dropped = new Map();
     this.missed = new Map();
     /** What was left out of the names alone. */
@@ -120,8 +129,25 @@ class Sources {
     return this.sites.push({ source, offset, about, base }) - 1;
   }
 
-  addModule(source) {
-    return FIRST_MODULE + this.modules.push(source.address) - 1;
+  /** The number of a module that stands in a page. */
+  addModule(address) {
+    return FIRST_MODULE + this.modules.push(address) - 1;
+  }
+
+  /** The number of a module that is a file. */
+  moduleAt(address) {
+    if (!this.numbersOfModules.has(address)) this.numbersOfModules.set(address, this.addModule(address));
+    return this.numbersOfModules.get(address);
+  }
+
+  /** The number of a module that another one names, or undefined where its name says no address, as where an import map gives one. */
+  numberOfModule(name, base) {
+    if (!/^(\.{0,2}\/|[a-z][a-z\d+.-]*:)/i.test(name)) return undefined;
+    try {
+      return this.moduleAt(new URL(name, base).href.replace(/#.*$/, ''));
+    } catch {
+      return undefined;
+    }
   }
 
   /**
@@ -143,7 +169,7 @@ class Sources {
     if (known && known.edited && known.text === code) return known.edited.text; // as in each of several frames
     const source = this.addSource(address, code);
     let result = instrument(code, source.options('script', 0)); // a module that looks like a script is told apart when it runs
-    if (result.fault) result = instrument(code, source.options('module', 0));
+    if (result.fault) result = instrument(code, source.options('module', 0, { isFile: true }));
     if (result.fault) source.miss('scripts that are no JavaScript');
     return source.edit(result.edits || []);
   }

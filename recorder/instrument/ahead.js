@@ -57,7 +57,7 @@ function isMarked(sources, { address, type, body, ofPage }) {
 async function markAhead(sources, place, address) {
   const page = { address, ...await place.answer(address.replace(/#.*$/, '')) };
   if (!isWhole(page)) return 0;
-  sources.builtins = new Set(COMMON_NAMES);
+  sources.builtins.set(COMMON_NAMES, false);
   return (await scriptsOf(page, place)).filter((script) => isMarked(sources, script)).length;
 }
 

@@ -32,6 +32,7 @@ class ClosureInstrumenter extends GlobalInstrumenter {
     }
     visit();
     this.isLooking = false;
+    this.exported?.own.forEach(([, name]) => this.capture(top, name, -1)); // other modules may use it at any time
     this.waited = 0;
     let labels = 0;
     for (const scope of this.declarable) {
@@ -48,6 +49,14 @@ class ClosureInstrumenter extends GlobalInstrumenter {
   /** A module's variables have the number of the module. */
   declareModule() {
     return this.top.label ? `var ${this.top.label}=__er.s(${this.site(0)},${this.options.module});` : '';
+  }
+
+  labelOfModule() {
+    return this.top.label || '0';
+  }
+
+  isToldOfModule(name) {
+    return !!this.top.label && this.top.recorded.has(name);
   }
 
   insert(offset, text) {
@@ -231,7 +240,7 @@ class ClosureInstrumenter extends GlobalInstrumenter {
 
   call(mode, name, scope, offset) {
     const owner = this.ownerIn(scope, name);
-    if (!owner) return this.isLooking ? null : super.call(mode, name, scope, offset);
+    if (!owner || this.importOf(name, scope)) return this.isLooking ? null : super.call(mode, name, scope, offset);
     if (this.isLooking) this.lookAt(owner, mode, name, scope);
     else if (this.isRecorded(owner, name)) return `__er.${OF_SCOPE[mode]}(${owner.label},${quote(name)},${this.site(offset)}`;
     return null;

@@ -2,6 +2,7 @@
 // The walk over a tree of acorn's that marks the reads and writes of global variables (page/globals.js), and of a module's own.
 
 const { delimitersOf, quote, LONG } = require('./marks.js');
+const { WHOLE } = require('./imports.js');
 const { Scope, keysOf, isNode, namesOfPattern } = require('./scopes.js');
 
 /** Names by which scripts commonly reach the window; whether one does is asked when the code runs. */
@@ -39,6 +40,25 @@ function mayWait(node) {
     return isNode(value) && mayWait(value);
   });
 }
+
+/** Whether an expression is the window, or where there is none something else: `typeof window !== 'undefined' ? window : this`. */
+function isWindow(node, scope) {
+  if (!node) return false;
+  if (node.type === 'ConditionalExpression') return isWindow(node.consequent, scope) || isWindow(node.alternate, scope);
+  if (node.type === 'ThisExpression') return scope.code === null;
+  return node.type === 'Identifier' && /^(window|self|globalThis)$/.test(node.name) && scope.where(node.name) === 'global';
+}
+
+/** A function that is called where it stands may get the window by a name of its own: `!function (e) {..}(window)`. */
+function noteWindowNames({ callee, arguments: words }, scope) {
+  const isByCall = callee.type === 'MemberExpression' && callee.property.name === 'call';
+  const called = isByCall ? callee.object : callee;
+  if (!CODE.test(called.type)) return;
+  const given = isByCall ? words.slice(1) : words;
+  called.windowNames = new Set(called.params.filter((one, k) => one.type === 'Identifier' && isWindow(given[k], scope)).map(({ name }) => name));
+}
+
+const isNameOfWindow = (name, scope) => scope.where(name) === 'local' && !!scope.ownerOf(name)?.windowNames?.has(name);
 
 class GlobalInstrumenter {
   /**
@@ -136,6 +156,8 @@ class GlobalInstrumenter {
    */
   call(mode, name, scope, offset) {
     if (NEVER_RECORDED.has(name)) return null;
+    const imported = this.importOf(name, scope);
+    if (imported) return mode === 'r' && imported.name !== WHOLE ? this.importedCall(imported.from, imported.name, offset) : null;
     const where = scope.where(name);
     if (where === 'module') return `__er.${mode}m(${this.options.module},${quote(name)},${this.options.site(offset)}`;
     if (where !== 'global' || this.options.builtins.has(name)) return null;
@@ -156,9 +178,60 @@ class GlobalInstrumenter {
   /** A walk before the one that marks. */
   lookAhead() {}
 
+  // ---- modules
+
+  setModule(scope, imports, exported) {
+    Object.assign(this, { moduleScope: scope, imports, exported });
+  }
+
   /** What a module declares for its own variables. */
   declareModule() {
     return '';
+  }
+
+  /** The scope that holds a module's own variables, in its code. */
+  labelOfModule() {
+    return '0';
+  }
+
+  /** Whether a variable of a module is told. */
+  isToldOfModule() {
+    return true;
+  }
+
+  numberOfModule(name) {
+    return this.options.numberOfModule?.(name);
+  }
+
+  /** The call that tells what a module gives to others. */
+  declareExports() {
+    const own = this.exported.own.filter(([, name]) => this.isToldOfModule(name));
+    const others = this.exported.others.map(({ name, from, there }) => [name, { module: this.numberOfModule(from), name: there }]).filter(([, { module }]) => module);
+    const wholes = this.exported.wholes.map((from) => this.numberOfModule(from)).filter(Boolean);
+    if (!this.exported.own.length && !others.length && !wholes.length) return '';
+    return `__er.E(${this.options.module},${this.labelOfModule()},${quote(own)},${quote(others)},${quote(wholes)});`;
+  }
+
+  /** What a name of the code has from another module, or undefined. */
+  importOf(name, scope) {
+    if (!this.imports?.has(name) || scope.where(name) !== 'local' || scope.ownerOf(name) !== this.moduleScope) return undefined;
+    return this.imports.get(name);
+  }
+
+  /** The call for a read of what another module exports, without its bracket; null where it is none. */
+  importedCall(from, name, offset) {
+    const module = this.numberOfModule(from);
+    return module === undefined ? null : `__er.V(${module},${quote(name)},${this.site(offset)}`;
+  }
+
+  site(offset, about) {
+    return this.options.site(offset, about);
+  }
+
+  /** `all.n`, where `all` is another module as a whole. */
+  readOfModule({ object, computed, property }, scope) {
+    const imported = object.type === 'Identifier' && !computed && this.importOf(object.name, scope);
+    return imported && imported.name === WHOLE ? this.importedCall(imported.from, property.name, property.start) : null;
   }
 
   /** The scope of a node; a walk that comes twice keeps it. */
@@ -227,7 +300,7 @@ class GlobalInstrumenter {
   mayBeOfWindow(node, scope) {
     const name = knownProperty(node);
     const { object } = node;
-    return name !== null && object.type === 'Identifier' && WINDOW_NAMES.has(object.name)
+    return name !== null && object.type === 'Identifier' && (WINDOW_NAMES.has(object.name) || isNameOfWindow(object.name, scope))
       && !this.options.builtins.has(name) && !NEVER_RECORDED.has(name)
       && (scope.where(object.name) === 'local' || this.options.builtins.has(object.name));
   }
@@ -237,6 +310,11 @@ class GlobalInstrumenter {
     const name = knownProperty(node);
     const object = node.object;
     const helper = mode === 'd' ? 'w' : mode;
+    const read = this.readOfModule(node, scope);
+    if (read) {
+      this.callBefore(object, `${read})`)();
+      return;
+    }
     if (!this.mayBeOfWindow(node, scope)) {
       this.visitChildren(node, scope, node.computed ? undefined : node.property);
       return;
@@ -283,6 +361,7 @@ class GlobalInstrumenter {
   }
 
   CallExpression(node, scope) {
+    noteWindowNames(node, scope);
     const isEval = node.callee.type === 'Identifier' && node.callee.name === 'eval';
     this.visitChildren(node, scope, isEval ? node.callee : undefined);
   }
@@ -372,6 +451,7 @@ class GlobalInstrumenter {
   visitFunction(node, scope) {
     this.tellFunction(node);
     const inner = this.scopeOf(node, () => Scope.ofFunction(scope, node));
+    inner.windowNames = node.windowNames;
     const { waits } = this;
     this.waits = node.async || node.generator;
     node.params.forEach((parameter) => this.visitPattern(parameter, inner));

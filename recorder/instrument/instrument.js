@@ -5,6 +5,7 @@
 const acorn = require('/usr/share/nodejs/acorn');
 const { quote, IDLE } = require('./marks.js');
 const { Scope, ModuleScope, addHoisted, addLexical } = require('./scopes.js');
+const { importsOf, exportsOf } = require('./imports.js');
 const { GlobalInstrumenter } = require('./globals.js');
 const { ObjectInstrumenter } = require('./objects.js');
 
@@ -71,24 +72,27 @@ function instrument(code, options) {
   } catch (fault) {
     return { fault: String(fault.message) };
   }
+  const taken = options.kind === 'script' && options.builtins.take ? options.builtins.take(program) : [];
   const instrumenter = new (options.depth === 'objects' ? ObjectInstrumenter : GlobalInstrumenter)(code, options);
   const scope = topScope(program, options.kind);
+  if (options.kind === 'module') instrumenter.setModule(scope, importsOf(program), exportsOf(program));
   instrumenter.lookAhead(() => visitProgram(instrumenter, program, scope, options.kind), scope);
   const begin = placeOfBegin(program, code);
-  instrumenter.insert(begin, beginCall(instrumenter, program, scope));
+  instrumenter.insert(begin, beginCall(instrumenter, program, scope, taken));
   visitProgram(instrumenter, program, scope, options.kind);
   instrumenter.insert(placeOfEnd(program, begin), endCall(options));
   return { edits: instrumenter.edits };
 }
 
-function beginCall(instrumenter, program, scope) {
+function beginCall(instrumenter, program, scope, taken) {
   const { options } = instrumenter;
   const site = options.site(0);
   if (options.kind === 'handler') return `;__er.handlerBegins(this,event,${quote(options.type)});try{`;
   if (options.kind === 'address') return ';__er.addressBegins();try{';
-  if (options.kind === 'module') return `;${IDLE}__er.moduleBegins(import.meta.url,${site});${instrumenter.declareModule()}`;
+  if (options.kind === 'module') return `;${IDLE}__er.moduleBegins(import.meta.url,${site});${instrumenter.declareModule()}${instrumenter.declareExports()}`;
   const functions = declaredFunctions(instrumenter, program, scope);
-  return `;${IDLE}__er.scriptBegins(globalThis.document&&document.currentScript,${site},${JSON.stringify(functions)});`;
+  const own = taken.length ? `,${JSON.stringify(taken.map(({ name, isVar }) => [name, isVar]))}` : '';
+  return `;${IDLE}__er.scriptBegins(globalThis.document&&document.currentScript,${site},${JSON.stringify(functions)}${own});`;
 }
 
 function endCall({ kind }) {

@@ -32,7 +32,7 @@ const ANSWERS = [
   'wh uh wm um fo f fk z F',
   'y',
 ];
-const WITHOUT_ANSWER = 'r rh rm v s sp asked scriptBegins scriptEnds moduleBegins moduleEnds handlerBegins handlerEnds addressBegins addressEnds';
+const WITHOUT_ANSWER = 'r rh rm v V s sp E asked scriptBegins scriptEnds moduleBegins moduleEnds handlerBegins handlerEnds addressBegins addressEnds';
 
 const membersOf = (names, value) => names.split(' ').map((name) => `${name}:${value}`);
 

@@ -83,7 +83,9 @@ class MemberInstrumenter extends ClosureInstrumenter {
   }
 
   visitMember(node, scope, mode) {
-    if (node.object.type === 'Super') this.visitSuper(node, scope, mode);
+    const read = this.isLooking ? null : this.readOfModule(node, scope);
+    if (read) this.callBefore(node.object, `${read})`)();
+    else if (node.object.type === 'Super') this.visitSuper(node, scope, mode);
     else if (this.isLooking || this.isLeftOut(node, scope)) this.visitChildren(node, scope, node.computed ? undefined : node.property);
     else if (knownKey(node) !== null) this.markNamed(node, scope, BY_NAME[mode], knownKey(node));
     else this.markKeyed(node, scope, BY_KEY[mode]);
@@ -108,7 +110,10 @@ class MemberInstrumenter extends ClosureInstrumenter {
 
   /** Visits an expression whose value a mark behind it uses; answers how this one reads it. */
   visitKept(node, scope, name = '__er.t') {
-    if (this.isSimple(node, scope)) return this.textOf(node);
+    if (this.isSimple(node, scope)) {
+      this.visit(node, scope);
+      return this.textOf(node);
+    }
     const close = this.wrap(node, `(${name}=`, ')');
     this.visit(node, scope);
     close();

@@ -30,14 +30,15 @@ class PageRewriter {
   }
 
   rewrite() {
-    for (const tag of scanTags(this.html)) this.rewriteTag(tag);
+    const tags = scanTags(this.html);
+    for (const tag of tags) if (tag.name === 'script' && tag.text && !attributeOf(tag, 'src')) this.rewriteScript(tag); // first: what they declare, attributes use
+    for (const tag of tags) this.rewriteTag(tag);
     return this.edits;
   }
 
   rewriteTag(tag) {
     for (const attribute of tag.attributes) this.rewriteAttribute(tag, attribute);
     if (tag.name === 'meta') this.dropPolicy(tag);
-    if (tag.name === 'script' && tag.text && !attributeOf(tag, 'src')) this.rewriteScript(tag);
     if (!tag.inTemplate) this.source.noteTag(tag.name, this.knownBy(tag), tag.start);
   }
 

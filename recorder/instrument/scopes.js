@@ -180,4 +180,4 @@ class ModuleScope extends Scope {
   }
 }
 
-module.exports = { Scope, ModuleScope, keysOf, isNode, namesOfPattern, addHoisted, addLexical };
+module.exports = { Scope, ModuleScope, keysOf, isNode, namesOfPattern, addDeclared, addHoisted, addLexical };

@@ -20,9 +20,9 @@ const DISPATCHERS = [
   ['AbortController', ['abort']],
 ];
 /** What an element loads. */
-const SOURCES = [['HTMLImageElement', 'src'], ['HTMLIFrameElement', 'src'], ['HTMLIFrameElement', 'srcdoc'], ['HTMLFrameElement', 'src'],
+const SOURCES = [['HTMLScriptElement', 'src'], ['HTMLImageElement', 'src'], ['HTMLIFrameElement', 'src'], ['HTMLIFrameElement', 'srcdoc'], ['HTMLFrameElement', 'src'],
   ['HTMLObjectElement', 'data'], ['HTMLEmbedElement', 'src'], ['HTMLLinkElement', 'href']];
-const SOURCE_OF = { img: 'src', iframe: 'src', frame: 'src', object: 'data', embed: 'src', link: 'href' };
+const SOURCE_OF = { script: 'src', img: 'src', iframe: 'src', frame: 'src', object: 'data', embed: 'src', link: 'href' };
 /** Elements that are declared where a script inserts them, as their kind is not known before. */
 const DECLARED_AT_INSERTION = new Set(['script', 'iframe', 'frame', 'link', 'object', 'embed']);
 

@@ -169,6 +169,7 @@ class Dispatches {
     const { event, target } = dispatch;
     const { recording, page } = this;
     dispatch.number = recording.next('dispatch');
+    page.loading.orderLeaving(dispatch);
     const request = this.requests.get(target);
     if (request) recording.begin(`reply ${dispatch.number} ${request.number}`, 'begin', undefined, [request.sender]);
     else if (!page.loading.begin(dispatch) && !page.messages.begin(dispatch)) this.beginAt(dispatch, event, target);

@@ -38,7 +38,11 @@ class Elements {
   start() {
     const { document } = this.page;
     if (document.documentElement) this.addTree(document.documentElement, 'script');
-    this.observer.observe(document, {
+    this.watch(document);
+  }
+
+  watch(root) {
+    this.observer.observe(root, {
       childList: true, subtree: true, attributes: true, attributeOldValue: true,
       ...(this.recording.objects ? { characterData: true } : { attributeFilter: ['id'] }),
     });
@@ -137,8 +141,7 @@ class Elements {
   /** Whether a parse step may stand directly behind the run of the script that runs. */
   isBlocking(element) {
     const { recording, page } = this;
-    const isOwn = element.ownerDocument === page.document && recording.running.blocks === page;
-    return isOwn && !page.loading.hasBegunDomContentLoaded && !this.hasRunDeferred;
+    return element.ownerDocument === page.document && recording.running.blocks === page && this.isParsing();
   }
 
   /**
@@ -235,9 +238,13 @@ class Elements {
     if (records.length) this.handle(records, by);
   }
 
+  /** Whether the format lets the document have further parse steps. */
+  isParsing() {
+    return !this.page.loading.hasBegunDomContentLoaded && !this.hasRunDeferred;
+  }
+
   handle(records, by) {
-    const parsing = !this.page.loading.hasBegunDomContentLoaded && !this.hasRunDeferred;
-    const maker = by === 'parser' && parsing ? 'parser' : 'script';
+    const maker = by === 'parser' && this.isParsing() ? 'parser' : 'script';
     if (by === 'parser' && maker === 'script') {
       this.late.push(...records); // the browser's own work behind the parsing: it belongs to what begins next
       return;
@@ -261,7 +268,7 @@ class Elements {
   handleOne(record, maker) {
     if (this.isOfHold(record)) return;
     if (record.type === 'childList') {
-      each(record.removedNodes, (node) => this.removeTree(node, maker));
+      if (!this.page.shadows.has(record.target)) each(record.removedNodes, (node) => this.removeTree(node, maker));
       each(record.addedNodes, (node) => {
         if (maker !== 'parser') this.addTree(node, maker);
         else {
@@ -269,7 +276,7 @@ class Elements {
           if (this.recording.running.kind === 'parse') this.noteChange(record); // a text behind a script has no action of its own
         }
       });
-    } else if (record.type === 'attributes' && record.attributeName === 'id') {
+    } else if (record.type === 'attributes' && record.attributeName === 'id' && !this.page.shadows.has(record.target)) {
       this.writeId(record.oldValue, maker);
       this.writeId(this.idOf(record.target), maker);
     }
@@ -326,13 +333,24 @@ class Elements {
     } else if (this.idOf(node)) {
       this.recording.log.name('element', this.number(node), { id: this.idOf(node) });
     }
-    this.writeId(this.idOf(node), maker);
+    if (!this.page.shadows.has(node)) this.writeId(this.idOf(node), maker);
+    if (maker === 'parser') this.page.shadows.look(node);
   }
 
   addParsed(element) {
     const kind = this.declaration(element, true);
     this.markDeclared(element, kind);
     this.writeParsed(element, this.number(element), kind);
+  }
+
+  /** A script in a closed shadow tree, which nothing finds, is made as it begins to run. */
+  addHiddenScript() {
+    const number = this.recording.next('element');
+    this.recording.declared.add(number);
+    this.kinds.set(number, 'inline');
+    this.recording.log.name('element', number, { tag: 'script', document: this.page.number });
+    this.writeParsed({ localName: 'script' }, number, 'inline');
+    return number;
   }
 
   writeParsed(element, number, kind) {
@@ -350,6 +368,7 @@ class Elements {
     const kind = this.declaration(element, isWritten && this.kindOfStaticScript(element) !== 'inline');
     const number = this.number(element);
     this.markDeclared(element, kind);
+    this.page.inOrder.note(element, number);
     if (this.joinsParsing(element, number, kind)) return;
     this.noteAwaited(element, number, kind);
     this.recording.log.line(`new ${this.page.number} ${number} ${kind}`, this.placeOfCode());
@@ -357,23 +376,33 @@ class Elements {
 
   // ---- loads
 
-  /** A script sets what an element loads: the load event comes after this, whoever made the element. */
+  /** A script sets what an element loads: the load event comes after this, whoever made the element. An element that is made here stands for it. */
   noteSource(element) {
     if (!this.recording.isRunning() || !this.recording.declared.has(this.number(element))) return;
     if (this.makers.get(element) === this.recording.running) return;
-    if (element.localName === 'link' && this.kindOf(element, false) === 'plain') return;
+    const isScript = element.localName === 'script';
+    if (isScript ? !this.mayStillRun(element) : element.localName === 'link' && this.kindOf(element, false) === 'plain') return;
     const isFrame = SHOWS_PAGE.test(element.localName);
     const number = this.recording.next('element');
     const inner = isFrame ? this.recording.next('document') : 0;
-    const kind = isFrame ? `frame ${inner}` : 'image';
+    const kind = isScript ? 'async' : isFrame ? `frame ${inner}` : 'image';
     this.loads.set(element, { number, inner });
     this.recording.log.name('element', number, { standsFor: this.number(element), why: 'its source was set' });
     if (isFrame) this.recording.log.name('document', inner, { frame: number });
+    this.declareSource(element, number, kind);
+  }
+
+  declareSource(element, number, kind) {
     if (!this.isLazy(element)) {
       if (this.joinsParsing(element, number, kind)) return;
       this.noteAwaited(element, number, kind);
     }
     this.recording.note(`new ${this.page.numberOfDocumentOf(element)} ${number} ${kind}`);
+  }
+
+  /** A script that was empty runs once it gets a source. */
+  mayStillRun(element) {
+    return !this.has(element, 'src') && !this.page.scripts.hasRun.has(this.number(element));
   }
 
   /** The document number for a page that a frame shows now. */

@@ -32,6 +32,14 @@ class Globals {
     this.lastActions = new Uint32Array(FIRST_SITES);
   }
 
+  /** A script declares variables that have names of the browser's. A `var` of such a name is the page's where it can be written. */
+  take(taken) {
+    each(taken, ([name, isVar]) => {
+      const found = Object.getOwnPropertyDescriptor(this.page.window, name);
+      if (!isVar || !found || found.set || found.writable) this.builtins.delete(name);
+    });
+  }
+
   location(name) {
     return `var ${this.page.number} ${spellName(name)}`;
   }

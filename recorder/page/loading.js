@@ -1,5 +1,8 @@
 // The events of a document's loading, and the load events of its elements.
 
+/** The events of a page that is left, in their order. */
+const LEAVING = ['beforeunload', 'pagehide', 'visibilitychange', 'unload'];
+
 class Loading {
   constructor(page) {
     this.page = page;
@@ -11,6 +14,12 @@ class Loading {
     this.moment = null;
     /** The handlers that put those of the window's load behind what it has waited for. */
     this.joins = [];
+    /** That of the end of `readystatechange` to `interactive`, until a deferred script, or DOMContentLoaded, comes behind it. */
+    this.parsed = [];
+    /** How far the page is left, and the handlers that stand for the end of the last event of it. */
+    this.leaving = { step: 0, handlers: [] };
+    /** The last blocking script, and what was registered at the end of its run. */
+    this.lastRun = { number: 0, handler: 0 };
   }
 
   isOfDocument(event, target) {
@@ -47,14 +56,42 @@ class Loading {
     const isParsed = event.type === 'readystatechange' && state === 'interactive' && !this.page.elements.pendingDeferred.size;
     const isFirst = !this.hasBegunDomContentLoaded && !this.hasBegunLoad;
     if ((event.type === 'DOMContentLoaded' || isParsed) && isFirst) return this.beginEnd(dispatch, 'dcl');
-    return false;
+    return event.type === 'readystatechange' && state === 'interactive' && isFirst && this.beginParsed(dispatch);
+  }
+
+  /** The page is parsed, and deferred scripts are to run: behind all parse steps, and before these scripts. */
+  beginParsed(dispatch) {
+    const { recording, page } = this;
+    const { elements, scripts } = page;
+    const standIn = recording.next('element');
+    recording.noteBeside(elements.lastParsed, `new ${page.number} ${standIn} plain`);
+    recording.log.name('element', standIn, { standsFor: elements.number(page.document), why: 'the end of parsing' });
+    recording.begin(`fire ${dispatch.number} ${standIn} readystatechange`, 'begin', undefined, [scripts.last.event]);
+    dispatch.behind = this.lastRun.number === elements.lastParsed ? [this.lastRun.handler] : [];
+    dispatch.whenClosed = () => { this.parsed = [this.registerJoin(standIn, 'the end of parsing')]; };
+    return true;
+  }
+
+  /** A blocking script has run. */
+  noteRunOf(number) {
+    if (this.page.dispatches.listened.has('readystatechange')) this.lastRun = { number, handler: this.registerJoin(number, 'the end of a script') };
+  }
+
+  /** A deferred script begins to run. */
+  comeBehindParsing() {
+    const { parsed } = this;
+    this.parsed = [];
+    this.comeBehind(parsed, 'the end of parsing');
   }
 
   beginEnd(dispatch, end) {
     if (end === 'dcl') this.hasBegunDomContentLoaded = true;
     else this.hasBegunLoad = true;
     dispatch.end = end;
-    if (end === 'dcl') dispatch.awaits = this.page;
+    if (end === 'dcl') {
+      dispatch.awaits = this.page;
+      dispatch.behind = this.parsed;
+    }
     this.moment = dispatch;
     this.recording.begin(`${end} ${dispatch.number} ${this.page.number}`, 'begin');
     return true;
@@ -90,6 +127,20 @@ class Loading {
     return true;
   }
 
+  // ---- the end of a page
+
+  /** The events of a page that is left come in one order: each comes behind the one before. */
+  orderLeaving(dispatch) {
+    const { event, target } = dispatch;
+    const step = this.isOfDocument(event, target) ? LEAVING.indexOf(event.type) : -1;
+    if (step < 0 || this.leaving.step > step || (event.type === 'visibilitychange' && this.leaving.step < LEAVING.indexOf('pagehide'))) return;
+    dispatch.behind = this.leaving.handlers;
+    dispatch.whenClosed = () => {
+      const handlers = dispatch.group < 0 ? this.leaving.handlers : [this.registerJoin(this.page.elements.number(target), 'an event before')];
+      this.leaving = { step, handlers };
+    };
+  }
+
   // ---- what the window's load waits for
 
   /**
@@ -100,23 +151,46 @@ class Loading {
     const { elements } = this.page;
     const isMade = elements.awaited.has(number);
     if (isMade || elements.staticLoads.has(number)) dispatch.awaits = this.page;
-    if (isMade && !this.hasBegunLoad) dispatch.whenClosed = () => this.join(number);
+    dispatch.whenClosed = () => {
+      if (isMade && !this.hasBegunLoad) this.join(number);
+      this.page.inOrder.ends(number);
+    };
   }
 
   join(number) {
+    this.joins[this.joins.length] = this.registerJoin(number, 'what load waits for');
+  }
+
+  /** A handler that is registered in the running action, and that something later runs, empty, to come behind it. */
+  registerJoin(number, type) {
     const { recording } = this;
     const handler = recording.next('handler');
     recording.log.line(`on ${handler}`);
-    recording.log.name('handler', handler, { type: 'what load waits for', target: number });
-    this.joins[this.joins.length] = handler;
+    recording.log.name('handler', handler, { type, target: number });
+    return handler;
   }
 
-  /** Load runs its first handler. */
+  /** What follows in the running event comes behind the actions in which some handlers were registered: an inline dispatch runs them, empty. */
+  comeBehind(handlers, why) {
+    const { recording, page } = this;
+    if (!handlers.length || !recording.mayDispatch()) return;
+    const number = recording.next('dispatch');
+    const standIn = page.placeOf(why);
+    const dispatch = recording.push({ number, isInline: true, suspended: recording.running });
+    recording.begin(`inline ${number} ${standIn} behind`, 'begin', undefined, [dispatch.suspended]);
+    const beginning = recording.running;
+    each(handlers, (handler) => recording.begin(`run ${number} 0 ${handler}`, 'handler', undefined, [beginning]));
+    recording.finishTop();
+  }
+
+  /** A dispatch runs its first handler. */
   writeJoins(dispatch) {
-    if (dispatch.end !== 'load' || !this.joins.length) return;
     const { recording } = this;
-    each(this.joins, (handler) => recording.begin(`run ${dispatch.number} 0 ${handler}`, 'handler', undefined, [dispatch.beginning]));
-    this.joins = [];
+    const handlers = dispatch.end === 'load' ? this.joins : dispatch.behind || [];
+    if (!handlers.length) return;
+    each(handlers, (handler) => recording.begin(`run ${dispatch.number} 0 ${handler}`, 'handler', undefined, [dispatch.beginning]));
+    if (dispatch.end === 'load') this.joins = [];
+    dispatch.behind = null;
     dispatch.group = 0;
   }
 }

@@ -7,7 +7,10 @@ class Page {
     this.EventTarget = window.EventTarget;
     this.loading = new Loading(this);
     this.elements = new Elements(this);
+    this.inOrder = new InOrder(this);
+    this.shadows = new Shadows(this);
     this.globals = new Globals(this);
+    this.imports = new Imports(this);
     this.dispatches = new Dispatches(this);
     this.handlers = new Handlers(this);
     this.calls = new Calls(this);
@@ -107,8 +110,13 @@ function helpersOf(page) {
     ro: ofObject(read), wo: ofObject(write), uo: ofObject(update),
     fo: (object, name, site, value) => { if (object === window) globals.write(name, site); return value; },
     rm: ofModule(['r']), wm: ofModule(['w']), um: ofModule(['r', 'w']),
+    V: (module, name, site) => page.imports.read(module, name, site),
+    E: (module, scope, own, others, wholes) => page.imports.note(module, scope, own, others, wholes),
     asked: (site) => scripts.importAsked(site),
-    scriptBegins: (element, site, functions) => scripts.begins(element, site, functions),
+    scriptBegins: (element, site, functions, taken) => {
+      if (taken) globals.take(taken);
+      scripts.begins(element, site, functions);
+    },
     scriptEnds: () => scripts.ends(),
     moduleBegins: (address, site) => scripts.moduleBegins(address, site),
     moduleEnds: () => scripts.moduleEnds(),

@@ -1,12 +1,15 @@
 // The browser's own functions, taken before any script of the page can change them.
 
 function takeNatives(window) {
-  const { CharacterData, Document, Element, Event, EventTarget, Node, Object, Promise } = window;
+  const { CharacterData, Document, DocumentFragment, Element, Event, EventTarget, Node, Object, Promise } = window;
   return {
     addEventListener: EventTarget.prototype.addEventListener,
     composedPath: Event.prototype.composedPath,
     getElementById: Document.prototype.getElementById,
     querySelectorAll: Element.prototype.querySelectorAll,
+    querySelectorAllOfFragment: DocumentFragment.prototype.querySelectorAll,
+    getRootNode: Node.prototype.getRootNode,
+    shadowRoot: Object.getOwnPropertyDescriptor(Element.prototype, 'shadowRoot').get,
     getAttribute: Element.prototype.getAttribute,
     setAttribute: Element.prototype.setAttribute,
     hasAttribute: Element.prototype.hasAttribute,

@@ -9,7 +9,7 @@ class Scripts {
     this.recording = page.recording;
     this.hasRun = new Set();
     /** The script that was the last to run, and the event of its run. */
-    this.last = { element: null, event: null };
+    this.last = { element: null, number: 0, event: null };
     this.modules = [];
     this.asked = [];
     this.clicked = [];
@@ -17,23 +17,37 @@ class Scripts {
 
   // ---- classic scripts
 
-  /** `element` is null in a module that looks like a classic script, as one without imports. */
+  /** `element` is null in a module that looks like a classic script, as one without imports, and in a shadow tree. */
   begins(element, site, functions) {
-    const { recording } = this;
+    const { recording, page } = this;
+    const { contexts } = recording;
     if (element) this.showOwnText(element);
     if (recording.isOver) return;
-    if (!element) {
-      this.moduleBegins(placeOnStack().replace(/:\d+:\d+$/, ''), site);
-      return;
-    }
-    if (recording.contexts.length && recording.contexts[recording.contexts.length - 1] !== 'script') {
+    const isInside = contexts.length > 0 && contexts[contexts.length - 1] !== 'script';
+    if (element ? isInside : contexts[contexts.length - 1] === 'call') {
       this.beginInside(functions);
       return;
     }
+    const address = element ? '' : placeOnStack().replace(/:\d+:\d+$/, '');
+    const script = element || this.findHidden(address);
+    if (script === undefined) {
+      this.moduleBegins(address, site);
+      return;
+    }
+    if (script && !element) this.showOwnText(script);
     recording.startTask();
-    this.writeRun(element, this.runnable(element), site);
+    this.writeRun(script, script ? this.runnable(script) : page.elements.addHiddenScript(), site);
     recording.enter('script');
-    each(functions, ([name, place]) => this.page.globals.declare(name, place));
+    each(functions, ([name, place]) => page.globals.declare(name, place));
+  }
+
+  /** The script in a shadow tree that begins to run; null for one in a closed tree, undefined where it is none but a module. */
+  findHidden(address) {
+    const { recording, page } = this;
+    if (recording.contexts.length) return undefined;
+    recording.startTask();
+    const found = page.shadows.findScript(address);
+    return found && page.elements.scriptType(found) === 'module' ? undefined : found;
   }
 
   /** In the page a script has its text without marks: it has begun, and what it holds is not run again. */
@@ -56,6 +70,8 @@ class Scripts {
     recording.begin(`exec ${number}`, 'exec', site);
     if (kind === 'inline' || kind === 'sync') recording.running.blocks = page;
     this.noteRun(element, number);
+    page.inOrder.begins(number);
+    if (kind === 'defer') page.loading.comeBehindParsing();
   }
 
   /** What is known of a run behind its begin: whether load waits for it, and that the script's load event is to come in it. */
@@ -63,7 +79,7 @@ class Scripts {
     const { recording, page } = this;
     const { elements } = page;
     if (elements.staticScripts.has(number) || elements.awaited.has(number)) recording.running.awaits = page;
-    this.last = { element, event: recording.running };
+    this.last = { element, number, event: recording.running };
   }
 
   // ---- load events and failures
@@ -106,8 +122,19 @@ class Scripts {
 
   ends() {
     const { recording } = this;
-    if (recording.isOver || recording.contexts[recording.contexts.length - 1] !== 'script') return;
+    if (recording.isOver) return;
+    if (recording.contexts[recording.contexts.length - 1] !== 'script') {
+      this.moduleEnds();
+      return;
+    }
+    if (recording.contexts.length === 1 && recording.running === this.last.event) this.noteEnd(this.last.number);
     recording.leave();
+  }
+
+  noteEnd(number) {
+    const { elements, inOrder, loading } = this.page;
+    inOrder.ends(number);
+    if (/^(inline|sync)$/.test(elements.kinds.get(number))) loading.noteRunOf(number);
   }
 
   noteDeferred(number) {
@@ -116,11 +143,13 @@ class Scripts {
     elements.hasRunDeferred = true;
   }
 
-  /** The element whose run this may be: a further `async` one where the format lets the script's own not run now. */
+  /** The element whose run this may be: a further `async` one where the format lets the script's own not run now, or its source was set later. */
   runnable(element) {
     const { elements, recording } = this.page;
     const number = elements.declaredNumber(element);
     const kind = elements.kinds.get(number);
+    const source = elements.loads.get(element);
+    if (source && !this.hasRun.has(source.number)) return source.number;
     const isScript = /^(inline|sync|defer|async)$/.test(kind);
     const why = isScript && !this.hasRun.has(number) ? this.whyTooLate(number, kind) : 'it had run, or was no script when it was made';
     if (!why) return number;
@@ -155,9 +184,11 @@ class Scripts {
     const isSameTurn = recording.moduleRun && recording.contexts.length > 0;
     if (!isSameTurn) {
       recording.startTask();
-      recording.moduleRun = { number: recording.next('module run'), element: 0 };
-      recording.begin(`module ${recording.moduleRun.number}`, 'exec', site);
+      const run = { number: recording.next('module run'), element: 0 };
+      recording.moduleRun = run;
+      recording.begin(`module ${run.number}`, 'exec', site);
       recording.enter('callback');
+      this.page.natives.queueMicrotask(() => { if (recording.moduleRun === run) this.closeModule(); }); // where the run's last module was not known
     }
     const element = this.findModule(address, site);
     if (element && !recording.moduleRun.element) this.tellModule(element);
@@ -169,8 +200,10 @@ class Scripts {
     const number = this.runnable(element);
     this.hasRun.add(number);
     recording.moduleRun.element = number;
-    if (elements.kinds.get(number) === 'defer') this.noteDeferred(number);
+    const isDeferred = elements.kinds.get(number) === 'defer';
+    if (isDeferred) this.noteDeferred(number);
     this.noteRun(element, number);
+    if (isDeferred) this.page.loading.comeBehindParsing();
     recording.log.line(`is ${recording.moduleRun.number} ${number}`);
   }
 

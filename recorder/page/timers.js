@@ -4,6 +4,8 @@ class Timers {
   constructor(page) {
     this.page = page;
     this.recording = page.recording;
+    /** The idle callback that was asked for last. */
+    this.lastIdle = null;
   }
 
   start() {
@@ -34,15 +36,18 @@ class Timers {
     if (name) this.recording.log.name(kind, number, { function: name });
   }
 
-  run(line, kind, asker, callback, words) {
+  /** `place` tells of idle callbacks which comes behind which. */
+  run(line, kind, asker, callback, words, place) {
     const { recording, page } = this;
     if (recording.isOver) return callback.apply(page.window, words);
     recording.startTask();
     recording.begin(line, kind, undefined, [asker]);
+    if (place?.before) page.loading.comeBehind(place.before.ends, 'the idle callback before');
     recording.enter('callback');
     try {
       return callback.apply(page.window, words);
     } finally {
+      if (place?.isFollowed) place.ends = [page.loading.registerJoin(this.page.elements.number(page.window), 'the end of an idle callback')];
       recording.leave();
     }
   }
@@ -83,6 +88,16 @@ class Timers {
     });
   }
 
+  /** Two idle callbacks that one event asks for come in this order, unless one has a time by which it has to come. */
+  placeOfIdle([options]) {
+    const { recording } = this;
+    if (!recording.isRunning() || (options && options.timeout > 0)) return null;
+    const before = this.lastIdle?.asker === recording.running ? this.lastIdle : null;
+    if (before) before.isFollowed = true;
+    this.lastIdle = { asker: recording.running, before, isFollowed: false, ends: [] };
+    return this.lastIdle;
+  }
+
   /** An animation frame has a record of its own in version 3, and is an interval that ticks once before. */
   replaceFrame(window, name) {
     const timers = this;
@@ -96,7 +111,8 @@ class Timers {
       recording.log.name('interval', number, { why: name, function: nameOfFunction(callback) });
       const hold = steering.asks(words[0]);
       const asker = recording.running;
-      const run = (time) => timers.run(`${words[1]} ${number}`, 'tick', asker, callback, [time]);
+      const place = name === 'requestIdleCallback' ? timers.placeOfIdle(rest) : null;
+      const run = (time) => timers.run(`${words[1]} ${number}`, 'tick', asker, callback, [time], place);
       return steering.note(hold, native.call(window, steering.callback(hold, run, (again) => native.call(window, again, ...rest)), ...rest));
     });
   }

@@ -63,6 +63,23 @@ exports.cases = [
     ],
   },
   {
+    page: 'shadow-declarative.html',
+    words: ['--do', 'click:#light'],
+    due: [
+      'exec script', 'w before', 'parse div#host plain', 'parse p#within plain', 'parse button#press plain', 'w click of button#press', 'parse script inline', 'exec script',
+      'r before', 'w inside', 'parse script sync', 'exec script', 'w ready', 'parse b#light plain', 'w #light', 'parse script inline', 'exec script', 'r inside', 'w hid',
+      'parse script inline', 'exec script', 'r hid', 'r ready', 'w seen', 'dcl', 'load',
+    ],
+    never: ['w #within', 'w #press', 'tick'],
+  },
+  {
+    page: 'script-later.html',
+    due: [
+      'parse script#empty inline', 'timer', 'w config', 'new script#empty async', 'exec script#empty', 'r config', 'w ready', 'inline script#empty load', 'run loaded', 'r config',
+      'r ready',
+    ],
+  },
+  {
     page: 'script-load.html',
     due: [
       'parse script sync', 'exec script', 'inline script load', 'run load', 'w loaded', 'close', 'back', 'parse p#text plain', 'exec script', 'r loaded',
@@ -92,6 +109,21 @@ exports.cases = [
       'exec script', 'w before', 'exec script', 'r before',
     ],
     throws: true,
+  },
+  {
+    page: 'scripts-in-order.html',
+    due: [
+      'timer', 'new script async', 'new script async', 'exec script', 'w ready', 'on the end of a script', 'eload script', 'exec script',
+      'inline the script that was inserted before behind', 'run the end of a script', 'run the end of a script', 'back', 'r ready', 'exec script', 'run the end of a script',
+      'r status',
+    ],
+  },
+  {
+    page: 'ready-defer.html',
+    due: [
+      'parse script defer', 'parse script inline', 'exec script', 'w before', 'fire document readystatechange', 'run the end of a script', 'run onState', 'r before', 'w states',
+      'close', 'on the end of parsing', 'exec script', 'inline the end of parsing behind', 'run the end of parsing', 'back', 'r states', 'dcl',
+    ],
   },
   {
     page: 'no-javascript.html',
@@ -146,6 +178,10 @@ exports.cases = [
   { page: 'map-keys.html', due: ['timer', 'r [a] of kept', 'timer', 'w [a] of kept'], races: ['[a] of kept'] },
   { page: 'tree-state.html', due: ['timer', 'r class of p#text', 'r content of p#text', 'timer', 'w class of p#text', 'w content of p#text'],
     races: ['class of p#text', 'content of p#text', 'style.color of p#text', 'title of p#text'] },
+  { page: 'own-names.html', due: ['w status', 'set 0', 'timer', 'w status', 'r closed', 'w closed', 'r find'], never: ['r navigator', 'r name', 'r document'],
+    races: ['closed', 'status'] },
+  { page: 'window-by-name.html', due: ['timer', 'r App', 'timer', 'w App'], races: ['App'] },
+  { page: 'window-by-name.html', words: ['--depth', 'globals'], due: ['timer', 'r App', 'timer', 'w App'], races: ['App'] },
   { page: 'put-back.html', due: ['timer', 'timer'] },
   { page: 'late-writes.html', never: ['w neverSet'], races: ['inVar', 'inLet', 'inClosure of the closure of store', 'parts of kept'] },
   { page: 'late-writes-module.html', races: ['last'] },
@@ -157,6 +193,9 @@ exports.cases = [
   { page: 'proxy.html', due: ['timer', 'r n of t', 'timer', 'w n of t'], never: ['r n of watched'], races: ['n of t', 'traps of the closure of ?'] },
   { page: 'modules-apart.html', due: ['timer', 'r total of store', 'r last', 'timer', 'w total of store', 'w last'],
     never: ['w scratch', 'r fixed', 'r scratch'], races: ['last', 'total of store'] },
+
+  { page: 'module-imports.html', due: ['timer', 'r total', 'r last', 'timer', 'w total', 'w last'], never: ['r fixed', 'r add', 'r sum'], races: ['last', 'total'] },
+  { page: 'module-imports.html', words: ['--depth', 'globals'], due: ['timer', 'r total', 'r last', 'timer', 'w total', 'w last'], races: ['last', 'total'] },
 
   // ---- timers and jobs
   {
@@ -177,6 +216,20 @@ exports.cases = [
     due: [
       'set 5', 'timer', 'w depth', 'set 0', 'timer', 'w depth',
     ],
+  },
+  {
+    page: 'idle-callbacks.html',
+    due: [
+      'exec script', 'every 0', 'every 0', 'tick', 'w seen', 'on the end of an idle callback', 'tick', 'inline the idle callback before behind',
+      'run the end of an idle callback', 'back', 'r seen', 'w seen',
+    ],
+    races: ['other'],
+  },
+  {
+    page: 'leaving.html',
+    due: ['timer', 'wfire pagehide', 'run hides', 'w steps', 'close', 'on an event before', 'fire document visibilitychange', 'run an event before', 'run changes',
+      'wfire unload', 'run an event before', 'run goes', 'r steps'],
+    races: ['pagehide of window', 'unload of window', 'visibilitychange of document'],
   },
   {
     page: 'text-timer.html',

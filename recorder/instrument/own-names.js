@@ -1,0 +1,57 @@
+'use strict';
+// Names of the browser's that a page takes for variables of its own: `var status`, `function find()`, `class Animation`. From then on they are global
+// variables like others, in all scripts of the page.
+
+const { addDeclared, addHoisted, addLexical } = require('./scopes.js');
+
+/** `var self = this` and the like reach the window by the browser's own name. */
+const IS_WINDOW = /^(window|self|globalThis)$/;
+const isWindow = (node) => !!node && (node.type === 'ThisExpression' || (node.type === 'Identifier' && IS_WINDOW.test(node.name)));
+/** No script can put anything in the place of these. */
+const FIXED = ['window', 'document', 'location', 'top'];
+
+/** The names that a script declares at its top by `var`, and by other words. */
+function declaredNames({ body }) {
+  const all = new Set();
+  const variables = new Set();
+  body.forEach((statement) => addHoisted(statement, all));
+  addLexical(body, all);
+  for (const statement of body) {
+    if (statement.type !== 'VariableDeclaration') continue;
+    statement.declarations.filter(({ init }) => isWindow(init)).forEach(({ id }) => all.delete(id.name));
+    if (statement.kind === 'var') addDeclared(statement, variables);
+  }
+  FIXED.forEach((name) => all.delete(name));
+  return [...all].map((name) => ({ name, isVar: variables.has(name) }));
+}
+
+class BrowserNames {
+  constructor() {
+    this.names = new Set();
+    /** Whether the names are all of the browser's. */
+    this.areAll = true;
+    this.own = new Set();
+  }
+
+  /** @param {Iterable<string>} names */
+  set(names, areAll = true) {
+    this.names = new Set(names);
+    this.areAll = areAll;
+  }
+
+  has(name) {
+    return this.names.has(name) && !this.own.has(name);
+  }
+
+  /**
+   * Takes the names that a script declares at its top and that are the browser's, or may be where not all of these are known yet.
+   * @returns {{name: string, isVar: boolean}[]} a `var` takes a name only where the browser lets it be written
+   */
+  take(program) {
+    const taken = declaredNames(program).filter(({ name }) => this.names.has(name) || !this.areAll);
+    taken.forEach(({ name }) => this.own.add(name));
+    return taken;
+  }
+}
+
+module.exports = { BrowserNames };

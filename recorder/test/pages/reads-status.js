@@ -1,0 +1,1 @@
+seen = [status, closed, document.readyState, name];
