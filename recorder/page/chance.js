@@ -23,12 +23,6 @@ function fixChance(window, { seed, date }) {
     if (!new.target) return new Native(now()).toString();
     return Reflect.construct(Native, words.length ? words : [now()], new.target === FixedDate ? Native : new.target);
   }
-  FixedDate.prototype = Native.prototype;
-  Object.setPrototypeOf(FixedDate, Native);
-  Object.defineProperty(FixedDate, 'name', { value: 'Date' });
-  Object.defineProperty(FixedDate, 'length', { value: Native.length });
   replaceMethod(Native, 'now', () => now);
-  Object.defineProperty(Native.prototype, 'constructor', { configurable: true, writable: true, value: FixedDate });
-  Object.defineProperty(window, 'Date', { configurable: true, writable: true, value: FixedDate });
-  replacedFunctions.set(FixedDate, Native);
+  putConstructor(window, 'Date', FixedDate);
 }

@@ -104,10 +104,7 @@ class Jobs {
       const wrapped = typeof callback === 'function' && !jobs.recording.isOver ? jobs.wrapObserver(name, callback) : callback;
       return Reflect.construct(Native, [wrapped, ...rest], new.target && new.target !== Observer ? new.target : Native);
     }
-    Observer.prototype = Native.prototype;
-    Object.setPrototypeOf(Observer, Native);
-    Object.defineProperty(Observer, 'name', { value: name });
-    Object.defineProperty(window, name, { configurable: true, writable: true, value: Observer });
+    putConstructor(window, name, Observer);
   }
 
   /** A mutation observer's callback is a job; those of the others are tasks. */

@@ -46,8 +46,7 @@ class Messages {
       peers.set(channel.port2, channel.port1);
       return channel;
     }
-    MessageChannel.prototype = Native.prototype;
-    Object.defineProperty(window, 'MessageChannel', { configurable: true, writable: true, value: MessageChannel });
+    putConstructor(window, 'MessageChannel', MessageChannel);
     replaceMethod(window.MessagePort.prototype, 'postMessage', (native) => function postMessage() {
       const peer = peers.get(this);
       const hold = peer && messages.post(peer);

@@ -49,9 +49,16 @@ function replaceConstructor(window, name, note) {
     note(made, words);
     return made;
   }
-  Replacement.prototype = Native.prototype;
+  putConstructor(window, name, Replacement);
+}
+
+/** The page finds a constructor of the recorder in the place of the browser's, as it would find that: its name, its text and its objects. */
+function putConstructor(window, name, Replacement) {
+  const Native = window[name];
+  Object.defineProperty(Replacement, 'prototype', { value: Native.prototype, writable: false });
   Object.setPrototypeOf(Replacement, Native);
-  Object.defineProperty(Replacement, 'name', { value: name });
+  Object.defineProperty(Replacement, 'name', { value: name, configurable: true });
+  Object.defineProperty(Replacement, 'length', { value: Native.length, configurable: true });
   replacedFunctions.set(Replacement, Native);
   Object.defineProperty(Native.prototype, 'constructor', { configurable: true, writable: true, value: Replacement });
   Object.defineProperty(window, name, { configurable: true, writable: true, value: Replacement });
