@@ -362,8 +362,25 @@ class GlobalInstrumenter {
 
   CallExpression(node, scope) {
     noteWindowNames(node, scope);
-    const isEval = node.callee.type === 'Identifier' && node.callee.name === 'eval';
-    this.visitChildren(node, scope, isEval ? node.callee : undefined);
+    const { callee } = node;
+    const isEval = callee.type === 'Identifier' && callee.name === 'eval';
+    const close = this.tellMaking(node, scope);
+    this.visitChildren(node, scope, isEval ? callee : undefined);
+    close();
+  }
+
+  NewExpression(node, scope) {
+    const close = this.tellMaking(node, scope);
+    this.visitChildren(node, scope);
+    close();
+  }
+
+  /** Code that is made of a text has no marks: that there is such code is told. */
+  tellMaking({ callee, arguments: words }, scope) {
+    const isMaker = callee.type === 'Identifier' && (callee.name === 'eval' || callee.name === 'Function') && scope.where(callee.name) !== 'local';
+    const last = words[words.length - 1];
+    if (!isMaker || !last || last.type === 'SpreadElement') return nothing;
+    return this.around(last, last.type === 'SequenceExpression' ? '__er.made((' : '__er.made(', last.type === 'SequenceExpression' ? '))' : ')');
   }
 
   UnaryExpression(node, scope) {

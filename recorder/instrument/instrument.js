@@ -9,6 +9,12 @@ const { importsOf, exportsOf } = require('./imports.js');
 const { GlobalInstrumenter } = require('./globals.js');
 const { ObjectInstrumenter } = require('./objects.js');
 
+/** Which regular expressions there are is the browser's to say: it knows newer ones. */
+const Parser = acorn.Parser.extend((Base) => class extends Base {
+  validateRegExpFlags() {}
+  validateRegExpPattern() {}
+});
+
 function topScope(program, kind) {
   if (kind === 'module') return new ModuleScope(program);
   const scope = new Scope(null);
@@ -63,7 +69,7 @@ function visitProgram(instrumenter, program, scope, kind) {
 function instrument(code, options) {
   let program;
   try {
-    program = acorn.parse(code, {
+    program = Parser.parse(code, {
       ecmaVersion: 'latest',
       sourceType: options.kind === 'module' ? 'module' : 'script',
       allowReturnOutsideFunction: options.kind === 'handler',

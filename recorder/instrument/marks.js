@@ -26,7 +26,7 @@ const quoteList = (list) => `'${quote(list).replace(/'/g, "\\'")}'`;
  * do this alone.
  */
 const ANSWERS = [
-  'ro wo uo p q b g m n i e d o L',
+  'ro wo uo p q b g m n i e d o L made',
   'k l j h a c sk',
   'w u',
   'wh uh wm um fo f fk z F',

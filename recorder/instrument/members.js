@@ -149,7 +149,9 @@ class MemberInstrumenter extends ClosureInstrumenter {
     const close = isPlain ? nothing : this.around(callee, '(', ')');
     this.visit(callee, scope);
     close();
+    const finish = this.tellMaking(node, scope);
     this.visitAll(node.arguments, scope);
+    finish();
   }
 
   // ---- operators

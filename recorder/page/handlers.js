@@ -192,6 +192,7 @@ class Handlers {
     if (known && known.text === text) return;
     const handler = this.recording.next('handler');
     const marked = MARKED.test(text) ? text : this.markText(type, text);
+    if (marked !== text) this.recording.log.miss('handler attributes that scripts set, without what they read');
     this.attributesOf(owner).set(type, { handler, text: marked });
     this.recording.log.line(`on ${handler}`);
     this.recording.accessNow('w', this.slot(owner, type), '');

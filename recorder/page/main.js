@@ -113,6 +113,7 @@ function helpersOf(page) {
     V: (module, name, site) => page.imports.read(module, name, site),
     E: (module, scope, own, others, wholes) => page.imports.note(module, scope, own, others, wholes),
     asked: (site) => scripts.importAsked(site),
+    made: (text) => { recording.log.miss(MADE_OF_TEXT); return text; },
     scriptBegins: (element, site, functions, taken) => {
       if (taken) globals.take(taken);
       scripts.begins(element, site, functions);

@@ -3,6 +3,8 @@
 const TEXT = 3;
 const DOES_NOTHING = /^\s*(void\s*\(?\s*0\s*\)?)?\s*;?\s*$/;
 
+const MADE_OF_TEXT = 'code that is made of a text (eval, Function, a timer\'s text), without what it reads';
+
 class Scripts {
   constructor(page) {
     this.page = page;

@@ -27,6 +27,7 @@ class Timers {
   callable(callback) {
     if (typeof callback === 'function') return callback;
     const code = String(callback);
+    this.recording.log.miss(MADE_OF_TEXT);
     const { window } = this.page;
     return () => window.eval(code);
   }

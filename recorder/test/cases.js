@@ -130,6 +130,7 @@ exports.cases = [
     due: [
       'parse script inline', 'parse script inline', 'exec script', 'w afterwards',
     ],
+    losses: [/^scripts that are no JavaScript/],
     throws: true,
   },
   {
@@ -183,6 +184,10 @@ exports.cases = [
   { page: 'window-by-name.html', due: ['timer', 'r App', 'timer', 'w App'], races: ['App'] },
   { page: 'window-by-name.html', words: ['--depth', 'globals'], due: ['timer', 'r App', 'timer', 'w App'], races: ['App'] },
   { page: 'put-back.html', due: ['timer', 'timer'] },
+  { page: 'made-code.html', words: CLICK, due: ['exec script', 'w byFunction', 'w byExpression', 'w byEval', 'timer', 'w byTimer', 'run click', 'w byHandler'],
+    races: ['click of button'], losses: [/^code that is made of a text.*: 3$/, /^handler attributes that scripts set.*: 1$/] },
+  { page: 'frozen-builtins.html', due: ['timer', 'r total of cart', 'timer', 'w total of cart'], races: ['total of cart', '[a] of kept'] },
+  { page: 'replaced-builtins.html', due: ['timer', 'r total of cart', 'timer', 'w total of cart'], never: ['w called'], races: ['total of cart', '[a] of kept'] },
   { page: 'late-writes.html', never: ['w neverSet'], races: ['inVar', 'inLet', 'inClosure of the closure of store', 'parts of kept'] },
   { page: 'late-writes-module.html', races: ['last'] },
   { page: 'late-writes-module.html', words: ['--depth', 'globals'], races: ['last'] },
