@@ -114,9 +114,11 @@ function listed(texts) {
   };
   const begin = countCommon((words, k) => words[k], shortest - 1);
   const end = countCommon((words, k) => words[words.length - 1 - k], shortest - 1 - begin);
-  const middles = some.map((words) => words.slice(begin, words.length - end).join(' ')).join(', ');
-  const told = [...some[0].slice(0, begin), middles + (texts.length > MOST_TOLD ? ', ..' : ''), ...some[0].slice(some[0].length - end)].join(' ');
+  const middles = some.map((words) => words.slice(begin, words.length - end).join(' '));
+  const comma = middles.every((middle) => middle.endsWith(',')) ? ',' : '';
+  const middle = middles.map((one) => (comma ? one.slice(0, -1) : one)).join(', ') + (texts.length > MOST_TOLD ? ', ..' : '') + comma;
+  const told = [...some[0].slice(0, begin), middle, ...some[0].slice(some[0].length - end)].join(' ');
   return told.endsWith('..') ? told : `${told}.`;
 }
 
-module.exports = { Problems };
+module.exports = { Problems, listed };

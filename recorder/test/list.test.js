@@ -8,7 +8,7 @@ const { test } = require('node:test');
 const { Known } = require('../list/known.js');
 const { Listing } = require('../list/listing.js');
 const { linesOf } = require('../list/outputs.js');
-const { Problems } = require('../list/problems.js');
+const { Problems, listed } = require('../list/problems.js');
 const { SourceText } = require('../list/source-text.js');
 const { Actions } = require('../view/actions.js');
 const { Words } = require('../view/words.js');
@@ -176,6 +176,12 @@ test('two acts of a user stand at the end', async () => {
   const lines = ['parse 0 1 plain', 'parse 0 2 plain', 'parse 0 3 async', 'exec 3', 'on 1', 'on 2', 'fire 1 1 click', 'run 1 0 1', 'w var 0 x', 'close 1', 'fire 2 2 click', 'run 2 0 2', 'w var 0 x', 'close 2'];
   const facts = { dispatches: { 1: { type: 'click', act: 1000 }, 2: { type: 'click', act: 2000 } } };
   assert.strictEqual((await looksOf(lines, facts))[0][0], 'act against act');
+});
+
+test('what several races have in common is told once', () => {
+  const reply = (file, line) => `the load handler of the request for ${file} at page.html:${line}, by way of jquery.js:1`;
+  assert.strictEqual(listed([reply('a', 1), reply('b', 2)]), 'the load handler of the request for a at page.html:1, b at page.html:2, by way of jquery.js:1.');
+  assert.strictEqual(listed(['a', 'b', 'c', 'd', 'e'].map((name) => `the click at ${name}`)), 'the click at a, b, c, d, ..');
 });
 
 test('the steps\' words know all rules', () => {
