@@ -22,7 +22,7 @@ const OPTIONS = `  --do ACTION       what a user does, in order: "click:SELECTOR
                     what is recorded of scripts: global variables, or the properties of objects, closures, arrays, the page's tree too (objects)
   --libraries NAMES the files of libraries, as a regular expression of their names, or "none": what only they touch of objects and closures is left
                     out (jquery, react and others)
-  --keep            also accesses by which nothing can race, as to an object that one action alone touches
+  --keep            all accesses, also those that the recorder's rules leave out as no race can come of them
   --root DIR        the folder that is served, where URL is a file (the file's own folder)`;
 /** What er_record takes besides. */
 const RAW_OPTION = "  --raw             nothing is recorded: the page's own errors and times, to compare with";

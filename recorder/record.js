@@ -42,7 +42,7 @@ function writeFiles(recorder, options, traceFile) {
   const { text, names, accesses, large, leftOut, cut } = readRun(recorder, options);
   fs.writeFileSync(traceFile, text);
   const recording = originOf(recorder, options, traceFile, text);
-  const facts = { page: recorder.given, trace: traceFile.replace(/^.*\//, ''), recording, ...(large.length ? { leftOut: large } : {}) };
+  const facts = { page: recorder.given, trace: traceFile.replace(/^.*\//, ''), recording, ofLibraries: accesses.libraries(), ...(large.length ? { leftOut: large } : {}) };
   fs.writeFileSync(namesFile(traceFile), names.toJson(facts));
   const lines = accesses.lines();
   for (const { location, accesses: count, pairs } of large) lines.push(`${location}, more than the program takes: ${count} accesses, ${pairs} pairs`);

@@ -50,7 +50,7 @@ async function writeView(traceFile, report, known) {
   const links = report.actions <= MOST_TO_ASK ? await linksBetween(traceFile, model.pairsToExplain()) : [];
   const built = model.build(links || []);
   const groups = built.groups.map((group, k) => ({ ...group, race: problems.leads[k] }));
-  const shown = { ...built, groups, problems: new Listing([problems], known).problems.map(plainProblem), leftOut: problems.leftOut, isUnproved: !links, command: `./er_view ${traceFile}` };
+  const shown = { ...built, groups, problems: new Listing([problems], known).problems.map(plainProblem), leftOut: problems.leftOut, ofLibraries: problems.ofLibraries, isUnproved: !links, command: `./er_view ${traceFile}` };
   writePage(traceFile, shown);
   return { model: shown, problems };
 }

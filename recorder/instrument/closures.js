@@ -7,8 +7,8 @@ const { Scope, namesOfPattern } = require('./scopes.js');
 const { GlobalInstrumenter, mayWait, LOGICAL, nothing } = require('./globals.js');
 const { quote } = require('./marks.js');
 
-/** The helpers (page/objects.js) for a read, a write and both. */
-const OF_SCOPE = { r: 'v', w: 'z', u: 'y' };
+/** The helpers (page/sites.js) for a read, a write, both, and a count. */
+const OF_SCOPE = { r: 'v', w: 'z', u: 'y', U: 'Y' };
 /** What may stand before an arrow or the brace of a static block. */
 const COMMENT_OR = (token) => new RegExp(`//[^\\n\\r\\u2028\\u2029]*|/\\*[^]*?\\*/|${token}`, 'g');
 
@@ -19,6 +19,8 @@ class ClosureInstrumenter extends GlobalInstrumenter {
     this.isLooking = true;
     this.declarable = [];
     this.loops = 0;
+    /** Expressions whose value goes nowhere. */
+    this.unused = new Set();
     /** How often the code that is walked through has waited. */
     this.waited = 0;
   }
@@ -196,6 +198,17 @@ class ClosureInstrumenter extends GlobalInstrumenter {
     finish();
   }
 
+  ExpressionStatement(node, scope) {
+    this.unused.add(node.expression);
+    super.ExpressionStatement(node, scope);
+  }
+
+  /** 'U' where an expression counts up or down, and its value goes nowhere. */
+  updateMode(node) {
+    const isCount = node.type === 'UpdateExpression' || node.operator === '+=' || node.operator === '-=';
+    return isCount && this.unused.has(node) ? 'U' : 'u';
+  }
+
   /** @param {() => void} visit */
   inLoop(visit) {
     this.loops++;
@@ -209,6 +222,7 @@ class ClosureInstrumenter extends GlobalInstrumenter {
   ForStatement(node, scope) {
     const isLexical = node.init && node.init.type === 'VariableDeclaration' && node.init.kind !== 'var';
     if (isLexical) this.scopeOf(node, () => Scope.ofBlock(scope, [node.init])).isHidden = true;
+    if (node.update) this.unused.add(node.update);
     this.inLoop(() => super.ForStatement(node, scope));
   }
 
@@ -334,7 +348,7 @@ class ClosureInstrumenter extends GlobalInstrumenter {
 
   /** What reads a variable first is told with its values before and behind: `call(scope,"n",site,n,n++,n)`. */
   markUpdate(node, { name, start }, scope, visit) {
-    const finish = this.around(node, `${this.call('u', name, scope, start)},${name},`, `,${name})`);
+    const finish = this.around(node, `${this.call(this.updateMode(node), name, scope, start)},${name},`, `,${name})`);
     visit();
     finish();
   }

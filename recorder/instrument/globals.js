@@ -399,11 +399,16 @@ class GlobalInstrumenter {
   UpdateExpression(node, scope) {
     const argument = node.argument;
     if (argument.type === 'MemberExpression') {
-      this.visitMember(argument, scope, 'u');
+      this.visitMember(argument, scope, this.updateMode(node));
       return;
     }
     const change = node.prefix ? '' : node.operator === '++' ? ',1' : ',-1';
-    this.callAround(node, this.call('u', argument.name, scope, argument.start), '', change)();
+    this.callAround(node, this.call(this.updateMode(node), argument.name, scope, argument.start), '', change)();
+  }
+
+  /** How an expression changes what it reads. */
+  updateMode() {
+    return 'u';
   }
 
   AssignmentExpression(node, scope) {
@@ -424,7 +429,7 @@ class GlobalInstrumenter {
     const { left, right, operator } = node;
     const isApart = this.isApart(node);
     const read = isApart && this.access('r', left.name, scope, left.start);
-    const write = this.call(isApart || operator === '=' ? 'w' : 'u', left.name, scope, left.start);
+    const write = this.call(isApart || operator === '=' ? 'w' : this.updateMode(node), left.name, scope, left.start);
     const finish = read ? this.callBefore(node, read) : nothing;
     const isOfValue = LOGICAL.test(operator);
     const close = this.callAround(isOfValue ? right : node, write, isOfValue ? left.name : '');
@@ -438,7 +443,7 @@ class GlobalInstrumenter {
     const { left, right, operator } = node;
     const isApart = this.isApart(node);
     const isOfWindow = this.mayBeOfWindow(left, scope) && (isApart || operator === '=');
-    if (!isOfWindow || isApart) this.visitMember(left, scope, isApart ? 'r' : operator === '=' ? 'w' : 'u');
+    if (!isOfWindow || isApart) this.visitMember(left, scope, isApart ? 'r' : operator === '=' ? 'w' : this.updateMode(node));
     const site = isOfWindow && this.options.site(left.property.start);
     const close = this.callAround(right, isOfWindow && `__er.fo(${left.object.name},${quote(knownProperty(left))},${site}`);
     this.visit(right, scope);

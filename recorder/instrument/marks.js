@@ -26,11 +26,11 @@ const quoteList = (list) => `'${quote(list).replace(/'/g, "\\'")}'`;
  * do this alone.
  */
 const ANSWERS = [
-  'ro wo uo p q b g m n i e d o L made',
-  'k l j h a c sk',
-  'w u',
-  'wh uh wm um fo f fk z F',
-  'y',
+  'ro wo uo p q b B g m n i e d o L made',
+  'k l j J h a c sk',
+  'w u U',
+  'wh uh Uh wm um fo f fk z F',
+  'y Y',
 ];
 const WITHOUT_ANSWER = 'r rh rm v V s sp E asked scriptBegins scriptEnds moduleBegins moduleEnds handlerBegins handlerEnds addressBegins addressEnds';
 

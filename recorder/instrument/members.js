@@ -10,8 +10,8 @@ const { quote } = require('./marks.js');
 const { shapeOf, patternsOf } = require('./patterns.js');
 
 /** The helpers (page/objects.js) for an access by a name, which answer the object, and by a key, which answer the key. */
-const BY_NAME = { r: 'p', w: 'q', u: 'b', d: 'g' };
-const BY_KEY = { r: 'k', w: 'l', u: 'j', d: 'h' };
+const BY_NAME = { r: 'p', w: 'q', u: 'b', U: 'B', d: 'g' };
+const BY_KEY = { r: 'k', w: 'l', u: 'j', U: 'J', d: 'h' };
 /** Names of the browser whose properties a page does not change. */
 const TOOLS = new Set(['Math', 'JSON', 'Object', 'Array', 'String', 'Number', 'Boolean', 'Symbol', 'Reflect', 'Promise', 'Date', 'console', 'performance',
   'navigator', 'location', 'history', 'screen', 'localStorage', 'sessionStorage', 'Intl', 'CSS', 'crypto']);
@@ -196,7 +196,7 @@ class MemberInstrumenter extends ClosureInstrumenter {
     const isLate = !this.isLooking && (isApart || operator === '=') && this.assignLate(node, scope, isApart);
     if (isLate) return;
     const close = this.isNamedSuper(left) && operator !== '=' ? this.callBefore(node, `__er.b(this,${knownKey(left)},${this.siteOf(left)})`) : nothing;
-    this.visitMember(left, scope, operator === '=' ? 'w' : 'u');
+    this.visitMember(left, scope, operator === '=' ? 'w' : this.updateMode(node));
     this.visit(right, scope);
     close();
   }

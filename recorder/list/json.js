@@ -35,6 +35,7 @@ function plainListing(listing, { page, status, files, folder }) {
     runs: listing.runs.length,
     files,
     leftOut: listing.runs.map(({ leftOut }) => leftOut),
+    ofLibraries: listing.runs.map(({ ofLibraries }) => ofLibraries),
     problems: listing.problems.map((problem) => plainProblem(listing, problem, failing, folder)),
     notSeen: listing.notSeen(),
   };

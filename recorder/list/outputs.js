@@ -5,6 +5,7 @@ const { plainListing } = require('./json.js');
 const { APART } = require('./looks.js');
 const { sarifOf } = require('./sarif.js');
 const { writeWhole } = require('./whole-file.js');
+const { librariesInWords } = require('../trace/accesses.js');
 
 /** The list in lines: what is new first, part by part; then what is known. */
 function linesOf(listing) {
@@ -19,7 +20,7 @@ function linesOf(listing) {
     lines.push(`${k + 1}. ${listing.inWords(line, others)}${listing.known ? ` [${line.name}]` : ''}`);
   });
   if (!told.length) lines.push(listing.known && listing.problems.length ? 'No race that is not known.' : 'No race.');
-  return [...lines, ...knownLines(listing)];
+  return [...lines, ...knownLines(listing), ...librariesLine(listing)];
 }
 
 function knownLines(listing) {
@@ -27,6 +28,12 @@ function knownLines(listing) {
   const head = known.length ? [`Known, in ${listing.known.file}:`] : [];
   return [...head, ...known.map((one) => `  ${one.name} ${listing.inWords(one)}`),
     ...listing.notSeen().map(({ name, words }) => `Known, and not seen: ${name} ${words}`.trim())];
+}
+
+/** The last line: what was left out by choice; of several runs that of the one with the most. */
+function librariesLine({ runs }) {
+  const most = runs.map(({ ofLibraries }) => ofLibraries).filter(Boolean).sort((a, b) => b.accesses - a.accesses)[0];
+  return most ? [`${librariesInWords(most)}.`] : [];
 }
 
 /** Writes what was asked for. Fails with a WriteFault. */

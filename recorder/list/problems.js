@@ -30,6 +30,8 @@ class Problems {
     this.list = this.fold();
     /** What was left out of the trace since the program can't take it. */
     this.leftOut = (names.leftOut || []).map(({ location, accesses, pairs }) => ({ location, words: `"${this.words.location(location).text}"`, accesses, pairs }));
+    /** What only libraries touch, counted: it is left out of the trace. */
+    this.ofLibraries = names.ofLibraries || null;
   }
 
   fold() {

@@ -67,10 +67,26 @@ class Globals {
     if (this.isDue(name, site)) this.touchWritten(name, site);
   }
 
+  /** An expression that has read and changed a variable. */
   update(name, site) {
     if (!this.isDue(name, site)) return;
-    this.touch(name, READ, site);
+    this.touchRead(name, site);
     this.touchWritten(name, site);
+  }
+
+  /** The same, where the value of a count goes nowhere. */
+  count(name, site) {
+    if (!this.isDue(name, site)) return;
+    const variable = this.holder.variable(name);
+    const isOnlyCounted = this.recording.objects.variables.isOnlyCounted(variable);
+    this.touchRead(name, site);
+    this.touchWritten(name, site);
+    if (isOnlyCounted) variable.flags |= IS_COUNTED;
+  }
+
+  touchRead(name, site) {
+    if (this.holder) this.recording.objects.variables.readAs(this.holder, this.holder.variable(name), site, this.valueBefore(name));
+    else this.touch(name, READ, site);
   }
 
   touchWritten(name, site) {
@@ -107,8 +123,13 @@ class Globals {
   }
 
   stage(name, site) {
-    const before = this.values.has(name) ? this.values.get(name) : MISSING;
-    this.recording.objects.variables.stage(this.holder, this.holder.variable(name), site, before);
+    const variable = this.holder.variable(name);
+    variable.flags &= ~IS_COUNTED;
+    this.recording.objects.variables.stage(this.holder, variable, site, this.valueBefore(name));
+  }
+
+  valueBefore(name) {
+    return this.values.has(name) ? this.values.get(name) : MISSING;
   }
 
   /** The value of a variable, without a call of the page's code. */

@@ -8,6 +8,9 @@ const READ = 0;
 const WRITE = 1;
 /** A write behind which the variable has its old value: it is told as a read. */
 const KEPT = 2;
+/** A write that counts up or down, and whose value nobody uses. */
+const COUNTED = 3;
+const isWrite = (mode) => (mode & 1) !== 0;
 
 /** What kind of thing has variables. From LEFT_OUT on nothing is recorded of it. */
 const PLAIN = 0;
@@ -38,6 +41,10 @@ const IS_WRITTEN = 2;
 const IS_READ = 4;
 const MAY_RACE = 8;
 const IS_LEFT_OUT = 16;
+/** Its last action counted it up or down, and did nothing else with it. */
+const IS_COUNTED = 32;
+/** It is an attribute, the content or a style of an element, and no property that scripts put there. */
+const IS_OF_TREE = 64;
 
 /** Each page has thousands of these, so they are small. */
 class Variable {
@@ -53,7 +60,8 @@ class Variable {
     /** The first access, and what waits behind it (variables.js). */
     this.firstAccess = 0;
     this.firstSite = -1;
-    this.firstFound = undefined;
+    this.firstAfter = UNKNOWN;
+    this.firstBefore = UNKNOWN;
     this.waiting = null;
   }
 }

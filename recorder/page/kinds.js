@@ -20,6 +20,7 @@ class Kinds {
     this.recording = recording;
     this.holders = new WeakMap();
     this.trees = null;
+    this.objectNames = null;
   }
 
   // ---- what is known before the page runs
@@ -98,8 +99,14 @@ class Kinds {
       holder = new Holder(this.kindOf(object), site, object);
       holder.since = this.recording.actions;
       this.holders.set(object, holder);
-    }
+    } else if (holder.site < 0 && site >= 0) this.noteSite(holder, site);
     return holder;
+  }
+
+  /** An object is known by where code first met it: it may have been met before, where no place was known. */
+  noteSite(holder, site) {
+    holder.site = site;
+    if (holder.number && holder.kind !== TREE) this.objectNames.tell(holder);
   }
 
   /** Proxies, and the browser's own prototypes. */

@@ -52,13 +52,20 @@ const PAGE_ADDRESS = /^(?:https?|file|about|data|blob):/;
 /** Gives the calls of a stack in place of its text, which would cost many times as much. */
 const callsOfStack = (error, calls) => calls;
 
+/** A page that freezes its errors gives no places. */
 function takeStack(depth = STACK_DEPTH) {
   const { stackTraceLimit, prepareStackTrace } = Error;
-  Error.stackTraceLimit = depth;
-  Error.prepareStackTrace = callsOfStack;
+  const hadPrepare = hasOwn(Error, 'prepareStackTrace');
+  try {
+    Error.stackTraceLimit = depth;
+    Error.prepareStackTrace = callsOfStack;
+  } catch {
+    return [];
+  }
   const { stack } = new Error();
   Error.stackTraceLimit = stackTraceLimit;
-  Error.prepareStackTrace = prepareStackTrace;
+  if (hadPrepare) Error.prepareStackTrace = prepareStackTrace;
+  else delete Error.prepareStackTrace;
   return typeof stack === 'string' ? [] : stack;
 }
 

@@ -92,6 +92,11 @@ function helpersOf(page) {
     globals.update(name, site);
     return result;
   };
+  const count = (name, site, result, change) => {
+    globals.noteValueAt(site, name, change === undefined ? result : result + (typeof result === 'bigint' ? BigInt(change) : change));
+    globals.count(name, site);
+    return result;
+  };
   const inHandler = (access) => (element, name, site, ...values) => {
     if (!isOfElement(element, name)) access(name, site, ...values);
     return values[0];
@@ -105,8 +110,8 @@ function helpersOf(page) {
   return {
     ...(recording.objects ? recording.objects.helpers : {}),
     recording,
-    r: read, w: write, u: update,
-    rh: inHandler(read), wh: inHandler(write), uh: inHandler(update),
+    r: read, w: write, u: update, U: count,
+    rh: inHandler(read), wh: inHandler(write), uh: inHandler(update), Uh: inHandler(count),
     ro: ofObject(read), wo: ofObject(write), uo: ofObject(update),
     fo: (object, name, site, value) => { if (object === window) globals.write(name, site); return value; },
     rm: ofModule(['r']), wm: ofModule(['w']), um: ofModule(['r', 'w']),

@@ -1,8 +1,6 @@
 // What the log says of an object: its number, what made it, and whether a variable of it is the code's own or the page's.
 
 const LONGEST_TOLD = 80;
-/** The variables of an element that are the page's tree. */
-const OF_TREE = /^(content|style\..+|[a-z][a-z\d:.-]*)$/;
 
 class ObjectNames {
   constructor(recording, kinds) {
@@ -22,19 +20,18 @@ class ObjectNames {
       holder.number = FIRST_FIELD + this.trees.number(holder.object);
     } else {
       holder.number = this.numbers++;
-      this.recording.log.name('object', holder.number, this.facts(holder));
+      this.tell(holder);
     }
     return holder.number;
   }
 
-  /** What only libraries touch is left out of what code made, and not of windows and the page's tree. */
-  attributesOf({ kind, object }, name) {
-    return kind === WINDOW || (kind === TREE && !this.isOwnOfElement(object, name)) ? '' : ' own';
+  tell(holder) {
+    this.recording.log.name('object', holder.number, this.facts(holder));
   }
 
-  /** A property that scripts put at an element is no part of the tree. It may be gone by now. */
-  isOwnOfElement(element, name) {
-    return !OF_TREE.test(name) || getOwnPropertyDescriptor(element, name) !== undefined;
+  /** What only libraries touch is left out of what code made, and not of windows and the page's tree. */
+  attributesOf({ kind }, { flags }) {
+    return kind === WINDOW || (kind === TREE && (flags & IS_OF_TREE) !== 0) ? '' : ' own';
   }
 
   /** Nothing here may run the page's code. */

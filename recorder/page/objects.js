@@ -4,7 +4,7 @@ class Objects {
   constructor(recording) {
     this.recording = recording;
     this.kinds = new Kinds(recording);
-    this.objectNames = new ObjectNames(recording, this.kinds);
+    this.objectNames = this.kinds.objectNames = new ObjectNames(recording, this.kinds);
     this.variables = new Variables(recording, this.objectNames);
     this.properties = new Properties(this);
     this.collections = new Collections(this);

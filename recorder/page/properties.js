@@ -9,7 +9,7 @@ class Properties {
     this.variables = objects.variables;
   }
 
-  /** An access by a name or a key that is known. `modes` is 'r', 'w', 'u' or 'd'. */
+  /** An access by a name or a key that is known. `modes` is 'r', 'w', 'u' (both), 'U' (a count) or 'd'. */
   access(object, name, modes, site) {
     const { kinds, variables } = this;
     const known = kinds.holders.get(object);
@@ -29,9 +29,13 @@ class Properties {
   }
 
   accessPlain(object, name, modes, site) {
-    if (modes === 'r' || modes === 'u') this.read(object, name, site);
-    if (modes === 'r') return;
+    if (modes === 'r') {
+      this.read(object, name, site);
+      return;
+    }
     const holder = this.kinds.hold(object, site);
+    if (modes === 'U' && this.count(holder, object, name, site)) return;
+    if (modes === 'u' || modes === 'U') this.read(object, name, site);
     this.write(holder, object, name, site);
     if (modes === 'd') this.variables.touchName(holder, NAMES, WRITE, site);
   }
@@ -41,6 +45,7 @@ class Properties {
     if (/^\d+$/.test(text)) return; // a frame
     if (modes === 'r') page.globals.read(text, site);
     else if (modes === 'u') page.globals.update(text, site);
+    else if (modes === 'U') page.globals.count(text, site);
     else page.globals.write(text, site);
   }
 
@@ -63,13 +68,26 @@ class Properties {
   }
 
   readOwn(holder, object, name, site) {
-    if (holder.site < 0) holder.site = site;
-    let variable = holder.find(name);
-    if (variable === null) {
-      variable = holder.add(name);
-      if (isAccessor(object, name)) variable.flags |= IS_LEFT_OUT;
-    }
+    const variable = this.ownVariable(holder, object, name, site);
     if (!(variable.flags & IS_LEFT_OUT)) this.variables.touch(holder, variable, READ, site);
+  }
+
+  /** Answers whether it is a count of an own property. */
+  count(holder, object, name, site) {
+    const variable = hasOwn(object, name) ? this.ownVariable(holder, object, name, site) : null;
+    if (variable === null || variable.flags & IS_LEFT_OUT) return false;
+    this.variables.count(holder, variable, site);
+    return true;
+  }
+
+  /** The variable of a property that an object has. */
+  ownVariable(holder, object, name, site) {
+    if (holder.site < 0) this.kinds.noteSite(holder, site);
+    const known = holder.find(name);
+    if (known !== null) return known;
+    const variable = holder.add(name);
+    if (isAccessor(object, name)) variable.flags |= IS_LEFT_OUT;
+    return variable;
   }
 
   readMissing(object, name, site) {
@@ -77,7 +95,7 @@ class Properties {
     for (let depth = 0; at !== null && depth < LONGEST_PROTOTYPE_CHAIN; depth++) {
       const holder = depth === 0 ? this.kinds.hold(at, site) : this.kinds.holdPrototype(at);
       if (holder.kind >= LEFT_OUT) return;
-      if (holder.site < 0) holder.site = site;
+      if (holder.site < 0) this.kinds.noteSite(holder, site);
       this.variables.touchName(holder, name, READ, site);
       at = getPrototypeOf(at);
     }

@@ -123,12 +123,15 @@ function helpersOfObjects({ recording, sites, kinds, variables, properties, coll
     if (sites.isDue(scope, site)) variables.touchName(scope, name, READ, site);
   };
   /** `before` and `after` are the values of the variable. */
-  const writeScope = (scope, name, site, isUpdate, before, after) => {
+  const writeScope = (scope, name, site, modes, before, after) => {
     if (lastObjects[site] !== scope) {
       if (scope === undefined || !sites.isDue(scope, site)) return;
       const variable = scope.variable(name);
-      if (isUpdate) variables.touch(scope, variable, READ, site);
+      const isCount = modes === 'U' && variables.isOnlyCounted(variable);
+      variable.flags &= ~IS_COUNTED;
+      if (modes !== 'w') variables.readAs(scope, variable, site, before);
       variables.stage(scope, variable, site, before);
+      if (isCount) variable.flags |= IS_COUNTED;
       lastKeys[site] = indexOfStaged(staged, variable);
     }
     staged[lastKeys[site]] = after;
@@ -150,15 +153,16 @@ function helpersOfObjects({ recording, sites, kinds, variables, properties, coll
   const writeByName = byName('w');
   const writeByKey = byKey('w');
   return {
-    p: byName('r'), q: writeByName, b: byName('u'), g: byName('d'),
-    k: readByKey, l: writeByKey, j: byKey('u'), h: byKey('d'),
+    p: byName('r'), q: writeByName, b: byName('u'), B: byName('U'), g: byName('d'),
+    k: readByKey, l: writeByKey, j: byKey('u'), J: byKey('U'), h: byKey('d'),
     v: readScope,
     /** What reads a variable first is told with its values before and behind. */
-    y: (scope, name, site, before, result, after) => { writeScope(scope, name, site, true, before, after); return result; },
+    y: (scope, name, site, before, result, after) => { writeScope(scope, name, site, 'u', before, after); return result; },
+    Y: (scope, name, site, before, result, after) => { writeScope(scope, name, site, 'U', before, after); return result; },
     /** A write is told with its value and the one before, where they are known. */
     z(scope, name, site, value, before) {
       const { length } = arguments;
-      writeScope(scope, name, site, false, length > 4 ? before : UNKNOWN, length > 3 ? value : UNKNOWN);
+      writeScope(scope, name, site, 'w', length > 4 ? before : UNKNOWN, length > 3 ? value : UNKNOWN);
       return value;
     },
     t: null,
@@ -177,7 +181,7 @@ function helpersOfObjects({ recording, sites, kinds, variables, properties, coll
     i: whole((object, site, shape) => (shape === undefined ? collections.iterate(object, site) : patterns.takeEach(object, site, patterns.shapeOf(shape)))),
     d: whole((object, site, shape) => patterns.takeApart(object, site, patterns.shapeOf(shape))),
     L: (object, site) => {
-      if (recording.mayAccess()) variables.keepFirsts(kinds.hold(object, site), site);
+      if (recording.mayAccess()) variables.keepFirsts(kinds.hold(object, -1), site);
       return object;
     },
     F: (scope, name, site, value) => {

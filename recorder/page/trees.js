@@ -63,9 +63,15 @@ class Trees {
   access(node, name, modes, site) {
     if (this.notePart(node, name, site)) return;
     const shown = typeof name === 'string' && node.nodeType === 1 ? SHOWN[name] || null : null;
-    if (shown !== null) this.variables.touchModes(this.kinds.hold(node, site), shown, modes, site);
+    if (shown !== null) this.touch(this.kinds.hold(node, site), shown, modes, site);
     else if (modes === 'r') this.readOwn(node, name, site);
     else if (hasOwn(node, name) ? !isAccessor(node, name) : !(name in node)) this.variables.touchModes(this.kinds.hold(node, site), `${name}`, modes, site);
+  }
+
+  /** What is of the page's tree is the page's, whoever touches it. */
+  touch(holder, name, modes, site) {
+    variableOfTree(holder, name);
+    this.variables.touchModes(holder, name, modes, site);
   }
 
   /** A property that scripts put at a node, or look for there. */
@@ -95,20 +101,20 @@ class Trees {
     if (typeof name !== 'string') return;
     const owner = this.kinds.hold(node, site);
     if (kind === CLASSES) {
-      if (READS_CLASSES.has(name)) this.variables.touchName(owner, 'class', READ, site);
-    } else if (kind === DATA) this.variables.touchModes(owner, nameOfData(name), modes, site);
-    else if (name === 'cssText') this.variables.touchModes(owner, 'style', modes, site);
-    else if (name in part && NO_STYLES[name] === undefined) this.variables.touchModes(owner, `style.${name}`, modes, site);
+      if (READS_CLASSES.has(name)) this.touch(owner, 'class', 'r', site);
+    } else if (kind === DATA) this.touch(owner, nameOfData(name), modes, site);
+    else if (name === 'cssText') this.touch(owner, 'style', modes, site);
+    else if (name in part && NO_STYLES[name] === undefined) this.touch(owner, `style.${name}`, modes, site);
   }
 
   call(holder, name, site) {
     if (holder.object.nodeType !== 1) return;
-    if (CHANGES_CONTENT.has(name)) this.variables.touchName(holder, CONTENT, WRITE, site);
-    else if (READS_CONTENT.has(name)) this.variables.touchName(holder, CONTENT, READ, site);
+    if (CHANGES_CONTENT.has(name)) this.touch(holder, CONTENT, 'w', site);
+    else if (READS_CONTENT.has(name)) this.touch(holder, CONTENT, 'r', site);
   }
 
   accessAttribute(holder, key, method, site) {
-    if (typeof key === 'string' && !isOther(key)) this.variables.touchName(holder, key.toLowerCase(), READS_ATTRIBUTE.has(method) ? READ : WRITE, site);
+    if (typeof key === 'string' && !isOther(key)) this.touch(holder, key.toLowerCase(), READS_ATTRIBUTE.has(method) ? 'r' : 'w', site);
   }
 
   valueOf(node, name) {
@@ -130,6 +136,12 @@ class Trees {
   write(node, name, before) {
     if (!node || node.nodeType !== 1 || !this.recording.hasBegun) return;
     const holder = this.kinds.hold(node, -1);
-    this.variables.stage(holder, holder.variable(name), -1, before);
+    this.variables.stage(holder, variableOfTree(holder, name), -1, before);
   }
+}
+
+function variableOfTree(holder, name) {
+  const variable = holder.variable(name);
+  variable.flags |= IS_OF_TREE;
+  return variable;
 }

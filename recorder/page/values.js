@@ -27,6 +27,21 @@ function digestOf(value) {
   }
 }
 
+/** Things have no digests of their own, and are not kept alive by what waits (variables.js). */
+const A_THING = {};
+const A_FUNCTION = () => {};
+const LONGEST_KEPT = 1000;
+
+/** A value as it waits to be told. */
+function keepable(value) {
+  switch (typeof value) {
+    case 'object': return value === null || value === UNKNOWN || value === MISSING ? value : A_THING;
+    case 'function': return A_FUNCTION;
+    case 'string': return value.length > LONGEST_KEPT ? UNKNOWN : value;
+    default: return value;
+  }
+}
+
 /** The name of a function, where it is a text. */
 function nameOfFunction(given) {
   const descriptor = typeof given === 'function' && Object.getOwnPropertyDescriptor(given, 'name');

@@ -7,8 +7,8 @@
 
 /** So many accesses wait at a variable; then further reads are not kept. */
 const MOST_WAITING = 4000;
-/** An access that waits is three entries of a list: the access as a number, its place, what it found. */
-const OF_WAITING = 3;
+/** An access that waits is four entries of a list: the access as a number, its place, the values behind and before it. */
+const OF_WAITING = 4;
 /** A write of the running action is five: holder, variable, place, the values before and behind it. */
 const OF_STAGED = 5;
 const AFTER = 4;
@@ -27,15 +27,34 @@ class Variables {
     this.touch(holder, holder.variable(name), mode, site);
   }
 
-  /** `modes` is 'r', 'w', 'u' or 'd'. */
+  /** `modes` is 'r', 'w', 'u' (both), 'U' (a count) or 'd'. */
   touchModes(holder, name, modes, site) {
-    if (modes === 'r' || modes === 'u') this.touchName(holder, name, READ, site);
-    if (modes !== 'r') this.touchName(holder, name, WRITE, site);
+    const variable = holder.variable(name);
+    if (modes === 'U') {
+      this.count(holder, variable, site);
+      return;
+    }
+    if (modes === 'r' || modes === 'u') this.touch(holder, variable, READ, site);
+    if (modes !== 'r') this.touch(holder, variable, WRITE, site);
+  }
+
+  /** A count whose value nobody uses, as `n++` in a statement: two of them come to the same in either order. */
+  count(holder, variable, site) {
+    const isOnlyCounted = this.isOnlyCounted(variable);
+    this.touch(holder, variable, READ, site);
+    this.touch(holder, variable, WRITE, site);
+    if (isOnlyCounted) variable.flags |= IS_COUNTED;
+  }
+
+  isOnlyCounted({ flags, lastRead, lastWrite }) {
+    const { actions } = this.recording;
+    return lastWrite === actions ? (flags & IS_COUNTED) !== 0 : lastRead !== actions;
   }
 
   /** An access of the running action. A read of what this action itself has written tells nothing of another one. */
   touch(holder, variable, mode, site) {
     const { actions } = this.recording;
+    variable.flags &= ~IS_COUNTED;
     if (mode === WRITE) {
       if (variable.lastWrite !== actions) this.stage(holder, variable, site, this.valueOf(holder, variable));
     } else if (variable.lastWrite === actions) {
@@ -45,12 +64,19 @@ class Variables {
     }
   }
 
+  /** The read of an expression that has changed the variable already: `value` is what it found. */
+  readAs(holder, variable, site, value) {
+    const { actions } = this.recording;
+    if (variable.lastWrite === actions) this.touch(holder, variable, READ, site);
+    else if (variable.lastRead !== actions) this.read(holder, variable, site, value);
+  }
+
   read(holder, variable, site, value) {
     const { actions } = this.recording;
     variable.lastRead = actions;
     variable.flags |= IS_READ;
     if (KEEPS_ALL) this.keep(holder, variable, 'r', site);
-    this.settle(holder, variable, accessOf(actions, READ), site, value === UNKNOWN ? undefined : digestFor(holder, value));
+    this.settle(holder, variable, accessOf(actions, READ), site, valueFor(holder, value), UNKNOWN);
   }
 
   /** A write that is about to come, or has come; `before` is what was there. */
@@ -101,8 +127,7 @@ class Variables {
     if (isKept && variable.lastRead === actions) return;
     if (isKept) variable.lastRead = actions;
     else variable.flags |= IS_WRITTEN;
-    const found = after === UNKNOWN ? undefined : isKept ? digestFor(holder, after) : `${digestFor(holder, after)}<${digestFor(holder, before)}`;
-    this.settle(holder, variable, accessOf(actions, isKept ? KEPT : WRITE), site, found);
+    this.settle(holder, variable, accessOf(actions, isKept ? KEPT : writeMode(variable, after)), site, valueFor(holder, after), valueFor(holder, before));
   }
 
   /** Between two lines that are sent the action may go on: what it writes then is another write. */
@@ -114,36 +139,38 @@ class Variables {
 
   // ---- what waits, and what is told
 
-  settle(holder, variable, access, site, found) {
+  settle(holder, variable, access, site, after, before) {
     if (variable.flags & MAY_RACE) {
-      this.write(variable, access, site, found);
+      this.write(variable, access, site, after, before);
       return;
     }
     if (variable.firstAccess === 0) {
       variable.firstAccess = access;
       variable.firstSite = site;
-      variable.firstFound = found;
+      variable.firstAfter = after;
+      variable.firstBefore = before;
     } else {
       if (actionOf(variable.firstAccess) !== actionOf(access)) variable.flags |= IS_SHARED;
-      if (!this.wait(variable, access, site, found)) return;
+      if (!this.wait(variable, access, site, after, before)) return;
     }
     if (mayRace(holder, variable)) this.writeAll(holder, variable);
   }
 
-  wait(variable, access, site, found) {
+  wait(variable, access, site, after, before) {
     if (variable.waiting === null) {
-      variable.waiting = [access, site, found];
+      variable.waiting = [access, site, after, before];
       return true;
     }
     const { waiting } = variable;
     const at = waiting.length;
-    if (at >= OF_WAITING * MOST_WAITING && modeOf(access) !== WRITE) {
+    if (at >= OF_WAITING * MOST_WAITING && !isWrite(modeOf(access))) {
       this.recording.log.miss(`reads of variables that more than ${MOST_WAITING} actions have read before any writes them`);
       return false;
     }
     waiting[at] = access;
     waiting[at + 1] = site;
-    waiting[at + 2] = found;
+    waiting[at + 2] = after;
+    waiting[at + 3] = before;
     return true;
   }
 
@@ -153,20 +180,20 @@ class Variables {
     variable.waiting = null;
     variable.flags |= MAY_RACE;
     this.declare(holder, variable);
-    this.write(variable, variable.firstAccess, variable.firstSite, variable.firstFound);
-    for (let k = 0; waiting !== null && k < waiting.length; k += OF_WAITING) this.write(variable, waiting[k], waiting[k + 1], waiting[k + 2]);
+    this.write(variable, variable.firstAccess, variable.firstSite, variable.firstAfter, variable.firstBefore);
+    for (let k = 0; waiting !== null && k < waiting.length; k += OF_WAITING) this.write(variable, waiting[k], waiting[k + 1], waiting[k + 2], waiting[k + 3]);
   }
 
   declare(holder, variable) {
     if (variable.line) return;
     variable.line = ++this.lines;
     const { log } = this.recording;
-    log.line(`at ${variable.line} var ${this.objectNames.numberOf(holder)} ${spellName(variable.name)}${this.objectNames.attributesOf(holder, variable.name)}`);
+    log.line(`at ${variable.line} var ${this.objectNames.numberOf(holder)} ${spellName(variable.name)}${this.objectNames.attributesOf(holder, variable)}`);
   }
 
   /** The driver puts the access to its action. */
-  write(variable, access, site, found) {
-    this.recording.log.line(`in ${actionOf(access)} ${'rwk'[modeOf(access)]} ${variable.line}`, site < 0 ? undefined : site, found);
+  write(variable, access, site, after, before) {
+    this.recording.log.line(`in ${actionOf(access)} ${'rwkw'[modeOf(access)]} ${variable.line}`, site < 0 ? undefined : site, foundOf(modeOf(access), after, before));
   }
 
   /** An access in its own place, whatever the rules say of it. */
@@ -200,8 +227,18 @@ function isSame({ kind }, before, after) {
   return before !== UNKNOWN && after !== UNKNOWN && Object.is(before, after) && (kind !== WINDOW || after !== MISSING);
 }
 
-function digestFor({ kind }, value) {
-  if (value === UNKNOWN) return '?';
-  if (value === MISSING) return kind === WINDOW ? '?' : NOTHING;
-  return digestOf(value);
+/** A value as it waits to be told. What is missing in an object is nothing; in a window it may stand in no object. */
+function valueFor({ kind }, value) {
+  return value === MISSING && kind !== WINDOW ? undefined : keepable(value);
+}
+
+function writeMode({ flags }, after) {
+  return (flags & IS_COUNTED) !== 0 && typeof after === 'number' ? COUNTED : WRITE;
+}
+
+/** What is told of the values: that of a read, and of a write `AFTER<BEFORE`, with `+` between for a count. */
+function foundOf(mode, after, before) {
+  if (!isWrite(mode)) return after === UNKNOWN ? undefined : digestOf(after);
+  if (after === UNKNOWN && before === UNKNOWN) return undefined;
+  return `${digestOf(after)}${mode === COUNTED ? '+' : ''}<${digestOf(before)}`;
 }

@@ -32,6 +32,9 @@ test('of the steps of the parser the first and the last between two others', () 
 test('what only libraries touch', () => {
   const isLibrary = (place) => place === '7' || place === '8';
   assert.ok(!placed(LOG, { isLibrary }).includes('r var 3000000 total'));
+  const accesses = new Accesses(entriesOf(LOG));
+  accesses.entries({ isLibrary });
+  assert.deepStrictEqual(accesses.lines(), ['2 accesses to 1 object that only libraries touch are left out; --libraries none shows them']);
   assert.ok(placed(LOG, { isLibrary: (place) => place === '7' }).includes('r var 3000000 total'));
   const ofTree = LOG.map((line) => line.replace('3000000 total own', '1000002 class'));
   assert.ok(placed(ofTree, { isLibrary }).includes('r var 1000002 class'));

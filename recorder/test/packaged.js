@@ -1,6 +1,6 @@
 #!/usr/bin/env node
 'use strict';
-// packaged.js [--times N] [--server] [FOLDER] [PACKAGE..]: records pages of Debian packages (packaged.json; those that are installed),
+// packaged.js [--times N] [--server] [--depth DEPTH] [FOLDER] [PACKAGE..]: records pages of Debian packages (packaged.json; those that are installed),
 // each also without the recorder, and tells whether the trace is accepted, whether the page throws the same, and how long the load took:
 // the median of N recordings with and without the recorder, in turns. With --server the pages come from a web server of its own.
 
@@ -33,10 +33,10 @@ async function judge(file) {
 const median = (numbers) => [...numbers].sort((a, b) => a - b)[Math.floor(numbers.length / 2)];
 
 /** Records a page N times with and without the recorder, in turns. */
-async function recordBoth(address, file, words, times) {
+async function recordBoth(address, file, words, { times, depth }) {
   const runs = [];
   for (let k = 0; k < times; k++) {
-    runs.push({ plain: await record(address, file, [...words, '--raw']), recorded: await record(address, file, words) });
+    runs.push({ plain: await record(address, file, [...words, '--raw']), recorded: await record(address, file, [...words, '--depth', depth]) });
   }
   const [{ plain, recorded }] = runs;
   fs.writeFileSync(file.replace(/trace$/, 'log'), recorded.said);
@@ -45,11 +45,12 @@ async function recordBoth(address, file, words, times) {
   return { plain, recorded, loads: `load ${without.toFixed(2)} s without, ${withIt.toFixed(2)} s with: ${(withIt / without).toFixed(1)} times` };
 }
 
-async function recordPage({ package: name, page, root = '/usr/share', words }, { times, folder, isServed }) {
+async function recordPage({ package: name, page, root = '/usr/share', words }, options) {
+  const { folder, isServed } = options;
   const file = path.join(folder, `${name}.trace`);
   const server = isServed ? await serveFolder(root, root === '/' ? DOCUMENTATION : '/') : null;
   const address = server ? server.addressOf(resolveAddress(page, root).address) : page;
-  const { plain, recorded, loads } = await recordBoth(address, file, server ? words : ['--root', root, ...words], times);
+  const { plain, recorded, loads } = await recordBoth(address, file, server ? words : ['--root', root, ...words], options);
   server?.close();
   const isSame = JSON.stringify(plain.errors) === JSON.stringify(recorded.errors);
   const errors = isSame ? 'the same errors' : `errors ${JSON.stringify(plain.errors)} and ${JSON.stringify(recorded.errors)}`;
@@ -58,9 +59,10 @@ async function recordPage({ package: name, page, root = '/usr/share', words }, {
 
 function optionsOf(words) {
   const left = [...words];
-  const options = { times: 1, isServed: false };
+  const options = { times: 1, isServed: false, depth: 'objects' };
   for (;;) {
     if (left[0] === '--times') options.times = Number(left.splice(0, 2)[1]);
+    else if (left[0] === '--depth') options.depth = left.splice(0, 2)[1];
     else if (left[0] === '--server') options.isServed = !!left.shift();
     else return { ...options, folder: left[0] || '.', only: left.slice(1) };
   }

@@ -35,14 +35,14 @@ const HELPERS = `(function (window) { 'use strict';
   const objects = new Objects(recording);
   objects.addTrees({ addWindow() {}, notePart: () => false, variableOf: () => null, call() {}, accessAttribute() {}, number: () => 1, isNode: () => false, valueOf: () => UNKNOWN });
   window.Node = class {};
-  objects.addWindow({ window, globals: { read() {}, write() {}, update() {}, valueOf: () => MISSING, noteValue() {} } });
+  objects.addWindow({ window, globals: { read() {}, write() {}, update() {}, count() {}, valueOf: () => MISSING, noteValue() {} } });
   const { toString } = Function.prototype;
   Function.prototype.toString = { toString() { return withoutMarks(toString.call(this)); } }.toString;
   const third = (name, site, value) => value;
   const act = () => { objects.settleWrites(); recording.actions++; objects.forget(); };
   const first = (object) => object;
   const fo = (object, name, site, value) => value;
-  return { ...objects.helpers, r: nothing, w: third, u: third, ro: first, wo: first, uo: first, fo, made: first, scriptBegins: nothing, scriptEnds: nothing, lines, act };
+  return { ...objects.helpers, r: nothing, w: third, u: third, U: third, ro: first, wo: first, uo: first, fo, made: first, scriptBegins: nothing, scriptEnds: nothing, lines, act };
 })(globalThis)`;
 
 /** The helpers, in a world, with a recording in which one action runs. */

@@ -15,6 +15,13 @@ const { BEGINS, wordOf } = require('./intake.js');
 /** The lines of the log that are no whole accesses. */
 const OF_PAGE = new Set(['at', 'in', 'same']);
 
+const counted = (number, what) => `${number} ${what}${number === 1 ? '' : what.endsWith('s') ? 'es' : 's'}`;
+
+/** That this is left out is a choice: it is told, with what shows it. */
+function librariesInWords({ accesses, objects }) {
+  return `${counted(accesses, 'access')} to ${counted(objects, 'object')} that only libraries touch ${accesses === 1 ? 'is' : 'are'} left out; --libraries none shows them`;
+}
+
 class Accesses {
   /** @param {Entry[]} entries the log */
   constructor(entries) {
@@ -23,6 +30,8 @@ class Accesses {
     this.log = entries;
     this.rest = entries.filter((entry) => !this.take(entry));
     this.leftOut = new Map();
+    /** What only libraries touch: so many accesses, to these objects. */
+    this.ofLibraries = { accesses: 0, objects: new Set() };
     /** The places of the steps of the parser among the actions. */
     this.parsers = new Set();
     let action = 0;
@@ -90,9 +99,10 @@ class Accesses {
   }
 
   /** What the code of libraries alone touches is their own. Global variables and the page's tree are the page's. */
-  isOfLibraries({ isOwn, accesses }, isLibrary) {
+  isOfLibraries({ location, isOwn, accesses }, isLibrary) {
     if (!isOwn || !accesses.every(({ place }) => isLibrary(place))) return false;
-    this.count('variables that only libraries touch (--libraries none keeps them)', 1);
+    this.ofLibraries.accesses += accesses.length;
+    this.ofLibraries.objects.add(location.split(' ')[1]);
     return true;
   }
 
@@ -156,10 +166,17 @@ class Accesses {
     return same;
   }
 
+  /** What only libraries touch, counted, or undefined where there is no such. */
+  libraries() {
+    const { accesses, objects } = this.ofLibraries;
+    return accesses ? { accesses, objects: objects.size } : undefined;
+  }
+
   /** What was left out, as lines. */
   lines() {
-    return [...this.leftOut].map(([why, number]) => `${why}, left out: ${number}`);
+    const libraries = this.libraries();
+    return [...[...this.leftOut].map(([why, number]) => `${why}, left out: ${number}`), ...(libraries ? [librariesInWords(libraries)] : [])];
   }
 }
 
-module.exports = { Accesses };
+module.exports = { Accesses, librariesInWords };

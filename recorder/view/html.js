@@ -4,6 +4,7 @@
 const fs = require('node:fs');
 const path = require('node:path');
 const { withoutCommands } = require('./shown.js');
+const { librariesInWords } = require('../trace/accesses.js');
 
 const read = (name) => fs.readFileSync(path.join(__dirname, name), 'utf8');
 const escapeText = (text) => withoutCommands(text).replace(/[&<>"']/g, (one) => `&#${one.charCodeAt(0)};`);
@@ -39,6 +40,11 @@ function unproved({ isUnproved, command }) {
 from one action to another are left for later: after <code>./er_cli --build</code>, <code>${escapeText(command)}</code> writes this page with them.</p>\n`;
 }
 
+/** What was left out by choice. */
+function ofLibraries({ ofLibraries: counts }) {
+  return counts ? `<p class="left-out">${escapeText(librariesInWords(counts))}.</p>\n` : '';
+}
+
 function renderPage(model) {
   return `<!doctype html>
 <html lang="en">
@@ -53,7 +59,7 @@ ${read('style.css')}</style>
 <body>
 <h1>Races of ${escapeText(model.page)}</h1>
 <p class="counts">${escapeText(counts(model))}</p>
-${unproved(model)}${leftOut(model)}<form onsubmit="return false">
+${unproved(model)}${leftOut(model)}${ofLibraries(model)}<form onsubmit="return false">
 <label>Kind <select id="kind">${KINDS}</select></label>
 <label>Text <input id="text" type="search" placeholder="a name, a file, a handler"></label>
 <label>Order <select id="order">${ORDERS}</select></label>

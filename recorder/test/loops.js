@@ -1,0 +1,92 @@
+#!/usr/bin/env node
+'use strict';
+// loops.js [TIMES]: what marks cost in code that does nothing but touch something: loops in a page, the fastest of TIMES runs with and without
+// the recorder, in turns.
+
+const fs = require('node:fs');
+const path = require('node:path');
+const { Chromium } = require('../browser/chromium.js');
+const { sleep } = require('../browser/time.js');
+const { parseOptions } = require('../options.js');
+const { Recorder } = require('../recorder.js');
+const { NEWEST_VERSION } = require('../trace/spelling.js');
+const { temporaryFolder } = require('./cleanup.js');
+
+/** Each runs N times; a loop that is dear runs a tenth or a hundredth as often. */
+const LOOPS = {
+  'reads of one object': [1, 'const o = { n: 1 }; let sum = 0; for (let k = 0; k < N; k++) sum += o.n; return sum;'],
+  'writes of one object': [1, 'const o = { n: 1 }; for (let k = 0; k < N; k++) o.n = k; return o.n;'],
+  'items of an array': [1, 'const list = [1, 2, 3, 4]; let sum = 0; for (let k = 0; k < N; k++) sum += list[k & 3]; return sum;'],
+  'bytes': [1, 'const bytes = new Uint8Array(4096); for (let k = 0; k < N; k++) bytes[k & 4095] = k; return bytes[7];'],
+  'writes of a closure': [1, 'let n = 0; const count = () => n; for (let k = 0; k < N; k++) n = k; return count();'],
+  'calls of a method': [10, 'const o = { n: 1, get2() { return this.n; } }; let sum = 0; for (let k = 0; k < N; k++) sum += o.get2(); return sum;'],
+  'get and set of a map': [10, 'const m = new Map([["a", 1]]); for (let k = 0; k < N; k++) m.set("a", m.get("a") + 1); return m.get("a");'],
+  'fresh objects': [100, 'let sum = 0; for (let k = 0; k < N; k++) { const o = { n: k }; sum += o.n; } return sum;'],
+  'global variable': [10, 'for (let k = 0; k < N; k++) counted = counted + 1; return counted;'],
+};
+const MOST = 1e8;
+const POLL = 100;
+
+function pageOf() {
+  const bodies = Object.entries(LOOPS).map(([name, [part, body]]) => `loops[${JSON.stringify(name)}] = [${MOST / part}, function (N) { ${body} }];`);
+  return `<!doctype html>
+<title>loops</title>
+<pre id="out"></pre>
+<script>
+var counted = 0;
+var loops = {};
+${bodies.join('\n')}
+const left = Object.keys(loops);
+function next() {
+  const name = left.shift();
+  const [count, run] = loops[name];
+  run(1000);
+  const begin = performance.now();
+  run(count);
+  console.error('time ' + name + ': ' + (performance.now() - begin));
+  if (left.length) setTimeout(next, 20);
+}
+addEventListener('load', () => setTimeout(next, 100));
+</script>
+`;
+}
+
+/** Waits for the loops, and for nothing else. */
+class Waiting extends Recorder {
+  times() {
+    return new Map(this.consoleErrors.map((line) => /^time (.*): ([\d.]+)$/.exec(line)).filter(Boolean).map(([, name, time]) => [name, Number(time)]));
+  }
+
+  async useAndWait() {
+    while (this.times().size < Object.keys(LOOPS).length && Date.now() < this.until) await sleep(POLL);
+    return true;
+  }
+}
+
+async function timesOf(browser, page, words) {
+  const recorder = new Waiting(page, { ...parseOptions([...words, '--time', '120', page], NEWEST_VERSION, 1), browser });
+  await recorder.record();
+  return recorder.times();
+}
+
+async function main([times = '3']) {
+  const page = path.join(temporaryFolder('loops'), 'loops.html');
+  fs.writeFileSync(page, pageOf());
+  const browser = await Chromium.launch({ width: 1100, height: 800 });
+  const least = { raw: {}, recorded: {} };
+  try {
+    for (let k = 0; k < Number(times); k++) {
+      for (const [kind, words] of [['raw', ['--raw']], ['recorded', []]]) {
+        for (const [name, time] of await timesOf(browser, page, words)) least[kind][name] = Math.min(time, least[kind][name] ?? Infinity);
+      }
+    }
+  } finally {
+    await browser.close();
+  }
+  for (const [name, [part]] of Object.entries(LOOPS)) {
+    const [raw, recorded] = [least.raw[name], least.recorded[name]];
+    console.log(`${name}: ${MOST / part} times, ${(raw / 1000).toFixed(2)} s without, ${(recorded / 1000).toFixed(2)} s with: ${(recorded / raw).toFixed(1)} times`);
+  }
+}
+
+main(process.argv.slice(2));

@@ -1,0 +1,67 @@
+'use strict';
+// Objects and closures in words, what is known of their values, and what only libraries touch. In a browser.
+
+const assert = require('node:assert');
+const path = require('node:path');
+const { after, before, test } = require('node:test');
+const { Chromium } = require('../browser/chromium.js');
+const { parseOptions } = require('../options.js');
+const { readRun } = require('../record.js');
+const { Recorder } = require('../recorder.js');
+const { NEWEST_VERSION } = require('../trace/spelling.js');
+const { Actions } = require('../view/actions.js');
+const { Words } = require('../view/words.js');
+const { PAGES } = require('./support.js');
+
+let browser;
+before(async () => { browser = await Chromium.launch({ width: 1100, height: 800 }); });
+after(async () => { await browser.close(); });
+
+/** A page as `er_record` records it; `told` are its accesses by lines, each with its location in words. */
+async function recordRun(page, words = []) {
+  const options = parseOptions([...words, page], NEWEST_VERSION, 1);
+  const recorder = new Recorder(path.join(PAGES, page), { ...options, browser });
+  await recorder.record();
+  const { text, names, accesses } = readRun(recorder, options);
+  const facts = JSON.parse(names.toJson({}));
+  const inWords = new Words(facts, new Actions(text.replace(/end\n$/, '')));
+  const told = text.split('\n').map((line, k) => [k + 1, line]).filter(([, line]) => /^[rw] /.test(line))
+    .map(([line, record]) => ({ line, mode: record[0], what: inWords.location(record.slice(2)).text }));
+  return { told, facts, accesses, options };
+}
+
+const unique = (some) => [...new Set(some)];
+
+test('each object and closure by what a page author can find', { timeout: 150000 }, async () => {
+  const { told } = await recordRun('words-of-objects.html');
+  const due = ['count of the closure of makeStore() at words-store.mjs:1', 'items of state, the object first used at words-store.mjs:5',
+    'total of this, the Basket first used at words-of-objects.html:7', 'the items of list, the array first used at words-of-objects.html:15',
+    '[tea] of prices, the Map first used at words-of-objects.html:15', 'most of limit, the function limit first used at words-of-objects.html:13'];
+  const found = unique(told.map(({ what }) => what));
+  due.forEach((one) => assert.ok(found.includes(one), `${one}\n${found.join('\n')}`));
+});
+
+test('counts whose value nobody uses', { timeout: 150000 }, async () => {
+  const { told, facts } = await recordRun('counters.html');
+  const counted = told.filter(({ line }) => facts.counts[line]).map(({ what }) => what.replace(/ of .*/, ''));
+  assert.deepStrictEqual(unique(counted).sort(), ['calls', 'hits']);
+});
+
+test('values, and writes of the value that was there', { timeout: 150000 }, async () => {
+  const { told, facts } = await recordRun('globals-put-back.html');
+  const of = (name) => told.filter(({ what }) => what === name).map(({ line, mode }) => [mode, facts.values[line], facts.befores[line], !!facts.kept[line]]);
+  const [zero, one] = of('total').filter(([mode]) => mode === 'w').map(([, value]) => value);
+  assert.notStrictEqual(zero, one);
+  assert.deepStrictEqual(of('total').map(([mode, value, found]) => [mode, value, found]), [['w', zero, '-'], ['r', zero, undefined], ['w', one, zero]]);
+  assert.deepStrictEqual(of('lexical').map(([mode]) => mode), ['w', 'w', 'w']);
+});
+
+test('what only libraries touch is counted, and shown where it is asked for', { timeout: 150000 }, async () => {
+  const { told, accesses } = await recordRun('libraries-own.html');
+  const names = unique(told.map(({ what }) => what));
+  assert.ok(names.some((one) => one.startsWith('n of shared')), names.join('\n'));
+  assert.ok(!names.some((one) => one.startsWith('calls of state')), names.join('\n'));
+  assert.match(accesses.lines().join('\n'), /^\d+ accesses to 1 object that only libraries touch are left out; --libraries none shows them$/m);
+  const shown = await recordRun('libraries-own.html', ['--libraries', 'none']);
+  assert.ok(shown.told.some(({ what }) => what.startsWith('calls of state')));
+});
