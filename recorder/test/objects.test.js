@@ -52,8 +52,8 @@ test('values, and writes of the value that was there', { timeout: 150000 }, asyn
   const of = (name) => told.filter(({ what }) => what === name).map(({ line, mode }) => [mode, facts.values[line], facts.befores[line], !!facts.kept[line]]);
   const [zero, one] = of('total').filter(([mode]) => mode === 'w').map(([, value]) => value);
   assert.notStrictEqual(zero, one);
-  assert.deepStrictEqual(of('total').map(([mode, value, found]) => [mode, value, found]), [['w', zero, '-'], ['r', zero, undefined], ['w', one, zero]]);
-  assert.deepStrictEqual(of('lexical').map(([mode]) => mode), ['w', 'w', 'w']);
+  assert.deepStrictEqual(of('total').map(([mode, value, found]) => [mode, value, found]), [['w', zero, undefined], ['r', zero, undefined], ['w', one, zero]]);
+  assert.deepStrictEqual(of('lexical').map(([mode, , , isKept]) => [mode, isKept]), [['w', false], ['r', true], ['w', false]]);
 });
 
 test('what only libraries touch is counted, and shown where it is asked for', { timeout: 150000 }, async () => {
