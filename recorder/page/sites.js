@@ -77,11 +77,12 @@ class Sites {
 }
 
 /** The helpers. What answers the object or the key stands around it in marked code. */
-function helpersOfObjects({ recording, sites, kinds, variables, properties, collections, patterns }) {
-  const { objects: lastObjects, keys: lastKeys, items: lastItems } = sites;
-  const { staged } = variables;
+function helpersOfObjects(objects) {
+  return { t: null, ...helpersOfProperties(objects), ...helpersOfScopes(objects), ...helpersOfWholes(objects), ...helpersOfCalls(objects), ...helpersOfFirsts(objects) };
+}
 
-  /** To look at an object of another origin fails. */
+/** To look at an object of another origin fails. */
+function looking({ recording, properties }) {
   const look = (visit) => {
     try {
       visit();
@@ -96,13 +97,18 @@ function helpersOfObjects({ recording, sites, kinds, variables, properties, coll
       recording.log.miss('accesses that could not be looked at');
     }
   };
+  return { look, access };
+}
 
+function helpersOfProperties(objects) {
+  const { sites, kinds } = objects;
+  const { objects: lastObjects, keys: lastKeys, items: lastItems } = sites;
+  const { access } = looking(objects);
   const byName = (modes) => (object, name, site) => {
     if (lastObjects[site] === object) return object;
     if (sites.isDue(object, site)) access(object, name, modes, site);
     return object;
   };
-
   const hasHad = (key, site) => lastKeys[site] === key || (typeof key === 'number' && (lastItems[site] & bitOf(key)) !== 0);
   const accessByKey = (object, key, modes, site) => {
     if (typeof key !== 'string' && typeof key !== 'number') return;
@@ -117,81 +123,99 @@ function helpersOfObjects({ recording, sites, kinds, variables, properties, coll
     accessByKey(object, key, modes, site);
     return key;
   };
-
-  const readScope = (scope, name, site) => {
-    if (lastObjects[site] === scope || scope === undefined) return;
-    if (sites.isDue(scope, site)) variables.touchName(scope, name, READ, site);
-  };
-  /** `before` and `after` are the values of the variable. */
-  const writeScope = (scope, name, site, modes, before, after) => {
-    if (lastObjects[site] !== scope) {
-      if (scope === undefined || !sites.isDue(scope, site)) return;
-      const variable = scope.variable(name);
-      const isCount = modes === 'U' && variables.isOnlyCounted(variable);
-      variable.flags &= ~IS_COUNTED;
-      if (modes !== 'w') variables.readAs(scope, variable, site, before);
-      variables.stage(scope, variable, site, before);
-      if (isCount) variable.flags |= IS_COUNTED;
-      lastKeys[site] = indexOfStaged(staged, variable);
-    }
-    staged[lastKeys[site]] = after;
-  };
-
-  const whole = (visit) => (object, site, shape) => {
-    if (lastObjects[site] === object) return object;
-    if (sites.isDue(object, site) && !kinds.isLeftOut(object)) look(() => visit(object, site, shape));
-    return object;
-  };
   /** `super.x` is a property of what is behind the object. */
   const readPrototype = (object, name, site) => {
     if (lastObjects[site] === object || !sites.isDue(object, site) || kinds.isLeftOut(object)) return;
     const prototype = getPrototypeOf(object);
     if (prototype !== null && !kinds.isLeftOut(prototype)) access(prototype, name, 'r', site);
   };
+  return helpersByNameAndKey(byName, byKey, readPrototype);
+}
 
+function helpersByNameAndKey(byName, byKey, readPrototype) {
   const readByKey = byKey('r');
   const writeByName = byName('w');
   const writeByKey = byKey('w');
   return {
     p: byName('r'), q: writeByName, b: byName('u'), B: byName('U'), g: byName('d'),
     k: readByKey, l: writeByKey, j: byKey('u'), J: byKey('U'), h: byKey('d'),
-    v: readScope,
-    /** What reads a variable first is told with its values before and behind. */
-    y: (scope, name, site, before, result, after) => { writeScope(scope, name, site, 'u', before, after); return result; },
-    Y: (scope, name, site, before, result, after) => { writeScope(scope, name, site, 'U', before, after); return result; },
-    /** A write is told with its value and the one before, where they are known. */
-    z(scope, name, site, value, before) {
-      const { length } = arguments;
-      writeScope(scope, name, site, 'w', length > 4 ? before : UNKNOWN, length > 3 ? value : UNKNOWN);
-      return value;
-    },
-    t: null,
     o: (object, key, site) => { readByKey(object, key, site); return object; },
     f: (object, name, site, value) => { writeByName(object, name, site); return value; },
     fk: (object, key, site, value) => { writeByKey(object, key, site); return value; },
     sp: readPrototype,
     sk: (object, key, site) => { if (typeof key === 'string' || typeof key === 'number') readPrototype(object, `${key}`, site); return key; },
+  };
+}
+
+function helpersOfScopes({ sites, variables }) {
+  const { objects: lastObjects, keys: lastKeys } = sites;
+  const { staged } = variables;
+  const stage = (scope, name, site, modes, before) => {
+    const variable = scope.variable(name);
+    const isCount = modes === 'U' && variables.isOnlyCounted(variable);
+    variable.flags &= ~IS_COUNTED;
+    if (modes !== 'w') variables.readAs(scope, variable, site, before);
+    variables.stage(scope, variable, site, before);
+    if (isCount) variable.flags |= IS_COUNTED;
+    lastKeys[site] = indexOfStaged(staged, variable);
+  };
+  /** `before` and `after` are the values of the variable. */
+  const write = (scope, name, site, modes, before, after) => {
+    if (lastObjects[site] !== scope) {
+      if (scope === undefined || !sites.isDue(scope, site)) return;
+      stage(scope, name, site, modes, before);
+    }
+    staged[lastKeys[site]] = after;
+  };
+  return {
+    v: (scope, name, site) => {
+      if (lastObjects[site] !== scope && scope !== undefined && sites.isDue(scope, site)) variables.touchName(scope, name, READ, site);
+    },
+    /** What reads a variable first is told with its values before and behind. */
+    y: (scope, name, site, before, result, after) => { write(scope, name, site, 'u', before, after); return result; },
+    Y: (scope, name, site, before, result, after) => { write(scope, name, site, 'U', before, after); return result; },
+    /** A write is told with its value and the one before, where they are known. */
+    z(scope, name, site, value, before) {
+      const { length } = arguments;
+      write(scope, name, site, 'w', length > 4 ? before : UNKNOWN, length > 3 ? value : UNKNOWN);
+      return value;
+    },
     s: (site, number) => {
       const scope = new Holder(SCOPE, site, null);
       if (number !== undefined) scope.number = number;
       return scope;
     },
+  };
+}
+
+/** What reads an object as a whole, or takes it apart. */
+function helpersOfWholes(objects) {
+  const { sites, kinds, collections, patterns } = objects;
+  const { objects: lastObjects } = sites;
+  const { look } = looking(objects);
+  const whole = (visit) => (object, site, shape) => {
+    if (lastObjects[site] === object) return object;
+    if (sites.isDue(object, site) && !kinds.isLeftOut(object)) look(() => visit(object, site, shape));
+    return object;
+  };
+  return {
     n: whole((object, site) => collections.enumerate(object, site)),
     e: whole((object, site) => collections.spread(object, site)),
     i: whole((object, site, shape) => (shape === undefined ? collections.iterate(object, site) : patterns.takeEach(object, site, patterns.shapeOf(shape)))),
     d: whole((object, site, shape) => patterns.takeApart(object, site, patterns.shapeOf(shape))),
-    L: (object, site) => {
-      if (recording.mayAccess()) variables.keepFirsts(kinds.hold(object, -1), site);
-      return object;
-    },
-    F: (scope, name, site, value) => {
-      if (scope !== undefined && recording.mayAccess()) variables.keep(scope, scope.variable(name), 'w', site, ' first');
-      return value;
-    },
     c: (target, object, site) => {
       if (sites.isDue(object, site) && !kinds.isLeftOut(object)) look(() => collections.assign(target, object, site));
       return object;
     },
+  };
+}
+
+/** Methods of arrays, maps and elements, and their first words. */
+function helpersOfCalls(objects) {
+  const { sites, collections } = objects;
+  const { objects: lastObjects, keys: lastKeys } = sites;
+  const { look } = looking(objects);
+  return {
     m: (object, name, site) => {
       if (lastObjects[site] !== object && sites.isDue(object, site)) look(() => collections.call(object, name, site));
       return object;
@@ -202,6 +226,20 @@ function helpersOfObjects({ recording, sites, kinds, variables, properties, coll
       lastKeys[site] = key;
       look(() => collections.accessKey(object, key, site, method));
       return key;
+    },
+  };
+}
+
+/** A whole recording (`--keep`) has first values too: what stands in a literal, and what a variable of a scope gets first. */
+function helpersOfFirsts({ recording, kinds, variables }) {
+  return {
+    L: (object, site) => {
+      if (recording.mayAccess()) variables.keepFirsts(kinds.hold(object, -1), site);
+      return object;
+    },
+    F: (scope, name, site, value) => {
+      if (scope !== undefined && recording.mayAccess()) variables.keep(scope, scope.variable(name), 'w', site, ' first');
+      return value;
     },
   };
 }

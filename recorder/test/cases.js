@@ -175,6 +175,8 @@ exports.cases = [
   { page: 'closure.html', due: ['timer', 'r count of the closure of shop', 'timer', 'w count of the closure of shop'],
     never: ['r never of the closure of shop', 'w scratch of the closure of shop', 'r n of fixed'], races: ['count of the closure of shop'] },
   { page: 'closures-apart.html', due: ['timer', 'timer'] },
+  { page: 'closure-keyed.html', due: ['timer', 'r cache of the closure of shop', 'r key of the closure of shop', 'timer', 'w cache of the closure of shop'],
+    races: ['cache of the closure of shop', 'key of the closure of shop'] },
   { page: 'array-items.html', due: ['timer', 'r (items) of list', 'timer', 'w (items) of list'], races: ['(items) of list'] },
   { page: 'map-keys.html', due: ['timer', 'r [a] of kept', 'timer', 'w [a] of kept'], races: ['[a] of kept'] },
   { page: 'tree-state.html', due: ['timer', 'r class of p#text', 'r content of p#text', 'timer', 'w class of p#text', 'w content of p#text'],
