@@ -166,7 +166,7 @@ class Loading {
     const { recording } = this;
     const handler = recording.next('handler');
     recording.log.line(`on ${handler}`);
-    recording.log.name('handler', handler, { type, target: number });
+    recording.log.name('handler', handler, { type, target: number, isEmpty: true });
     return handler;
   }
 

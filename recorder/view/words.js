@@ -202,6 +202,7 @@ class Words {
   handler(action) {
     const facts = this.names.handlers[action.words[3]] || {};
     const name = this.named(facts);
+    if (facts.isEmpty) return facts.type; // it only says what another handler comes behind
     if (facts.type === 'reply of fetch') return this.reply(action.dispatch?.words[2]);
     if (facts.type === 'job') return `the promise reaction${name}${this.at(facts.place)}`;
     const place = facts.place || this.names.elements[facts.target]?.place;
