@@ -36,6 +36,7 @@ const REPLAY_OPTIONS = `  --replay          runs the page again for the race of 
   --json            one object on standard output, for other tools
   --sarif FILE      writes the list as SARIF 2.1.0
   --runs N          records N times: one list, with how often each problem was seen; --seed and --clicks are others each time
+  --yes             with --replay: requests that may change something on another machine's server are sent again by each run
   --live            random numbers and the clock are not the same in each run`;
 const USAGE = { er_record: `${RECORD_USAGE}\n${OPTIONS}\n${RAW_OPTION}`, er_page: `${PAGE_USAGE}\n${OPTIONS}\n${REPLAY_OPTIONS}` };
 
@@ -45,7 +46,7 @@ const LIBRARIES = new RegExp(`^(${['jquery', 'react', 'vue', 'angular', 'bootstr
   'htmx', 'alpine', 'highlight', 'prism', 'mathjax', 'leaflet', 'three', 'chart', 'codemirror', 'ckeditor', 'tinymce', 'lunr', 'swagger-ui', 'vendors?'].join('|')})`
   + '([-._][^/]*)?\\.m?js$', 'i');
 const FILES = { '--known': 'known', '--sarif': 'sarif' };
-const FLAGS = { '--write-known': 'writesKnown', '--json': 'isJson', '--acts': 'countsActs' };
+const FLAGS = { '--write-known': 'writesKnown', '--json': 'isJson', '--yes': 'mayChange', '--acts': 'countsActs' };
 const MOST_RUNS = 100;
 const NUMBERS = { '--runs': 'runs', '--clicks': 'clicks', '--seed': 'seed', '--slow': 'slow', '--time': 'time', '--most': 'most' };
 const ACTION = /^(early )?(click:.+|type:.+:[^]*|key:.+|wait:\d+)$/;
@@ -55,7 +56,7 @@ class UsageFault extends Error {}
 function defaults() {
   return {
     actions: [], clicks: 0, seed: 1, slow: 0, time: 30, version: null, root: null, isRaw: false, depth: 'objects', libraries: LIBRARIES, keepsAll: false, attach: null,
-    isReplayed: false, races: [], most: 20, isLive: false, known: null, writesKnown: false, countsActs: false, isJson: false, sarif: null, runs: 1, words: [],
+    isReplayed: false, races: [], most: 20, isLive: false, mayChange: false, known: null, writesKnown: false, countsActs: false, isJson: false, sarif: null, runs: 1, words: [],
   };
 }
 

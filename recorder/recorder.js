@@ -25,6 +25,8 @@ const QUIET = 400;
 const LONGEST_UNREST = 3000;
 const QUIET_END = 1200;
 const LONGEST_UNREST_AT_END = 8000;
+/** A page that is to take as many turns as in another run gets longer for them. */
+const LONGEST_TURNS_AT_END = 16000;
 /** The last lines of the page are waited for so long. */
 const LONGEST_FLUSH = 5000;
 /** The page is told for so long which act comes. */
@@ -60,7 +62,8 @@ const STATUS = { noPage: 4, noBrowser: 5, stopped: 130 };
 class Recorder {
   /**
    * @param {object} options what parseOptions gives, and of a replay: `browser`, `sources` (those of another run of the page, so that its scripts
-   *   are marked the same), `fixed` (page/chance.js), `steering` (what is kept back) and `whenOver` (called when the recording is over)
+   *   are marked the same), `fixed` (page/chance.js), `steering` (what is kept back), `standsStill` and `turns` (page/steering.js), `isGuarded` (nothing that
+   *   may change another machine's server is sent) and `whenOver` (called when the recording is over)
    */
   constructor(given, options) {
     this.options = options;
@@ -74,6 +77,8 @@ class Recorder {
     this.dialogs = [];
     this.windows = 0;
     this.isLoaded = false;
+    /** Whether the page went on as long as it was waited for. */
+    this.isRestless = false;
     this.hasAnswered = false;
     this.isUsed = false;
     /** Milliseconds from the begin of the navigation to the end of the page's load event. */
@@ -179,7 +184,9 @@ class Recorder {
     this.sources.builtins.set(names);
     const longest = options.time * 1000 + GRACE;
     const { holds, leaves, isDriven } = this.pageOptions();
-    this.responses = new Responses(tab, { leaves, sources: options.isRaw ? null : this.sources, folder, slow: options.slow, salt: options.salt, longest, steering: this.steering });
+    const { slow, salt, isGuarded } = options;
+    const sources = options.isRaw ? null : this.sources;
+    this.responses = new Responses(tab, { leaves, sources, folder, slow, salt, longest, steering: this.steering, isGuarded });
     await this.responses.start();
     await tab.closeOpenedWindows(() => { this.windows++; });
     if (!options.isRaw) {
@@ -307,7 +314,8 @@ class Recorder {
 
   /** Where the ends of runs are compared, what the page still does is waited for longer. */
   waitForEnd() {
-    return this.options.whenOver ? this.waitForQuiet(QUIET_END, LONGEST_UNREST_AT_END) : this.waitForQuiet();
+    if (!this.options.whenOver) return this.waitForQuiet();
+    return this.waitForQuiet(QUIET_END, this.options.turns ? LONGEST_TURNS_AT_END : LONGEST_UNREST_AT_END);
   }
 
   /** Waits until a replay lets go what it keeps back; where nothing comes any more it does. */
@@ -326,8 +334,10 @@ class Recorder {
       await this.flush();
       if (this.openRequests() || this.intake.actions !== actions) quietSince = Date.now();
       actions = this.intake.actions;
+      const isQuiet = Date.now() - quietSince >= length;
       const isTooLong = Date.now() - begin > longestUnrest && !this.openRequests();
-      if (Date.now() - quietSince >= length || isTooLong || isEnough()) return true;
+      this.isRestless = isTooLong && !isQuiet;
+      if (isQuiet || isTooLong || isEnough()) return true;
       await sleep(POLL);
     }
     return false;

@@ -12,7 +12,8 @@ const { canReplay, replayRaces } = require('./replay/command.js');
 const { readOrigin, OriginFault } = require('./replay/origin.js');
 const { withEnd, chance } = require('./replay/replay.js');
 const { stoppable, STOPPED } = require('./stoppable.js');
-const { judge, runProgram, NO_PROGRAM } = require('./view/program.js');
+const { runProgram, NO_PROGRAM } = require('./view/program.js');
+const { judgeWithin } = require('./view/within-limits.js');
 const { view, besides } = require('./view.js');
 
 const USAGE = `usage: er_replay OUT.trace --race K [options]
@@ -59,11 +60,12 @@ function parseWords(words) {
 }
 
 /** The races that are asked for, each by its number, its names and its words. */
-async function racesOf(trace, numbers, { text, names }) {
-  const { report, fault } = await judge(trace);
+async function racesOf(trace, numbers, origin) {
+  const { report, fault, leftOut } = await judgeWithin(trace);
   if (fault || report.refused) throw new ReplayFault(`the program gave no report of ${trace}: ${fault || report.refused.cause}`, STATUS.refused);
   const wrong = numbers.find((number) => !report.races[number - 1]);
   if (wrong !== undefined) throw new ReplayFault(`there is no race ${wrong} in ${trace}: it has ${report.races.length}`, STATUS.usage);
+  const { text, names } = leftOut.length ? readOrigin(trace) : origin; // what is left out is no longer in the file
   const lasting = new LastingNames(text, names);
   return numbers.map((number) => ({ number, ...lasting.nameRace(report.races[number - 1]), words: lasting.words.race(report.races[number - 1]) }));
 }

@@ -22,7 +22,7 @@ class Source {
     /** The functions that have a name, an outer one before those inside it. */
     this.functions = [];
     this.edited = null;
-    /** The marks of a page, without what a replay inserts. */
+    /** The marks of a page, without what a replay puts into it. */
     this.edits = null;
     /** The source map of a bundle, and the numbers of the files that it was made of. */
     this.map = null;
@@ -152,15 +152,14 @@ class Sources {
 
   /**
    * The text of a page as the browser shall get it.
-   * @param {{start: number, end: number, insert: string}[]} holds what a replay inserts
+   * @param {(address: string, html: string) => {start: number, end: number, insert: string}[]} insertions what a replay puts into it
    */
-  rewritePage(address, html, holds = []) {
+  rewritePage(address, html, insertions = () => []) {
     const known = this.byAddress.get(address);
     const source = known && known.edits && known.text === html ? known : this.addSource(address, html);
     source.edits = source.edits || new PageRewriter(html, source).rewrite(); // its sites have the same numbers in each run
-    if (source.edited && !holds.length && !source.hasHolds) return source.edited.text;
-    source.hasHolds = holds.length > 0;
-    return source.edit([...holds, ...source.edits]);
+    const edits = source.edits.map((edit) => (edit.again ? { ...edit, insert: edit.again(insertions) } : edit));
+    return source.edit([...insertions(address, html), ...edits]);
   }
 
   /** The text of a script as the browser shall get it; a script that is no JavaScript stays as it is. */

@@ -4,6 +4,7 @@
 const { BrowserFault } = require('./chromium.js');
 const { readText } = require('./text.js');
 const { sleep } = require('./time.js');
+const { mayChange, isOfThisMachine } = require('../replay/changing.js');
 
 const PAGE_TYPE = /^text\/html\b/i;
 const XML_PAGE_TYPE = /^application\/xhtml\+xml\b/i;
@@ -27,13 +28,16 @@ class Responses {
   /**
    * @param {import('./tab.js').Tab} tab
    * @param {{sources: import('../sources.js').Sources|null, folder: import('./folder.js').Folder|null, slow: number, salt: number, longest: number,
-   *   steering: import('../replay/steering.js').Steering|null}} options
+   *   steering: import('../replay/steering.js').Steering|null, isGuarded: boolean}} options
    *   Without `sources` pages and scripts pass as they are. A file that takes longer than `longest` milliseconds does not come.
    *   `steering` keeps some of them back; with another `salt`, `slow` holds back others. `leaves` is called with the request for
-   *   another page in the place of this one, which else is not followed.
+   *   another page in the place of this one, which else is not followed. Where it `isGuarded`, requests that may change something on
+   *   another machine's server are not sent.
    */
-  constructor(tab, { sources, folder, slow, salt = 0, longest, steering = null, leaves = null }) {
-    Object.assign(this, { tab, sources, folder, slow, salt, longest, steering, leaves });
+  constructor(tab, { sources, folder, slow, salt = 0, longest, steering = null, leaves = null, isGuarded = false }) {
+    Object.assign(this, { tab, sources, folder, slow, salt, longest, steering, leaves, isGuarded });
+    /** What was not sent. */
+    this.refused = [];
     this.open = new Set();
     /** Each request as `METHOD ADDRESS`. */
     this.asked = [];
@@ -102,12 +106,21 @@ class Responses {
       await this.answerHold(event);
       return;
     }
+    if (this.isGuarded && this.mayChangeServer(event.request)) {
+      this.refused.push(`${event.request.method} ${event.request.url}`);
+      await this.tab.send('Fetch.failRequest', { requestId: event.requestId, errorReason: 'BlockedByClient' });
+      return;
+    }
     const isHeld = this.steering?.meets(event);
     if (this.slow > 0 && event.resourceType !== 'Document') await sleep(hash(`${event.request.url}${this.salt || ''}`) % this.slow);
     const isOfFolder = this.folder && this.folder.has(event.request.url);
     if (isHeld && isOfFolder) await this.steering.hold(event);
     if (isOfFolder) await this.answerFromFolder(event);
     else await this.tab.send('Fetch.continueRequest', { requestId: event.requestId });
+  }
+
+  mayChangeServer({ method, url }) {
+    return mayChange(method) && !isOfThisMachine(url) && !(this.folder && this.folder.has(url));
   }
 
   /** What a replay put into the page waits, and does nothing. */
@@ -186,7 +199,8 @@ class Responses {
     const { text, write, charset, label } = readText(bytes, type, isPage, isPage ? null : this.ofPage);
     if (isPage && charset) this.ofPage = label;
     const address = event.request.url.replace(/#.*$/, '');
-    const marked = isPage ? this.sources.rewritePage(address, text, this.steering?.insertions(address, text)) : this.sources.rewriteScript(address, text);
+    const insertions = this.steering ? (one, html) => this.steering.insertions(one, html) : undefined;
+    const marked = isPage ? this.sources.rewritePage(address, text, insertions) : this.sources.rewriteScript(address, text);
     return { body: write(marked), type: charset ? `${type.replace(/;.*$/, '')}; charset=${charset}` : type };
   }
 }

@@ -58,7 +58,9 @@ class PageRewriter {
   /** The page inside a frame may stand in an attribute. */
   rewriteSrcdoc(attribute) {
     const page = decodeValue(attribute.value);
-    if (page !== null) this.replace(attribute, this.source.sources.rewritePage(`${this.source.address} (srcdoc)`, page));
+    if (page === null) return;
+    const text = (insertions) => this.spell(attribute, this.source.sources.rewritePage(`${this.source.address} (srcdoc)`, page, insertions));
+    this.edits.push({ start: attribute.start, end: attribute.end, insert: text(), again: text });
   }
 
   dropPolicy(tag) {
@@ -110,7 +112,11 @@ class PageRewriter {
   }
 
   replace(attribute, text) {
-    this.edits.push({ start: attribute.start, end: attribute.end, insert: `${attribute.name}=${encodeValue(text, attribute.value)}` });
+    this.edits.push({ start: attribute.start, end: attribute.end, insert: this.spell(attribute, text) });
+  }
+
+  spell({ name, value }, text) {
+    return `${name}=${encodeValue(text, value)}`;
   }
 }
 

@@ -22,7 +22,13 @@ function plainProblem(listing, problem, failing, folder) {
   const { name, look, words, isKnown, runs, orders, seen } = problem;
   const names = [...seen].map(([one, { runs: inRuns, orders: own }]) => ({ name: one, runs: [...inRuns], bothOrders: own.size > 1 }));
   const races = listing.runs.flatMap((run, k) => (run.list.find((one) => one.name === name)?.races || []).map((race) => plainRace(run, race, k, folder)));
-  return { name, look: look.name, part: look.part, seen: look.seen, words, isKnown, fails: failing.has(problem), hasLine: listing.lines.includes(problem), runs, bothOrders: orders.size > 1, names, races };
+  return { name, look: look.name, part: look.part, seen: look.seen, words, isKnown, fails: failing.has(problem), hasLine: listing.lines.includes(problem), runs, bothOrders: orders.size > 1, names, races, ...replayOf(listing, problem) };
+}
+
+/** What came of it in the other order, where it was run again. */
+function replayOf(listing, problem) {
+  const found = listing.verdictOf(problem);
+  return found ? { replay: { race: found.race, verdict: found.verdict, differs: !!found.effect, effect: found.effect, words: found.words } } : {};
 }
 
 /** @param {{page: string, status: number, files: string[], folder: import('../browser/folder.js').Folder|null}} facts */

@@ -12,10 +12,26 @@ class Listing {
   constructor(runs, known, { countsActs = false } = {}) {
     this.runs = runs;
     this.known = known;
+    this.verdicts = [];
     this.countsActs = countsActs;
     this.problems = this.merge().sort((a, b) => a.isKnown - b.isKnown || a.look.rank - b.look.rank || a.run - b.run || a.races[0] - b.races[0]);
     /** Those with a line: no other problem's line covers them. */
     this.lines = this.problems.filter((one) => one.hasLine || (!one.isKnown && this.isCoveredByKnown(one)));
+  }
+
+  /** What came of the races of a run in the other order: the members of OUT.replay.json, by the index of the race. */
+  setVerdicts(run, races) {
+    this.verdicts[run] = new Map(races.map((race) => [race.race - 1, race]));
+  }
+
+  /** The verdict of the first race of a problem that was run again, or undefined. */
+  verdictOf({ name }) {
+    for (const [k, verdicts] of this.verdicts.entries()) {
+      const races = this.runs[k].list.find((one) => one.name === name)?.races || [];
+      const race = races.find((one) => verdicts?.has(one));
+      if (race !== undefined) return verdicts.get(race);
+    }
+    return undefined;
   }
 
   merge() {

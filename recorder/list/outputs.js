@@ -36,12 +36,16 @@ function librariesLine({ runs }) {
   return most ? [`${librariesInWords(most)}.`] : [];
 }
 
+/** Tells the list to a reader. */
+function tellLines(listing, options) {
+  if (!options.isJson) linesOf(listing).forEach((line) => console.log(line));
+}
+
 /** Writes what was asked for. Fails with a WriteFault. */
 function writeOutputs(listing, options, facts) {
   if (options.sarif) writeWhole(options.sarif, `${JSON.stringify(sarifOf(listing, facts), null, 1)}\n`);
   if (options.writesKnown) writeWhole(options.known, listing.known.textWith(listing.problems.filter((one) => listing.counts(one))));
   if (options.isJson) process.stdout.write(`${JSON.stringify(plainListing(listing, facts))}\n`);
-  else linesOf(listing).forEach((line) => console.log(line));
 }
 
-module.exports = { writeOutputs, linesOf };
+module.exports = { writeOutputs, tellLines, linesOf };

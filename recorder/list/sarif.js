@@ -48,13 +48,16 @@ function locationsOf(problems, race, folder) {
 function result(listing, problem, folder) {
   const { name, look, words, isKnown, races, run, first } = problem;
   const problems = listing.runs[run];
+  const replay = listing.verdictOf(problem);
+  const inOtherOrder = replay && `Run again in the other order: ${replay.words}.`;
   return {
     ruleId: idOf(look.look),
     ruleIndex: RANKS.indexOf(look.look),
     level: levelOf(look),
-    message: { text: [words, look.seen && `${look.seen}.`, listing.seenInWords(problem)].filter(Boolean).join(' ') },
+    message: { text: [words, look.seen && `${look.seen}.`, listing.seenInWords(problem), inOtherOrder].filter(Boolean).join(' ') },
     ...locationsOf(problems, first ?? races[0], folder),
     partialFingerprints: { 'raceName/v1': name },
+    ...(replay ? { properties: { replay: { verdict: replay.verdict, differs: !!replay.effect, effect: replay.effect } } } : {}),
     ...(isKnown ? { suppressions: [{ kind: 'external', justification: 'it stands in the file of known races' }] } : {}),
   };
 }

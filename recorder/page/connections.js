@@ -33,13 +33,20 @@ class Connections {
     dispatches.requests.set(target, requests.send(facts));
   }
 
+  /** The request that a database's transaction is, for a request in it. */
+  transactionOf(result) {
+    const transaction = result && result.source && result.transaction;
+    return transaction ? this.page.dispatches.requests.get(transaction)?.number : undefined;
+  }
+
   replaceCalls(owners, answering) {
     const connections = this;
     for (const [owner, names] of Object.entries(owners)) {
       if (!this.page.window[owner]) continue;
       each(names, (name) => replaceMethod(this.page.window[owner].prototype, name, (native) => function ask() {
+        if (name === 'transaction') connections.recording.steering.holdStores(this, arguments[0]);
         const result = native.apply(this, arguments);
-        connections.ask(answering(this, result), { method: `${owner}.${name}` });
+        connections.ask(answering(this, result), { method: `${owner}.${name}`, of: connections.transactionOf(result) });
         return result;
       }));
     }

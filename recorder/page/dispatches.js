@@ -66,7 +66,7 @@ class Dispatches {
   }
 
   sight(event) {
-    if (this.recording.isOver) return;
+    if (this.recording.isOver || this.recording.steering.keepsEvent(event)) return;
     if (event.type === 'error') this.sightError(event);
     else if (event.type === 'message' && event.target !== this.page.window) return;
     else if (!this.find(event)) this.begin(event, event.currentTarget);
@@ -124,7 +124,7 @@ class Dispatches {
 
   /** A dispatch by a script that was not seen to run, or by the browser in a job. */
   isOfJob(event) {
-    return !event.isTrusted || (event.type === 'slotchange' && this.recording.isCheckpoint);
+    return !this.recording.steering.isTrusted(event) || (event.type === 'slotchange' && this.recording.isCheckpoint);
   }
 
   beginInline(dispatch) {

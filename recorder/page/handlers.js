@@ -36,6 +36,7 @@ class Handlers {
   register(target, type, handlerFunction, isListener) {
     const handler = this.recording.next('handler');
     const place = this.recording.noteAsking(`on ${handler}`);
+    this.recording.steering.watch(target, type);
     this.page.elements.declaredNumber(target);
     this.recording.access('w', this.slot(target, type, isListener ? handler : undefined), place);
     this.nameHandler(handler, target, type, handlerFunction && handlerFunction.name);

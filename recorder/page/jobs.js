@@ -112,12 +112,15 @@ class Jobs {
     const jobs = this;
     const handler = this.registerJob(callback, name);
     const asker = this.recording.running;
+    const hold = this.recording.steering.asks('on');
     return function observed(...words) {
       const call = () => callback.apply(this, words);
       if (name === 'MutationObserver') return jobs.run(handler, asker, call);
       if (jobs.recording.isOver) return call();
-      const dispatch = jobs.page.dispatches.beginPlain(jobs.place, `${name}-${jobs.recording.next('lone job')}`);
-      return jobs.runAsHandler(dispatch, handler, call);
+      return jobs.recording.steering.observed(hold, () => {
+        const dispatch = jobs.page.dispatches.beginPlain(jobs.place, `${name}-${jobs.recording.next('lone job')}`);
+        return jobs.runAsHandler(dispatch, handler, call);
+      });
     };
   }
 }

@@ -70,7 +70,7 @@ class Messages {
   /** Messages to one receiver come in the order of their posting. */
   begin(dispatch) {
     const { event, target } = dispatch;
-    const waiting = event.type === 'message' && event.isTrusted && this.recording.posted.get(target);
+    const waiting = event.type === 'message' && this.recording.steering.isTrusted(event) && this.recording.posted.get(target);
     if (!waiting || !waiting.length) return false;
     const { message, standIn } = waiting.shift();
     this.recording.begin(`message ${message} ${dispatch.number} ${standIn}`, 'begin');

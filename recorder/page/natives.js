@@ -4,7 +4,9 @@ function takeNatives(window) {
   const { CharacterData, Document, DocumentFragment, Element, Event, EventTarget, Node, Object, Promise } = window;
   return {
     addEventListener: EventTarget.prototype.addEventListener,
+    dispatchEvent: EventTarget.prototype.dispatchEvent,
     composedPath: Event.prototype.composedPath,
+    initEvent: Event.prototype.initEvent,
     getElementById: Document.prototype.getElementById,
     querySelectorAll: Element.prototype.querySelectorAll,
     querySelectorAllOfFragment: DocumentFragment.prototype.querySelectorAll,
@@ -23,6 +25,8 @@ function takeNatives(window) {
     then: Promise.prototype.then,
     queueMicrotask: window.queueMicrotask.bind(window),
     setTimeout: window.setTimeout.bind(window),
+    transaction: window.IDBDatabase && window.IDBDatabase.prototype.transaction,
+    count: window.IDBObjectStore && window.IDBObjectStore.prototype.count,
     URL: window.URL,
     now: window.performance.now.bind(window.performance),
   };

@@ -33,7 +33,7 @@ class Recording {
     this.endedEvents = new WeakSet();
     /** Texts of scripts whose marks were taken away, until the observer tells so. */
     this.ownTexts = new WeakSet();
-    this.steering = new Steering(natives, HOLDS);
+    this.steering = new Steering(natives, HOLDS, TURNS);
     this.steering.start(this.log);
     /** The number of the user's act that the driver does now, or 0. */
     this.act = 0;

@@ -40,7 +40,7 @@ class Timers {
   /** `place` tells of idle callbacks which comes behind which. */
   run(line, kind, asker, callback, words, place) {
     const { recording, page } = this;
-    if (recording.isOver) return callback.apply(page.window, words);
+    if (recording.isOver) return STANDS_STILL ? undefined : callback.apply(page.window, words);
     recording.startTask();
     recording.begin(line, kind, undefined, [asker]);
     if (place?.before) page.loading.comeBehind(place.before.ends, 'the idle callback before');
@@ -67,7 +67,7 @@ class Timers {
       const hold = steering.asks('set');
       const callable = timers.callable(callback);
       const asker = recording.running;
-      const run = () => timers.run(`timer ${timeout}`, 'timer', isKnown ? asker : null, callable, words);
+      const run = steering.limited('set', () => timers.run(`timer ${timeout}`, 'timer', isKnown ? asker : null, callable, words));
       return steering.note(hold, native.call(window, steering.callback(hold, run, (again) => native.call(window, again, 0)), delay));
     });
   }
@@ -84,7 +84,7 @@ class Timers {
       const hold = steering.asks('every');
       const callable = timers.callable(callback);
       const asker = recording.running;
-      const run = () => timers.run(`tick ${interval}`, 'tick', asker, callable, words);
+      const run = steering.limited('every', () => timers.run(`tick ${interval}`, 'tick', asker, callable, words));
       return steering.note(hold, native.call(window, steering.callback(hold, run, (again) => again()), delay));
     });
   }
@@ -113,7 +113,7 @@ class Timers {
       const hold = steering.asks(words[0]);
       const asker = recording.running;
       const place = name === 'requestIdleCallback' ? timers.placeOfIdle(rest) : null;
-      const run = (time) => timers.run(`${words[1]} ${number}`, 'tick', asker, callback, [time], place);
+      const run = steering.limited(words[0], (time) => timers.run(`${words[1]} ${number}`, 'tick', asker, callback, [time], place));
       return steering.note(hold, native.call(window, steering.callback(hold, run, (again) => native.call(window, again, ...rest)), ...rest));
     });
   }

@@ -10,10 +10,11 @@ const FIRST_LONE_MODULE = 3500000000;
 /** Tags in front of which no script may stand, or that may be none of the page's own. */
 const BEFORE_BODY = new Set(['html', 'head']);
 const LONGEST_WAY = 60;
+const TASK_OBSERVERS = new Set(['IntersectionObserver', 'ResizeObserver', 'PerformanceObserver']);
 
 /**
  * @typedef {object} Cause what is kept back
- * @property {'response'|'parser'|'load'|'callback'|'act'} means
+ * @property {'response'|'parser'|'load'|'callback'|'event'|'act'} means
  * @property {number} action the first action that cannot come then
  * @property {string} words what is done, in words
  */
@@ -48,7 +49,8 @@ class Causes {
     const from = action.origins[0]?.action;
     switch (word) {
       case 'back': return { from: action.first };
-      case 'run': case 'close': return { from: action.dispatch?.number };
+      case 'run': return { found: [this.observer(action)], from: action.dispatch?.number };
+      case 'close': return { from: action.dispatch?.number };
       case 'inline': return { from: action.number - 1 };
       case 'parse': return { found: [this.parser(action), this.frameFile(a)], from };
       case 'exec': return { found: this.script(action), from };
@@ -56,11 +58,12 @@ class Causes {
       case 'tick': return { found: [this.tick(a, action)], from };
       case 'anim': return { found: [this.callback('ask', a, action)], from };
       case 'message': return { found: [this.callback('post', a, action)], from };
-      case 'reply': return { found: [this.reply(b)], from };
-      case 'eload': return { found: [this.file(b, action)], from };
+      case 'reply': return { found: [this.reply(b) || this.answer(b, action)], from };
+      case 'eload': return { found: [this.file(b, action) || this.event(b, action)], from };
       case 'dcl': return { found: [this.endOfPage(b, action), this.frameFile(b)], from: this.makerOfFrame(b) };
       case 'load': return { found: [this.load(b, action), this.endOfPage(b, this.firstOf('dcl', b) || action), this.frameFile(b)], from: this.makerOfFrame(b) };
-      case 'fire': case 'wfire': return { found: [this.act(a)], from };
+      case 'fire': return { found: [this.act(a) || this.event(b, action)], from };
+      case 'wfire': return { found: [this.act(a)], from };
       default: return {};
     }
   }
@@ -71,6 +74,7 @@ class Causes {
     if (number >= FIRST_LONE_MODULE) return null;
     if (number >= FIRST_FOREIGN_TIMEOUT) return this.callback('set', String(number - FIRST_FOREIGN_TIMEOUT), action);
     const why = this.names.intervals[number]?.why;
+    if (why === 'import()') return this.imported(action);
     return why === 'setInterval' || why === 'requestIdleCallback' ? this.callback('every', number, action) : null;
   }
 
@@ -90,7 +94,74 @@ class Causes {
     return { means: 'callback', word, place: found.place, nth, action: first.number, words: `${this.words.action(action.number)} is put off` };
   }
 
+  /** The callbacks of an observer are tasks; those of a mutation observer belong to what they observe. */
+  observer({ words: [, dispatch, , handler] }) {
+    if (!TASK_OBSERVERS.has(this.names.handlers[handler]?.type)) return null;
+    return this.callback('on', handler, this.list.find(({ words }) => words[0] === 'fire' && words[1] === dispatch));
+  }
+
+  // ---- events that the browser brings
+
+  /** An event at an element, or at an object as a worker. */
+  event(element, action) {
+    const facts = this.names.elements[this.real(element)] || {};
+    const { type } = this.names.dispatches[action.words[1]] || {};
+    if (!type || !facts.tag) return null;
+    if (!/^[a-z]/.test(facts.tag)) return this.eventAt(Number(element), type, action);
+    const { tag, id = '', source = '' } = facts;
+    const isSame = (one) => one && one.tag === tag && (one.id || '') === id && (one.source || '') === source;
+    const nth = this.countEvents(action, type, ([word, , at]) => (word === 'fire' || word === 'eload') && isSame(this.names.elements[this.real(at)]));
+    return { means: 'event', word: 'event', event: { type, nth, tag, id, source }, action: action.number, words: `${this.words.action(action.number)} is kept back` };
+  }
+
+  /** An event at an object is known by the first handler that the page gave it. */
+  eventAt(target, type, action) {
+    const handlers = this.entries.map(({ text }) => /^(?:early )?on (\d+)$/.exec(text)?.[1]);
+    const handler = handlers.find((one) => one && this.names.handlers[one]?.target === target);
+    const cause = handler && this.callback('on', handler, action);
+    if (!cause || !cause.place) return null;
+    const nth = this.countEvents(action, type, (words) => this.targetOf(words) === target);
+    return { ...cause, means: 'event', event: { type, nth }, words: `${this.words.action(action.number)} is kept back` };
+  }
+
+  /** How many events of a type came up to one, of those that are meant. */
+  countEvents({ number }, type, isMeant) {
+    return this.list.filter((one) => one.number <= number && this.names.dispatches[one.words[1]]?.type === type && isMeant(one.words)).length;
+  }
+
+  /** The object at which an event came: that of the first handler that ran in it. */
+  targetOf([word, dispatch, element]) {
+    if (word === 'fire') return Number(element);
+    if (word !== 'reply') return undefined;
+    const ran = this.list.find(({ words }) => words[0] === 'run' && words[1] === dispatch);
+    return ran && this.names.handlers[ran.words[3]]?.target;
+  }
+
+  /** What answers with an event and no file: a reader, a stream, a database. */
+  answer(request, action) {
+    const { method = '', of } = this.names.requests[request] || {};
+    if (/^IDB(Database|ObjectStore|Index)\./.test(method)) return this.transaction(String(of || request));
+    const target = this.targetOf(action.words);
+    const { type } = this.names.dispatches[action.words[1]] || {};
+    return target === undefined || type === 'upgradeneeded' ? null : this.eventAt(target, type, action);
+  }
+
+  /** All requests of a transaction wait for another one at the same stores. */
+  transaction(number) {
+    const isOfIt = (request) => request === number || String(this.names.requests[request]?.of) === number;
+    const first = this.list.find(({ words }) => words[0] === 'reply' && isOfIt(words[2]));
+    const cause = this.callback('send', number, first);
+    return cause && { ...cause, words: 'the transaction of the database waits' };
+  }
+
   // ---- files
+
+  /** The file that `import()` asked for. */
+  imported(action) {
+    const place = this.names.places[action.line];
+    const { address } = place ? this.sourceOf(place[0]) : {};
+    return this.response(address, false, 1, action.number, (address || '').replace(/[?#].*$/, '').replace(/^.*\//, ''));
+  }
 
   response(address, asksReply, nth, action, what) {
     if (!address || !/^https?:/.test(address)) return null;
@@ -99,7 +170,7 @@ class Causes {
 
   reply(request) {
     const facts = this.names.requests[request] || {};
-    if (['EventSource', 'WebSocket'].includes(facts.method) || !facts.url) return null;
+    if (/^(EventSource|WebSocket|FileReader|IDB)/.test(facts.method) || !facts.url) return null;
     const sends = this.keys.actions.lines.map((line) => /^send (\d+)$/.exec(line)?.[1]).filter(Boolean);
     const same = sends.filter((one) => this.names.requests[one]?.url === facts.url);
     const first = this.list.find(({ words }) => words[0] === 'reply' && words[2] === request);
@@ -166,7 +237,14 @@ class Causes {
     const element = this.keys.documents.get(document);
     if (document === '0' || !element) return null;
     const first = this.list.find(({ words }) => words[0] === 'parse' && words[1] === document);
-    return first ? this.file(element, first) : null;
+    if (!first) return null;
+    return this.addressOf(document) === 'about:srcdoc' ? this.srcdoc(element, first) : this.file(element, first);
+  }
+
+  /** The page that stands in an attribute of a frame waits at its begin. */
+  srcdoc(element, first) {
+    const outer = this.addressOf(String(this.names.elements[element]?.document ?? 0));
+    return { means: 'parser', address: `${outer} (srcdoc)`, offset: 0, action: first.number, words: `the page inside ${this.words.element(element)} waits` };
   }
 
   // ---- the parser

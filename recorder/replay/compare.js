@@ -28,7 +28,8 @@ function handlersOf(keys) {
     if (/^(fire|wfire|inline|eload|dcl|load)$/.test(word) && !(word === 'inline' && action.words[3] === 'then')) {
       const key = keys.action(action.number);
       counts.set(key, (counts.get(key) || 0) + 1);
-      const one = { key: `${key} #${counts.get(key)}`, words: keys.words.action(action.number), handlers: [] };
+      const isOfUser = keys.actOf(action) > 0;
+      const one = { key: `${key} #${counts.get(key)}`, words: keys.words.action(action.number), isOfUser, handlers: [] };
       byDispatch.set(action.words[1], one);
       ran.set(one.key, one);
     } else if (word === 'run' && byDispatch.has(action.words[1])) {
@@ -38,6 +39,12 @@ function handlersOf(keys) {
   return ran;
 }
 
+/** Whether the user put something into a field. */
+function hasTyped(keys) {
+  const isInput = ({ words: [word, , , type] }) => (word === 'fire' || word === 'inline') && (type === 'input' || type === 'change');
+  return keys.actions.list.some((action) => isInput(action) && keys.actOf(action) > 0);
+}
+
 class Comparison {
   /** @param {{end: object, keys: object}} recorded @param {{end: object, keys: object}} other */
   constructor(recorded, other) {
@@ -45,7 +52,7 @@ class Comparison {
     this.differences = [];
   }
 
-  /** @returns {{kind: string, subject: string, isSeen: boolean, recorded: string, other: string}[]} */
+  /** @returns {{kind: string, subject: string, isSeen: boolean, isOfUser?: boolean, recorded: string, other: string}[]} */
   all() {
     this.lists('error', 'errors', true);
     this.lists('console error', 'consoleErrors', true);
@@ -54,7 +61,7 @@ class Comparison {
     this.lists('text', 'lines', true);
     this.order();
     this.lists('element', 'ids', true, (id) => `#${id}`);
-    this.values('field', 'fields', true);
+    this.values('field', 'fields', true, { isOfUser: hasTyped(this.recorded.keys) });
     this.values('storage', 'storage', true);
     for (const name of ['title', 'hash', 'focus']) this.one(name, name, true, this.a[name], this.b[name]);
     this.one('load', 'the load of the window', true, this.a.isLoaded ? 'came' : 'did not come', this.b.isLoaded ? 'came' : 'did not come');
@@ -63,12 +70,12 @@ class Comparison {
     return this.differences;
   }
 
-  add(kind, subject, isSeen, recorded, other) {
-    this.differences.push({ kind, subject, isSeen, recorded: cut(recorded), other: cut(other) });
+  add(kind, subject, isSeen, recorded, other, facts = {}) {
+    this.differences.push({ kind, subject, isSeen, recorded: cut(recorded), other: cut(other), ...facts });
   }
 
-  one(kind, subject, isSeen, recorded, other) {
-    if (recorded !== other) this.add(kind, subject, isSeen, recorded, other);
+  one(kind, subject, isSeen, recorded, other, facts) {
+    if (recorded !== other) this.add(kind, subject, isSeen, recorded, other, facts);
   }
 
   lists(kind, name, isSeen, show = (item) => item) {
@@ -83,9 +90,9 @@ class Comparison {
     if (at >= 0 && a.length === b.length && !more(a, b).length) this.add('order of lines', 'the order of the lines', true, a[at], b[at]);
   }
 
-  values(kind, name, isSeen) {
+  values(kind, name, isSeen, facts) {
     const names = new Set([...Object.keys(this.a[name]), ...Object.keys(this.b[name])]);
-    for (const one of names) this.one(kind, one, isSeen, this.a[name][one] ?? 'none', this.b[name][one] ?? 'none');
+    for (const one of names) this.one(kind, one, isSeen, this.a[name][one] ?? 'none', this.b[name][one] ?? 'none', facts);
   }
 
   /** Which addresses were asked for; how often, beside. */
@@ -114,7 +121,7 @@ class Comparison {
     const missing = more(one.handlers.map(({ key }) => key), other.handlers.map(({ key }) => key));
     for (const key of missing) {
       const { words } = one.handlers.find((handler) => handler.key === key);
-      this.add('event', `${one.words}: ${words}`, true, ...sides(words));
+      this.add('event', `${one.words}: ${words}`, true, ...sides(words), { isOfUser: one.isOfUser });
     }
   }
 }

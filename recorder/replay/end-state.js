@@ -6,9 +6,12 @@ const { within } = require('../browser/time.js');
 const LONGEST = 8000;
 const SMALL = 0.5;
 
-/** Runs in the page, in a world of its own: what stands there. */
-function look() {
-  const cut = (text) => String(text).slice(0, 2000);
+// The functions as far as the next line run in the page, in a world of its own; their texts are sent together.
+
+const cut = (text) => String(text).slice(0, 2000);
+
+/** The values and states of fields, by their names in words. */
+function fieldsOfPage() {
   const fields = {};
   const counts = {};
   document.querySelectorAll('input,textarea,select').forEach((field) => {
@@ -21,15 +24,10 @@ function look() {
     if (field.disabled) fields[`disabled of ${key}`] = 'true';
   });
   document.querySelectorAll('button:disabled').forEach((button) => { fields[`disabled of button${button.id ? `#${button.id}` : ` ${button.textContent.trim()}`}`] = 'true'; });
-  const lines = (document.body ? document.body.innerText : '').split('\n').map((line) => line.trim()).filter(Boolean);
-  const ids = [...document.querySelectorAll('[id]')].map((element) => element.id);
-  const frames = [...document.querySelectorAll('iframe,frame')].flatMap((frame) => {
-    try {
-      return frame.contentDocument && frame.contentDocument.body ? frame.contentDocument.body.innerText.split('\n').map((line) => line.trim()).filter(Boolean) : [];
-    } catch {
-      return [];
-    }
-  });
+  return fields;
+}
+
+function storageOfPage() {
   const storage = {};
   try {
     for (const area of ['localStorage', 'sessionStorage']) {
@@ -39,60 +37,90 @@ function look() {
   } catch {
     // a page that may use no storage
   }
+  return storage;
+}
+
+const linesOfBody = (body) => (body ? body.innerText : '').split('\n').map((line) => line.trim()).filter(Boolean);
+
+function linesOfFrame(frame) {
+  try {
+    return linesOfBody(frame.contentDocument && frame.contentDocument.body);
+  } catch {
+    return []; // a frame of another origin
+  }
+}
+
+function look() {
+  const frames = [...document.querySelectorAll('iframe,frame')].flatMap(linesOfFrame);
   const { activeElement: focused } = document;
   return {
-    lines: [...lines, ...frames].slice(0, 5000).map(cut),
-    ids: ids.slice(0, 20000),
-    fields,
-    storage,
+    lines: [...linesOfBody(document.body), ...frames].slice(0, 5000).map(cut),
+    ids: [...document.querySelectorAll('[id]')].map((element) => element.id).slice(0, 20000),
+    fields: fieldsOfPage(),
+    storage: storageOfPage(),
     title: cut(document.title),
     hash: location.hash,
     focus: focused ? focused.localName + (focused.id ? `#${focused.id}` : '') : '',
   };
 }
 
-/** Runs in the page: the values of variables. Nothing of the page is called. */
+const LOOK = `(() => { const cut = ${cut}; const linesOfBody = ${linesOfBody}; ${fieldsOfPage} ${storageOfPage} ${linesOfFrame} ${look} return look(); })()`;
+
+// Those as far as the next line run in the page's own world: nothing of the page is called.
+
+/** Anything but an object, or null. */
+function showPlain(value) {
+  if (value === null || value === undefined || ['boolean', 'number', 'bigint', 'symbol'].includes(typeof value)) return String(value);
+  if (typeof value === 'string') return JSON.stringify(value.slice(0, 500));
+  return typeof value === 'function' ? 'a function' : null;
+}
+
+function showNode(value) {
+  try {
+    if (typeof value.nodeType !== 'number' || typeof value.nodeName !== 'string') return null;
+    return `<${value.nodeName.toLowerCase()}${value.id ? ` id=${value.id}` : ''}>`;
+  } catch {
+    return 'an object';
+  }
+}
+
+function showValue(value, seen, depth = 0) {
+  const plain = showPlain(value) ?? showNode(value);
+  if (plain !== null) return plain;
+  if (depth > 2 || seen.includes(value)) return 'an object';
+  seen.push(value);
+  const kind = Object.prototype.toString.call(value).slice(8, -1);
+  if (kind !== 'Object' && kind !== 'Array') return `a ${kind}`;
+  const parts = Object.keys(value).slice(0, 40).map((key) => {
+    const descriptor = Object.getOwnPropertyDescriptor(value, key);
+    const shown = descriptor && 'value' in descriptor ? showValue(descriptor.value, seen, depth + 1) : 'a getter';
+    return kind === 'Array' ? shown : `${key}: ${shown}`;
+  });
+  return kind === 'Array' ? `[${parts.join(', ')}]` : `{${parts.join(', ')}}`;
+}
+
+/** The value of a global variable; `undefined` where it is a getter, or there is none. A `let` at the top of a script is no property of the window. */
+function valueOf(name) {
+  const descriptor = Object.getOwnPropertyDescriptor(window, name);
+  if (descriptor) return descriptor.value;
+  return /^[A-Za-z_$][\w$]*$/.test(name) ? (0, eval)(`typeof ${name} === 'undefined' ? undefined : ${name}`) : undefined;
+}
+
 function readVariables(names) {
-  const MOST = 3000;
-  const seen = [];
-  const show = (value, depth) => {
-    if (value === null || value === undefined || typeof value === 'boolean' || typeof value === 'number') return String(value);
-    if (typeof value === 'bigint' || typeof value === 'symbol') return String(value);
-    if (typeof value === 'string') return JSON.stringify(value.slice(0, 500));
-    if (typeof value === 'function') return 'a function';
-    try {
-      if (typeof value.nodeType === 'number' && typeof value.nodeName === 'string') return `<${value.nodeName.toLowerCase()}${value.id ? ` id=${value.id}` : ''}>`;
-    } catch {
-      return 'an object';
-    }
-    if (depth > 2 || seen.includes(value)) return 'an object';
-    seen.push(value);
-    const kind = Object.prototype.toString.call(value).slice(8, -1);
-    if (kind !== 'Object' && kind !== 'Array') return `a ${kind}`;
-    const keys = Object.keys(value).slice(0, 40);
-    const parts = keys.map((key) => {
-      const descriptor = Object.getOwnPropertyDescriptor(value, key);
-      const shown = descriptor && 'value' in descriptor ? show(descriptor.value, depth + 1) : 'a getter';
-      return kind === 'Array' ? shown : `${key}: ${shown}`;
-    });
-    return kind === 'Array' ? `[${parts.join(', ')}]` : `{${parts.join(', ')}}`;
-  };
   const values = {};
   for (const name of names) {
-    let value;
     try {
-      const descriptor = Object.getOwnPropertyDescriptor(window, name);
-      if (descriptor && !('value' in descriptor)) continue;
-      // a `let` at the top of a script is no property of the window
-      value = descriptor ? descriptor.value : /^[A-Za-z_$][\w$]*$/.test(name) ? (0, eval)(`typeof ${name} === 'undefined' ? undefined : ${name}`) : undefined;
+      values[name] = showValue(valueOf(name), []).slice(0, 3000);
     } catch {
-      continue;
+      // a variable that is not there yet
     }
-    seen.length = 0;
-    values[name] = show(value, 0).slice(0, MOST);
   }
   return values;
 }
+
+const readingOf = (names) => `(() => { ${showPlain} ${showNode} ${showValue} ${valueOf} ${readVariables} return readVariables(${JSON.stringify(names)}); })()`;
+
+// ---- the driver's side
 
 /** The names of the page's own variables that its trace has. */
 function variablesIn(recorder) {
@@ -104,9 +132,15 @@ function variablesIn(recorder) {
   return [...names];
 }
 
+/** A caret blinks. */
+const HIDE_CARET = `document.documentElement && (() => {
+  const style = document.createElement('style');
+  style.textContent = '*{caret-color:transparent!important}';
+  document.documentElement.append(style);
+})()`;
+
 async function takePicture(tab) {
-  const hideCaret = "document.documentElement && document.documentElement.animate && (() => { const style = document.createElement('style'); style.textContent = '*{caret-color:transparent!important}'; document.documentElement.append(style); })()";
-  await tab.evaluateApart(hideCaret);
+  await tab.evaluateApart(HIDE_CARET);
   const { cssVisualViewport: { pageX, pageY, clientWidth: width, clientHeight: height } } = await tab.send('Page.getLayoutMetrics');
   const { data: whole } = await tab.send('Page.captureScreenshot', { format: 'png' });
   const clip = { x: pageX, y: pageY, width, height, scale: SMALL };
@@ -120,9 +154,8 @@ async function takePicture(tab) {
  */
 async function takeEnd(recorder) {
   const { tab } = recorder;
-  const variables = `(${readVariables})(${JSON.stringify(variablesIn(recorder))})`;
-  const shown = await within(tab.evaluateApart(`(${look})()`).catch(() => null), LONGEST, null);
-  const values = shown && await within(tab.evaluate(variables).catch(() => null), LONGEST, null);
+  const shown = await within(tab.evaluateApart(LOOK).catch(() => null), LONGEST, null);
+  const values = shown && await within(tab.evaluate(readingOf(variablesIn(recorder))).catch(() => null), LONGEST, null);
   const picture = shown && await within(takePicture(tab).catch(() => null), LONGEST, null);
   return {
     isKnown: shown !== null,

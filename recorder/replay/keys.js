@@ -172,6 +172,18 @@ class Keys {
     return act ? ` act ${act}` : '';
   }
 
+  /** The user's act that brought an event, or that of which it is a consequence, as a click of a press; 0 where none did. */
+  actOf(action) {
+    const { list } = this.actions;
+    for (let one = action; one;) {
+      const [word, dispatch] = one.words;
+      if (word === 'fire' || word === 'wfire') return this.names.dispatches[dispatch]?.act || 0;
+      if (word === 'back') one = list[one.first];
+      else one = word === 'inline' ? list[one.number - 1] : one.dispatch;
+    }
+    return 0;
+  }
+
   /** A timeout of a further window is a tick in the trace, and may be a timer in another run. */
   nameTick(number) {
     return `${number >= FIRST_FOREIGN_TIMEOUT ? 'timer' : 'tick'} ${this.declared.get(`every ${number}`)}`.replace(/^timer every/, 'timer set');
@@ -228,17 +240,34 @@ class Keys {
     const name = nameOf(kind, spelled);
     const key = this.access({ location, mode, action, line });
     const same = this.accessesOf(name).filter(([one]) => one === key);
-    const actionKey = this.action(action);
     return {
       key,
       mode,
       kind,
       name,
       nth: Math.max(same.findIndex(([, of]) => of === action), 0) + 1,
-      actionKey,
-      nthAction: this.actions.list.slice(0, action + 1).filter(({ number }) => this.action(number) === actionKey).length,
+      ...this.identifyAction(action),
       isLookUp: location.startsWith('slot') && mode === 'r',
     };
+  }
+
+  /** What an action is in any run: its key, and which of those with this key it is. */
+  identifyAction(action) {
+    const actionKey = this.action(action);
+    return { actionKey, nthAction: this.numbersOf(actionKey).indexOf(action) + 1 };
+  }
+
+  /** The actions that have a key, in the order of the trace. */
+  numbersOf(actionKey) {
+    if (!this.byKey) {
+      this.byKey = new Map();
+      this.actions.list.forEach(({ number }) => {
+        const key = this.action(number);
+        if (!this.byKey.has(key)) this.byKey.set(key, []);
+        this.byKey.get(key).push(number);
+      });
+    }
+    return this.byKey.get(actionKey) || [];
   }
 
   /** Where an access stands in this run: `{action, line}`, or null. A look-up of handlers that nobody ever set is its event. */
@@ -250,8 +279,8 @@ class Keys {
 
   /** Where the action of an access stands in this run, whether it has the access or not. */
   findAction({ actionKey, nthAction }) {
-    const found = this.actions.list.filter(({ number }) => this.action(number) === actionKey)[nthAction - 1];
-    return found ? { action: found.number, line: found.line } : null;
+    const number = this.numbersOf(actionKey)[nthAction - 1];
+    return number === undefined ? null : { action: number, line: this.actions.list[number].line };
   }
 }
 

@@ -86,4 +86,4 @@ function optionsOf({ words, picks = [], salt = 0 }, given, file) {
   }
 }
 
-module.exports = { originOf, readOrigin, OriginFault };
+module.exports = { originOf, readOrigin, digestOf, OriginFault };

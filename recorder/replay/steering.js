@@ -11,6 +11,8 @@ const PATIENCE = 2;
 /** Where a page has been quiet for so long, and all acts are done, what is waited for does not come. */
 const QUIET_WITH_OTHERS = 500;
 const QUIET_WITH_FIRST = 2000;
+/** Between two looks at the clock. */
+const TICK = 20;
 
 /** One thing that is kept back. */
 class Hold {
@@ -19,15 +21,18 @@ class Hold {
    * @param {import('./causes.js').Cause} wanted.cause what is kept back
    * @param {import('./due.js').Due} wanted.due what has to come before
    * @param {number} wanted.needed the last act of the user that this takes
+   * @param {number|null} wanted.length it is let go after so many milliseconds, whatever has come
    * @param {number} id
    */
-  constructor({ cause, due, needed = 0 }, id) {
-    Object.assign(this, { cause, due, needed, id });
+  constructor({ cause, due, needed = 0, length = null }, id) {
+    Object.assign(this, { cause, due, needed, length, id });
     this.isLet = false;
     /** Whether what had to come before came. */
     this.isReached = false;
-    /** Whether it has waited. */
-    this.hasHeld = false;
+    /** When it began to wait, or 0. */
+    this.heldAt = 0;
+    /** For how many milliseconds it has waited. */
+    this.heldFor = 0;
     this.met = 0;
     this.requests = new Set();
     this.over = new Promise((resolve) => { this.open = resolve; });
@@ -35,8 +40,8 @@ class Hold {
 
   /** In the page: what page/steering.js takes, or null. */
   forPage() {
-    const { means, word, place, nth, address } = this.cause;
-    if (means === 'callback') return { id: this.id, word, place, nth };
+    const { means, word, place, nth, address, event } = this.cause;
+    if (means === 'callback' || means === 'event') return { id: this.id, word, place, nth, event };
     if (means === 'load') return { id: this.id, word: 'load', address, source: this.source(address) };
     return null;
   }
@@ -59,15 +64,26 @@ class Hold {
     return this.met === nth;
   }
 
+  /** It waits now, where it does not yet. */
+  hold() {
+    if (!this.heldAt) this.heldAt = Date.now();
+  }
+
+  /** Whether the time is over for which it is to wait. */
+  isOver() {
+    return this.length !== null && this.heldAt > 0 && Date.now() - this.heldAt >= this.length;
+  }
+
   async wait(key) {
     if (this.isLet) return;
-    this.hasHeld = true;
+    this.hold();
     if (key) this.requests.add(key);
     await this.over;
   }
 
   letGo() {
     this.isLet = true;
+    this.heldFor = this.heldAt ? Date.now() - this.heldAt : 0;
     this.requests.clear();
     this.open();
   }
@@ -94,14 +110,27 @@ class Steering {
     this.recorder = recorder;
     this.timer = setTimeout(() => this.holds.forEach((hold) => this.letGo(hold)), this.longest);
     this.timer.unref();
+    if (this.first && this.first.length !== null) this.clock = setInterval(() => this.letGoInTime(), TICK);
+    this.clock?.unref();
+  }
+
+  /** What is only late by a time is let go when that is over. */
+  letGoInTime() {
+    this.noteHeld();
+    if (this.first.isOver()) this.letGo(this.first);
+  }
+
+  /** The page has told what waits in it. */
+  noteHeld() {
+    this.recorder.intake.names.forEach(({ kind, number }) => { if (kind === 'held') this.holds[number - 1].hold(); });
   }
 
   /** New lines of the log have come. */
   look() {
     if (!this.recorder || this.isLet() || this.isLookingLater()) return;
     const begin = Date.now();
-    this.recorder.intake.names.forEach(({ kind, number }) => { if (kind === 'held') this.holds[number - 1].hasHeld = true; });
-    for (const hold of this.holds.filter(({ isLet }) => !isLet)) {
+    this.noteHeld();
+    for (const hold of this.holds.filter(({ isLet, due }) => !isLet && due)) {
       if (!hold.due.hasCome(this.recorder)) continue;
       hold.isReached = true;
       this.letGo(hold);
@@ -120,6 +149,7 @@ class Steering {
   letGo(hold) {
     if (hold.isLet) return;
     hold.letGo();
+    if (hold === this.first) clearInterval(this.clock);
     if (this.isLet()) clearTimeout(this.timer);
     if (!hold.forPage()) return;
     this.recorder.tab.evaluate(`typeof __er === 'object' && __er.recording && __er.recording.steering.letGo(${hold.id})`).catch(() => {});
@@ -138,8 +168,9 @@ class Steering {
     return this.holds.filter((hold) => hold !== this.first && !hold.isLet);
   }
 
-  /** Nothing comes any more: the order of other races is given up first. */
+  /** Nothing comes any more: the order of other races is given up first. What waits for a time does so. */
   giveUp() {
+    if (this.first && this.first.length !== null && this.first.heldAt && !this.first.isLet) return;
     const others = this.others();
     (others.length ? others : [this.first]).forEach((hold) => this.letGo(hold));
   }
@@ -210,7 +241,7 @@ class Steering {
     if (kind === 'wait') return false;
     const isKept = ({ cause }) => cause.means === 'act' && cause.act === number;
     const blocking = this.holds.filter((hold) => !hold.isLet && (isKept(hold) || number > hold.needed));
-    blocking.filter(isKept).forEach((hold) => { hold.hasHeld = true; });
+    blocking.filter(isKept).forEach((hold) => hold.hold());
     return blocking.length > 0;
   }
 }

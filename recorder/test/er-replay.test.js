@@ -64,7 +64,7 @@ test('a race is found again, also where the page and the trace were moved and th
   const { status, stdout, stderr } = await command('er_replay', ['moved/kept.trace', '--race', '1']);
   assert.strictEqual(status, 0, stderr);
   assert.match(stdout, /found again/);
-  assert.match(stdout, /turned: differs: .*value of input#field: books tea in the recorded order, books ea in the other order/);
+  assert.match(stdout, /^1\. a lost input: value of input#field: books tea in the recorded order, books ea in the other order/m);
   const { races } = JSON.parse(fs.readFileSync(path.join(moved, 'kept.replay', 'page.replay.json'), 'utf8'));
   assert.strictEqual(races.length, 1);
   for (const file of ['page.trace', 'page.names.json', 'page.report', 'page.html']) assert.ok(fs.existsSync(path.join(moved, 'kept.replay', file)));

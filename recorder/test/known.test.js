@@ -148,3 +148,17 @@ test('a file is written whole or not at all', () => {
   assert.throws(() => writeWhole(path.join(folder, 'no', 'such', 'folder'), 'x'), WriteFault);
   assert.deepStrictEqual(fs.readdirSync(folder).filter((name) => name.startsWith('.')), []);
 });
+
+test('what came of a race in the other order stands in the object and in SARIF', async () => {
+  const listing = new Listing([await run()], null);
+  const [problem] = listing.problems;
+  const words = 'turned: differs: error in the other order alone: TypeError';
+  listing.setVerdicts(0, [{ race: problem.races[0] + 1, verdict: 'turned', effect: 'an uncaught error', words }]);
+  const plain = plainListing(listing, { page: 'page', status: 1, files: [], folder: null });
+  const [told, ...others] = plain.problems.filter(({ replay }) => replay);
+  assert.deepStrictEqual(told.replay, { race: problem.races[0] + 1, verdict: 'turned', differs: true, effect: 'an uncaught error', words });
+  assert.deepStrictEqual([told.name, others], [problem.name, []]);
+  const [result] = sarifOf(listing, { folder: null }).runs[0].results.filter(({ properties }) => properties?.replay);
+  assert.match(result.message.text, /Run again in the other order: turned: differs: error/);
+  assert.deepStrictEqual(result.properties.replay, { verdict: 'turned', differs: true, effect: 'an uncaught error' });
+});

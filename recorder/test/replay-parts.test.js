@@ -2,7 +2,14 @@
 // Parts of a replay without a browser: the names that hold in each run, what can be kept back, and what differs at two ends.
 
 const assert = require('node:assert');
+const fs = require('node:fs');
+const path = require('node:path');
 const { test } = require('node:test');
+const { temporaryFolder } = require('./cleanup.js');
+const { changing } = require('../replay/changing.js');
+const { checkOrder, otherWayInWords } = require('../replay/lawful.js');
+const { mostFrequent, countTurns } = require('../replay/turns.js');
+const { orderOfResults, worstOf } = require('../replay/verdict.js');
 const { Keys } = require('../replay/keys.js');
 const { Causes } = require('../replay/causes.js');
 const { Steering } = require('../replay/steering.js');
@@ -75,4 +82,73 @@ test('what differs at two ends', () => {
   assert.deepStrictEqual(differ({ errors: ['x'] }, { lines: ['a'] }), ['error in one alone: x', 'text in one alone: "b"']);
   assert.deepStrictEqual(differ({ variables: { n: '1' } }, { variables: { n: '2' } }), ['n: 1 in one, 2 in two']);
   assert.deepStrictEqual(differ({ errors: ['x', 'x'] }, {}), ['error in one alone: x (2 times)']);
+});
+
+test('events that the browser brings, and what can keep them back', () => {
+  const facts = {
+    elements: { 2: { tag: 'script', place: [0, 2, 1] }, 5: { tag: 'video', id: 'film', source: 'a.webm' }, 7: { tag: 'Worker' } },
+    dispatches: { 1: { type: 'canplay' }, 2: { type: 'canplay' }, 3: { type: 'message' } },
+    handlers: { 4: { type: 'message', target: 7 } },
+  };
+  const keys = run(['parse 0 2 inline', 'exec 2', 'on 4', 'fire 1 5 canplay', 'fire 2 5 canplay', 'fire 3 7 message', 'run 3 0 4'], {}, facts);
+  const causes = new Causes(keys, [{ text: 'on 4', place: 'here' }], [], (file) => NAMES.files[file]);
+  const [film] = causes.of(3);
+  assert.deepStrictEqual([film.means, film.event], ['event', { type: 'canplay', nth: 2, tag: 'video', id: 'film', source: 'a.webm' }]);
+  const [message] = causes.of(5);
+  assert.deepStrictEqual([message.means, message.word, message.place, message.event], ['event', 'on', 'here', { type: 'message', nth: 1 }]);
+});
+
+test('the act of a user from which an event comes', () => {
+  const facts = { elements: { 3: { tag: 'button', id: 'go' } }, dispatches: { 1: { type: 'mouseup', act: 1000 }, 3: { type: 'load' } } };
+  const keys = run(['parse 0 3 plain', 'fire 1 3 mouseup', 'close 1', 'new 0 4 plain', 'inline 2 4 click', 'close 2', 'back 2', 'fire 3 3 load'], {}, facts);
+  const actOf = (number) => keys.actOf(keys.actions.list[number]);
+  assert.deepStrictEqual(keys.actions.list.map(({ words }) => words[0]), ['parse', 'fire', 'close', 'inline', 'close', 'back', 'fire']);
+  assert.deepStrictEqual([0, 1, 3, 4, 6].map(actOf), [0, 1000, 1000, 1000, 0]);
+});
+
+test('what keeps a page going, and how often it came', () => {
+  const ticks = (count) => Array(count).fill({ text: 'tick 1', place: undefined });
+  const entries = [{ text: 'every 1 50', place: 'clock' }, { text: 'early set 1 0', place: 'once' }, { text: 'timer 1' }, ...ticks(7)];
+  assert.deepStrictEqual(mostFrequent(entries), { word: 'every', place: 'clock', count: 7 });
+  assert.strictEqual(mostFrequent(entries.slice(0, 6)), null);
+  assert.strictEqual(countTurns(entries, { word: 'set', place: 'once' }), 1);
+});
+
+test('what may change something on a server, and on which', () => {
+  const asked = ['GET http://shop.example/', 'POST http://localhost/cart', 'PUT https://127.0.0.1:8443/cart', 'POST https://shop.example/cart', 'POST https://shop.example/cart'];
+  assert.deepStrictEqual(changing(asked).filter(({ isForeign }) => isForeign), [{ text: 'POST https://shop.example/cart', isForeign: true }]);
+  assert.strictEqual(changing(asked).length, 3);
+});
+
+test('the worst effect, and the order of what is told', () => {
+  const turned = (differences) => ({ verdict: 'turned', differences, beside: [], unsteady: [], byDelay: [], astray: [] });
+  const results = [
+    { number: 1, result: turned([]) },
+    { number: 2, result: { verdict: 'not turned', why: 'x' } },
+    { number: 3, result: turned([{ kind: 'text' }]) },
+    { number: 4, result: turned([{ kind: 'text' }, { kind: 'event', isOfUser: true }]) },
+    { number: 5, result: turned([{ kind: 'error' }, { kind: 'field', isOfUser: true }]) },
+  ];
+  assert.deepStrictEqual(results.map(({ result }) => worstOf(result)?.name), [undefined, undefined, 'another content', 'a lost act', 'an uncaught error']);
+  assert.deepStrictEqual([...results].sort(orderOfResults).map(({ number }) => number), [5, 4, 3, 2, 1]);
+});
+
+test('a run in the other order that took another way is told', async () => {
+  const folder = temporaryFolder('replay-parts');
+  const lines = ['parse 0 2 inline', 'exec 2', 'set 1 5', 'set 2 0', 'timer 1', 'w var 0 x', 'timer 2', 'w var 0 x'];
+  const places = { 4: [0, 2, 3], 5: [0, 2, 9], 7: [0, 1, 1], 9: [0, 1, 1] };
+  const traceFile = path.join(folder, 'recorded.trace');
+  const write = (file, some) => fs.writeFileSync(file, ['webtrace 3', ...some, 'end', ''].join('\n'));
+  write(traceFile, lines);
+  const recorded = { traceFile, keys: run(lines, places), race: { actions: [2, 3] }, number: 1 };
+  const turned = [...lines.slice(0, 4), ...lines.slice(6), ...lines.slice(4, 6)];
+  const file = path.join(folder, 'turned.trace');
+  write(file, turned);
+  const kept = await checkOrder(recorded, { file, keys: run(turned, places), pair: [2, 3] });
+  assert.deepStrictEqual([kept.needed, kept.asked, kept.missing, kept.behind, kept.unordered], [2, 2, [], [], []]);
+  assert.strictEqual(otherWayInWords(kept), '');
+  const other = turned.slice(1);
+  write(file, other);
+  const broken = await checkOrder(recorded, { file, keys: run(['parse 0 9 plain', ...other], {}), pair: [2, 3] });
+  assert.match(otherWayInWords(broken), /^the page took another way before the two: .* did not come/);
 });

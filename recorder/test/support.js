@@ -8,7 +8,8 @@ require('./cleanup.js');
 const { Recorder } = require('../recorder.js');
 const { parseOptions } = require('../options.js');
 const { writeFiles, namesFile } = require('../record.js');
-const { Replay, withEnd, chance, verdictInWords } = require('../replay/replay.js');
+const { Replay, withEnd, chance } = require('../replay/replay.js');
+const { verdictInWords, worstOf } = require('../replay/verdict.js');
 const { Accesses } = require('../trace/accesses.js');
 const { Names } = require('../trace/names.js');
 const { Spelling, NEWEST_VERSION } = require('../trace/spelling.js');
@@ -45,7 +46,7 @@ async function replayPage(browser, page, words, location, folder) {
   await replay.runFreely();
   const result = await replay.turn(report.races[number], number + 1);
   await replay.pictures.close();
-  return { result, said: verdictInWords(result), race: inWords.race(report.races[number]), replay };
+  return { result, said: verdictInWords(result), worst: worstOf(result)?.name, race: inWords.race(report.races[number]), replay };
 }
 
 /** The trace that the rules leave, and in `whole` the one of the whole recording; `readable` are the records of the whole one. */

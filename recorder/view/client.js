@@ -245,61 +245,6 @@ class Picture {
   }
 }
 
-// ---- the run again in the other order
-
-/** What the replay of a race found, by the race's number. */
-const replayOf = new Map((model.replays || []).map((replay) => [model.races[replay.race - 1], replay]));
-const VERDICTS = { differs: 'turned: differs', same: 'turned: no visible difference', not: 'not turned' };
-
-function verdictOf(replay) {
-  if (replay.verdict !== 'turned') return 'not';
-  return replay.differences.length ? 'differs' : 'same';
-}
-
-/** The badge of a race that was run again, or nothing. */
-function verdictBadge(race) {
-  const replay = replayOf.get(race);
-  return replay ? [make('span', { class: `badge verdict ${verdictOf(replay)}` }, VERDICTS[verdictOf(replay)])] : [];
-}
-
-function differenceTable(differences) {
-  const table = make('table', { class: 'differences' }, make('tr', {}, ...['What', 'In the recorded order', 'In the other order'].map((word) => make('th', {}, word))));
-  for (const { kind, subject, recorded, other } of differences) {
-    const what = subject.includes(kind) ? subject : `${kind}: ${subject}`;
-    table.append(make('tr', {}, make('td', {}, what), make('td', {}, recorded), make('td', {}, other)));
-  }
-  return table;
-}
-
-function pictureBox(data, title) {
-  const box = make('figure', { class: 'end' }, make('figcaption', {}, title));
-  if (data) box.append(make('img', { src: `data:image/webp;base64,${data}`, alt: title }));
-  else box.append(make('p', {}, 'No picture was taken.'));
-  return box;
-}
-
-function replayBox(race) {
-  const replay = replayOf.get(race);
-  if (!replay) return [];
-  const box = make('section', { class: 'replay' }, make('h4', {}, 'Run again in the other order'));
-  if (replay.verdict !== 'turned') {
-    box.append(make('p', {}, `Could not be turned: ${replay.why}.`));
-    return [box];
-  }
-  box.append(make('p', {}, `To turn them, ${replay.means}. The two came in the other order then${replay.isListed ? ', and the program lists them as a race of that run too' : ''}.`));
-  if (replay.note) box.append(make('p', {}, `${replay.note}.`));
-  if (replay.differences.length) box.append(make('p', {}, 'What differs at the end:'), differenceTable(replay.differences));
-  else box.append(make('p', {}, 'No visible difference was found at the end.'));
-  if (replay.beside.length) {
-    const summary = make('summary', {}, `${counted(replay.beside.length, 'difference')} that no user sees`);
-    box.append(foldable('others', summary, () => differenceTable(replay.beside)));
-  }
-  const pictures = make('div', { class: 'columns' });
-  pictures.append(pictureBox(model.recordedPicture, 'The end in the recorded order'), pictureBox(replay.picture, 'The end in the other order'));
-  box.append(pictures);
-  return [box];
-}
-
 // ---- races and groups
 
 function raceBox(race) {
@@ -416,6 +361,7 @@ model.problems.forEach((problem) => problem.groups.forEach((group) => { problemO
 
 const sizeOf = ({ groups }) => groups.reduce((sum, { group }) => sum + group.size, 0);
 const ORDERS = {
+  verdict: (a, b) => rankOfVerdict(a) - rankOfVerdict(b) || ORDERS.looks(a, b),
   looks: (a, b) => a.problem.isKnown - b.problem.isKnown || a.problem.rank - b.problem.rank || sizeOf(b) - sizeOf(a) || a.groups[0].number - b.groups[0].number,
   size: (a, b) => sizeOf(b) - sizeOf(a) || a.groups[0].number - b.groups[0].number,
   trace: (a, b) => a.groups[0].number - b.groups[0].number,
@@ -437,7 +383,7 @@ function render() {
   const races = groups.reduce((sum, { races: some }) => sum + some.length, 0);
   const lines = folded(groups);
   document.getElementById('found').textContent = `${counted(lines.length, 'problem')}: ${counted(groups.length, 'group')} with ${counted(races, 'race')}`;
-  document.getElementById('groups').replaceChildren(pieces(lines, problemBox));
+  document.getElementById('groups').replaceChildren(...piecesByVerdict(lines));
 }
 
 function start() {
@@ -445,5 +391,3 @@ function start() {
   document.getElementById('text').addEventListener('input', render);
   render();
 }
-
-start();

@@ -16,7 +16,9 @@ function options(pairs) {
 }
 
 const KINDS = options([['all', 'all'], ['variable', 'variables'], ['element', 'elements'], ['handler', 'handlers']]);
-const ORDERS = options([['looks', 'by what it looks like'], ['size', 'largest first'], ['trace', 'as recorded']]);
+const ORDERS = [['looks', 'by what it looks like'], ['size', 'largest first'], ['trace', 'as recorded']];
+/** Where races were run again, the order is by what came of it. */
+const ORDERS_OF_REPLAYS = [['verdict', 'by what the other order does'], ...ORDERS];
 
 function counts(model) {
   const all = [['problems', model.problems.filter(({ groups }) => groups.length).length], ['groups', model.groups.length], ['races', model.races.length], ...model.counts];
@@ -62,13 +64,16 @@ ${read('style.css')}</style>
 ${unproved(model)}${leftOut(model)}${ofLibraries(model)}<form onsubmit="return false">
 <label>Kind <select id="kind">${KINDS}</select></label>
 <label>Text <input id="text" type="search" placeholder="a name, a file, a handler"></label>
-<label>Order <select id="order">${ORDERS}</select></label>
+<label>Order <select id="order">${options(model.replays ? ORDERS_OF_REPLAYS : ORDERS)}</select></label>
 <output id="found"></output>
 </form>
 <main id="groups"></main>
 <script type="application/json" id="model">${escapeJson(model)}</script>
 <script>
-${read('client.js')}</script>
+${read('client.js')}
+${read('client-replays.js')}
+start();
+</script>
 </body>
 </html>
 `;

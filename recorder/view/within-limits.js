@@ -3,6 +3,7 @@
 
 const fs = require('node:fs');
 const { writeWhole } = require('../list/whole-file.js');
+const { digestOf } = require('../replay/origin.js');
 const { beyond, isAt, sizesOf, sum } = require('../trace/limits.js');
 const { judge } = require('./program.js');
 
@@ -35,8 +36,10 @@ function writeWithout(traceFile, lines, gone) {
   const namesFile = besides(traceFile);
   const names = renumbered(JSON.parse(fs.readFileSync(namesFile, 'utf8')), numbers);
   names.leftOut = [...names.leftOut || [], ...gone];
+  const text = `${kept.join('\n')}\n`;
+  if (names.recording) names.recording = { ...names.recording, digest: digestOf(text) };
   writeWhole(namesFile, `${JSON.stringify(names, null, 1)}\n`);
-  writeWhole(traceFile, `${kept.join('\n')}\n`);
+  writeWhole(traceFile, text);
 }
 
 /**

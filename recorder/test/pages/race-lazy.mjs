@@ -1,0 +1,1 @@
+window.show('lazy');
