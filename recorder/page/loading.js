@@ -67,7 +67,7 @@ class Loading {
     recording.noteBeside(elements.lastParsed, `new ${page.number} ${standIn} plain`);
     recording.log.name('element', standIn, { standsFor: elements.number(page.document), why: 'the end of parsing' });
     recording.begin(`fire ${dispatch.number} ${standIn} readystatechange`, 'begin', undefined, [scripts.last.event]);
-    dispatch.behind = this.lastRun.number === elements.lastParsed ? [this.lastRun.handler] : [];
+    dispatch.empties = this.lastRun.number === elements.lastParsed ? [this.lastRun.handler] : [];
     dispatch.whenClosed = () => { this.parsed = [this.registerJoin(standIn, 'the end of parsing')]; };
     return true;
   }
@@ -90,7 +90,7 @@ class Loading {
     dispatch.end = end;
     if (end === 'dcl') {
       dispatch.awaits = this.page;
-      dispatch.behind = this.parsed;
+      dispatch.empties = this.parsed;
     }
     this.moment = dispatch;
     this.recording.begin(`${end} ${dispatch.number} ${this.page.number}`, 'begin');
@@ -134,7 +134,7 @@ class Loading {
     const { event, target } = dispatch;
     const step = this.isOfDocument(event, target) ? LEAVING.indexOf(event.type) : -1;
     if (step < 0 || this.leaving.step > step || (event.type === 'visibilitychange' && this.leaving.step < LEAVING.indexOf('pagehide'))) return;
-    dispatch.behind = this.leaving.handlers;
+    dispatch.empties = this.leaving.handlers;
     dispatch.whenClosed = () => {
       const handlers = dispatch.group < 0 ? this.leaving.handlers : [this.registerJoin(this.page.elements.number(target), 'an event before')];
       this.leaving = { step, handlers };
@@ -186,11 +186,11 @@ class Loading {
   /** A dispatch runs its first handler. */
   writeJoins(dispatch) {
     const { recording } = this;
-    const handlers = dispatch.end === 'load' ? this.joins : dispatch.behind || [];
+    const handlers = dispatch.end === 'load' ? this.joins : dispatch.empties || [];
     if (!handlers.length) return;
     each(handlers, (handler) => recording.begin(`run ${dispatch.number} 0 ${handler}`, 'handler', undefined, [dispatch.beginning]));
     if (dispatch.end === 'load') this.joins = [];
-    dispatch.behind = null;
+    dispatch.empties = null;
     dispatch.group = 0;
   }
 }
