@@ -51,18 +51,21 @@ class Orders {
     return second.line < first.line ? 'turned' : 'kept';
   }
 
-  /** Notes the orders of a run; those of the steered races tell nothing. */
-  note(run, steered) {
+  /**
+   * Notes the orders of a run. Those of the steered races tell nothing; where a race was turned, those that turned and did not stray (`astray`) had to
+   * turn with it.
+   */
+  note(run, { steered = [], turned = null, astray = [] } = {}) {
     for (const race of this.watched) {
-      if (steered.some((one) => isOnePair(race, one))) continue;
       const order = this.orderIn(run, race);
-      if (order === 'gone') continue;
-      if (!this.byItself.has(pairOf(race))) this.byItself.set(pairOf(race), { kept: [], turned: [] });
-      this.byItself.get(pairOf(race))[order].push(run.name);
+      if (order === 'gone' || steered.some((one) => isOnePair(race, one)) || isOnePair(race, turned)) continue;
+      const isImplied = turned && order === 'turned' && !astray.includes(race);
+      if (!this.byItself.has(pairOf(race))) this.byItself.set(pairOf(race), { kept: [], turned: [], implied: [] });
+      this.byItself.get(pairOf(race))[isImplied ? 'implied' : order].push(run.name);
     }
   }
 
-  /** In how many runs a race came in which order by itself; null where it did not come in any. */
+  /** In which runs a race came in which order by itself, and in which with another one; null where it did not come in any. */
   chanceOf(race) {
     return this.byItself.get(pairOf(race)) || null;
   }

@@ -145,13 +145,13 @@ class Replay {
       this.write(best.run);
       await judgeWithin(best.run.file);
     }
-    this.orders.note(best.run, [...(turned ? [turned.race] : []), ...best.kept.map(({ race }) => race)]);
+    this.orders.note(best.run, { steered: best.kept.map(({ race }) => race), turned: turned?.race, astray: best.astray });
     return best;
   }
 
   /** Runs the page with no race turned: what differs then does so by itself. */
   async runFreely() {
-    this.orders.note(this.recorded, []);
+    this.orders.note(this.recorded);
     const { run, astray } = await this.runInOrder('free', null);
     this.free = run;
     if (astray.length) return; // what differs may come from these races

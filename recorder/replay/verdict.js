@@ -37,9 +37,11 @@ function orderOfResults(a, b) {
 }
 
 function chanceInWords(chance, isTurned) {
+  const the = isTurned ? 'the two' : 'but the two';
+  if (!isTurned && chance?.implied.length) return `${the} turned with another race, as the rules have it (replays/${chance.implied[0]}.trace)`;
   if (!chance?.turned.length) return '';
   const of = `${chance.turned.length} of ${chance.turned.length + chance.kept.length}`;
-  return `${isTurned ? 'the two' : 'but the two'} came in the other order by themselves in ${of} runs in which nothing steered them (replays/${chance.turned[0]}.trace)`;
+  return `${the} came in the other order by themselves in ${of} runs in which nothing steered them (replays/${chance.turned[0]}.trace)`;
 }
 
 function groupInWords(group) {

@@ -9,7 +9,8 @@ const { temporaryFolder } = require('./cleanup.js');
 const { changing } = require('../replay/changing.js');
 const { checkOrder, otherWayInWords } = require('../replay/lawful.js');
 const { mostFrequent, countTurns } = require('../replay/turns.js');
-const { orderOfResults, worstOf } = require('../replay/verdict.js');
+const { Orders } = require('../replay/orders.js');
+const { orderOfResults, verdictInWords, worstOf } = require('../replay/verdict.js');
 const { Keys } = require('../replay/keys.js');
 const { Causes } = require('../replay/causes.js');
 const { Steering } = require('../replay/steering.js');
@@ -151,4 +152,21 @@ test('a run in the other order that took another way is told', async () => {
   write(file, other);
   const broken = await checkOrder(recorded, { file, keys: run(['parse 0 9 plain', ...other], {}), pair: [2, 3] });
   assert.match(otherWayInWords(broken), /^the page took another way before the two: .* did not come/);
+});
+
+test('in which order races came by themselves, and with another one', () => {
+  const lines = ['parse 0 2 inline', 'exec 2', 'set 1 5', 'set 2 0'];
+  const places = { 4: [0, 2, 3], 5: [0, 2, 9], 7: [0, 1, 1], 9: [0, 1, 1] };
+  const kept = run([...lines, 'timer 1', 'w var 0 x', 'timer 2', 'w var 0 x'], places);
+  const turned = run([...lines, 'timer 2', 'w var 0 x', 'timer 1', 'w var 0 x'], places);
+  const race = { location: 'var 0 x', modes: 'ww', actions: [2, 3], lines: [7, 9], group: 1 };
+  const other = { ...race, actions: [0, 1], location: 'var 0 y' };
+  const orders = new Orders({ races: [race] }, kept);
+  orders.note({ name: 'recorded', keys: kept });
+  orders.note({ name: 'free', keys: turned });
+  orders.note({ name: '7', keys: turned }, { turned: other });
+  orders.note({ name: '8', keys: turned }, { turned: other, astray: [race] });
+  orders.note({ name: '9', keys: turned }, { steered: [race] });
+  assert.deepStrictEqual(orders.chanceOf(race), { kept: ['recorded'], turned: ['free', '8'], implied: ['7'] });
+  assert.match(verdictInWords({ verdict: 'not turned', why: 'x', chance: orders.chanceOf(race) }), /^could not be turned: x; but the two turned with another race/);
 });
