@@ -234,7 +234,7 @@ class ClosureInstrumenter extends GlobalInstrumenter {
   }
 
   AwaitExpression(node, scope) {
-    this.visitChildren(node, scope);
+    super.AwaitExpression(node, scope);
     this.waited++;
   }
 

@@ -18,6 +18,9 @@ const LOGICAL = /^(\|\||&&|\?\?)=$/;
 const CODE = /^(FunctionDeclaration|FunctionExpression|ArrowFunctionExpression)$/;
 const nothing = () => {};
 
+/** The variable in which a function keeps who asked for what it waits for. */
+const KEPT = '__er_w';
+
 function isAnonymousFunction(node) {
   if (node.type === 'ArrowFunctionExpression') return true;
   return (node.type === 'FunctionExpression' || node.type === 'ClassExpression') && !node.id;
@@ -75,6 +78,8 @@ class GlobalInstrumenter {
     this.delimiters = delimitersOf(code);
     /** Whether the code that is walked through may wait. */
     this.waits = options.kind === 'module';
+    /** Whether the function or module that is walked through keeps who asked for what it waits for. */
+    this.keeps = options.kind === 'module' ? 'module' : null;
     /** The names that functions without one have from where they stand. */
     this.namesOf = new Map();
   }
@@ -482,9 +487,9 @@ class GlobalInstrumenter {
     this.waits = waits;
   }
 
-  FunctionDeclaration(node, scope) { this.visitFunction(node, scope); }
-  FunctionExpression(node, scope) { this.visitFunction(node, scope); }
-  ArrowFunctionExpression(node, scope) { this.visitFunction(node, scope); }
+  FunctionDeclaration(node, scope) { this.enterFunction(node, scope); }
+  FunctionExpression(node, scope) { this.enterFunction(node, scope); }
+  ArrowFunctionExpression(node, scope) { this.enterFunction(node, scope); }
 
   visitClass(node, scope) {
     const inner = this.scopeOf(node, () => Scope.ofCode(scope, node.id ? [node.id.name] : []));
@@ -599,12 +604,54 @@ class GlobalInstrumenter {
     if (isExpression) this.endStatement(node);
   }
 
-  /** `import(x)` becomes `(call,import(x))`, so that the run of the module is known to be asked for here. */
+  /** `import(x)` becomes `call(import(call(x)))`, so that the run of the module, and what waits for it, are known to be asked for here. */
   ImportExpression(node, scope) {
-    const finish = this.callBefore(node, `__er.asked(${this.options.site(node.start)})`);
+    const base = this.options.kind === 'module' ? ',import.meta.url' : '';
+    this.insert(node.start, '__er.ap(');
+    this.insert(node.source.start, '__er.ai(');
     this.visitChildren(node, scope);
-    finish();
+    this.insert(node.source.end, `,${this.options.site(node.start)}${base})`);
+    this.insert(node.end, ')');
+  }
+
+  // ---- what waits
+
+  /**
+   * `await x` becomes `goesOn(await noted(x,kept=asks()),kept)`: what goes on is known to have been asked for here. What a function keeps stands in a
+   * variable of its own; an arrow function whose body is no block has none.
+   */
+  AwaitExpression(node, scope) {
+    if (!this.keeps) {
+      this.visitChildren(node, scope);
+      return;
+    }
+    const { argument } = node;
+    const isList = argument.type === 'SequenceExpression';
+    this.insert(node.start, '__er.ao(');
+    this.insert(argument.start, isList ? '__er.aw((' : '__er.aw(');
+    this.visit(argument, scope);
+    this.insert(argument.end, `${isList ? ')' : ''},${KEPT}=__er.as(${this.options.site(node.start)}${this.keeps === 'module' ? ',1' : ''}))`);
+    this.insert(node.end, `,${KEPT})`);
+  }
+
+  /** A function that waits keeps in a variable who asked. */
+  enterFunction(node, scope) {
+    const { keeps } = this;
+    this.keeps = node.async && node.body.type === 'BlockStatement' && mayWait(node.body) ? 'function' : null;
+    if (this.keeps) this.insert(behindDirectives(node.body), `;var ${KEPT};`);
+    this.visitFunction(node, scope);
+    this.keeps = keeps;
   }
 }
 
-module.exports = { GlobalInstrumenter, knownProperty, mayWait, LOGICAL, CODE, nothing };
+/** Where the first statement of a body may stand. */
+function behindDirectives({ start, body }) {
+  let place = start + 1;
+  for (const statement of body) {
+    if (statement.directive === undefined) break;
+    place = statement.end;
+  }
+  return place;
+}
+
+module.exports = { GlobalInstrumenter, knownProperty, mayWait, KEPT, LOGICAL, CODE, nothing };

@@ -6,7 +6,7 @@ const acorn = require('/usr/share/nodejs/acorn');
 const { quote, IDLE } = require('./marks.js');
 const { Scope, ModuleScope, addHoisted, addLexical } = require('./scopes.js');
 const { importsOf, exportsOf } = require('./imports.js');
-const { GlobalInstrumenter } = require('./globals.js');
+const { GlobalInstrumenter, mayWait, KEPT } = require('./globals.js');
 const { ObjectInstrumenter } = require('./objects.js');
 
 /** Which regular expressions there are is the browser's to say: it knows newer ones. */
@@ -95,7 +95,7 @@ function beginCall(instrumenter, program, scope, taken) {
   const site = options.site(0);
   if (options.kind === 'handler') return `;__er.handlerBegins(this,event,${quote(options.type)});try{`;
   if (options.kind === 'address') return ';__er.addressBegins();try{';
-  if (options.kind === 'module') return `;${IDLE}__er.moduleBegins(import.meta.url,${site});${instrumenter.declareModule()}${instrumenter.declareExports()}`;
+  if (options.kind === 'module') return `;${IDLE}__er.moduleBegins(import.meta.url,${site});${mayWait(program) ? `var ${KEPT};` : ''}${instrumenter.declareModule()}${instrumenter.declareExports()}`;
   const functions = declaredFunctions(instrumenter, program, scope);
   const own = taken.length ? `,${JSON.stringify(taken.map(({ name, isVar }) => [name, isVar]))}` : '';
   return `;${IDLE}__er.scriptBegins(globalThis.document&&document.currentScript,${site},${JSON.stringify(functions)}${own});`;
@@ -104,7 +104,7 @@ function beginCall(instrumenter, program, scope, taken) {
 function endCall({ kind }) {
   if (kind === 'handler') return '}finally{__er.handlerEnds()}';
   if (kind === 'address') return '}finally{__er.addressEnds()}';
-  return kind === 'module' ? ';__er.moduleEnds();' : ';__er.scriptEnds();';
+  return kind === 'module' ? ';__er.moduleEnds(import.meta.url);' : ';__er.scriptEnds();';
 }
 
 module.exports = { instrument };

@@ -26,13 +26,13 @@ const quoteList = (list) => `'${quote(list).replace(/'/g, "\\'")}'`;
  * do this alone.
  */
 const ANSWERS = [
-  'ro wo uo p q b B g m n i e d o L made',
+  'ro wo uo p q b B g m n i e d o L made ai ap aw ao',
   'k l j J h a c sk',
   'w u U',
   'wh uh Uh wm um fo f fk z F',
   'y Y',
 ];
-const WITHOUT_ANSWER = 'r rh rm v V s sp E asked scriptBegins scriptEnds moduleBegins moduleEnds handlerBegins handlerEnds addressBegins addressEnds';
+const WITHOUT_ANSWER = 'r rh rm v V s sp E as scriptBegins scriptEnds moduleBegins moduleEnds handlerBegins handlerEnds addressBegins addressEnds';
 
 const membersOf = (names, value) => names.split(' ').map((name) => `${name}:${value}`);
 

@@ -6,14 +6,14 @@ const ALWAYS_RECORDED = [
 ];
 const FOCUS = ['focus', 'blur', 'focusin', 'focusout', 'change', 'select', 'selectionchange'];
 const EDITS = ['beforeinput', 'input', 'change', 'click', 'submit', 'reset', 'invalid', ...FOCUS];
-/** What the browser does by itself once the handlers of a dispatch are done, in the same turn. */
+/** What the browser does by itself once the handlers of a dispatch are done, in the same task. */
 const CONSEQUENCES = {
   pointerdown: ['mousedown'],
   pointerup: ['mouseup'],
   mousedown: [...FOCUS, 'selectstart', 'contextmenu'],
   mouseup: ['click', 'auxclick', 'contextmenu', 'dblclick', ...FOCUS],
-  click: ['click', 'dblclick', 'toggle', 'formdata', ...EDITS],
-  keydown: ['keypress', ...EDITS],
+  click: ['click', 'dblclick', 'toggle', 'formdata', 'close', 'popstate', ...EDITS],
+  keydown: ['keypress', 'cancel', 'close', 'toggle', 'popstate', ...EDITS],
   keypress: EDITS,
   keyup: ['click'],
   beforeinput: ['input', 'change'],
@@ -21,9 +21,10 @@ const CONSEQUENCES = {
   change: FOCUS,
   blur: FOCUS,
   focus: FOCUS,
-  submit: ['formdata'],
+  submit: ['formdata', 'close', 'toggle'],
 };
-/** A consequence comes at once. */
+/** Those that the browser queues behind a user's act come within so many milliseconds; and so does a key's letter, which may be an act of its own. */
+const LATER = new Set(['select', 'selectionchange', 'toggle', 'close', 'keypress']);
 const LONGEST_PAUSE = 30;
 
 class Dispatches {
@@ -53,6 +54,8 @@ class Dispatches {
   captureAt(type) {
     if (this.captured.has(type)) return;
     this.captured.add(type);
+    if (type === 'unhandledrejection') this.recording.tellsRejections = true;
+    if (TRANSITIONS[type]) this.natives.addEventListener.call(this.page.document, TRANSITIONS[type], (event) => this.page.queued.noteStart(event), true);
     const { window, document } = this.page;
     this.natives.addEventListener.call(window, type, this.see, true);
     if (type === 'load') this.natives.addEventListener.call(document, type, this.see, true);
@@ -68,8 +71,16 @@ class Dispatches {
   sight(event) {
     if (this.recording.isOver || this.recording.steering.keepsEvent(event)) return;
     if (event.type === 'error') this.sightError(event);
-    else if (event.type === 'message' && event.target !== this.page.window) return;
+    else if ((event.type === 'message' && event.target !== this.page.window) || this.isOfTheRecorder(event)) return;
     else if (!this.find(event)) this.begin(event, event.currentTarget);
+  }
+
+  /** The tab gets the focus as the recording begins, which is nothing of the page's: where no handler is there, nothing is told of it. */
+  isOfTheRecorder({ type, target, isTrusted }) {
+    const { recording, page } = this;
+    const isFirst = type === 'focus' && isTrusted && target === page.window && page.number === 0 && !recording.hasFocus;
+    if (isFirst) recording.hasFocus = true;
+    return isFirst && !recording.contexts.length && !recording.act;
   }
 
   /** The error event of a script that threw comes inside its run, and the run is over then. */
@@ -82,6 +93,10 @@ class Dispatches {
       recording.leaveCall();
       return;
     }
+    if (isOfWindow && this.page.scripts.isModuleRunning()) {
+      this.endModule(event);
+      return;
+    }
     if (!this.listened.has('error') || this.find(event)) return;
     const isInEvent = isOfWindow && !recording.contexts.length && (recording.isCheckpoint || this.page.scripts.runBroken(event));
     if (!isInEvent) {
@@ -91,6 +106,13 @@ class Dispatches {
     recording.enter('call');
     this.begin(event, event.target);
     recording.contexts.pop();
+  }
+
+  /** A module has thrown: its run is over. */
+  endModule(event) {
+    this.recording.endPiece();
+    if (this.listened.has('error')) this.begin(event, event.target);
+    this.page.scripts.closeModule();
   }
 
   find(event) {
@@ -115,6 +137,7 @@ class Dispatches {
       this.beginAlone(dispatch);
     }
     recording.push(dispatch);
+    if (event.isTrusted && CONSEQUENCES[event.type]) recording.watchTask();
     this.page.elements.writeLate();
     this.readSlots(path.length ? path : [target], event.type);
     this.page.fields.writeInput(event, target);
@@ -153,9 +176,9 @@ class Dispatches {
   beginConsequence(dispatch) {
     const { recording } = this;
     if (!dispatch.event.isTrusted) return false;
-    const now = this.natives.now();
-    const causes = (one) => one.event && one.event.isTrusted && !one.active && now - one.lastTime < LONGEST_PAUSE
-      && hasItem(CONSEQUENCES[one.event.type] || [], dispatch.event.type);
+    const { type } = dispatch.event;
+    const isNear = (one) => one.task === recording.task || (LATER.has(type) && this.natives.now() - one.lastTime < LONGEST_PAUSE);
+    const causes = (one) => one.event && one.event.isTrusted && !one.active && hasItem(CONSEQUENCES[one.event.type] || [], type) && isNear(one);
     const height = heightOfLast(recording.dispatches, causes);
     if (!height || heightOfLast(recording.dispatches, (one) => one.active) > height) return false;
     recording.isCheckpoint = false;
@@ -172,7 +195,7 @@ class Dispatches {
     page.loading.orderLeaving(dispatch);
     const request = this.requests.get(target);
     if (request) recording.begin(`reply ${dispatch.number} ${request.number}`, 'begin', undefined, [request.sender]);
-    else if (!page.loading.begin(dispatch) && !page.messages.begin(dispatch)) this.beginAt(dispatch, event, target);
+    else if (!page.loading.begin(dispatch) && !page.messages.begin(dispatch) && !page.queued.begin(dispatch)) this.beginAt(dispatch, event, target);
     dispatch.beginning = recording.running;
     recording.log.name('dispatch', dispatch.number, { type: event.type, act: (event.isTrusted && recording.act) || undefined });
   }
@@ -203,6 +226,7 @@ class Dispatches {
     if (dispatch && !this.isOnTop(dispatch)) return this.unrecorded();
     if (!dispatch) dispatch = this.begin(event, current);
     if (!dispatch) return this.unrecorded();
+    this.page.joins.tellOf(dispatch);
     dispatch.active++;
     this.page.loading.writeJoins(dispatch);
     const visit = `${event.type}:${event.eventPhase}:${this.page.elements.number(current)}`;
@@ -210,8 +234,10 @@ class Dispatches {
       dispatch.visit = visit;
       dispatch.group++;
     }
-    recording.begin(`run ${dispatch.number} ${dispatch.group} ${handler}`, 'handler', undefined, [dispatch.beginning, this.registrars.get(handler)]);
+    recording.begin(`run ${dispatch.number} ${dispatch.group} ${handler}`, 'handler', undefined,
+      [dispatch.beginning, this.registrars.get(handler), ...(dispatch.toldEvents || [])]);
     recording.running.awaits = dispatch.awaits;
+    recording.noteInside(dispatch);
     recording.enter('handler');
     return dispatch;
   }

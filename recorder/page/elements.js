@@ -44,7 +44,7 @@ class Elements {
   watch(root) {
     this.observer.observe(root, {
       childList: true, subtree: true, attributes: true, attributeOldValue: true,
-      ...(this.recording.objects ? { characterData: true } : { attributeFilter: ['id'] }),
+      ...(this.recording.objects ? { characterData: true } : { attributeFilter: ['id', 'open', 'class', 'style'] }),
     });
   }
 
@@ -217,6 +217,14 @@ class Elements {
     return typeof address === 'string' && address ? address.replace(/#.*$/, '').slice(0, 2000) : undefined;
   }
 
+  /** A plain element that stands for a target, made in an action that may be over: the dispatch at it comes behind that. */
+  standInIn(moment, target, why) {
+    const standIn = this.recording.next('element');
+    this.recording.noteIn(moment, `new ${this.page.numberOfDocumentOf(target)} ${standIn} plain`);
+    this.recording.log.name('element', standIn, { standsFor: this.number(target), why });
+    return standIn;
+  }
+
   /**
    * A plain element that stands for a target in one dispatch. It is declared beside the target, so that it comes after the
    * target's maker, and no rule joins it with other dispatches at the target.
@@ -262,7 +270,7 @@ class Elements {
     const records = this.late;
     this.late = [];
     this.placeOfChanges = '';
-    each(records, (record) => this.handleOne(record, 'script'));
+    each(records, (record) => this.handleOne(record, 'browser'));
   }
 
   handleOne(record, maker) {
@@ -276,11 +284,18 @@ class Elements {
           if (this.recording.running.kind === 'parse') this.noteChange(record); // a text behind a script has no action of its own
         }
       });
-    } else if (record.type === 'attributes' && record.attributeName === 'id' && !this.page.shadows.has(record.target)) {
-      this.writeId(record.oldValue, maker);
-      this.writeId(this.idOf(record.target), maker);
-    }
+    } else if (record.type === 'attributes') this.handleAttribute(record, maker);
     if (maker !== 'parser') this.noteChange(record);
+  }
+
+  handleAttribute({ target, attributeName, oldValue }, maker) {
+    if (attributeName === 'id' && !this.page.shadows.has(target)) {
+      this.writeId(oldValue, maker);
+      this.writeId(this.idOf(target), maker);
+    }
+    if (maker !== 'script') return;
+    if (attributeName === 'open') this.page.queued.noteOpen(target);
+    else if (attributeName === 'class' || attributeName === 'style') this.page.queued.noteChange(target);
   }
 
   /** A script at which a replay lets the parser wait comes and goes: the page's content is the same. */

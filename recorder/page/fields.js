@@ -73,7 +73,12 @@ class Fields {
       const area = isLocal(page.window, this) ? 'localStorage' : 'sessionStorage';
       const look = () => getItem.call(this, key) ?? undefined;
       recording.access(STORAGE_CALLS[name], `var 0 ${spellName(`${area}.${String(key).slice(0, LONGEST_KEY)}`)}`, undefined, look);
-      return native.apply(this, arguments);
+      if (name === 'getItem' || recording.documents.length < 2) return native.apply(this, arguments);
+      const before = getItem.call(this, key);
+      native.apply(this, arguments);
+      const after = getItem.call(this, key);
+      if (after !== before) page.queued.noteStorage(String(key), after);
+      return undefined;
     });
   }
 }

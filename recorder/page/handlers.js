@@ -159,6 +159,7 @@ class Handlers {
       return value;
     }
     const handlers = this;
+    if (type === 'message') this.page.messages.noteStart(owner);
     const handler = this.register(owner, type, value, false);
     const wrapped = function wrapped(event) {
       const current = event && event.currentTarget !== undefined ? event : handlers.page.window.event;

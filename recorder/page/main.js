@@ -12,12 +12,16 @@ class Page {
     this.globals = new Globals(this);
     this.imports = new Imports(this);
     this.dispatches = new Dispatches(this);
+    this.queued = new Queued(this);
     this.handlers = new Handlers(this);
     this.calls = new Calls(this);
     this.lookups = new Lookups(this);
     this.fields = new Fields(this);
+    this.joins = new Joins(this);
     this.timers = new Timers(this);
+    this.callbacks = new Callbacks(this);
     this.jobs = new Jobs(this);
+    this.observers = new Observers(this);
     this.requests = new Requests(this);
     this.connections = new Connections(this);
     this.messages = new Messages(this);
@@ -30,8 +34,8 @@ class Page {
     this.recording.elementNumbers.delete(this.window); // a frame's window stays the same object for its next page
     if (this.recording.objects) this.recording.objects.addWindow(this);
     this.beginDocument();
-    const parts = [this.handlers, this.dispatches, this.calls, this.lookups, this.fields, this.timers, this.jobs, this.requests, this.connections, this.messages,
-      this.globals];
+    const parts = [this.handlers, this.dispatches, this.calls, this.lookups, this.fields, this.queued, this.timers, this.callbacks, this.jobs,
+      this.observers, this.requests, this.connections, this.messages, this.globals];
     parts.forEach((part) => part.start());
     this.replaceToString();
     this.elements.start();
@@ -76,7 +80,7 @@ class Page {
 
 /** What marked code calls. The names are short, as they stand many times in it. */
 function helpersOf(page) {
-  const { globals, recording, scripts, handlers, window } = page;
+  const { globals, jobs, recording, scripts, handlers, window } = page;
   const dispatches = [];
   const isOfElement = (element, name) => element && element.nodeType === 1
     && (name in element || name in page.document || (element.form && name in element.form));
@@ -117,7 +121,21 @@ function helpersOf(page) {
     rm: ofModule(['r']), wm: ofModule(['w']), um: ofModule(['r', 'w']),
     V: (module, name, site) => page.imports.read(module, name, site),
     E: (module, scope, own, others, wholes) => page.imports.note(module, scope, own, others, wholes),
-    asked: (site) => scripts.importAsked(site),
+    ai: (specifier, site, base) => scripts.importAsked(specifier, site, base),
+    ap: (promise) => scripts.noteImport(promise),
+    as: (site, isOfModule) => {
+      const asked = jobs.ask(null, site);
+      if (isOfModule) scripts.moduleWaits();
+      return asked;
+    },
+    aw: (promise, asked) => {
+      asked.v = promise;
+      return promise;
+    },
+    ao: (value, asked) => {
+      jobs.goesOn(asked);
+      return value;
+    },
     made: (text) => { recording.log.miss(MADE_OF_TEXT); return text; },
     scriptBegins: (element, site, functions, taken) => {
       if (taken) globals.take(taken);
@@ -125,7 +143,7 @@ function helpersOf(page) {
     },
     scriptEnds: () => scripts.ends(),
     moduleBegins: (address, site) => scripts.moduleBegins(address, site),
-    moduleEnds: () => scripts.moduleEnds(),
+    moduleEnds: (address) => scripts.moduleEnds(address),
     handlerBegins: (element, event, type) => dispatches.push(handlers.attributeBegins(element, event, type)),
     handlerEnds: () => page.dispatches.handlerEnds(dispatches.pop()),
     addressBegins: () => scripts.addressBegins(),

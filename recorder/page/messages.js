@@ -1,5 +1,5 @@
-// Messages: `postMessage` of windows, of ports and of broadcast channels. Each message has a plain element that its sender makes, so that it comes after
-// its sender and no rule joins it with another message.
+// Messages: `postMessage` of windows, of ports and of broadcast channels. Each message has a plain element, at which its listeners are handlers: in
+// version 2 its sender makes it, so that the message comes after its sender and no rule joins it with another one.
 
 class Messages {
   constructor(page) {
@@ -8,6 +8,7 @@ class Messages {
     if (!this.recording.posted) {
       this.recording.posted = new WeakMap();
       this.recording.peers = new WeakMap();
+      this.recording.starts = new WeakMap();
       this.recording.channels = [];
     }
   }
@@ -47,11 +48,22 @@ class Messages {
       return channel;
     }
     putConstructor(window, 'MessageChannel', MessageChannel);
+    replaceMethod(window.MessagePort.prototype, 'start', (native) => function start() {
+      messages.noteStart(this);
+      return native.call(this);
+    });
     replaceMethod(window.MessagePort.prototype, 'postMessage', (native) => function postMessage() {
       const peer = peers.get(this);
       const hold = peer && messages.post(peer);
       messages.recording.steering.post(hold, peer, () => native.apply(this, arguments));
     });
+  }
+
+  /** A port hands out messages once it is started, whenever they were posted. */
+  noteStart(port) {
+    const { starts, peers } = this.recording;
+    const moment = peers.has(port) && !starts.has(port) && this.recording.moment();
+    if (moment) starts.set(port, moment);
   }
 
   /** Answers what keeps the message back in a replay. */
@@ -61,9 +73,9 @@ class Messages {
     const message = recording.next('message');
     const standIn = recording.next('element');
     recording.noteAsking(`post ${message} ${this.page.number} ${standIn}`);
-    recording.log.name('element', standIn, { why: 'a message' });
+    recording.log.name('element', standIn, { why: 'a message', message });
     if (!recording.posted.has(receiver)) recording.posted.set(receiver, []);
-    recording.posted.get(receiver).push({ message, standIn });
+    recording.posted.get(receiver).push({ message, standIn, sender: recording.isRunning() ? recording.running : null });
     return recording.steering.asks('post');
   }
 
@@ -72,8 +84,11 @@ class Messages {
     const { event, target } = dispatch;
     const waiting = event.type === 'message' && this.recording.steering.isTrusted(event) && this.recording.posted.get(target);
     if (!waiting || !waiting.length) return false;
-    const { message, standIn } = waiting.shift();
-    this.recording.begin(`message ${message} ${dispatch.number} ${standIn}`, 'begin');
+    const { message, standIn, sender } = waiting.shift();
+    this.recording.begin(`message ${message} ${dispatch.number} ${standIn}`, 'begin', undefined, [sender]);
+    dispatch.moments = [this.recording.starts.get(target)];
+    dispatch.why = 'the start of the port';
+    this.page.joins.tellOf(dispatch); // at once, so that the look-up of handlers comes behind it too
     return true;
   }
 }

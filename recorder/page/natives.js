@@ -17,6 +17,8 @@ function takeNatives(window) {
     hasAttribute: Element.prototype.hasAttribute,
     getAttributeNames: Element.prototype.getAttributeNames,
     remove: Element.prototype.remove,
+    contains: Node.prototype.contains,
+    matches: Element.prototype.matches,
     isConnected: Object.getOwnPropertyDescriptor(Node.prototype, 'isConnected').get,
     firstChild: Object.getOwnPropertyDescriptor(Node.prototype, 'firstChild').get,
     data: Object.getOwnPropertyDescriptor(CharacterData.prototype, 'data'),
@@ -27,8 +29,42 @@ function takeNatives(window) {
     setTimeout: window.setTimeout.bind(window),
     transaction: window.IDBDatabase && window.IDBDatabase.prototype.transaction,
     count: window.IDBObjectStore && window.IDBObjectStore.prototype.count,
+    requestAnimationFrame: window.requestAnimationFrame.bind(window),
+    postTask: taskPoster(window),
+    postBeforeRejections: taskPosterOfDocument(window),
     URL: window.URL,
     now: window.performance.now.bind(window.performance),
+  };
+}
+
+/** Calls functions in tasks of their own, in the order in which they are handed in. */
+function taskPoster(window) {
+  const { port1, port2 } = new window.MessageChannel();
+  const { postMessage } = port2;
+  let waiting = [];
+  port1.onmessage = () => {
+    const [first, ...rest] = waiting;
+    waiting = rest;
+    first();
+  };
+  return (call) => {
+    waiting[waiting.length] = call;
+    postMessage.call(port2, null);
+  };
+}
+
+/**
+ * The same in the queue in which the browser puts the news of rejections that nobody handles, so in one order with them: that of a `details` element
+ * which stands nowhere, and opens.
+ */
+function taskPosterOfDocument(window) {
+  const { createElement } = window.Document.prototype;
+  const { setAttribute } = window.Element.prototype;
+  const { addEventListener } = window.EventTarget.prototype;
+  return (call) => {
+    const details = createElement.call(window.document, 'details');
+    addEventListener.call(details, 'toggle', call);
+    setAttribute.call(details, 'open', '');
   };
 }
 
@@ -40,7 +76,7 @@ function replaceMethod(owner, name, make) {
   const replacement = make(native);
   Object.defineProperty(replacement, 'name', { value: name, configurable: true });
   Object.defineProperty(replacement, 'length', { value: native.length, configurable: true });
-  replacedFunctions.set(replacement, native);
+  replacedFunctions.set(replacement, replacedFunctions.get(native) || native);
   Object.defineProperty(owner, name, { ...descriptor, value: replacement });
 }
 

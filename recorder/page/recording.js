@@ -1,7 +1,7 @@
 // What runs now: the running event, the code on the stack, the dispatches that are not over. One recording is shared by
 // a page and its frames. Every line of the trace goes through here.
 
-/** For how many turns of the job queue what runs still belongs to the action before. */
+/** The jobs of an action are over when so many turns of the job queue had nothing that was seen to run. */
 const TURNS_OF_A_CHECKPOINT = 24;
 /** How far the events before the running one are searched. */
 const LONGEST_CHAIN = 20;
@@ -25,6 +25,12 @@ class Recording {
     this.contexts = [];
     this.isCheckpoint = false;
     this.turns = 0;
+    /** How deep the timer is nested whose callback runs, or 0. */
+    this.nesting = 0;
+    /** The browser's task, as far as it is seen: events of one task have one number. */
+    this.task = 0;
+    /** Whether the page has a handler for rejections that nobody handles. */
+    this.tellsRejections = false;
     this.dispatches = [];
     this.accessed = new Set();
     this.documents = [];
@@ -79,6 +85,26 @@ class Recording {
     return place;
   }
 
+  /**
+   * The running action, to be named when it is long over, or null where nothing recorded runs.
+   * @returns {{action: number, event: object}|null}
+   */
+  moment() {
+    if (this.isOver || !this.isRunning()) return null;
+    this.finishReturned();
+    return this.lastMoment();
+  }
+
+  /** The action that was begun last. */
+  lastMoment() {
+    return { action: this.actions, event: this.running };
+  }
+
+  /** A note of an action that may be over; without one, of the first action of the trace. */
+  noteIn(moment, line, place) {
+    if (!this.isOver) this.log.line(moment ? `into ${moment.action} ${line}` : `early ${line}`, place);
+  }
+
   /** A note that stands beside the declaration of an element, wherever that was. */
   noteBeside(element, line) {
     this.log.line(`beside ${element} ${line}`);
@@ -96,6 +122,7 @@ class Recording {
       this.log.miss('accesses while nothing recorded ran');
       return false;
     }
+    if (!this.contexts.length) this.turns = TURNS_OF_A_CHECKPOINT;
     this.finishReturned();
     return true;
   }
@@ -110,6 +137,7 @@ class Recording {
 
   /** Whether rules are known to put an event before the running one: a short search along `after`. */
   isBeforeRunning(event) {
+    if (this.isInsideRunning(event)) return true;
     let events = [this.running];
     for (let depth = 0; depth < LONGEST_CHAIN && events.length; depth++) {
       if (hasItem(events, event)) return true;
@@ -118,6 +146,19 @@ class Recording {
       events = before.slice(0, LONGEST_CHAIN);
     }
     return false;
+  }
+
+  /** Whether an event stands in an inline dispatch of the running one: that is over, and the running piece stands behind it. */
+  isInsideRunning(event) {
+    for (let one = event; one; one = one.insideOf) {
+      if (one === this.running) return true;
+    }
+    return false;
+  }
+
+  /** An event of a dispatch has begun. */
+  noteInside(dispatch) {
+    if (dispatch.isInline) this.running.insideOf = dispatch.suspended;
   }
 
   // ---- what runs
@@ -134,12 +175,19 @@ class Recording {
       for (const dispatch of this.dispatches) dispatch.active = 0;
     }
     this.isCheckpoint = false;
+    this.nesting = 0;
+    this.task++;
     this.finishAll();
     for (const document of this.documents) {
       document.elements.writeJoining();
       document.elements.collect('parser');
     }
     this.log.sendIfDue(this.natives.now());
+  }
+
+  /** The number of the task changes when this one is over. */
+  watchTask() {
+    this.natives.postTask(() => { this.task++; });
   }
 
   enter(kind) {
@@ -172,6 +220,7 @@ class Recording {
 
   startCheckpoint() {
     this.turns = TURNS_OF_A_CHECKPOINT;
+    if (this.tellsRejections) each(this.documents, ({ queued }) => queued.noteJobs(this.running));
     if (this.isCheckpoint) return;
     this.isCheckpoint = true;
     this.natives.queueMicrotask(() => this.turn());
@@ -203,6 +252,7 @@ class Recording {
     dispatch.active = 0;
     dispatch.isClosed = false;
     dispatch.lastTime = this.natives.now();
+    dispatch.task = this.task;
     this.dispatches.push(dispatch);
     return dispatch;
   }
@@ -212,6 +262,7 @@ class Recording {
     dispatch.isClosed = true;
     if (dispatch.event) this.endedEvents.add(dispatch.event);
     this.begin(`close ${dispatch.number}`, 'close');
+    this.noteInside(dispatch);
     this.running.awaits = dispatch.awaits;
     if (dispatch.whenClosed) dispatch.whenClosed();
   }

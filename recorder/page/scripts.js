@@ -12,8 +12,11 @@ class Scripts {
     this.hasRun = new Set();
     /** The script that was the last to run, and the event of its run. */
     this.last = { element: null, number: 0, event: null };
-    this.modules = [];
-    this.asked = [];
+    /** Runs of modules that wait at their top, before what imports them has run. */
+    this.waiting = [];
+    /** By address: who has asked for a module, and where it ended. */
+    this.imports = new Map();
+    this.lastImport = null;
     this.clicked = [];
   }
 
@@ -126,7 +129,7 @@ class Scripts {
     const { recording } = this;
     if (recording.isOver) return;
     if (recording.contexts[recording.contexts.length - 1] !== 'script') {
-      this.moduleEnds();
+      this.moduleEnds(placeOnStack().replace(/:\d+:\d+$/, ''));
       return;
     }
     if (recording.contexts.length === 1 && recording.running === this.last.event) this.noteEnd(this.last.number);
@@ -178,35 +181,63 @@ class Scripts {
 
   /**
    * A module's body begins. The modules that a script imports run in the same turn before it, so which element runs is
-   * known with the last one: until then the run's line has a number of its own, which `is` tells later.
+   * known with the last one: until then the run's line has a number of its own, which `is` tells later. Where one of them waits for something, what
+   * imports it runs later, as a job.
    */
   moduleBegins(address, site) {
     const { recording } = this;
     if (recording.isOver) return;
-    const isSameTurn = recording.moduleRun && recording.contexts.length > 0;
-    if (!isSameTurn) {
-      recording.startTask();
-      const run = { number: recording.next('module run'), element: 0 };
-      recording.moduleRun = run;
-      recording.begin(`module ${run.number}`, 'exec', site);
-      recording.enter('callback');
-      this.page.natives.queueMicrotask(() => { if (recording.moduleRun === run) this.closeModule(); }); // where the run's last module was not known
-    }
+    const run = recording.moduleRun;
+    const isSameTurn = run && recording.isRunning() && recording.running === run.event;
+    const waiting = !isSameTurn && !recording.contexts.length && recording.isCheckpoint && this.waiting.shift();
+    if (waiting) this.goesOnWith(waiting, site);
+    else if (!isSameTurn) this.beginModules(site);
+    if (!recording.contexts.length) recording.enter('callback');
+    const { moduleRun } = recording;
     const element = this.findModule(address, site);
-    if (element && !recording.moduleRun.element) this.tellModule(element);
+    if (element && !moduleRun.element) this.tellModule(element, moduleRun);
+    this.tellAsked(address, moduleRun);
   }
 
-  tellModule(element) {
+  beginModules(site) {
+    const { recording } = this;
+    recording.startTask();
+    const run = { number: recording.next('module run'), element: 0, asked: '', ends: [], event: null, moment: null };
+    recording.begin(`module ${run.number}`, 'exec', site);
+    run.event = recording.running;
+    recording.moduleRun = run;
+    recording.enter('callback');
+    run.moment = recording.moment();
+    this.page.natives.queueMicrotask(() => { if (recording.moduleRun === run) this.closeModule(); }); // where the run's last module was not known
+  }
+
+  /** A module waits at its top: its code so far has returned. */
+  moduleWaits() {
+    const { recording } = this;
+    const run = recording.moduleRun;
+    if (!run || recording.running !== run.event || recording.contexts.length !== 1) return;
+    if (!run.element && !hasItem(this.waiting, run)) this.waiting[this.waiting.length] = run;
+    recording.leave();
+  }
+
+  /** What imports a module that has waited runs behind the run in which that one began, and behind the end of each. */
+  goesOnWith(run, site) {
+    const { recording } = this;
+    this.page.jobs.goesOn({ v: null, site, moment: run.moment, others: run.ends, why: 'the end of an imported module' });
+    recording.moduleRun = { ...run, event: recording.running };
+  }
+
+  tellModule(element, run) {
     const { recording } = this;
     const { elements } = this.page;
     const number = this.runnable(element);
     this.hasRun.add(number);
-    recording.moduleRun.element = number;
+    run.element = number;
     const isDeferred = elements.kinds.get(number) === 'defer';
     if (isDeferred) this.noteDeferred(number);
     this.noteRun(element, number);
     if (isDeferred) this.page.loading.comeBehindParsing();
-    recording.log.line(`is ${recording.moduleRun.number} ${number}`);
+    recording.log.line(`is ${run.number} ${number}`);
   }
 
   /** The script element of a module: by its address, an inline one by the site in its text. */
@@ -219,10 +250,15 @@ class Scripts {
     });
   }
 
-  moduleEnds() {
+  moduleEnds(address) {
     const { recording } = this;
-    if (recording.isOver || !recording.moduleRun || !recording.moduleRun.element) return;
-    this.closeModule();
+    const moment = recording.moment();
+    if (!moment) return;
+    const run = recording.moduleRun;
+    each([run, ...this.waiting], (one) => { if (one) one.ends[one.ends.length] = moment; });
+    const imported = address && this.imports.get(address);
+    if (imported) imported.moments[imported.moments.length] = moment;
+    if (run && recording.running === run.event && (run.element || run.asked === address)) this.closeModule();
   }
 
   closeModule() {
@@ -231,17 +267,55 @@ class Scripts {
     if (recording.contexts.length) recording.leave();
   }
 
-  /** `import()` was called: the run of its module comes after this. */
-  importAsked(site) {
-    if (!this.recording.isRunning()) return;
-    this.recording.note(`every ${this.askedInterval()} 0`, site);
+  isModuleRunning() {
+    const { contexts, moduleRun, running } = this.recording;
+    return !!moduleRun && running === moduleRun.event && contexts.length === 1;
   }
 
-  askedInterval() {
-    const interval = this.recording.next('interval');
-    this.recording.log.line(`asked ${interval}`);
-    this.recording.log.name('interval', interval, { why: 'import()' });
-    return interval;
+  // ---- import()
+
+  /** `import()` is called: the run of its module comes after this, and what waits for it behind the module's end. */
+  importAsked(specifier, site, base) {
+    const { recording } = this;
+    this.lastImport = null;
+    if (!recording.isRunning() || typeof specifier !== 'string') return specifier;
+    const address = this.resolve(specifier, base);
+    const interval = recording.next('interval');
+    recording.note(`every ${interval} 0`, site);
+    recording.log.line(`asked ${interval} ${address ? 'known' : 'unknown'}`);
+    recording.log.name('interval', interval, { why: 'import()' });
+    if (!address) return specifier;
+    if (!this.imports.has(address)) this.imports.set(address, { moments: [], isByOne: false, asked: [] });
+    this.lastImport = this.imports.get(address);
+    this.lastImport.asked.push({ interval, event: recording.running });
+    return specifier;
+  }
+
+  /** The promise of an `import()` that was called now. */
+  noteImport(promise) {
+    if (this.lastImport) this.page.jobs.several.set(promise, this.lastImport);
+    this.lastImport = null;
+    return promise;
+  }
+
+  /** The address of a module, where no import map has a part in it. */
+  resolve(specifier, base) {
+    if (!/^(\.{0,2}\/|[a-z][a-z+.-]*:)/i.test(specifier)) return '';
+    const script = base || placeOnStack().replace(/:\d+:\d+$/, '') || this.page.document.baseURI;
+    try {
+      return new this.page.natives.URL(specifier, script).href;
+    } catch {
+      return ''; // no address
+    }
+  }
+
+  /** The run of a module that `import()` has asked for. A further call for it asks for no run. */
+  tellAsked(address, run) {
+    const asked = this.imports.get(address)?.asked.shift();
+    if (!asked || run.element || run.asked) return;
+    run.asked = address;
+    run.event.after.push(asked.event);
+    this.recording.log.line(`came ${run.number} ${asked.interval}`);
   }
 
   // ---- javascript: addresses

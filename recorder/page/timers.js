@@ -1,5 +1,9 @@
 // Timeouts, intervals, animation frames and idle callbacks.
 
+/** The HTML Standard, "Timers": behind so many nested ones a delay is at least so many milliseconds. */
+const DEEPEST_UNCLAMPED = 5;
+const LEAST_OF_NESTED = 4;
+
 class Timers {
   constructor(page) {
     this.page = page;
@@ -23,6 +27,17 @@ class Timers {
     return Math.max(Math.trunc(Number(given)) | 0, 0);
   }
 
+  /** How deep the timer is nested in which the running code sets another one: 0 where no timer runs. */
+  nesting() {
+    const { recording } = this;
+    return recording.isRunning() ? recording.nesting : 0;
+  }
+
+  /** The delay that the Standard compares. */
+  clamped(delay) {
+    return this.nesting() > DEEPEST_UNCLAMPED ? Math.max(delay, LEAST_OF_NESTED) : delay;
+  }
+
   /** The code of a callback; a text is run as a script is. */
   callable(callback) {
     if (typeof callback === 'function') return callback;
@@ -37,11 +52,12 @@ class Timers {
     if (name) this.recording.log.name(kind, number, { function: name });
   }
 
-  /** `place` tells of idle callbacks which comes behind which. */
-  run(line, kind, asker, callback, words, place) {
+  /** `place` tells of idle callbacks which comes behind which, `nesting` how deep a timer is nested. */
+  run(line, kind, asker, callback, words, { place, nesting = 0 } = {}) {
     const { recording, page } = this;
     if (recording.isOver) return STANDS_STILL ? undefined : callback.apply(page.window, words);
     recording.startTask();
+    recording.nesting = nesting;
     recording.begin(line, kind, undefined, [asker]);
     if (place?.before) page.loading.comeBehind(place.before.ends, 'the idle callback before');
     recording.enter('callback');
@@ -62,12 +78,13 @@ class Timers {
       const timeout = recording.next('timeout');
       // a setter that was not seen is no event, so the timeout gets order from nothing
       const isKnown = recording.isRunning();
-      recording.noteAsking(`set ${timeout} ${timers.delay(delay)} ${isKnown ? page.number : 'unknown'}`);
+      const nesting = timers.nesting() + 1;
+      recording.noteAsking(`set ${timeout} ${timers.clamped(timers.delay(delay))} ${isKnown ? page.number : 'unknown'}`);
       timers.nameCallback('timeout', timeout, callback);
       const hold = steering.asks('set');
       const callable = timers.callable(callback);
       const asker = recording.running;
-      const run = steering.limited('set', () => timers.run(`timer ${timeout}`, 'timer', isKnown ? asker : null, callable, words));
+      const run = steering.limited('set', () => timers.run(`timer ${timeout}`, 'timer', isKnown ? asker : null, callable, words, { nesting }));
       return steering.note(hold, native.call(window, steering.callback(hold, run, (again) => native.call(window, again, 0)), delay));
     });
   }
@@ -79,12 +96,13 @@ class Timers {
     replaceMethod(window, 'setInterval', (native) => function setInterval(callback, delay, ...words) {
       if (recording.isOver) return native.call(window, callback, delay, ...words);
       const interval = recording.next('interval');
+      let nesting = timers.nesting();
       recording.noteAsking(`every ${interval} ${timers.delay(delay)}`);
       recording.log.name('interval', interval, { why: 'setInterval', function: nameOfFunction(callback) });
       const hold = steering.asks('every');
       const callable = timers.callable(callback);
       const asker = recording.running;
-      const run = steering.limited('every', () => timers.run(`tick ${interval}`, 'tick', asker, callable, words));
+      const run = steering.limited('every', () => timers.run(`tick ${interval}`, 'tick', asker, callable, words, { nesting: ++nesting }));
       return steering.note(hold, native.call(window, steering.callback(hold, run, (again) => again()), delay));
     });
   }
@@ -113,7 +131,7 @@ class Timers {
       const hold = steering.asks(words[0]);
       const asker = recording.running;
       const place = name === 'requestIdleCallback' ? timers.placeOfIdle(rest) : null;
-      const run = steering.limited(words[0], (time) => timers.run(`${words[1]} ${number}`, 'tick', asker, callback, [time], place));
+      const run = steering.limited(words[0], (time) => timers.run(`${words[1]} ${number}`, 'tick', asker, callback, [time], { place }));
       return steering.note(hold, native.call(window, steering.callback(hold, run, (again) => native.call(window, again, ...rest)), ...rest));
     });
   }

@@ -290,7 +290,7 @@ exports.cases = [
   {
     page: 'messages.html',
     due: [
-      'on got', 'timer', 'w b', 'post', 'message', 'w last', 'message', 'w last',
+      'on got', 'timer', 'w b', 'post', 'message', 'inline ? message', 'run got', 'w last', 'close', 'back', 'message', 'inline ? message', 'run got', 'w last',
     ],
     races: ['last'],
   },

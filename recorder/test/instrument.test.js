@@ -25,7 +25,8 @@ function accessesOf(code) {
   const seen = [];
   const note = (mode) => (name, site, value) => { seen.push(`${mode} ${name}`); return value; };
   const ofObject = (mode) => (object, name) => { seen.push(`${mode} ${name}`); return object; };
-  const helpers = { r: note('r'), w: note('w'), u: note('u'), ro: ofObject('r'), wo: ofObject('w'), uo: ofObject('u'), fo: (object, name, site, value) => { seen.push(`w ${name}`); return value; }, scriptBegins() {}, scriptEnds() {} };
+  const helpers = { r: note('r'), w: note('w'), u: note('u'), ro: ofObject('r'), wo: ofObject('w'), uo: ofObject('u'), fo: (object, name, site, value) => { seen.push(`w ${name}`); return value; },
+    aw: (value) => value, ao: (value) => value, as() {}, scriptBegins() {}, scriptEnds() {} };
   new Function('__er', 'document', 'window', marked(code).text)(helpers, {}, {});
   return seen;
 }

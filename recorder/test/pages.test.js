@@ -7,7 +7,8 @@ const { after, before, test } = require('node:test');
 const { Chromium } = require('../browser/chromium.js');
 const { Comparison } = require('./rules.js');
 const { recordPage, judge, reportOf, actorsOf, firstMissing } = require('./support.js');
-const { cases } = require('./cases.js');
+
+const cases = [...require('./cases.js').cases, ...require('./event-cases.js').cases];
 
 let browser;
 before(async () => { browser = await Chromium.launch({ width: 1100, height: 800 }); });

@@ -42,7 +42,7 @@ const HELPERS = `(function (window) { 'use strict';
   const act = () => { objects.settleWrites(); recording.actions++; objects.forget(); };
   const first = (object) => object;
   const fo = (object, name, site, value) => value;
-  return { ...objects.helpers, r: nothing, w: third, u: third, U: third, ro: first, wo: first, uo: first, fo, made: first, scriptBegins: nothing, scriptEnds: nothing, lines, act };
+  return { ...objects.helpers, r: nothing, w: third, u: third, U: third, ro: first, wo: first, uo: first, fo, made: first, aw: first, ao: first, ai: first, ap: first, as: nothing, scriptBegins: nothing, scriptEnds: nothing, lines, act };
 })(globalThis)`;
 
 /** The helpers, in a world, with a recording in which one action runs. */

@@ -26,7 +26,14 @@ test('timeouts of two windows are not compared', () => {
 test('messages and animation frames have records of their own in version 3', () => {
   const lines = ['parse 0 1 plain', 'ask 1', 'post 1 0 5', 'anim 1', 'message 1 2 5', 'run 2 0 3', 'w var 0 x', 'close 2'];
   assert.deepStrictEqual(spell(lines, 2).slice(1), ['every 1 0', 'new 0 5 plain', 'tick 1', 'fire 2 5 message', 'run 2 0 3', 'w var 0 x', 'close 2']);
-  assert.deepStrictEqual(spell(lines, 3).slice(1), ['ask 1', 'post 1', 'anim 1', 'message 1', 'w var 0 x']);
+  assert.deepStrictEqual(spell(lines, 3).slice(1),
+    ['ask 1', 'post 1', 'anim 1', 'message 1', 'new 0 5 plain', 'inline 2 5 message', 'run 2 0 3', 'w var 0 x', 'close 2', 'back 2']);
+});
+
+test('a note of an action that is over stands at its end', () => {
+  const lines = ['parse 0 1 plain', 'parse 0 2 plain', 'w elem 0 a', 'parse 0 3 plain', 'into 2 on 4', 'into 2 new 0 5 plain', 'into 3 on 6', 'beside 5 new 0 7 plain'];
+  assert.deepStrictEqual(spell(lines, 3),
+    ['parse 0 1 plain', 'parse 0 2 plain', 'w elem 0 a', 'on 4', 'new 0 5 plain', 'new 0 7 plain', 'parse 0 3 plain', 'on 6']);
 });
 
 test('a module is the run of its element, or of what was asked for', () => {

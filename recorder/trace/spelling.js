@@ -14,6 +14,11 @@ const NEWEST_VERSION = 3;
 const FIRST_FOREIGN_TIMEOUT = 3000000000;
 const FIRST_LONE_MODULE = 3500000000;
 
+function addTo(lists, key, item) {
+  if (!lists.has(key)) lists.set(key, []);
+  lists.get(key).push(item);
+}
+
 class Spelling {
   /**
    * @param {{text: string, place: string|undefined}[]} entries the log
@@ -23,8 +28,11 @@ class Spelling {
     this.version = version;
     this.entries = this.placeNotes(entries);
     this.slots = this.collectSlots();
-    this.moduleElements = this.collectModules();
+    this.moduleElements = this.collectModules('is');
+    this.askedModules = this.collectModules('came');
     this.chooseClocks();
+    /** In version 3: the documents in which messages were posted, and their dispatches. */
+    this.documentsOfMessages = new Map();
     this.messageDispatches = new Set();
     this.askedIntervals = [];
     this.loneModules = 0;
@@ -45,19 +53,32 @@ class Spelling {
 
   // ---- what a whole look at the log tells
 
-  /** Moves notes to where they belong: to the first action, or beside the declaration of an element. */
+  /** Moves notes to where they belong: to the first action, into another one, or beside the declaration of an element. */
   placeNotes(entries) {
     const early = [];
-    const beside = new Map();
+    const moved = { beside: new Map(), into: new Map() };
     const rest = [];
     for (const entry of entries) {
       const words = entry.text.split(' ');
       if (words[0] === 'early') early.push({ ...entry, text: entry.text.slice(6) });
-      else if (words[0] === 'beside') beside.set(words[1], [...(beside.get(words[1]) || []), { ...entry, text: words.slice(2).join(' ') }]);
+      else if (moved[words[0]]) addTo(moved[words[0]], words[1], { ...entry, text: words.slice(2).join(' ') });
       else rest.push(entry);
     }
-    const withBeside = (some) => some.flatMap((entry) => [entry, ...this.besideOf(entry, beside)]);
-    return [...withBeside(rest.slice(0, 1)), ...(rest.length ? withBeside(early) : []), ...withBeside(rest.slice(1))];
+    const all = this.withNotes(rest, moved.into);
+    const withBeside = (some) => some.flatMap((entry) => [entry, ...this.besideOf(entry, moved.beside)]);
+    return [...withBeside(all.slice(0, 1)), ...(all.length ? withBeside(early) : []), ...withBeside(all.slice(1))];
+  }
+
+  /** The log with each note of an action that was over at the action's end. */
+  withNotes(rest, notes) {
+    if (!notes.size) return rest;
+    const all = [];
+    let action = 0;
+    for (const entry of rest) {
+      if (BEGINS.has(wordOf(entry.text))) all.push(...(notes.get(String(action++)) || []));
+      all.push(entry);
+    }
+    return [...all, ...(notes.get(String(action)) || [])];
   }
 
   /** The stand-ins of a stand-in stand behind it. */
@@ -79,9 +100,10 @@ class Spelling {
     return slots;
   }
 
-  collectModules() {
-    const pairs = this.entries.map(({ text }) => /^is (\d+) (\d+)$/.exec(text)).filter(Boolean);
-    return new Map(pairs.map(([, run, element]) => [run, element]));
+  /** What is told of the runs of modules. */
+  collectModules(word) {
+    const pairs = this.entries.map(({ text }) => text.split(' ')).filter((words) => words[0] === word);
+    return new Map(pairs.map(([, run, number]) => [run, number]));
   }
 
   /**
@@ -150,10 +172,11 @@ class Spelling {
   }
 
   spell_post([, message, document, standIn]) {
+    this.documentsOfMessages.set(message, document);
     this.put(this.version >= 3 ? `post ${message}` : `new ${document} ${standIn} plain`);
   }
 
-  /** In version 3 a message is one event, and no dispatch with handlers. */
+  /** In version 3 a message is an event without handlers: they are those of a dispatch at a stand-in in it. */
   spell_message([, message, dispatch, standIn]) {
     if (this.version < 3) {
       this.put(`fire ${dispatch} ${standIn} message`);
@@ -161,24 +184,23 @@ class Spelling {
     }
     this.messageDispatches.add(dispatch);
     this.put(`message ${message}`);
-  }
-
-  spell_run(words) {
-    if (!this.messageDispatches.has(words[1])) this.put(words.join(' '));
+    this.put(`new ${this.documentsOfMessages.get(message)} ${standIn} plain`);
+    this.put(`inline ${dispatch} ${standIn} message`);
   }
 
   spell_close(words) {
-    if (!this.messageDispatches.has(words[1])) this.put(words.join(' '));
+    this.put(words.join(' '));
+    if (this.messageDispatches.has(words[1])) this.put(`back ${words[1]}`);
   }
 
-  /** A module is the run of its script element, or of what `import()` asked for. */
+  /** A module is the run of its script element, or of what `import()` asked for: where its address is not known, the first one that is left. */
   spell_module([, run]) {
     const element = this.moduleElements.get(run);
     if (element) {
       this.put(`exec ${element}`);
       return;
     }
-    const asked = this.askedIntervals.shift();
+    const asked = this.askedModules.get(run) || this.askedIntervals.shift();
     if (asked) {
       this.put(`tick ${asked}`);
       return;
@@ -190,8 +212,10 @@ class Spelling {
 
   spell_is() {}
 
-  spell_asked([, interval]) {
-    this.askedIntervals.push(interval);
+  spell_came() {}
+
+  spell_asked([, interval, known]) {
+    if (known !== 'known') this.askedIntervals.push(interval);
   }
 }
 

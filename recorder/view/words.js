@@ -148,8 +148,7 @@ class Words {
       case 'dcl': return `DOMContentLoaded${this.ofFrame(b)}`;
       case 'load': return `the load of the window${this.ofFrame(b)}`;
       case 'eload': return `the load of ${this.element(b)}`;
-      case 'fire': return `the ${this.unescape(c)} at ${this.element(b)}`;
-      case 'inline': return c === 'then' ? 'a promise reaction' : `the ${this.unescape(c)} at ${this.element(b)}`;
+      case 'fire': case 'inline': return this.event(b, c);
       case 'wfire': return `the ${this.unescape(c)} at the window${this.ofFrame(b)}`;
       case 'reply': return this.reply(b);
       case 'message': return this.message(this.names.messages?.[a]);
@@ -158,6 +157,12 @@ class Words {
       case 'back': return this.action(action.first);
       default: return word;
     }
+  }
+
+  event(element, type) {
+    const { message } = this.names.elements[element] || {};
+    if (type === 'then') return 'a promise reaction';
+    return message ? this.message(this.names.messages?.[message]) : `the ${this.unescape(type)} at ${this.element(element)}`;
   }
 
   inFile(place) {
@@ -181,7 +186,7 @@ class Words {
   tick(number) {
     const facts = this.names.intervals[number] || {};
     if (!facts.why) return this.timeout({ ...this.names.timeouts[number - FIRST_FOREIGN_TIMEOUT], ...facts });
-    const [what, asked] = INTERVALS[facts.why] || [facts.why, ''];
+    const [what, asked] = INTERVALS[facts.why] || [`the callback of ${facts.why}`, ''];
     return `${what}${this.named(facts)}${asked}${this.at(facts.place, facts.way)}`;
   }
 
@@ -204,6 +209,7 @@ class Words {
     const name = this.named(facts);
     if (facts.isEmpty) return facts.type; // it only says what another handler comes behind
     if (facts.type === 'reply of fetch') return this.reply(action.dispatch?.words[2]);
+    if (facts.type === 'await') return `the code behind the await${this.at(facts.place)}`;
     if (facts.type === 'job') return `the promise reaction${name}${this.at(facts.place)}`;
     const place = facts.place || this.names.elements[facts.target]?.place;
     const request = action.dispatch?.words[0] === 'reply' ? ` of ${this.request(action.dispatch.words[2])}` : '';

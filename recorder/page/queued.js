@@ -1,0 +1,185 @@
+// Events that a call, or an act of the user, has queued: they come in a later task, at a stand-in that is made in the action that caused them.
+
+const TRANSITIONS = { transitionend: 'transitionrun', transitioncancel: 'transitionrun', animationend: 'animationstart', animationiteration: 'animationstart' };
+const MOST_WAITING_EVENTS = 100;
+/** A change of an element's class or style starts a transition in one of the next frames. */
+const FRAMES_OF_A_CHANGE = 3;
+
+class Queued {
+  constructor(page) {
+    this.page = page;
+    this.recording = page.recording;
+    /** By target: what is to come, `{type, moment, isIt}`. */
+    this.waiting = new WeakMap();
+    /** Calls of `history.back()` and the like whose step has not come. */
+    this.steps = [];
+    /** By element: who changed its class or style now, and by the name of a property who has started its transition. */
+    this.changed = new WeakMap();
+    this.started = new WeakMap();
+    /** Events whose promise jobs may have left a rejection, and the one whose task is told next. */
+    this.ran = [];
+    this.rejecting = null;
+  }
+
+  start() {
+    const { window } = this.page;
+    this.watchHistory(window);
+    this.watchToggles(window);
+  }
+
+  // ---- what is to come
+
+  /** The action that causes something now: that of the running code, or what the browser does behind a user's event. */
+  causeNow() {
+    const { recording } = this;
+    const moment = recording.moment();
+    const top = recording.top();
+    if (moment || !top || !top.event || !top.event.isTrusted || top.active || top.task !== recording.task) return moment;
+    recording.close(top);
+    return recording.lastMoment();
+  }
+
+  /** An event of a type will come at a target. */
+  note(target, type, moment, isIt = () => true) {
+    if (this.recording.isOver || !moment) return;
+    if (!this.waiting.has(target)) this.waiting.set(target, []);
+    const list = this.waiting.get(target);
+    list[list.length] = { type, moment, isIt };
+    if (list.length > MOST_WAITING_EVENTS) list.splice(0, 1);
+  }
+
+  /** An event of a type will come at a target in the place of one that has not come yet. */
+  noteAgain(target, type, moment) {
+    const list = this.waiting.get(target);
+    if (list) this.waiting.set(target, keep(list, (one) => one.type !== type));
+    this.note(target, type, moment);
+  }
+
+  /** What caused an event, or undefined. */
+  take(event, target) {
+    if (TRANSITIONS[event.type]) return this.started.get(target)?.get(nameOfMotion(event));
+    const list = this.waiting.get(target);
+    const found = list && findItem(list, (one) => one.type === event.type && one.isIt(event));
+    if (found) this.waiting.set(target, keep(list, (one) => one !== found));
+    return found || this.rejectionOf(event);
+  }
+
+  /** Writes the begin of a dispatch that was caused by an action which is over. Answers whether it is one. */
+  begin({ event, target, number }) {
+    const cause = event.isTrusted && this.take(event, target);
+    if (!cause) return false;
+    cause.standIn = cause.standIn || this.page.elements.standInIn(cause.moment, target, 'its cause');
+    this.recording.begin(`fire ${number} ${cause.standIn} ${spellName(event.type)}`, 'begin', undefined, [cause.moment.event]);
+    return true;
+  }
+
+  // ---- the address
+
+  /** `navigate` comes before each step: at once for a change of the fragment, and for a way back when it is made. */
+  watchHistory(window) {
+    if (!window.navigation) return;
+    const queued = this;
+    const { recording } = this;
+    each(['back', 'forward', 'go'], (name) => replaceMethod(window.History.prototype, name, (native) => function step(delta) {
+      const { canGoBack, canGoForward } = window.navigation;
+      const isForward = name === 'forward' || (name === 'go' && delta > 0);
+      const moment = (isForward ? canGoForward : canGoBack) && recording.moment();
+      if (moment) queued.steps[queued.steps.length] = moment;
+      return native.apply(this, arguments);
+    }));
+    this.page.natives.addEventListener.call(window.navigation, 'navigate', (event) => this.noteNavigation(event));
+  }
+
+  noteNavigation({ navigationType, hashChange, destination }) {
+    if (this.recording.isOver) return;
+    const { window } = this.page;
+    const isStep = navigationType === 'traverse';
+    const moment = isStep ? this.steps.shift() : hashChange && this.causeNow();
+    if (!moment || !destination.sameDocument) return;
+    if (isStep) this.note(window, 'popstate', moment);
+    const { url } = destination;
+    if (hashChange) this.note(window, 'hashchange', moment, ({ newURL }) => newURL === url);
+  }
+
+  // ---- what opens and closes
+
+  /** The toggle events of one element are one as long as it has not come. */
+  watchToggles(window) {
+    const { matches, hasAttribute } = this.page.natives;
+    const isShown = (element) => matches.call(element, ':popover-open');
+    const isOpen = (dialog) => hasAttribute.call(dialog, 'open');
+    const { HTMLElement, HTMLDialogElement } = window;
+    each(['showPopover', 'hidePopover', 'togglePopover'], (name) => this.replaceOpening(HTMLElement.prototype, name, ['toggle'], isShown));
+    each(['show', 'showModal'], (name) => this.replaceOpening(HTMLDialogElement.prototype, name, ['toggle'], isOpen));
+    each(['close', 'requestClose'], (name) => this.replaceOpening(HTMLDialogElement.prototype, name, ['toggle', 'close'], isOpen));
+  }
+
+  replaceOpening(owner, name, types, look) {
+    const queued = this;
+    replaceMethod(owner, name, (native) => function change() {
+      const before = look(this);
+      const result = native.apply(this, arguments);
+      if (look(this) !== before) each(types, (type) => queued.noteAgain(this, type, queued.recording.moment()));
+      return result;
+    });
+  }
+
+  /** The attribute `open` of a details element has come or gone. */
+  noteOpen(element) {
+    if (element.localName === 'details') this.noteAgain(element, 'toggle', this.recording.lastMoment());
+  }
+
+  // ---- storage of another frame
+
+  /** A change of a storage is told to the other windows of the origin. */
+  noteStorage(key, value) {
+    const moment = this.recording.moment();
+    if (!moment) return;
+    each(this.recording.documents, ({ window, queued, dispatches }) => {
+      if (window === this.page.window || !dispatches.listened.has('storage')) return;
+      queued.note(window, 'storage', moment, (event) => event.key === key && event.newValue === value);
+    });
+  }
+
+  // ---- transitions and animations
+
+  /** A script has changed the class or the style of an element. */
+  noteChange(element) {
+    const { dispatches, natives } = this.page;
+    if (!findItem(Object.keys(TRANSITIONS), (type) => dispatches.listened.has(type))) return;
+    const change = { moment: this.recording.lastMoment() };
+    this.changed.set(element, change);
+    const forget = (frames) => {
+      if (frames) natives.requestAnimationFrame(() => forget(frames - 1));
+      else if (this.changed.get(element) === change) this.changed.delete(element);
+    };
+    forget(FRAMES_OF_A_CHANGE);
+  }
+
+  /** A transition or an animation starts. */
+  noteStart(event) {
+    const change = this.changed.get(event.target);
+    if (!this.started.has(event.target)) this.started.set(event.target, new Map());
+    const started = this.started.get(event.target);
+    if (change) started.set(nameOfMotion(event), change);
+    else started.delete(nameOfMotion(event));
+  }
+
+  // ---- rejections
+
+  /**
+   * The jobs of an event begin. What they leave rejected is told in a task that is queued at their end. A task that is queued at their begin comes
+   * directly before it.
+   */
+  noteJobs(event) {
+    if (!this.page.dispatches.listened.has('unhandledrejection') || this.ran[this.ran.length - 1]?.event === event) return;
+    this.ran[this.ran.length] = this.recording.lastMoment();
+    this.page.natives.postBeforeRejections(() => { this.rejecting = this.ran.shift(); });
+  }
+
+  rejectionOf({ type }) {
+    return type === 'unhandledrejection' && this.rejecting ? { moment: this.rejecting } : undefined;
+  }
+}
+
+const nameOfMotion = (event) => `${event.propertyName || event.animationName}|${event.pseudoElement}`;

@@ -1,0 +1,101 @@
+'use strict';
+// The pages of pages/ about what an event comes after: messages, timeouts, events that a call queues, promises of several promises, callbacks.
+
+exports.cases = [
+  // ---- messages
+  {
+    page: 'message-handler.html',
+    due: ['timer', 'w settings', 'on got', 'timer', 'w sent', 'post', 'message', 'inline ? message', 'run got', 'r settings', 'r sent', 'back'],
+    races: [],
+  },
+  {
+    page: 'port-started-later.html',
+    due: ['timer', 'w sent', 'post', 'timer', 'w settings', 'on the start of the port', 'message', 'inline ? message', 'run the start of the port',
+      'run got', 'r settings', 'r sent'],
+    races: [],
+  },
+  {
+    page: 'port-started-later.html',
+    version: 2,
+    due: ['new ? plain', 'timer', 'w settings', 'on the start of the port', 'fire ? message', 'run the start of the port', 'run got', 'r settings', 'r sent'],
+    races: [],
+  },
+
+  // ---- timeouts
+  {
+    page: 'nested-clamp.html',
+    due: ['timer', 'w levels', 'set 4', 'post', 'message', 'set 0', 'timer', 'w last', 'timer', 'w last'],
+    races: ['last'],
+  },
+
+  // ---- promises of several promises, await, modules that wait
+  {
+    page: 'promise-all.html',
+    due: ['on reaction', 'timer', 'w first', 'on one of several promises', 'timer', 'w second', 'inline promise reactions then',
+      'run one of several promises', 'run reaction', 'r first', 'r second', 'close', 'back'],
+    races: [],
+  },
+  {
+    page: 'promise-all-await.html',
+    due: ['on await', 'timer', 'on one of several promises', 'timer', 'inline promise reactions then', 'run one of several promises', 'run await',
+      'r first', 'r second', 'close', 'back'],
+    races: [],
+  },
+  {
+    page: 'promise-any.html',
+    due: ['timer', 'w first', 'w second', 'timer', 'w second'],
+    never: ['on one of several promises'],
+    races: ['second'],
+  },
+  {
+    page: 'await-asker.html',
+    due: ['timer', 'w others', 'on await', 'timer', 'w asked', 'on await', 'timer', 'w settled', 'inline promise reactions then', 'run await', 'r others',
+      'back', 'inline promise reactions then', 'run await', 'r asked'],
+    races: [],
+  },
+  { page: 'await-loop.html', due: ['exec script', 'w last', 'dcl'], never: ['inline promise reactions then'], races: [] },
+  { page: 'await-nothing.html', due: ['fire promise reactions then-1', 'run await', 'w seen', 'run await', 'w seenToo', 'close'], races: [] },
+  { page: 'module-waits.html', due: ['exec script', 'timer', 'w settled', 'inline promise reactions then', 'run await', 'w inModule', 'w seen'], races: [] },
+  {
+    page: 'import-twice.html',
+    due: ['every 0', 'tick', 'w lazy', 'every 0', 'tick', 'w lazyToo'],
+    races: [],
+  },
+
+  // ---- callbacks and observers
+  { page: 'intersection-twice.html', due: ['fire promise reactions IntersectionObserver-1', 'w times', 'fire promise reactions IntersectionObserver-1', 'w times'], races: [] },
+  { page: 'observe-later.html', due: ['timer', 'w settings', 'fire promise reactions ResizeObserver-1', 'run the call of observe()', 'run resized', 'r settings'], races: [] },
+  { page: 'callbacks.html', due: ['w asked', 'every 0', 'every 0', 'tick', 'w seen'], races: [] },
+  { page: 'locks.html', due: ['every 0', 'tick', 'w last', 'tick', 'w last'], races: ['last'] },
+  { page: 'scheduler-yield.html', due: ['w part', 'fire promise reactions then-1', 'run await', 'w part'], races: [] },
+  { page: 'stream-read.html', due: ['w asked', 'reply', 'run await', 'w got', 'w whole'], races: [] },
+
+  // ---- events that a call queues
+  {
+    page: 'hash-by-timers.html',
+    due: ['timer', 'w first', 'new window plain', 'fire window hashchange', 'run changed', 'w last', 'timer', 'w second', 'new window plain', 'fire window hashchange'],
+    never: ['wfire hashchange'],
+    races: ['first', 'last', 'second', 'seen'],
+  },
+  {
+    page: 'hash-by-click.html',
+    words: ['--do', 'click:#link'],
+    due: ['inline a#link click', 'w clicked', 'close', 'new window plain', 'fire window hashchange', 'run changed', 'r clicked'],
+    races: ['hashchange of window'],
+  },
+  { page: 'history-back.html', due: ['timer', 'w asked', 'new window plain', 'fire window popstate', 'run stepped', 'r asked'], races: [] },
+  {
+    page: 'rejections.html',
+    due: ['timer', 'w first', 'new window plain', 'fire window unhandledrejection', 'run unhandled', 'r first', 'timer', 'w second', 'new window plain',
+      'fire window unhandledrejection', 'r second'],
+    races: ['last'],
+  },
+  { page: 'toggles.html', due: ['set 5', 'set 1', 'set 0', 'w isShown', 'new div#over plain', 'fire div#over toggle', 'run toggle'], never: ['fire dialog#dialog cancel'], races: [] },
+  {
+    page: 'storage-event.html',
+    due: ['timer', 'w first', 'new window plain', 'fire window storage', 'run stored', 'timer', 'w second', 'new window plain', 'fire window storage', 'r second'],
+    races: ['last'],
+  },
+  { page: 'transition.html', due: ['timer', 'w asked', 'new p#text plain', 'fire p#text transitionend', 'run faded', 'r asked'], races: [] },
+  { page: 'focus-late.html', due: ['timer', 'w focus of window'], never: ['wfire focus'], races: [] },
+];

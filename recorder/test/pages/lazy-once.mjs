@@ -1,0 +1,1 @@
+window.lazy = 1;

@@ -1,0 +1,1 @@
+window.lazyToo = 1;
