@@ -53,7 +53,7 @@ test('two acts of a user against each other fail no build unless it is asked for
 test('a page of more steps than the program takes', LIMIT, async () => {
   const { status, stdout, stderr } = await pageOf('many-steps.html');
   assert.strictEqual(status, 1, stderr);
-  assert.match(stderr, /^er_page: not judged: "steps", with \d{5} accesses and \d{9} pairs$/m);
+  assert.match(stderr, /^er_page: not judged: "steps", with \d{5} accesses and \d{8} pairs$/m);
   assert.match(stdout, /^1\. "word" is written by the timeout soon set at many-steps\.html:6/m);
   assert.match(read('many-steps.races/page.html'), /Not judged, since it is more than the program takes: the accesses to .*steps/);
   assert.match(read('many-steps.races/page.report'), /^report 1$/m);
