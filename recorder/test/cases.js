@@ -146,7 +146,7 @@ exports.cases = [
   {
     page: 'hidden-variables.html',
     due: [
-      'exec script', 'w three', 'w five', 'w one', 'w two', 'w four', 'exec script', 'r one', 'r two', 'r three', 'r five', 'w seen', 'w one',
+      'exec script', 'w five', 'w three', 'w one', 'w two', 'w four', 'exec script', 'w one', 'w four', 'r one', 'r two', 'r three', 'r five', 'w seen',
     ],
     words: ['--depth', 'globals'],
   },
