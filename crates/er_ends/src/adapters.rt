@@ -1,8 +1,9 @@
 //! A source over a reader of the standard library, and a sink over a writer.
 
-ghost use Rattle.std.specs.Prelude.{◌≡◌, ◌<◌, ◌≤◌, length, take, IfOk, IfSome, IfNone, OnSome, OnOk, OnErr};
+ghost use Rattle.std.specs.Prelude.{◌≡◌, ◌<◌, ◌≤◌, false, length, take, IfOk, IfSome, IfNone, OnSome, OnOk, OnErr};
 ghost use Rattle.std.specs.Io.KnownBytes.{Appends, ReadConsumes};
 ghost use Rattle.er_outside.specs.Ends.{AppendsFront, Gives, Gets, IsSpent, Rose, one_more, untold};
+ghost use Rattle.er_ends.specs.Counted.{FlushedOnce};
 
 use crate::counted::{CountedReader, CountedWriter};
 use er_outside::{Failed, Sink, Source};
@@ -93,10 +94,13 @@ impl<W: Write> Sink for ToWrite<W> {
         ensures raised { OnErr result (self.new.faults ≡ one_more self.old.faults) }
         ensures count { self.old.faults ≤ self.new.faults }
         ensures stands { OnOk result (self.new.faults ≡ self.old.faults) }
-        // The writer was asked once to write, and once to flush where it did; none of its errors is
-        // passed over.
+        // The writer was asked once to write, and once to flush behind that where it did; a failed write is
+        // not flushed, and a failed flush not asked again. None of its errors is passed over.
         ensures asked { self.new.inner.writes ≡ one_more self.old.inner.writes }
         ensures flushed { OnOk result (self.new.inner.flushes ≡ one_more self.old.inner.flushes) }
+        ensures settled { OnOk result (self.new.inner.pending ≡ false) }
+        ensures flushed_once { OnErr result (FlushedOnce self.old.inner.flushes
+            self.new.inner.flushes self.new.inner.pending) }
         ensures heard { OnOk result (self.new.inner.errors ≡ self.old.inner.errors) }
         ensures passed_on { IfOk result (λ n. Appends (W.contents self.old.inner.inner)
             (W.contents self.new.inner.inner) (take n piece.now)) }
@@ -117,6 +121,9 @@ fn write_and_flush<W: Write>(writer: &mut CountedWriter<W>, piece: &[u8]) -> Opt
     ensures some { IfSome result (λ n. 0 < length piece.now → 0 < n) }
     ensures asked { writer.new.writes ≡ one_more writer.old.writes }
     ensures flushed { OnSome result (writer.new.flushes ≡ one_more writer.old.flushes) }
+    ensures settled { OnSome result (writer.new.pending ≡ false) }
+    ensures flushed_once { IfNone result (FlushedOnce writer.old.flushes writer.new.flushes
+        writer.new.pending) }
     ensures heard { OnSome result (writer.new.errors ≡ writer.old.errors) }
     ensures appended { IfSome result (λ n. Appends (W.contents writer.old.inner)
         (W.contents writer.new.inner) (take n piece.now)) }

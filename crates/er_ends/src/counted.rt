@@ -2,7 +2,7 @@
 //! their ends in no other way, so what is proved of the counts is proved of the ends. That each call
 //! here asks the end once is trusted, and seen by tests.
 
-ghost use Rattle.std.specs.Prelude.{◌≡◌, ◌≤◌, length, take, IfOk, OnOk, OnErr};
+ghost use Rattle.std.specs.Prelude.{◌≡◌, ◌≤◌, true, false, length, take, IfOk, OnOk, OnErr};
 ghost use Rattle.std.specs.Io.KnownBytes.{Keeps, ReadConsumes, WriteAppends};
 ghost use Rattle.er_outside.specs.Ends.{one_more};
 
@@ -51,13 +51,15 @@ impl<R: Read> CountedReader<R> {
     }
 }
 
-/// A writer, how often it was asked to write and to flush, and how often it failed.
+/// A writer, how often it was asked to write and to flush, how often it failed, and whether a write that it
+/// took is still to be flushed.
 #[derive(Drop)]
 pub struct CountedWriter<W> {
     inner: W,
     writes: u64,
     flushes: u64,
     errors: u64,
+    pending: bool,
 }
 
 impl<W> CountedWriter<W> {
@@ -66,12 +68,14 @@ impl<W> CountedWriter<W> {
         ensures writes { result.writes ≡ 0 }
         ensures flushes { result.flushes ≡ 0 }
         ensures errors { result.errors ≡ 0 }
+        ensures pending { result.pending ≡ false }
     {
         CountedWriter {
             inner,
             writes: 0,
             flushes: 0,
             errors: 0,
+            pending: false,
         }
     }
 }
@@ -86,11 +90,15 @@ impl<W: Write> CountedWriter<W> {
         ensures flushes { self.new.flushes ≡ self.old.flushes }
         ensures stands { OnOk result (self.new.errors ≡ self.old.errors) }
         ensures raised { OnErr result (self.new.errors ≡ one_more self.old.errors) }
+        ensures pending { OnOk result (self.new.pending ≡ true) }
+        ensures as_before { OnErr result (self.new.pending ≡ self.old.pending) }
     {
         self.writes = self.writes.saturating_add(1);
         let answer = self.inner.write(piece);
         if answer.is_err() {
             self.errors = self.errors.saturating_add(1);
+        } else {
+            self.pending = true;
         }
         answer
     }
@@ -102,11 +110,15 @@ impl<W: Write> CountedWriter<W> {
         ensures flushes { self.new.flushes ≡ one_more self.old.flushes }
         ensures stands { OnOk result (self.new.errors ≡ self.old.errors) }
         ensures raised { OnErr result (self.new.errors ≡ one_more self.old.errors) }
+        ensures pending { OnOk result (self.new.pending ≡ false) }
+        ensures as_before { OnErr result (self.new.pending ≡ self.old.pending) }
     {
         self.flushes = self.flushes.saturating_add(1);
         let answer = self.inner.flush();
         if answer.is_err() {
             self.errors = self.errors.saturating_add(1);
+        } else {
+            self.pending = false;
         }
         answer
     }

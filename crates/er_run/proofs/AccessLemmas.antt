@@ -83,7 +83,7 @@ rising_with (l ∷ lines) n rising below = (all_push (λ m. l < m) lines n risin
     all_push P [] m all here = (here, tt)
     all_push P (x ∷ ms) m all here = (all.0, all_push P ms m all.1 here)
 
-abbrev lines_of : List Kept → List ℕ
+abbrev pub lines_of : List Kept → List ℕ
 lines_of accesses = map (λ (x : Kept). x.line) accesses
 
 lines_below : (accesses : List Kept) (n : ℕ) → All (λ (x : Kept). x.line < n) accesses → AllByRecursion (λ l. l < n) (lines_of accesses)
@@ -109,7 +109,7 @@ rising_after None x place old rising below = rising
 rising_after (Some a) (Access m l) place old rising below = rising_one (access_of (place + 2) a.number m l) old rising below
 rising_after (Some a) x place old rising below = rising
 
-kept_rise : (h : List Record) → IsRising (lines_of (kept h))
+pub kept_rise : (h : List Record) → IsRising (lines_of (kept h))
 kept_rise [] = tt
 kept_rise (x ∷ h) =
     rising_after (running (actions_after (told h) x)) x (length (told h).entries) (kept h) (kept_rise h)

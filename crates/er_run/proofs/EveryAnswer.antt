@@ -19,7 +19,7 @@ use Rattle.er_lines.specs.Format.{Format, IsFormat}
 use Rattle.er_lines.specs.Lines.{Place, Start, After, Ended, StartCause, whole_line, BeginsWith, Refuses}
 use Rattle.er_lines.proofs.HeaderLaws.{header_of, header_of_whole}
 use Rattle.er_lines.proofs.OneReading.{front_of, no_header_by, one_beginning}
-use Rattle.er_run.specs.Answer.{format_of, FirstIllegal, Answers}
+use Rattle.er_run.specs.Answer.{FirstIllegal, Answers}
 use Rattle.er_words.specs.declared.commands.Command.{Command}
 use Rattle.er_run.specs.Report.{text_for, refusal_for}
 use Rattle.er_run.specs.Session.{IsFaultOf}

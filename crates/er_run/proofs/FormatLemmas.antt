@@ -1,6 +1,5 @@
 -- How the lines of a command's input are read.
-use Rattle.std.proofs.Common.{◌≡◌}
-use Rattle.er_lines.specs.Format.{Format, IsFormat}
+use Rattle.er_lines.specs.Format.{IsFormat}
 use Rattle.er_lines.specs.Text.{text_is_format}
 use Rattle.er_jsonl.specs.Lawful.{json_is_format}
 use Rattle.er_words.specs.declared.commands.Input.{Input}

@@ -10,7 +10,7 @@ use Rattle.er_history.specs.Rules.{rules}
 use Rattle.er_run.specs.Legal.{end_cause_for}
 use Rattle.er_run.specs.Legal as legality
 use Rattle.er_words.specs.declared.commands.Command.{Command}
-use Rattle.er_run.specs.Answer.{IsLegalBefore, HasCause, EndHasCause, Illegal, NoLine, OfRecord, OfEnd, FirstIllegal}
+use Rattle.er_run.specs.Answer.{IsLegalBefore, Illegal, NoLine, OfRecord, OfEnd, FirstIllegal}
 
 -- behind the lines of these records is the line of a record that has the cause after them
 pub record RefusesRecord (f : Format) (v : Version) (bytes : List ℕ) (earlier : List Record) (c : Cause) : Type 0 where

@@ -18,3 +18,4 @@ pub mod GeneratedLemmas
 pub mod RunLemmas
 pub mod ReadingLemmas
 pub mod VersionLemmas
+pub mod RaceLaws

@@ -1,6 +1,5 @@
 -- A byte string has one answer.
-use Rattle.std.proofs.Common.{◌≡◌, ◌≢◌, ℕ, ◌+◌, ◌≤◌, List, [], ◌∷◌, ◌++◌, length, reverse, Bool, true, false, ◌&&◌, Option, Some, None, Ok, Err, refl, ap, sym, ◌∙◌, subst, arith, append_assoc, append-nil, length-append}
-use Rattle.std.specs.Prelude.{nat_lt}
+use Rattle.std.proofs.Common.{◌≡◌, ℕ, ◌+◌, ◌≤◌, List, [], ◌∷◌, ◌++◌, length, reverse, Option, Some, None, refl, ap, sym, ◌∙◌, subst, arith, append_assoc, append-nil, length-append}
 use Rattle.std.proofs.lemmas.List.{reverse-append}
 use Rattle.er_text.specs.declared.causes.Cause.{Cause}
 use Rattle.er_trace.specs.declared.record.Record.{Record}
@@ -8,7 +7,6 @@ use Rattle.er_trace.specs.declared.version.Version.{Version}
 use Rattle.er_trace.specs.Trace.{most_lines, line}
 use Rattle.er_lines.specs.Format.{Format, IsFormat}
 use Rattle.er_lines.specs.Lines.{Place, Start, After, Ended, line_number, IsShort, AreLines, AreBehind, whole_line, StartCause, RecordCause, Refuses}
-use Rattle.er_lines.proofs.CauseLaws.{few_many}
 use Rattle.er_lines.proofs.OneReading.{SameFront, same_front, front_of, no_line, no_header_by, one_refusal, trace_not_refused, one_trace, SameRefusal}
 use Rattle.er_history.specs.Rules.{Rule, rules}
 use Rattle.er_run.specs.Legal.{IsLegal, end_cause_for}

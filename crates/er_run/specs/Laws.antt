@@ -1,5 +1,5 @@
 -- What holds of the definitions.
-use Rattle.std.specs.Prelude.{◌≡◌, ◌≢◌, ◌<◌, ◌+◌, ℕ, true, List, ◌++◌, length, map, reverse, Some}
+use Rattle.std.specs.Prelude.{◌≡◌, ◌≢◌, ◌⊎◌, ◌<◌, ◌+◌, ℕ, true, false, List, ◌++◌, length, map, reverse, Some}
 use Rattle.std.specs.List.{slice_get}
 use Rattle.std.specs.List.Sorted.{IsStrictlyIncreasing}
 use Rattle.er_paths.specs.Paths.{joins}
@@ -14,13 +14,17 @@ use Rattle.er_trace.specs.declared.version.Version.{Version}
 use Rattle.er_lines.specs.Lines.{IsTrace}
 use Rattle.er_history.specs.History.{told}
 use Rattle.er_history.specs.Rules.{rules}
-use Rattle.er_history.specs.Edges.{edges}
+use Rattle.er_history.specs.Edges.{edges, path}
 use Rattle.er_access.specs.Kept.{Kept}
+use Rattle.er_cover.specs.declared.class.Class.{Class}
+use Rattle.er_cover.specs.Classes.{class_of, classes_by_race}
+use Rattle.er_cover.specs.Groups.{covers}
+use Rattle.er_cover.specs.Laws.{NamesACover}
 use Rattle.er_paths.specs.orders.Orders.{is_lawful, is_next, before_order, after_order}
 use Rattle.er_run.specs.Answer.{format_of, FirstIllegal, Answers}
 use Rattle.er_run.specs.Legal.{IsLegal}
 use Rattle.er_run.specs.Report.{refusal_for}
-use Rattle.er_run.specs.Races.{kept, races}
+use Rattle.er_run.specs.Races.{kept, races, groups}
 
 -- to each command a byte string has one outcome, and one text is due for it
 abbrev pub OneAnswer : Type 0
@@ -46,9 +50,30 @@ CutTrace = (asked : Command) (v : Version) (records : List Record) (bytes more :
     → 0 < length more
     → Answers (format_of asked) asked bytes (Refused (count_of_lf bytes + 1) NoEnd) (refusal_for asked (count_of_lf bytes + 1) NoEnd)
 
--- The kept accesses stand in the order of their lines, each once, and so do those of the races.
+-- The kept accesses stand in the order of their lines, each once.
 abbrev pub KeptInOrder : Type 0
 KeptInOrder = (h : List Record) → IsStrictlyIncreasing (map (λ (x : Kept). x.line) (kept h))
+
+-- the lines of the one race stand before those of the other: its first line is less, or the first lines are the same and its second is less
+abbrev pub StandsBefore : Kept × Kept → Kept × Kept → Type 0
+StandsBefore p q = (p.0.line < q.0.line) ⊎ ((p.0.line ≡ q.0.line) × (p.1.line < q.1.line))
+
+-- The races stand in the order of their lines, each once.
+abbrev pub RacesInOrder : Type 0
+RacesInOrder = (v : Version) (h : List Record) (i j : ℕ) (p q : Kept × Kept) → i < j
+    → slice_get (races v h) i ≡ Some p → slice_get (races v h) j ≡ Some q → StandsBefore p q
+
+-- race k names a group that covers it, and none of the groups before that one does
+pub record NamesFirstCover (v : Version) (h : List Record) (k : ℕ)
+    (race : Kept × Kept) : Type 0 where
+  pub cover : NamesACover (path (rules v) h) (classes_by_race (path (rules v) h) (kept h)) k (class_of race)
+  pub first : (m : ℕ) (g : Class) → m < cover.number → slice_get (groups v h) m ≡ Some g
+      → covers (path (rules v) h) g (class_of race) ≡ false
+
+-- Each race names the first group that covers it, and there is one.
+abbrev pub EachRaceNamesACover : Type 0
+EachRaceNamesACover = (v : Version) (h : List Record) (k : ℕ) (race : Kept × Kept)
+    → slice_get (races v h) k ≡ Some race → NamesFirstCover v h k race
 
 -- by these lists no edge leads back in either order of the two actions, and each order shows them side by side
 pub record AreBothLawful (lists : List (List ℕ)) (i j : ℕ) : Type 0 where

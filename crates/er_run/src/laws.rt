@@ -1,7 +1,7 @@
 //! Laws of the definitions that the contracts cite. Each is a function that does nothing, whose
 //! contract is the law.
 
-ghost use Rattle.er_run.specs.Laws.{CutTrace, EveryAnswer, KeptInOrder, LongerInput, OneAnswer, OrdersKeepRules};
+ghost use Rattle.er_run.specs.Laws.{CutTrace, EachRaceNamesACover, EveryAnswer, KeptInOrder, LongerInput, OneAnswer, OrdersKeepRules, RacesInOrder};
 
 /// No byte string has two outcomes, and no two texts are due for it.
 pub fn one_answer()
@@ -24,9 +24,19 @@ pub fn cut_trace()
     ensures { CutTrace }
 {}
 
-/// The kept accesses stand in the order of their lines. So the pairs of the races do, and none comes twice.
+/// The kept accesses stand in the order of their lines, each once.
 pub fn kept_in_order()
     ensures { KeptInOrder }
+{}
+
+/// The races stand in the order of their two lines, each once.
+pub fn races_in_order()
+    ensures { RacesInOrder }
+{}
+
+/// Each race names the first group that covers it, and there is one.
+pub fn each_race_names_a_cover()
+    ensures { EachRaceNamesACover }
 {}
 
 /// No edge leads back in either order of the actions of a race: the rules keep both, and each shows the two side

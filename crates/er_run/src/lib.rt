@@ -66,6 +66,9 @@ pub fn run<R: Threads + Sync, S: Source, K: Sink, G: Gate + Sync>(
     // One read failed and no more.
     ensures once { result ≡ Outcome.ReadFault
         → S.faults source.new ≡ one_more (S.faults source.old) }
+    // With any other outcome no read failed.
+    ensures read_stands { result ≢ Outcome.ReadFault
+        → S.faults source.new ≡ S.faults source.old }
     ensures write_fault { result ≡ Outcome.WriteFault
         → Rose (K.faults sink.old) (K.faults sink.new) }
     // At a failed write a proper front of the text that is due was written.

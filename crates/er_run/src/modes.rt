@@ -50,6 +50,8 @@ pub(crate) fn judge_input<R: Threads + Sync, S: Source, K: Sink, G: Gate + Sync>
         → Rose (S.faults source.old) (S.faults source.new) }
     ensures once { result ≡ Outcome.ReadFault
         → S.faults source.new ≡ one_more (S.faults source.old) }
+    ensures read_stands { result ≢ Outcome.ReadFault
+        → S.faults source.new ≡ S.faults source.old }
     ensures cut_short { result ≡ Outcome.WriteFault
         → IsCutShort (format_of asked.command) asked.command
         (seen (S.left source.old) (K.got sink.old) compares.old tests.old)
@@ -110,6 +112,8 @@ fn judge_lines<L: Lines, R: Threads + Sync, S: Source, K: Sink, G: Gate + Sync>(
         → Rose (S.faults source.old) (S.faults source.new) }
     ensures once { result ≡ Outcome.ReadFault
         → S.faults source.new ≡ one_more (S.faults source.old) }
+    ensures read_stands { result ≢ Outcome.ReadFault
+        → S.faults source.new ≡ S.faults source.old }
     ensures cut_short { result ≡ Outcome.WriteFault
         → IsCutShort L.format asked.command
         (seen (S.left source.old) (K.got sink.old) compares.old tests.old)

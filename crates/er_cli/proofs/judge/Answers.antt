@@ -9,4 +9,5 @@ returns g c = record {
   usage = c.run-outcome.ensures.usage;
   refused = c.run-outcome.ensures.refused;
   answered = λ asked asks is. rw (c.new-compares.ensures, c.new-tests.ensures) at (c.run-outcome.ensures.answered asked asks is);
+  generated = λ asked n asks is. (c.run-outcome.ensures.generated asked n asks is).1;
 }

@@ -28,6 +28,9 @@ returns-in-Ok-clause-complete g c = λ no_read no_write bytes held.
 pub returns-in-Ok-clause-no_read : goal.returns-in-Ok-clause-no_read
 returns-in-Ok-clause-no_read g c = λ answer. c.in-Ok.ensures.reads.stands (λ e. cc)
 
+pub returns-in-Ok-clause-read_stands : goal.returns-in-Ok-clause-read_stands
+returns-in-Ok-clause-read_stands g c = λ other. c.in-Ok.ensures.reads.stands (λ e. cc)
+
 pub returns-in-Ok-clause-unwritten : goal.returns-in-Ok-clause-unwritten
 returns-in-Ok-clause-unwritten g c = λ silent. c.answer.ensures.kept (only_memory c.answer.result silent c.answer.ensures.no_usage c.answer.ensures.no_read_fault)
 

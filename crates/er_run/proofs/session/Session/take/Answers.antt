@@ -1,4 +1,4 @@
-use Rattle.std.proofs.Common.{refl, ◌+◌}
+use Rattle.std.proofs.Common.{refl}
 use Rattle.er_run.proofs.AccessLemmas.{not_access}
 use Rattle.er_run.proofs.SessionLemmas.{noted, accessed, earlier, fault_after, refused_room}
 use Rattle.er_run.proofs.session.Session.take.Goals as goal
