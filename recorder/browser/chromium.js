@@ -41,7 +41,8 @@ class Chromium extends Protocol {
   start(width, height) {
     this.folder = fs.mkdtempSync(path.join(os.tmpdir(), 'er-record-'));
     const words = [...FLAGS, ...sandboxFlags(), `--user-data-dir=${this.folder}`, `--window-size=${width},${height}`, 'about:blank'];
-    this.process = spawn(PROGRAM, words, { stdio: ['ignore', 'ignore', 'ignore', 'pipe', 'pipe'], detached: true });
+    const env = { ...process.env, TMPDIR: this.folder }; // what the browser leaves there when it is killed goes with the folder
+    this.process = spawn(PROGRAM, words, { stdio: ['ignore', 'ignore', 'ignore', 'pipe', 'pipe'], detached: true, env });
     this.process.on('error', (fault) => this.end(fault.message));
     this.process.on('exit', () => this.end('the browser ended'));
     this.process.stdio[3].on('error', () => {});

@@ -51,6 +51,7 @@ class Looks {
     this.values = names.values || {};
     this.befores = names.befores || {};
     this.kept = names.kept || {};
+    this.counts = names.counts || {};
     this.words = words;
     this.actions = words.actions;
     this.ofPairs = new Map();
@@ -168,9 +169,10 @@ class Looks {
     return (this.writesOf.get(location) || []).some((line) => line > lines[k] && line < next && this.isCountAt(line) && String(this.names.places[line]) === place);
   }
 
+  /** As the recorder told it; of a global variable by the text of the place. */
   isCountAt(line) {
     const place = this.names.places[line];
-    return !!place && this.words.sources.isCount(place);
+    return !!this.counts[line] || (!!place && this.words.sources.isCount(place));
   }
 
   /** The first ticks of two intervals of one delay come in the order in which these were set, which no rule says. */

@@ -35,6 +35,8 @@ class Names {
     /** What an access found or wrote, by its line (page/values.js); and what was there before a write, where that is told. */
     this.values = {};
     this.befores = {};
+    /** The writes that count a variable up or down, with a value that nobody uses. */
+    this.counts = {};
     /** The lines of reads that are writes of the value that was there. */
     this.kept = {};
     this.objects = {};
@@ -106,7 +108,8 @@ class Names {
   /** A write is told by its number, where what it wrote comes behind it; or by what it wrote, and what was there before. */
   addValue(line, found) {
     const [value = '', before] = found[0] === '=' ? [this.written.get(found.slice(1))] : found.split('<');
-    if (value) this.values[line] = value;
+    if (value.endsWith('+')) this.counts[line] = true;
+    if (value) this.values[line] = value.replace(/\+$/, '');
     if (before && before !== '?') this.befores[line] = before;
   }
 
@@ -155,7 +158,7 @@ class Names {
   /** What stands in the file, by default with files that have no lines of their own. */
   facts(files = this.sources.files) {
     const functions = Object.fromEntries(Object.entries(this.functions).filter(([, name]) => name));
-    return { files, ...this.lists, objects: this.objects, functions, values: this.values, befores: this.befores, kept: this.kept, ways: this.ways, places: this.places };
+    return { files, ...this.lists, objects: this.objects, functions, values: this.values, befores: this.befores, counts: this.counts, kept: this.kept, ways: this.ways, places: this.places };
   }
 
   /** Notes what the number of an object in a location is: a window, a form field or a module. */

@@ -11,7 +11,7 @@ const TOO_MUCH = /^too-many-(?:pairs|races|classes)$/;
 /** At each further try so many of the pairs may stay. */
 const KEPT = 0.75;
 /** What OUT.names.json tells by the numbers of lines. */
-const BY_LINE = ['places', 'ways', 'values', 'befores', 'kept'];
+const BY_LINE = ['places', 'ways', 'values', 'befores', 'counts', 'kept'];
 
 const besides = (traceFile) => `${traceFile.replace(/\.trace$/, '')}.names.json`;
 
