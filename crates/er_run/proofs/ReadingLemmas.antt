@@ -40,7 +40,7 @@ use Rattle.er_run.specs.Promise.{piece_bytes, IsFinal, IsJustRefused, IsDecided}
 use Rattle.er_run.specs.Session.{IsSessionOf, IsFaultOf, IsBegun, begun}
 use Rattle.er_outside.specs.Ends.{Gives, IsSpent}
 use Rattle.er_outside.proofs.Puts.{gives_again, gives_nothing_back}
-use Rattle.er_run.specs.Reading.{IsAt, IsBy, IsOpen, IsRead, IsReadTo, IsAcceptedInput, IsRefusedInput, IsReading, IsEnd, GoesOn, Ends, IsRefusedBehind, IsFinalFault, CountsReads, fault_of}
+use Rattle.er_run.specs.Reading.{IsAt, HasVersion, IsOpen, IsRead, IsReadTo, IsAcceptedInput, IsRefusedInput, IsReading, IsEnd, GoesOn, Ends, IsRefusedBehind, IsFinalFault, CountsReads, fault_of}
 use Rattle.er_run.proofs.AcceptLemmas.{few_before, few_read, illegal_before, legal_read, refused_line, refused_end, refused_fault, IsOf, place_of}
 
 -- a record is refused for no missing end
@@ -151,7 +151,7 @@ refused_at : (f : Format) (fault : Option FeedFault) (place : Place) (rest kept 
 refused_at f None place rest kept n c is h = absurd (cc)
 refused_at f (Some fault) place rest kept n c is h = let same : fault ≡ faults.Refused n c = cc in subst (IsRefusedAt f place rest) same h
 
-pub refused_reading : (f : Format) (v : Version) (mark : Mark) (kept : List ℕ) (fault : Option FeedFault) (bytes : List ℕ) (records : List Record) (r : LineRefusal) → fault ≡ fault_of (Some r) → Stands f mark kept fault bytes records → IsBy f v bytes → IsReading f v bytes records (Some r) × (r.cause ≢ NoEnd)
+pub refused_reading : (f : Format) (v : Version) (mark : Mark) (kept : List ℕ) (fault : Option FeedFault) (bytes : List ℕ) (records : List Record) (r : LineRefusal) → fault ≡ fault_of (Some r) → Stands f mark kept fault bytes records → HasVersion f v bytes → IsReading f v bytes records (Some r) × (r.cause ≢ NoEnd)
 refused_reading f v mark kept fault bytes records r is stands by =
     let at = refused_at f fault stands.place stands.rest kept r.line r.cause is stands.kept in
     ((stands.place, record { before = stands.before; rest = stands.rest; are = stands.are; few = stands.few; begins = stands.begins; cause = at.1 }, at.0, stands.records_are, by), at.2)
@@ -168,7 +168,7 @@ pub none_open : (f : Format) (records : List Record) → IsOpen f [] records
 none_open f records trace = none_begins f trace.0 (header_of_whole f trace.0 [] [] [] records refl trace.1.whole)
 
 -- a whole trace is one of that version
-pub whole_reading : (f : Format) (v : Version) (bytes : List ℕ) (records : List Record) → IsTraceOf f bytes records → IsBy f v bytes → IsReading f v bytes records None
+pub whole_reading : (f : Format) (v : Version) (bytes : List ℕ) (records : List Record) → IsTraceOf f bytes records → HasVersion f v bytes → IsReading f v bytes records None
 whole_reading f v bytes records trace by =
     let same : v ≡ trace.0 = by trace.0 (header_of_whole f trace.0 bytes bytes [] records (sym (append-nil bytes)) trace.1.whole) in
     subst (λ u. IsTrace f u bytes records) (sym same) trace.1
@@ -190,7 +190,7 @@ begins_more f v bytes piece begins = record {
 }
 
 -- the session is then of that version
-pub by_given : (f : Format) → IsFormat f → (v : Version) (given : Option Version) (bytes piece : List ℕ) → IsGiven f given (bytes ++ piece) → IsBy f (begun v given) (bytes ++ piece)
+pub by_given : (f : Format) → IsFormat f → (v : Version) (given : Option Version) (bytes piece : List ℕ) → IsGiven f given (bytes ++ piece) → HasVersion f (begun v given) (bytes ++ piece)
 by_given f good v None bytes piece is = λ w begins. absurd (is.1 refl w begins)
 by_given f good v (Some u) bytes piece is = λ w begins. one_beginning f good (bytes ++ piece) u w (is.0 u refl) begins
 
@@ -198,7 +198,7 @@ given_is : (f : Format) → IsFormat f → (u w : Version) (given : Option Versi
 given_is f good u w None bytes piece is begins same = refl
 given_is f good u w (Some x) bytes piece is begins same = one_beginning f good (bytes ++ piece) x w (is.0 x refl) (begins_more f w bytes piece begins) ∙ sym same
 
-begun_at : (f : Format) → IsFormat f → (u : Version) (given : Option Version) (place : Place) (bytes piece before rest : List ℕ) (records : List Record) → AreBefore f place before → bytes ≡ before ++ rest → records ≡ records_before place → IsBy f u bytes → IsGiven f given (bytes ++ piece)
+begun_at : (f : Format) → IsFormat f → (u : Version) (given : Option Version) (place : Place) (bytes piece before rest : List ℕ) (records : List Record) → AreBefore f place before → bytes ≡ before ++ rest → records ≡ records_before place → HasVersion f u bytes → IsGiven f given (bytes ++ piece)
     → IsBegun u given (reverse records)
 begun_at f good u given Start bytes piece before rest records are begins listed by is = inr (ap reverse listed)
 begun_at f good u given (After w earlier) bytes piece before rest records are begins listed by is =
@@ -213,21 +213,21 @@ pub begun_by : (f : Format) → IsFormat f → (mark : Mark) (kept : List ℕ) (
 begun_by f good mark kept fault session given bytes piece records at is =
     begun_at f good session.graph.version given at.fed.place bytes piece at.fed.before at.fed.rest records at.fed.are at.fed.begins at.fed.records_are at.by is
 
-pub on_by : (f : Format) (mark : Mark) (kept : List ℕ) (fault : Option FeedFault) (session : Session) (v : Version) (bytes : List ℕ) (records fresh : List Record) → IsFed f mark kept fault bytes records [] fresh → session.graph.version ≡ v → IsBy f v bytes → IsSessionOf session (reverse (records ++ fresh)) → GoesOn f mark kept fault session bytes records
+pub on_by : (f : Format) (mark : Mark) (kept : List ℕ) (fault : Option FeedFault) (session : Session) (v : Version) (bytes : List ℕ) (records fresh : List Record) → IsFed f mark kept fault bytes records [] fresh → session.graph.version ≡ v → HasVersion f v bytes → IsSessionOf session (reverse (records ++ fresh)) → GoesOn f mark kept fault session bytes records
 on_by f mark kept fault session v bytes records fresh fed is by stands =
-    (fed.0, record { fed = fed.1; stands = subst (λ l. IsSessionOf session (reverse (records ++ l))) fed.2 stands; by = subst (λ u. IsBy f u bytes) (sym is) by })
+    (fed.0, record { fed = fed.1; stands = subst (λ l. IsSessionOf session (reverse (records ++ l))) fed.2 stands; by = subst (λ u. HasVersion f u bytes) (sym is) by })
 
 pub room_by : (f : Format) (mark : Mark) (kept : List ℕ) (fault : Option FeedFault) (bytes : List ℕ) (records fresh : List Record) (count : ℕ) → IsFed f mark kept fault bytes records [] fresh → count ≡ length (reverse records) → count + length fresh ≤ most_lines
 room_by f mark kept fault bytes records fresh count fed is =
     let few = few_fed f mark kept fault bytes (records ++ fed.0) fed.1 in
     omega (arith, few, is, ap length fed.2, length-append records fed.0, length-reverse records)
 
-final_record : (f : Format) (v : Version) (mark : Mark) (kept : List ℕ) (fault : Option FeedFault) (bytes : List ℕ) (records : List Record) (why : FeedFault) → IsBy f v bytes → Stands f mark kept fault bytes records → IsFaultOf v records why → IsFinalFault f bytes why
+final_record : (f : Format) (v : Version) (mark : Mark) (kept : List ℕ) (fault : Option FeedFault) (bytes : List ℕ) (records : List Record) (why : FeedFault) → HasVersion f v bytes → Stands f mark kept fault bytes records → IsFaultOf v records why → IsFinalFault f bytes why
 final_record f v mark kept fault bytes records (faults.Refused n c) by stands (at, is, legal, (x, there, why)) =
     (λ asked. subst (λ k. FirstIllegal f asked bytes k c) (sym is) (illegal_before f asked v bytes stands.place stands.before stands.rest records (place_of f v bytes stands.place stands.before stands.rest stands.are stands.begins by) stands.are stands.few stands.begins stands.records_are at x c there legal why), record_cause v (reverse (take at records)) x c why)
 final_record f v mark kept fault bytes records faults.NoMemory by stands why = tt
 
-pub final_by : (f : Format) (v : Version) (mark : Mark) (kept : List ℕ) (fault : Option FeedFault) (bytes : List ℕ) (records fresh : List Record) (why : FeedFault) → IsFed f mark kept fault bytes records [] fresh → IsBy f v bytes → IsFaultOf v (records ++ fresh) why → IsFinalFault f bytes why
+pub final_by : (f : Format) (v : Version) (mark : Mark) (kept : List ℕ) (fault : Option FeedFault) (bytes : List ℕ) (records fresh : List Record) (why : FeedFault) → IsFed f mark kept fault bytes records [] fresh → HasVersion f v bytes → IsFaultOf v (records ++ fresh) why → IsFinalFault f bytes why
 final_by f v mark kept fault bytes records fresh why fed by refused = final_record f v mark kept fault bytes (records ++ fed.0) why by fed.1 (subst (λ l. IsFaultOf v (records ++ l) why) fed.2 refused)
 
 -- what came of a piece

@@ -11,7 +11,7 @@ use Rattle.er_lines.specs.Format.{Format}
 use Rattle.er_outside.specs.Ends.{Gives, Rose}
 use Rattle.er_run.specs.Accepted.{IsAskable}
 use Rattle.er_run.specs.declared.outcome.Outcome.{Outcome}
-use Rattle.er_run.specs.Promise.{IsInput, IsDecided, Holds, ReadsWithout}
+use Rattle.er_run.specs.Promise.{IsInput, IsDecided, Holds, NoReadFailed}
 
 -- the command that was read is the one that is asked
 pub same_command : (read : Result Asked WordsFault) (found : Asked) (c : Command) (asked : Asked) → read ≡ Ok found → found.command ≡ c → (read ≡ Ok asked) ⊎ (read ≡ Err NoMemory) → asked.command ≡ c
@@ -73,7 +73,7 @@ holds_all (Gen n) left bytes reads held = absurd (reads n refl)
 holds_all (Schedule k) left bytes reads held = held
 holds_all (Explain i j) left bytes reads held = held
 
-pub no_rise : (asked : Command) (old new : ℕ) → ((n : ℕ) → asked ≡ Gen n → ⊥) → ReadsWithout asked old new → Rose old new → ⊥
+pub no_rise : (asked : Command) (old new : ℕ) → ((n : ℕ) → asked ≡ Gen n → ⊥) → NoReadFailed asked old new → Rose old new → ⊥
 no_rise (Check json input) old new reads without = without
 no_rise (Gen n) old new reads without = absurd (reads n refl)
 no_rise (Schedule k) old new reads without = without
@@ -87,7 +87,7 @@ never_rose rose = elim rose [
   | inr last ↦ (let no : 0 ≡ 18446744073709551615 = last in absurd (omega (arith, no)))
 ]
 
-pub reads_surely : (asked : Command) → ReadsWithout asked 0 0
+pub reads_surely : (asked : Command) → NoReadFailed asked 0 0
 reads_surely (Check json input) = never_rose
 reads_surely (Gen n) = tt
 reads_surely (Schedule k) = never_rose

@@ -1,18 +1,17 @@
 -- From what was put to how the run ends.
 use Rattle.std.proofs.Common.{◌≡◌, ◌≢◌, ℕ, ◌≤◌, ◌∙◌, List, [], ◌∷◌, Option, Result, Ok, Err, refl, sym, subst, length, inl, inr, arith}
 use Rattle.std.specs.Prelude.{OnOk, OnErr}
-use Rattle.er_outside.specs.Ends.{Gets, GetsPart, Rose}
-use Rattle.er_text.specs.declared.causes.Cause.{Cause}
+use Rattle.er_outside.specs.Ends.{Gets, GetsPart, Rose, one_more}
 use Rattle.er_trace.specs.declared.record.Record.{Record}
 use Rattle.er_trace.specs.declared.version.Version.{Version}
 use Rattle.er_races.specs.declared.race.Race.{Race}
 use Rattle.er_run.specs.declared.outcome.Outcome.{Outcome}
-use Rattle.er_run.specs.declared.outcome.Outcome.TheVariants.{Clean, Races, Refused, WriteFault, NoMemory}
+use Rattle.er_run.specs.declared.outcome.Outcome.TheVariants.{Clean, Races, WriteFault, NoMemory}
 use Rattle.er_words.specs.declared.commands.Command.{Command}
 use Rattle.er_run.specs.Answer.{outcome_for, outcome_of}
 use Rattle.er_run.specs.Races.{races}
-use Rattle.er_run.specs.Promise.{IsAnswer, CountsWrites}
-use Rattle.er_run.specs.Accepted.{AreListed, EndsAs, ReportsOf, RefusedAs}
+use Rattle.er_run.specs.Promise.{CountsWrites}
+use Rattle.er_run.specs.Accepted.{AreListed, EndsAs, ReportsOf}
 use Rattle.er_run.proofs.AnswerLemmas.{ends_so}
 use Rattle.er_run.proofs.JudgedLemmas.{as_many_found}
 
@@ -39,18 +38,23 @@ pub record Ends (old new : ℕ) (result : Outcome) : Type 0 where
   pub faults : CountsWrites result old new
   pub no_memory : result ≢ NoMemory
 
-no_answer : (result : Outcome) (P : Type 0) → result ≡ WriteFault → IsAnswer result → P
-no_answer result P is answer = absurd (subst IsAnswer is answer)
+-- where the write failed
+failed_write : (result : Outcome) (old new : ℕ) → result ≡ WriteFault → Rose old new → new ≡ one_more old → old ≤ new → CountsWrites result old new
+failed_write result old new is cause raised count = record { rose = λ _. cause; once = λ _. raised; stands = λ other. absurd (other is); count = count }
+
+-- and where none did
+no_failed_write : (result : Outcome) (old new : ℕ) → result ≢ WriteFault → new ≡ old → old ≤ new → CountsWrites result old new
+no_failed_write result old new other stands count = record { rose = λ is. absurd (other is); once = λ is. absurd (other is); stands = λ _. stands; count = count }
 
 -- a report
 
 pub ends_report : {E : Type 0} (asked : Command) (v : Version) (h : List Record) (due : Outcome) (old new : ℕ) (written : Result Unit E) (result : Outcome) → due ≡ outcome_for asked v h → EndsAs due written result
-    → OnOk written (new ≡ old) → OnErr written (Rose old new) → old ≤ new → Ends old new result
-ends_report {E} asked v h due old new (Ok done) result is ends stands cause count = elim (ends_so asked v h) [
-  | inl clean ↦ let e : result ≡ Clean = ends ∙ (is ∙ clean) in record { faults = record { rose = λ w. absurd (cc); stands = λ _. stands; count = count }; no_memory = λ w. cc }
-  | inr some ↦ let e : result ≡ Races = ends ∙ (is ∙ some) in record { faults = record { rose = λ w. absurd (cc); stands = λ _. stands; count = count }; no_memory = λ w. cc }
+    → OnOk written (new ≡ old) → OnErr written (Rose old new) → OnErr written (new ≡ one_more old) → old ≤ new → Ends old new result
+ends_report {E} asked v h due old new (Ok done) result is ends stands cause raised count = elim (ends_so asked v h) [
+  | inl clean ↦ let e : result ≡ Clean = ends ∙ (is ∙ clean) in record { faults = no_failed_write result old new (λ w. cc) stands count; no_memory = λ w. cc }
+  | inr some ↦ let e : result ≡ Races = ends ∙ (is ∙ some) in record { faults = no_failed_write result old new (λ w. cc) stands count; no_memory = λ w. cc }
 ]
-ends_report {E} asked v h due old new (Err fault) result is ends stands cause count = record { faults = record { rose = λ _. cause; stands = no_answer result (new ≡ old) ends; count = count }; no_memory = λ w. cc }
+ends_report {E} asked v h due old new (Err fault) result is ends stands cause raised count = record { faults = failed_write result old new ends cause raised count; no_memory = λ w. cc }
 
 pub reports : {E : Type 0} (asked : Command) (v : Version) (h : List Record) (text : List ℕ) (due : Outcome) (written : Result Unit E) (result : Outcome) (old new : Option (List ℕ)) → outcome_for asked v h ≡ due → EndsAs due written result
     → OnOk written (Gets old text new) → OnErr written (GetsPart old text new) → ReportsOf asked v h text result old new
@@ -59,14 +63,3 @@ reports {E} asked v h text due (Ok done) result old new same ends whole part = e
   | inr some ↦ subst (λ r. ReportsOf asked v h text r old new) (sym (ends ∙ (sym same ∙ some))) (some, whole)
 ]
 reports {E} asked v h text due (Err fault) result old new same ends whole part = subst (λ r. ReportsOf asked v h text r old new) (sym ends) part
-
--- a refusal
-
-pub ends_refusal : {E : Type 0} (n : ℕ) (c : Cause) (old new : ℕ) (written : Result Unit E) (result : Outcome) → EndsAs (Refused n c) written result → OnOk written (new ≡ old) → OnErr written (Rose old new) → old ≤ new → Ends old new result
-ends_refusal {E} n c old new (Ok done) result ends stands cause count = record { faults = record { rose = λ e. absurd (cc); stands = λ _. stands; count = count }; no_memory = λ e. cc }
-ends_refusal {E} n c old new (Err fault) result ends stands cause count = record { faults = record { rose = λ _. cause; stands = no_answer result (new ≡ old) ends; count = count }; no_memory = λ e. cc }
-
-pub refuses : {E : Type 0} (n : ℕ) (c : Cause) (due : List ℕ) (written : Result Unit E) (result : Outcome) (old new : Option (List ℕ)) → EndsAs (Refused n c) written result
-    → OnOk written (Gets old due new) → OnErr written (GetsPart old due new) → RefusedAs n c due result old new
-refuses {E} n c due (Ok done) result old new ends whole part = subst (λ r. RefusedAs n c due r old new) (sym ends) (refl, refl, whole)
-refuses {E} n c due (Err fault) result old new ends whole part = subst (λ r. RefusedAs n c due r old new) (sym ends) part

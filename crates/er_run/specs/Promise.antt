@@ -1,6 +1,6 @@
 -- What a call of `run` promises.
 use Rattle.std.specs.Prelude.{◌≡◌, ◌≢◌, ◌⊎◌, ℕ, ◌+◌, ◌*◌, ◌≤◌, List, ◌++◌, length, reverse, Option, Some}
-use Rattle.er_outside.specs.Ends.{Gives, Gets, GetsPart, IsSpent, Rose}
+use Rattle.er_outside.specs.Ends.{Gives, Gets, GetsPart, IsSpent, Rose, one_more}
 use Rattle.er_run.specs.declared.outcome.Outcome.{Outcome}
 use Rattle.er_run.specs.declared.outcome.Outcome.TheVariants.{Clean, Races, Refused, Usage, ReadFault, WriteFault, NoMemory}
 use Rattle.er_trace.specs.declared.record.Record.{Record}
@@ -54,10 +54,12 @@ IsSilent ReadFault = Unit {0}
 IsSilent NoMemory = Unit {0}
 IsSilent _ = ⊥
 
--- How a call with this outcome leaves the count of a sink's faults: it rose where a write failed, stands at an answer, and never falls.
+-- How a call with this outcome leaves the count of a sink's faults: one more where a write failed, and
+-- as it was with any other outcome.
 pub record CountsWrites (outcome : Outcome) (old new : ℕ) : Type 0 where
   pub rose : outcome ≡ WriteFault → Rose old new
-  pub stands : IsAnswer outcome → new ≡ old
+  pub once : outcome ≡ WriteFault → new ≡ one_more old
+  pub stands : outcome ≢ WriteFault → new ≡ old
   pub count : old ≤ new
 
 -- the text that is due for the answer of the bytes came to what was got
@@ -144,6 +146,6 @@ Holds (Gen n) left bytes = bytes ≡ text One (generated n)
 Holds _ left bytes = left ≡ Some bytes
 
 -- the count of a source's faults did not rise, where the command reads it
-abbrev pub ReadsWithout : Command → ℕ → ℕ → Type 0
-ReadsWithout (Gen n) old new = Unit {0}
-ReadsWithout _ old new = Rose old new → ⊥
+abbrev pub NoReadFailed : Command → ℕ → ℕ → Type 0
+NoReadFailed (Gen n) old new = Unit {0}
+NoReadFailed _ old new = Rose old new → ⊥

@@ -24,21 +24,21 @@ use Rattle.er_run.specs.Promise.{piece_bytes, IsFinal, IsDecided}
 use Rattle.er_run.specs.Session.{IsSessionOf}
 
 -- the first line gives no other version
-abbrev pub IsBy : Format → Version → List ℕ → Type 0
-IsBy f v bytes = (w : Version) → BeginsWith f w bytes → v ≡ w
+abbrev pub HasVersion : Format → Version → List ℕ → Type 0
+HasVersion f v bytes = (w : Version) → BeginsWith f w bytes → v ≡ w
 
 -- the records before the first line that has a cause, with that line; or those of the whole trace
 abbrev pub IsReading : Format → Version → List ℕ → List Record → Option LineRefusal → Type 0
 IsReading f v bytes records None = IsTrace f v bytes records
 IsReading f v bytes records (Some refused) = (place : Place) × Refuses f bytes place refused.cause
-    × (refused.line ≡ line_number place) × (records ≡ records_before place) × IsBy f v bytes
+    × (refused.line ≡ line_number place) × (records ≡ records_before place) × HasVersion f v bytes
 
 -- what a feed keeps and the session stand for these bytes and for the records of their whole lines
 pub record IsAt (f : Format) (mark : Mark) (kept : List ℕ) (fault : Option FeedFault)
     (session : Session) (bytes : List ℕ) (records : List Record) : Type 0 where
   pub fed : Stands f mark kept fault bytes records
   pub stands : IsSessionOf session (reverse records)
-  pub by : IsBy f session.graph.version bytes
+  pub by : HasVersion f session.graph.version bytes
 
 -- they stand for some bytes, and for the records of their whole lines
 pub record IsSomewhere (f : Format) (mark : Mark) (kept : List ℕ) (fault : Option FeedFault)

@@ -7,7 +7,7 @@ use Rattle.er_history.specs.History.{told}
 use Rattle.er_history.specs.Rules.{rules}
 use Rattle.er_history.specs.Edges.{edges}
 use Rattle.er_report.specs.Report as texts
-use Rattle.er_json.specs.Json as lines
+use Rattle.er_json.specs.Json as json_texts
 use Rattle.er_words.specs.declared.commands.Command.{Command}
 use Rattle.er_words.specs.declared.commands.Command.TheVariants.{Check, Gen, Schedule, Explain}
 use Rattle.er_schedule.specs.Text as schedules
@@ -21,7 +21,7 @@ report v h = texts.report (edges (rules v) (told h).actions) (kept h)
 
 -- the same as a line of JSON
 abbrev pub json_report : Version → List Record → List ℕ
-json_report v h = lines.report (edges (rules v) (told h).actions) (kept h)
+json_report v h = json_texts.report (edges (rules v) (told h).actions) (kept h)
 
 -- their summary, of the trace that was generated for n
 abbrev pub summary : Version → ℕ → List Record → List ℕ
@@ -49,4 +49,4 @@ is_json _ = false
 
 -- and of a refusal
 abbrev pub refusal_for : Command → ℕ → Cause → List ℕ
-refusal_for asked n c = if is_json asked then lines.refusal n c else texts.refusal n c
+refusal_for asked n c = if is_json asked then json_texts.refusal n c else texts.refusal n c

@@ -8,7 +8,7 @@ ghost use Rattle.er_lines.specs.Lines.{IsTraceOf};
 ghost use Rattle.er_lines.specs.Feed.{Stands};
 ghost use Rattle.er_trace.specs.declared.version.Version.{Version};
 ghost use Rattle.er_run.specs.Session.{IsSessionOf, IsReady, IsFaultOf, IsBegun, begun};
-ghost use Rattle.er_run.specs.Reading.{IsAt, IsBy, IsSomewhere, IsOpen, IsRead, IsReadTo, IsReading, GoesOn, Advances, Ends, IsRefusedBehind, IsFinalFault, CountsReads, fault_of};
+ghost use Rattle.er_run.specs.Reading.{IsAt, HasVersion, IsSomewhere, IsOpen, IsRead, IsReadTo, IsReading, GoesOn, Advances, Ends, IsRefusedBehind, IsFinalFault, CountsReads, fault_of};
 
 use crate::session::Session;
 use er_lines::feed::LineFeed;
@@ -143,7 +143,7 @@ fn line_at_end<L: Lines>(feed: &LineFeed<L>) -> Option<LineRefusal>
     requires { feed.now.fault ≡ None }
     ensures { (bytes : List ℕ) (records : List Record)
         → Stands L.format feed.now.mark feed.now.line.items feed.now.fault bytes records
-        → (v : Version) → IsBy L.format v bytes → IsReading L.format v bytes records result }
+        → (v : Version) → HasVersion L.format v bytes → IsReading L.format v bytes records result }
 {
     match feed.finish() {
         Ok(()) => None,

@@ -5,7 +5,7 @@ ghost use Rattle.std.specs.Prelude.{◌≡◌, ◌≢◌, ◌⊎◌, ℕ, ◌<�
 ghost use Rattle.er_outside.specs.Ends.{Rose, one_more};
 ghost use Rattle.er_words.specs.Words.{Asks};
 ghost use Rattle.er_run.specs.Answer.{Answers, format_of};
-ghost use Rattle.er_run.specs.Promise.{IsAnswer, IsAnswered, IsCutShort, IsSilent, Holds, ReadsWithout, seen};
+ghost use Rattle.er_run.specs.Promise.{IsAnswer, IsAnswered, IsCutShort, IsSilent, Holds, NoReadFailed, seen};
 
 use crate::modes::{judge_generated, judge_input};
 use crate::outcome::Outcome;
@@ -63,14 +63,18 @@ pub fn run<R: Threads + Sync, S: Source, K: Sink, G: Gate + Sync>(
         → (result ≡ Outcome.Usage) ⊎ (result ≡ Outcome.NoMemory) }
     ensures read_fault { result ≡ Outcome.ReadFault
         → Rose (S.faults source.old) (S.faults source.new) }
-    // One read failed and no more.
+    // One read failed and no more, and with any other outcome none did.
     ensures once { result ≡ Outcome.ReadFault
         → S.faults source.new ≡ one_more (S.faults source.old) }
-    // With any other outcome no read failed.
     ensures read_stands { result ≢ Outcome.ReadFault
         → S.faults source.new ≡ S.faults source.old }
     ensures write_fault { result ≡ Outcome.WriteFault
         → Rose (K.faults sink.old) (K.faults sink.new) }
+    // One write failed and no more, and with any other outcome none did.
+    ensures write_once { result ≡ Outcome.WriteFault
+        → K.faults sink.new ≡ one_more (K.faults sink.old) }
+    ensures write_stands { result ≢ Outcome.WriteFault
+        → K.faults sink.new ≡ K.faults sink.old }
     // At a failed write a proper front of the text that is due was written.
     ensures cut_short { (asked : Asked) → Asks (map string_bytes words.now) asked
         → result ≡ Outcome.WriteFault
@@ -89,7 +93,7 @@ pub fn run<R: Threads + Sync, S: Source, K: Sink, G: Gate + Sync>(
     // Where no fault came, the outcome is the answer of all that the command has to judge, unless memory
     // ran out.
     ensures complete { (asked : Asked) → Asks (map string_bytes words.now) asked
-        → ReadsWithout asked.command (S.faults source.old) (S.faults source.new)
+        → NoReadFailed asked.command (S.faults source.old) (S.faults source.new)
         → ¬ Rose (K.faults sink.old) (K.faults sink.new)
         → (bytes : List ℕ) → Holds asked.command (S.left source.old) bytes
         → (result ≡ Outcome.NoMemory)

@@ -56,7 +56,6 @@ pub(crate) fn judge_input<R: Threads + Sync, S: Source, K: Sink, G: Gate + Sync>
         → IsCutShort (format_of asked.command) asked.command
         (seen (S.left source.old) (K.got sink.old) compares.old tests.old)
         (seen (S.left source.new) (K.got sink.new) compares.new tests.new) }
-    ensures no_read { IsAnswer result → S.faults source.new ≡ S.faults source.old }
     ensures unwritten { IsSilent result → sink.new ≡ sink.old }
     ensures complete { ¬ Rose (S.faults source.old) (S.faults source.new)
         → ¬ Rose (K.faults sink.old) (K.faults sink.new)
@@ -118,7 +117,6 @@ fn judge_lines<L: Lines, R: Threads + Sync, S: Source, K: Sink, G: Gate + Sync>(
         → IsCutShort L.format asked.command
         (seen (S.left source.old) (K.got sink.old) compares.old tests.old)
         (seen (S.left source.new) (K.got sink.new) compares.new tests.new) }
-    ensures no_read { IsAnswer result → S.faults source.new ≡ S.faults source.old }
     ensures unwritten { IsSilent result → sink.new ≡ sink.old }
     ensures complete { ¬ Rose (S.faults source.old) (S.faults source.new)
         → ¬ Rose (K.faults sink.old) (K.faults sink.new)

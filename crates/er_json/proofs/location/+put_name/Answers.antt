@@ -17,5 +17,6 @@ returns g t c =
       stands = on_ok_weaker c.put_name.result (λ same. same ∙ (second.stands ∙ first.stands)) later.stands;
       part = on_err_weaker c.put_name.result (λ rest. part_behind _ _ _ _ name c.in-Some.place c.requires.bytes at first.whole second.whole rest) later.part;
       cause = grind (arith, common_steps, composes);
+      raised = grind (arith, common_steps, composes);
       count = grind (arith, common_steps, composes);
     }

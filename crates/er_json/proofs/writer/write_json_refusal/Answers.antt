@@ -15,6 +15,7 @@ returns-in_err-flush g c =
       stands = search rules;
       part = search rules;
       cause = grind (arith, common_steps, composes);
+      raised = grind (arith, common_steps, composes);
       count = grind (arith, common_steps, composes);
     }
 
@@ -24,5 +25,6 @@ returns g c = record {
   stands = grind (arith, common_steps, composes);
   part = search rules;
   cause = search rules;
+  raised = search rules;
   count = grind (arith, common_steps, composes);
 }

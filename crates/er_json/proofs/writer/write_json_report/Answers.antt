@@ -30,6 +30,7 @@ returns-in_err-put_report g c = λ lists stands.
       stands = search rules;
       part = search rules;
       cause = search rules;
+      raised = search rules;
       count = search rules;
     }
 
@@ -46,5 +47,6 @@ returns g c = λ lists stands.
       stands = search rules;
       part = search rules;
       cause = search rules;
+      raised = search rules;
       count = search rules;
     }

@@ -20,6 +20,7 @@ returns-in_err-put_summary g c = λ lists stands.
       stands = search rules;
       part = search rules;
       cause = search rules;
+      raised = search rules;
       count = search rules;
     }
 
@@ -35,5 +36,6 @@ returns g c = λ lists stands.
       stands = search rules;
       part = search rules;
       cause = search rules;
+      raised = search rules;
       count = search rules;
     }

@@ -28,6 +28,7 @@ returns-in_err-put_report g c = λ lists stands.
       stands = search rules;
       part = search rules;
       cause = search rules;
+      raised = search rules;
       count = search rules;
     }
 
@@ -44,5 +45,6 @@ returns g c = λ lists stands.
       stands = search rules;
       part = search rules;
       cause = search rules;
+      raised = search rules;
       count = search rules;
     }

@@ -25,9 +25,6 @@ returns-in-Ok-clause-complete g c = λ no_read no_write bytes held.
     let a = c.in-Ok.ensures.accepted in
     complete g.L.Lines.format _ bytes a.taken _ _ _ c.answer.result (sym held ∙ a.gave) (λ due is. spent_decided g.L.Lines.format c.args.asked.command a.taken _ c.answer.result a.spent) (c.answer.ensures.answered a.taken a.accepted) (λ w. no_write (c.answer.ensures.faults.rose w)) c.answer.ensures.no_usage c.answer.ensures.no_read_fault
 
-pub returns-in-Ok-clause-no_read : goal.returns-in-Ok-clause-no_read
-returns-in-Ok-clause-no_read g c = λ answer. c.in-Ok.ensures.reads.stands (λ e. cc)
-
 pub returns-in-Ok-clause-read_stands : goal.returns-in-Ok-clause-read_stands
 returns-in-Ok-clause-read_stands g c = λ other. c.in-Ok.ensures.reads.stands (λ e. cc)
 

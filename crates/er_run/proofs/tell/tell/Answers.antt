@@ -13,10 +13,10 @@ pub returns-clause-faults : goal.returns-clause-faults
 returns-clause-faults g c =
     let r = c.requires in
     let put = c.put_found-written.ensures r.asked r.list r.is_judged in
-    (ends_report r.asked _ r.list _ _ _ _ _ (c.outcome_found.ensures r.asked _ r.list r.is_judged.is_found) c.ends_as.ensures put.stands put.cause put.count).faults
+    (ends_report r.asked _ r.list _ _ _ _ _ (c.outcome_found.ensures r.asked _ r.list r.is_judged.is_found) c.ends_as.ensures put.stands put.cause put.raised put.count).faults
 
 pub returns-clause-no_memory : goal.returns-clause-no_memory
 returns-clause-no_memory g c =
     let r = c.requires in
     let put = c.put_found-written.ensures r.asked r.list r.is_judged in
-    (ends_report r.asked _ r.list _ _ _ _ _ (c.outcome_found.ensures r.asked _ r.list r.is_judged.is_found) c.ends_as.ensures put.stands put.cause put.count).no_memory
+    (ends_report r.asked _ r.list _ _ _ _ _ (c.outcome_found.ensures r.asked _ r.list r.is_judged.is_found) c.ends_as.ensures put.stands put.cause put.raised put.count).no_memory

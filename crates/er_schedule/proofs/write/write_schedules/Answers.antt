@@ -31,6 +31,7 @@ returns-in_err-put_schedules g c = λ lists are.
       stands = search rules;
       part = search rules;
       cause = search rules;
+      raised = search rules;
       count = search rules;
     }
 
@@ -49,5 +50,6 @@ returns g c = λ lists are.
       stands = search rules;
       part = search rules;
       cause = search rules;
+      raised = search rules;
       count = search rules;
     }

@@ -15,6 +15,7 @@ returns-in_err-put_next g c = record {
       (tokens_part_later (g.K.Sink.got c.args.sink.now) (g.K.Sink.got c.loop-token.sink) (g.K.Sink.got c.put_next.new.sink) c.args.word.now c.args.later.now c.loop-token.token-index _
       c.loop-token-test.true (same_token c.args.later.now c.loop-token.token-index _ c.loop-token-test.true) c.loop-token.invariant.whole c.in_err-put_next.ensures.part);
   cause = grind (arith, composes);
+  raised = grind (arith, composes);
   count = grind arith;
 }
 
@@ -24,5 +25,6 @@ returns g c = record {
   stands = c.loop-token.invariant.stands;
   part = tt;
   cause = tt;
+  raised = tt;
   count = grind arith;
 }
