@@ -70,7 +70,7 @@ grouping_of joined accesses = grouping_by joined (classes_by_race joined accesse
 abbrev pub most_classes : ℕ
 most_classes = 32768
 
--- how many comparisons there may be: four for each class and each group
+-- how many comparisons there may be: four for each pair of a class and a group
 abbrev pub most_tests : (ℕ → ℕ → Bool) → List Kept → ℕ
 most_tests joined accesses =
     4 * (length (classes_of joined accesses) * length (groups_of joined accesses))

@@ -126,7 +126,7 @@ first_races by_race = representatives_of by_race (each_once by_race)
 abbrev pub value_of : List Class → List ℕ → Class → ℕ
 value_of classes values x = slice_index values (position_or_len (λ y. same x y) classes)
 
--- at most this many comparisons in one pass: two for each class and each group
+-- at most this many comparisons in one pass: two for each pair of a class and a group
 abbrev pub pass_tests : List Class → List Class → ℕ
 pass_tests classes groups = 2 * (length classes * length groups)
 

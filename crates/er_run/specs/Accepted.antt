@@ -102,7 +102,7 @@ abbrev pub IsCompared : Session → ℕ → ℕ → Type 0
 IsCompared session old new = (h : List Record) → IsSessionOf session h
     → new ≡ old + length (candidates h)
 
--- the count of tests rose by four at most for each class and each group of these records
+-- the count of tests rose by four at most for each pair of a class and a group of these records
 abbrev pub IsTested : Session → ℕ → ℕ → Type 0
 IsTested session old new = (h : List Record) → IsSessionOf session h → (old ≤ new) × (new ≤ old + 4 * (length (classes session.graph.version h) * length (groups session.graph.version h)))
 

@@ -96,7 +96,7 @@ Compares f asked bytes Races old new = (v : Version) (records : List Record)
     → IsLegalTrace f asked v bytes records → new ≡ old + compared_for asked (reverse records)
 Compares f asked bytes _ old new = Unit {0}
 
--- and the count of tests by four at most for each class and each group
+-- and the count of tests by four at most for each pair of a class and a group
 abbrev pub Tests : Format → Command → List ℕ → Outcome → ℕ → ℕ → Type 0
 Tests f asked bytes Clean old new = (v : Version) (records : List Record)
     → IsLegalTrace f asked v bytes records

@@ -50,8 +50,8 @@ pub fn run<R: Threads + Sync, S: Source, K: Sink, G: Gate + Sync>(
     requires compares { compares.old < 2 ^ 60 }
     requires tests { tests.old < 2 ^ 60 }
     // The input of the command answers the outcome, the text that is due was written, and with a report
-    // `compares` rose by exactly the number of candidate pairs, `tests` by at most four for each class and
-    // each group.
+    // `compares` rose by exactly the number of candidate pairs, `tests` by at most four for each pair of a
+    // class and a group.
     ensures answered { (asked : Asked) → Asks (map string_bytes words.now) asked → IsAnswer result
         → IsAnswered (format_of asked.command) asked.command
         (seen (S.left source.old) (K.got sink.old) compares.old tests.old)
