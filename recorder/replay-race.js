@@ -4,6 +4,7 @@
 
 const fs = require('node:fs');
 const path = require('node:path');
+const { HELP } = require('./help.js');
 const { LastingNames } = require('./list/lasting.js');
 const { Listing } = require('./list/listing.js');
 const { recordInto } = require('./record.js');
@@ -16,14 +17,6 @@ const { runProgram, NO_PROGRAM } = require('./view/program.js');
 const { judgeWithin } = require('./view/within-limits.js');
 const { view, besides } = require('./view.js');
 
-const USAGE = `usage: er_replay OUT.trace --race K [options]
-Records the page of OUT.trace once more, as its OUT.names.json tells; finds race K of its report there again, by its lasting name; and runs the page
-with the race's two accesses in the other order, to tell what differs. Writes the folder OUT.replay: page.trace, page.html, page.replay.json, replays/.
-  --race K          race K of the report of OUT.trace; may stand several times
-  --time SECONDS    a run takes at most so long (as OUT.trace was recorded)
-  --live            random numbers and the clock are not the same in each run
-  --yes             requests that change something on another machine's server may be sent again
-  --help            tells this`;
 const STATUS = { found: 0, lost: 1, usage: 2, refused: 3, noFile: 4, noBrowser: 5 };
 /** A race that does not come by chance may come in a further recording. */
 const MOST_RECORDINGS = 3;
@@ -130,7 +123,7 @@ async function replayTrace({ trace, races, time, isLive, mayChange }) {
 
 async function main(words) {
   if (words.length === 1 && words[0] === '--help') {
-    console.log(USAGE);
+    console.log(HELP.er_replay);
     return STATUS.found;
   }
   try {
@@ -140,7 +133,7 @@ async function main(words) {
     if (fault instanceof OriginFault) console.error(`er_replay: ${fault.message}`);
     else if (fault instanceof ReplayFault) console.error(`er_replay: ${fault.message}`);
     else if (!(fault instanceof UsageFault)) throw fault;
-    else console.error(`${fault.message ? `er_replay: ${fault.message}\n` : ''}${USAGE}`);
+    else console.error(`${fault.message ? `er_replay: ${fault.message}\n` : ''}${HELP.er_replay}`);
     return fault instanceof UsageFault ? STATUS.usage : fault.status || STATUS.noFile;
   }
 }

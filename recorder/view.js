@@ -4,6 +4,7 @@
 // er_view OUT.trace --why A B: tells why action A comes before action B, where the program has the mode `explain`.
 
 const fs = require('node:fs');
+const { called } = require('./called.js');
 const { HELP } = require('./help.js');
 const { Listing } = require('./list/listing.js');
 const { Problems } = require('./list/problems.js');
@@ -50,7 +51,7 @@ async function writeView(traceFile, report, known) {
   const links = report.actions <= MOST_TO_ASK ? await linksBetween(traceFile, model.pairsToExplain()) : [];
   const built = model.build(links || []);
   const groups = built.groups.map((group, k) => ({ ...group, race: problems.leads[k] }));
-  const shown = { ...built, groups, problems: new Listing([problems], known).problems.map(plainProblem), leftOut: problems.leftOut, ofLibraries: problems.ofLibraries, isUnproved: !links, command: `./er_view ${traceFile}` };
+  const shown = { ...built, groups, problems: new Listing([problems], known).problems.map(plainProblem), leftOut: problems.leftOut, ofLibraries: problems.ofLibraries, isUnproved: !links, command: `${called('er_view')} ${traceFile}` };
   writePage(traceFile, shown);
   return { model: shown, problems };
 }

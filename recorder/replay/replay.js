@@ -3,6 +3,7 @@
 
 const fs = require('node:fs');
 const path = require('node:path');
+const { called } = require('../called.js');
 const { Recorder, RecordingFault, numberOfAct } = require('../recorder.js');
 const { readRun } = require('../record.js');
 const { judgeWithin } = require('../view/within-limits.js');
@@ -237,7 +238,7 @@ class Replay {
     if (fault || report.refused) return { isTurned: false, why: `the program gave no report of this run: ${fault || report.refused.cause}` };
     const pair = [second.action, first.action];
     const isListed = report.races.some((race) => race.actions.join(' ') === pair.join(' '));
-    return { isTurned: true, isListed, pair, note: isListed ? '' : `in this run the rules order them: ./er_view ${run.file} --why ${pair.join(' ')}` };
+    return { isTurned: true, isListed, pair, note: isListed ? '' : `in this run the rules order them: ${called('er_view')} ${run.file} --why ${pair.join(' ')}` };
   }
 
   // ---- what is found in a turned run

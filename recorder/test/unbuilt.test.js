@@ -8,6 +8,7 @@ const { test } = require('node:test');
 const { run, start, temporaryFolder } = require('./cleanup.js');
 
 const TOP = path.join(__dirname, '..', '..');
+const VERSION = fs.readFileSync(path.join(TOP, 'VERSION'), 'utf8').trim();
 const LONGEST_RUN = 90000;
 const LONGEST_TEST = 150000;
 const ANSWERS = process.env.ER_CLI || path.join(TOP, 'crates', 'er_cli', 'out', 'er_cli');
@@ -21,7 +22,7 @@ function copy(name) {
   fs.cpSync(path.join(TOP, name), path.join(clone, name), { recursive: true, filter: (from) => !from.startsWith(__dirname) });
 }
 
-['er_cli', 'er_page', 'er_record', 'er_view', 'recorder', 'crates.txt', 'crates/er_cli/src', 'bench/program', 'bench/unproved', 'bench/version', 'examples/shop'].forEach(copy);
+['er_cli', 'er_page', 'er_record', 'er_view', 'recorder', 'crates.txt', 'VERSION', 'crates/er_cli/src', 'bench/program', 'bench/unproved', 'bench/version', 'examples/shop'].forEach(copy);
 fs.mkdirSync(temporary);
 fs.mkdirSync(path.join(folder, 'bin'));
 fs.symlinkSync(path.join(TOP, 'bench', 'stand-in-rt'), path.join(folder, 'bin', 'rt'));
@@ -115,6 +116,6 @@ test('--help and --version', { timeout: LONGEST_TEST }, async () => {
     assert.deepStrictEqual([help.status, help.stderr], [0, ''], command);
     assert.match(help.stdout, new RegExp(`^usage: (\\./)?${command} `));
     const version = await call(command, ['--version']);
-    assert.deepStrictEqual([version.status, version.stdout, version.stderr], [0, 'stand-in logic 0\n', ''], command);
+    assert.deepStrictEqual([version.status, version.stdout, version.stderr], [0, `eventracer ${VERSION}\nstand-in logic 0\n`, ''], command);
   }
 });

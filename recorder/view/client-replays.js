@@ -93,6 +93,6 @@ function replayBox(race) {
   const boxes = replay.differences.find(({ kind }) => kind === 'picture')?.boxes || [];
   const pictures = make('div', { class: 'columns' });
   pictures.append(pictureBox(model.recordedPicture, 'The end in the recorded order', boxes), pictureBox(replay.picture, 'The end in the other order', boxes));
-  box.append(pictures, make('p', {}, 'The trace of the run in the other order, for its own view: ', make('code', {}, `./er_view ${replay.trace}`)));
+  box.append(pictures, make('p', {}, 'The trace of the run in the other order, for its own view: ', make('code', {}, `${model.command.split(' ')[0]} ${replay.trace}`)));
   return [box];
 }
