@@ -9,7 +9,7 @@ use Rattle.er_trace.specs.Versions.{is_of_task, has_tasks}
 use Rattle.er_history.specs.History.{Event, Action, told, event_begun, action_begun}
 use Rattle.er_history.specs.Edges.{path, up_to}
 use Rattle.er_history.specs.Handed.{HasHanded}
-use Rattle.er_history.specs.Latest.{latest_piece, latest_among}
+use Rattle.er_history.specs.Latest.{latest_of_event, latest_among}
 use Rattle.er_history.specs.Laws.{Among}
 use Rattle.er_history.specs.Rules.{Rule, any_holds, task_rules}
 use Rattle.er_history.proofs.OrderLemmas.{not_both}
@@ -36,7 +36,7 @@ none_is_task v (x ∷ h) none are = (λ i. none_of (is_of_task x) (has_tasks v) 
 none_latest : (test : Event → Bool) (all actions : List Action) → ((a : Action) → Among a actions → test a.event ≡ false) → latest_among test all actions ≡ []
 none_latest test all [] none = refl
 none_latest test all (a ∷ older) none =
-    ap (λ b. if b then latest_piece a.event.number all ++ latest_among test all older else latest_among test all older) (not_both (a.number == a.event.number) (test a.event) (none a (inl refl)))
+    ap (λ b. if b then latest_of_event a.event.number all ++ latest_among test all older else latest_among test all older) (not_both (a.number == a.event.number) (test a.event) (none a (inl refl)))
     ∙ none_latest test all older (λ b among. none b (inr among))
 
 none_before : (joined : ℕ → ℕ → Bool) (h : List Record) (x : Record) → Among (action_begun (told h) x) (told (x ∷ h)).actions → ((a : Action) → Among a (told h).actions → Among a (told (x ∷ h)).actions) → list_any is_of_task (x ∷ h) ≡ false

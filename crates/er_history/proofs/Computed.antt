@@ -1,6 +1,6 @@
 -- Rows, by computing.
 use Rattle.std.proofs.Common.{refl}
-use Rattle.er_history.specs.Rows.{RulesAreNumbered, EachRule, NestedDispatches, TimersOnTimers, TimersOfPieces, JobsAndCallbacks, JobsInDispatches, MisplacedJobs, LateRecords}
+use Rattle.er_history.specs.Rows.{RulesAreNumbered, EachRule, NestedDispatches, TimersOnTimers, TimersOfPieces, JobsAndCallbacks, JobsInDispatches, TasksOfLaterPieces, TimersOfStepsInThree, FramesThatScriptsMade, LaterLoadEvent, MisplacedJobs, LateRecords}
 
 pub rules_are_numbered : RulesAreNumbered
 rules_are_numbered v = refl
@@ -22,6 +22,18 @@ jobs_and_callbacks = record { edges = refl; legal = refl }
 
 pub jobs_in_dispatches : JobsInDispatches
 jobs_in_dispatches = record { edges = refl; legal = refl }
+
+pub tasks_of_later_pieces : TasksOfLaterPieces
+tasks_of_later_pieces = record { edges = refl; legal = refl }
+
+pub timers_of_steps_in_three : TimersOfStepsInThree
+timers_of_steps_in_three = record { edges = refl; legal = refl }
+
+pub frames_that_scripts_made : FramesThatScriptsMade
+frames_that_scripts_made = record { edges = refl; legal = refl }
+
+pub later_load_event : LaterLoadEvent
+later_load_event = record { edges = refl; legal = refl }
 
 pub misplaced_jobs : MisplacedJobs
 misplaced_jobs = refl

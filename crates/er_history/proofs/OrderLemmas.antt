@@ -9,7 +9,7 @@ use Rattle.er_trace.specs.declared.record.Record.TheVariants.{Back}
 use Rattle.er_trace.specs.declared.version.Version.{Version}
 use Rattle.er_trace.specs.declared.version.Version.TheVariants.{One, Two, Three}
 use Rattle.er_history.specs.History.{Element, Timeout, Task, Delivery, DclOf, LoadOf, EloadOf, FireAt, InlineAt, WindowFire, ReplyOf, What, ParseStep, ScriptRun, TimeoutRun, TickRun, BeginOf, HandlerOf, CloseOf, MessageRun, AnimRun, JobRun, Unnamed, Event, Action, History, told, begins, event_begun}
-use Rattle.er_history.specs.Rules.{Rule, any_holds, recorded, made_by, of_made, parse_rules, timer_rules, request_rules, parse_steps_in_order, document_before_its_steps, script_made_before_run, static_loads_before_load, inner_load_before_frame_load, target_before_dispatch, registered_before_run, dispatches_of_one_type_in_order, set_before_timer, timers_in_order, ticks_in_order, replies_in_order, task_rules, post_before_message, messages_in_order, ask_before_anim, anims_in_order, queue_before_job, jobs_in_order, jobs_before_callbacks, jobs_before_close}
+use Rattle.er_history.specs.Rules.{Rule, any_holds, recorded, made_by, is_some_and, parse_rules, timer_rules, request_rules, parse_steps_in_order, document_before_its_steps, script_made_before_run, static_loads_before_load, inner_load_before_frame_load, target_before_dispatch, registered_before_run, dispatches_of_one_type_in_order, set_before_timer, timers_in_order, ticks_in_order, replies_in_order, task_rules, post_before_message, messages_in_order, ask_before_anim, anims_in_order, queue_before_job, jobs_in_order, jobs_before_callbacks, jobs_before_close}
 use Rattle.er_history.specs.Laws.{Among}
 use Rattle.er_history.specs.Facts.{DeliveryStays, WhatStays}
 use Rattle.er_history.specs.Edges.{path}
@@ -99,11 +99,11 @@ pub not_maker : (m : Option ℕ) (u : Event) → MadeBefore u.number m → made_
 not_maker None u before = refl
 not_maker (Some k) u before = let below = before k refl in ne_eqb k u.number (λ e. omega arith)
 
-pub not_element_maker : (made : Option Element) (n : ℕ) → ElementBefore n made → of_made (λ (x : Element). x.maker == n) made ≡ false
+pub not_element_maker : (made : Option Element) (n : ℕ) → ElementBefore n made → is_some_and (λ (x : Element). x.maker == n) made ≡ false
 not_element_maker None n before = refl
 not_element_maker (Some x) n before = let below = (before x refl).0 in ne_eqb x.maker n (λ e. omega arith)
 
-pub not_timeout_maker : (made : Option Timeout) (n : ℕ) → TimeoutBefore n made → of_made (λ (x : Timeout). x.maker == n) made ≡ false
+pub not_timeout_maker : (made : Option Timeout) (n : ℕ) → TimeoutBefore n made → is_some_and (λ (x : Timeout). x.maker == n) made ≡ false
 not_timeout_maker None n before = refl
 not_timeout_maker (Some x) n before = let below = (before x refl).0 in ne_eqb x.maker n (λ e. omega arith)
 
@@ -189,7 +189,7 @@ replies_never_back joined u v before = by v.what before.1
     by (BeginOf d) kept = of v.number d.number d.begin d.delivers (not_recorded u v before.0) kept
     by _ kept = refl
 
-pub not_task_maker : (made : Option Task) (n : ℕ) → TaskBefore n made → of_made (λ (x : Task). x.maker == n) made ≡ false
+pub not_task_maker : (made : Option Task) (n : ℕ) → TaskBefore n made → is_some_and (λ (x : Task). x.maker == n) made ≡ false
 not_task_maker None n before = refl
 not_task_maker (Some x) n before = let below = (before x refl).0 in ne_eqb x.maker n (λ e. omega arith)
 

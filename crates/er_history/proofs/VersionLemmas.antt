@@ -123,7 +123,7 @@ event_knows : (h : List Record) (x : Record) → ((a : Action) → Among a (told
 event_knows h (Back p) older = resumed_knows (told h) p older
 event_knows h x older = what_before h (what_begun (told h) x) (begun_keeps (told h) x (all_keep h).1)
 
-all_know : (h : List Record) (a : Action) → Among a (told h).actions → WhatBefore a.event.number a.event.what
+pub all_know : (h : List Record) (a : Action) → Among a (told h).actions → WhatBefore a.event.number a.event.what
 all_know [] a among = absurd among
 all_know (x ∷ h) a among = step (begins x) (event_knows h x (all_know h)) (all_know h a) among
   where

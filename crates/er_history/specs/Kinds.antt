@@ -4,7 +4,7 @@ use Rattle.std.specs.List.{list_any}
 use Rattle.er_trace.specs.declared.record.Kind.{Kind}
 use Rattle.er_trace.specs.declared.record.Kind.TheVariants as kinds
 use Rattle.er_history.specs.History.{Element, Delivery, LoadOf, EloadOf, ReplyOf, What, ParseStep, ScriptRun, TickRun, BeginOf, HandlerOf, CloseOf, JobRun, Event}
-use Rattle.er_history.specs.Rules.{of_made, has_kind, is_plain}
+use Rattle.er_history.specs.Rules.{is_some_and, has_kind, is_plain, same_target}
 
 -- a parse step of the document
 abbrev pub is_step_of : ℕ → Event → Bool
@@ -19,7 +19,7 @@ abbrev pub is_run_of : (Element → Bool) → ℕ → Event → Bool
 is_run_of test d e = by e.what
   where
     by : What → Bool
-    by (ScriptRun s made) = of_made (λ x. test x && (x.doc == d)) made
+    by (ScriptRun s made) = is_some_and (λ x. test x && (x.doc == d)) made
     by _ = false
 
 -- a static script of the kind `async`
@@ -54,6 +54,10 @@ closes test e = by e.what
     by (CloseOf p) = test p.delivers
     by _ = false
 
+-- the close of a dispatch of this type at the target
+abbrev pub is_close_at : Delivery → Event → Bool
+is_close_at target = closes (λ y. same_target y target)
+
 abbrev pub is_load_of : ℕ → Delivery → Bool
 is_load_of d (LoadOf c m) = c == d
 is_load_of d _ = false
@@ -65,7 +69,7 @@ is_reply_of r _ = false
 -- the first load event of a static element of the document that is not plain
 abbrev pub is_static_load_of : ℕ → Delivery → Bool
 is_static_load_of d (EloadOf x made) =
-    of_made (λ e. e.is_static && (not (is_plain e) && (e.doc == d))) made
+    is_some_and (λ e. e.is_static && (not (is_plain e) && (e.doc == d))) made
 is_static_load_of d _ = false
 
 -- the begin of this dispatch

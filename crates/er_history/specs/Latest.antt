@@ -20,18 +20,18 @@ abbrev pub is_event : ℕ → Event → Bool
 is_event u e = e.number == u
 
 -- the latest piece of an event
-abbrev pub latest_piece : ℕ → List Action → List ℕ
-latest_piece u actions = newest (is_event u) actions
+abbrev pub latest_of_event : ℕ → List Action → List ℕ
+latest_of_event u actions = newest (is_event u) actions
 
 abbrev pub latest_of : Option ℕ → List Action → List ℕ
 latest_of None actions = []
-latest_of (Some u) actions = latest_piece u actions
+latest_of (Some u) actions = latest_of_event u actions
 
 -- the latest piece of each event that passes and has its first piece among the second list
 abbrev pub latest_among : (Event → Bool) → List Action → List Action → List ℕ
 latest_among test all [] = []
 latest_among test all (a ∷ older) = if (a.number == a.event.number)
-    && test a.event then latest_piece a.event.number all
+    && test a.event then latest_of_event a.event.number all
     ++ latest_among test all older else latest_among test all older
 
 -- the latest piece of each event that passes

@@ -1,14 +1,14 @@
 -- What the look-ups of a page answer, each by the list of records alone. Lists of records stand newest first; a list of events that a look-up answers stands oldest first.
-use Rattle.std.specs.Prelude.{ℕ, ◌-◌, Bool, true, false, ◌==◌, nat_lt, if◌then◌else◌, List, [], ◌∷◌, ◌++◌, length, filter, map, reverse, option_map, Option, Some, None}
+use Rattle.std.specs.Prelude.{ℕ, ◌-◌, Bool, true, false, ◌==◌, nat_lt, if◌then◌else◌, List, [], ◌∷◌, ◌++◌, length, map, reverse, option_map, Option, Some, None}
 use Rattle.er_trace.specs.declared.record.Record.{Record}
 use Rattle.er_trace.specs.declared.record.Record.TheVariants.{ParseFrame, NewFrame, Dcl, Load, Eload, Inline, Close, Timer, Post, Ask, Queue}
 use Rattle.er_trace.specs.declared.record.Kind.{Kind}
 use Rattle.er_trace.specs.declared.record.Kind.TheVariants as kinds
-use Rattle.er_history.specs.History.{told, first_to, maker_by, element_maker, makes_element, makes_timeout, declares_document, declares_handler, declares_interval, declares_request, action_at, is_inline, running, Action, Element, Timeout, Entry, Open, Form, Kinded, Framing, FireAt, WindowFire, What, ScriptRun}
-use Rattle.er_history.specs.Rules.{is_blocking, is_deferred, same_target}
-use Rattle.er_history.specs.Naming.{runs_script, fires_timeout, begins_dispatch}
+use Rattle.er_history.specs.History.{told, first_to, maker_by, element_maker, makes_element, makes_timeout, declares_document, declares_handler, declares_interval, declares_request, action_at, running, Action, Element, Timeout, Entry, Open, Delivery, Form, Kinded, Framing, FireAt, WindowFire, What, ScriptRun}
+use Rattle.er_history.specs.Rules.{is_blocking, is_deferred}
+use Rattle.er_history.specs.Naming.{runs_script, fires_timeout, begins_dispatch, inline_open}
 use Rattle.er_history.specs.Latest.{newest_by, is_event, events_of_each, greatest_group}
-use Rattle.er_history.specs.Kinds.{is_step_of, is_run_of, is_static_async, is_tick_of, closes, is_reply_of, is_static_load_of, is_handler_of, is_job_within}
+use Rattle.er_history.specs.Kinds.{is_step_of, is_run_of, is_static_async, is_tick_of, closes, is_close_at, is_reply_of, is_static_load_of, is_handler_of, is_job_within}
 use Rattle.er_history.specs.Tasks.{OfMessage, OfAnim, OfJob, task_piece, task_event, task_place, tasks_begun, queued_by}
 
 -- the close of a dispatch
@@ -193,15 +193,17 @@ group_below h p g = greatest_group p (λ k. nat_lt k g) (told h).actions
 abbrev pub runs_in : List Record → ℕ → ℕ → List ℕ
 runs_in h p g = reverse (events_of_each (is_handler_of p (λ k. k == g)) (told h).actions)
 
--- the latest piece of a close of a dispatch of this type at the element, begun by `fire` or `inline`
-abbrev pub last_element_close : List Record → ℕ → List ℕ → Option ℕ
-last_element_close h e n =
-    piece_in (newest_by (closes (λ y. same_target y (FireAt e n None))) (told h).actions)
+-- the latest piece of a close of a dispatch of this type at the target
+abbrev pub last_close_at : Delivery → List Action → Option ℕ
+last_close_at target actions = piece_in (newest_by (is_close_at target) actions)
 
--- the same at the window of the document, begun by `wfire`
+-- at the element, begun by `fire` or `inline`
+abbrev pub last_element_close : List Record → ℕ → List ℕ → Option ℕ
+last_element_close h e n = last_close_at (FireAt e n None) (told h).actions
+
+-- at the window of the document, begun by `wfire`
 abbrev pub last_window_close : List Record → ℕ → List ℕ → Option ℕ
-last_window_close h d n =
-    piece_in (newest_by (closes (λ y. same_target y (WindowFire d n None))) (told h).actions)
+last_window_close h d n = last_close_at (WindowFire d n None) (told h).actions
 
 -- Runs, timeouts, begins and closes answer an event, which the record begins itself; loads and DOMContentLoaded a dispatch.
 
@@ -233,7 +235,7 @@ open_dispatch h = top (told h).stack
 
 -- how many inline dispatches are on the stack
 abbrev pub inline_depth : List Record → ℕ
-inline_depth h = length (filter (λ o. is_inline o.dispatch) (told h).stack)
+inline_depth h = length (inline_open (told h).stack)
 
 -- the piece just before the begin of the inline dispatch
 abbrev pub suspends : ℕ → Entry → Option ℕ

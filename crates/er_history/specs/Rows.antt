@@ -3,7 +3,7 @@ use Rattle.std.specs.Prelude.{◌≡◌, ℕ, List, [], ◌∷◌, map, filter, 
 use Rattle.er_text.specs.declared.causes.Cause.{Cause}
 use Rattle.er_text.specs.declared.causes.Cause.TheVariants.{Unknown, Again, Misplaced, OutOfOrder}
 use Rattle.er_trace.specs.declared.record.Record.{Record}
-use Rattle.er_trace.specs.declared.record.Record.TheVariants.{Parse, ParseFrame, Exec, Timer, Tick, Dcl, Load, Eload, Fire, Wfire, Reply, Inline, Run, Close, Back, New, On, Set, Every, Send, Post, Ask, Queue, Message, Anim, Job}
+use Rattle.er_trace.specs.declared.record.Record.TheVariants.{Parse, ParseFrame, Exec, Timer, Tick, Dcl, Load, Eload, Fire, Wfire, Reply, Inline, Run, Close, Back, New, NewFrame, On, Set, Every, Send, Post, Ask, Queue, Message, Anim, Job}
 use Rattle.er_trace.specs.declared.record.Kind.TheVariants as kinds
 use Rattle.er_trace.specs.declared.record.NewKind.TheVariants as new_kinds
 use Rattle.er_trace.specs.declared.version.Version.{Version}
@@ -51,7 +51,7 @@ pub record IsSharedRow (lines : List Line) : Type 0 where
   pub two : IsRowOf Two lines
   pub three : IsRowOf Three lines
 
--- Each of the rules 1 to 21. Behind each line stands the action that it begins.
+-- Each of the rules 1 to 16 and 18 to 21. Behind each line stands the action that it begins.
 abbrev pub EachRule : Type 0
 EachRule = IsSharedRow (
     (Parse 0 1 kinds.Sync, []) ∷  -- 0
@@ -237,6 +237,91 @@ JobsInDispatches = IsRowOf Three (
     (Back 5, 19 ∷ 17 ∷ 16 ∷ 15 ∷ 14 ∷ 8 ∷ 7 ∷ 6 ∷ 2 ∷ 1 ∷ []) ∷  -- 20
     (Fire 6 1 (codes "click"), 20 ∷ 19 ∷ 17 ∷ 13 ∷ 12 ∷ 10 ∷ 5 ∷ 0 ∷ []) ∷  -- 21
     (Close 6, 21 ∷ []) ∷  -- 22
+    [])
+
+-- Rules 19, 25, 27 and 29 ask for a path from the piece that declared one to the piece that declared the other, not from or to another piece of their events; rules 24, 26 and 28 name the event.
+abbrev pub TasksOfLaterPieces : Type 0
+TasksOfLaterPieces = IsRowOf Three (
+    (Parse 0 1 kinds.Inline, []) ∷  -- 0
+    (Exec 1, 0 ∷ []) ∷  -- 1
+    (Set 1 0, []) ∷
+    (Ask 8, []) ∷
+    (Ask 9, []) ∷
+    (Inline 1 1 (codes "a"), 1 ∷ 0 ∷ []) ∷  -- 2
+    (Set 2 0, []) ∷
+    (Set 3 5, []) ∷
+    (Post 1, []) ∷
+    (Ask 1, []) ∷
+    (Queue 1, []) ∷
+    (Close 1, 2 ∷ []) ∷  -- 3
+    (Back 1, 3 ∷ 1 ∷ 0 ∷ []) ∷  -- 4
+    (Set 4 5, []) ∷
+    (Post 2, []) ∷
+    (Ask 2, []) ∷
+    (Queue 2, []) ∷
+    (Timer 2, 2 ∷ []) ∷  -- 5
+    (Set 5 5, []) ∷
+    (Post 3, []) ∷
+    (Ask 3, []) ∷
+    (Queue 3, []) ∷
+    (Post 4, []) ∷
+    (Ask 4, []) ∷
+    (Queue 4, []) ∷
+    (Timer 3, 5 ∷ 2 ∷ []) ∷  -- 6
+    (Timer 4, 6 ∷ 5 ∷ 4 ∷ 1 ∷ []) ∷  -- 7
+    (Timer 5, 6 ∷ 5 ∷ []) ∷  -- 8
+    (Job 1, 2 ∷ []) ∷  -- 9
+    (Job 2, 9 ∷ 4 ∷ 1 ∷ []) ∷  -- 10
+    (Job 3, 9 ∷ 5 ∷ []) ∷  -- 11
+    (Job 4, 11 ∷ 9 ∷ 5 ∷ []) ∷  -- 12
+    (Message 1, 9 ∷ 2 ∷ []) ∷  -- 13
+    (Message 2, 13 ∷ 10 ∷ 4 ∷ 1 ∷ []) ∷  -- 14
+    (Message 3, 13 ∷ 12 ∷ 11 ∷ 5 ∷ []) ∷  -- 15
+    (Message 4, 15 ∷ 13 ∷ 12 ∷ 11 ∷ 5 ∷ []) ∷  -- 16
+    (Anim 1, 9 ∷ 2 ∷ []) ∷  -- 17
+    (Anim 2, 17 ∷ 10 ∷ 4 ∷ 1 ∷ []) ∷  -- 18
+    (Anim 3, 17 ∷ 12 ∷ 11 ∷ 5 ∷ []) ∷  -- 19
+    (Anim 4, 19 ∷ 17 ∷ 12 ∷ 11 ∷ 5 ∷ []) ∷  -- 20
+    (Anim 9, 10 ∷ 4 ∷ 1 ∷ []) ∷  -- 21
+    (Anim 8, 10 ∷ 4 ∷ 1 ∷ []) ∷  -- 22
+    [])
+
+-- Rule 19 of version 3 is that of version 2: another event set the second timeout.
+abbrev pub TimersOfStepsInThree : Type 0
+TimersOfStepsInThree = IsRowOf Three (
+    (Parse 0 1 kinds.Plain, []) ∷  -- 0
+    (Set 1 5, []) ∷
+    (Parse 0 2 kinds.Plain, 0 ∷ []) ∷  -- 1
+    (Set 2 5, []) ∷
+    (Timer 1, 0 ∷ []) ∷  -- 2
+    (Timer 2, 2 ∷ 1 ∷ []) ∷  -- 3
+    [])
+
+-- Rule 13 counts a frame that a script made, as one that a parse step made, and load of its document if it is closed before.
+abbrev pub FramesThatScriptsMade : Type 0
+FramesThatScriptsMade = IsRow (
+    (Parse 0 1 kinds.Inline, []) ∷  -- 0
+    (Exec 1, 0 ∷ []) ∷  -- 1
+    (NewFrame 0 2 1, []) ∷
+    (Load 1 1, 1 ∷ []) ∷  -- 2
+    (Close 1, 2 ∷ []) ∷  -- 3
+    (Eload 2 2, 3 ∷ 1 ∷ []) ∷  -- 4
+    (Close 2, 4 ∷ []) ∷  -- 5
+    (NewFrame 0 3 2, []) ∷
+    (Eload 3 3, 5 ∷ []) ∷  -- 6
+    (Close 3, 6 ∷ []) ∷  -- 7
+    (Load 4 2, 5 ∷ []) ∷  -- 8
+    (Close 4, 8 ∷ []) ∷  -- 9
+    [])
+
+-- For rule 17 the first load event of an element is no dispatch of the type `load`.
+abbrev pub LaterLoadEvent : Type 0
+LaterLoadEvent = IsRow (
+    (Parse 0 1 kinds.Image, []) ∷  -- 0
+    (Eload 1 1, 0 ∷ []) ∷  -- 1
+    (Close 1, 1 ∷ []) ∷  -- 2
+    (Fire 2 1 (codes "load"), 0 ∷ []) ∷  -- 3
+    (Close 2, 3 ∷ []) ∷  -- 4
     [])
 
 -- a list with an inline dispatch on the stack, and a job that its caller queued

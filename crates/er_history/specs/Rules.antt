@@ -23,14 +23,14 @@ made_by None u = false
 made_by (Some m) u = m == u.number
 
 -- it was made, and passes the test
-abbrev pub of_made : {A : Type 0} → (A → Bool) → Option A → Bool
-of_made test None = false
-of_made test (Some x) = test x
+abbrev pub is_some_and : {A : Type 0} → (A → Bool) → Option A → Bool
+is_some_and test None = false
+is_some_and test (Some x) = test x
 
 -- both were made, and pass the test
-abbrev pub both_made : {A : Type 0} → (A → A → Bool) → Option A → Option A → Bool
-both_made test (Some x) (Some y) = test x y
-both_made test _ _ = false
+abbrev pub are_some_and : {A : Type 0} → (A → A → Bool) → Option A → Option A → Bool
+are_some_and test (Some x) (Some y) = test x y
+are_some_and test _ _ = false
 
 -- it is no frame, and its kind passes the test
 abbrev pub has_kind : (Kind → Bool) → Form → Bool
@@ -88,7 +88,7 @@ is_dcl_of d _ = false
 -- a parse step of the document, or the run of a script of it that passes
 abbrev pub step_or_script : (Element → Bool) → ℕ → What → Bool
 step_or_script test d (ParseStep c m) = c == d
-step_or_script test d (ScriptRun e made) = of_made (λ x. test x && (x.doc == d)) made
+step_or_script test d (ScriptRun e made) = is_some_and (λ x. test x && (x.doc == d)) made
 step_or_script test d _ = false
 
 -- The rules, in the order of their numbers. Each says: u before v. Those alone ask which paths there are that go by the pieces in which two numbers were declared: rule 19 of versions 2 and 3, and rules 25, 27 and 29.
@@ -114,7 +114,7 @@ abbrev pub script_made_before_run : Rule
 script_made_before_run joined u v = go v.what
   where
     go : What → Bool
-    go (ScriptRun e made) = of_made (λ x. x.maker == u.number) made
+    go (ScriptRun e made) = is_some_and (λ x. x.maker == u.number) made
     go _ = false
 
 -- 4. The run of a blocking script before each parse step of its document behind its own. A parse step is one piece, so its event has its number. HTML Standard, "The script element".
@@ -123,7 +123,7 @@ blocking_script_before_later_step joined u v = go u.what v.what
   where
     go : What → What → Bool
     go (ScriptRun e made) (ParseStep d m) =
-        of_made (λ x. is_blocking x && ((x.doc == d) && nat_lt x.piece v.number)) made
+        is_some_and (λ x. is_blocking x && ((x.doc == d) && nat_lt x.piece v.number)) made
     go _ _ = false
 
 -- 5. A parse step before the run of a deferred script of its document. HTML Standard, "The end".
@@ -131,7 +131,7 @@ abbrev pub step_before_deferred_script : Rule
 step_before_deferred_script joined u v = go u.what v.what
   where
     go : What → What → Bool
-    go (ParseStep d m) (ScriptRun e made) = of_made (λ x. is_deferred x && (x.doc == d)) made
+    go (ParseStep d m) (ScriptRun e made) = is_some_and (λ x. is_deferred x && (x.doc == d)) made
     go _ _ = false
 
 -- 6. The run of a blocking script before the run of a deferred script of its document. HTML Standard, "The end".
@@ -140,7 +140,7 @@ blocking_before_deferred_script joined u v = go u.what v.what
   where
     go : What → What → Bool
     go (ScriptRun e made) (ScriptRun f made2) =
-        both_made (λ x y. is_blocking x && (is_deferred y && (x.doc == y.doc))) made made2
+        are_some_and (λ x y. is_blocking x && (is_deferred y && (x.doc == y.doc))) made made2
     go _ _ = false
 
 -- 7. The run of a deferred script before the run of a deferred script of its document that was parsed later. HTML Standard, "The end".
@@ -149,7 +149,7 @@ deferred_scripts_as_parsed joined u v = go u.what v.what
   where
     go : What → What → Bool
     go (ScriptRun e made) (ScriptRun f made2) =
-        both_made (λ x y.
+        are_some_and (λ x y.
         is_deferred x && (is_deferred y && ((x.doc == y.doc) && nat_lt x.piece y.piece)))
         made made2
     go _ _ = false
@@ -202,7 +202,7 @@ static_loads_before_load joined u v = recorded u v && go u.what v.what
   where
     of : Delivery → Delivery → Bool
     of (EloadOf x made) (LoadOf d m) =
-        of_made (λ e. e.is_static && (not (is_plain e) && (e.doc == d))) made
+        is_some_and (λ e. e.is_static && (not (is_plain e) && (e.doc == d))) made
     of _ _ = false
 
     go : What → What → Bool
@@ -218,7 +218,7 @@ element_before_its_load joined u v = go v.what
     runs e _ = false
 
     of : Delivery → Bool
-    of (EloadOf e made) = of_made (λ x. x.maker == u.number) made || runs e u.what
+    of (EloadOf e made) = is_some_and (λ x. x.maker == u.number) made || runs e u.what
     of _ = false
 
     go : What → Bool
@@ -230,7 +230,7 @@ abbrev pub inner_load_before_frame_load : Rule
 inner_load_before_frame_load joined u v = recorded u v && go u.what v.what
   where
     of : Delivery → Delivery → Bool
-    of (LoadOf f m) (EloadOf x made) = of_made (λ e. declared e.form f) made
+    of (LoadOf f m) (EloadOf x made) = is_some_and (λ e. declared e.form f) made
     of _ _ = false
 
     go : What → What → Bool
@@ -285,7 +285,7 @@ abbrev pub set_before_timer : Rule
 set_before_timer joined u v = go v.what
   where
     go : What → Bool
-    go (TimeoutRun t made) = of_made (λ x. x.maker == u.number) made
+    go (TimeoutRun t made) = is_some_and (λ x. x.maker == u.number) made
     go _ = false
 
 -- 19, in version 1. The callback of a timeout before that of another that the same event set later with no lesser delay (recorded). HTML Standard, "Timers"; that delays alone are compared is this project's own.
@@ -294,7 +294,7 @@ timers_of_one_event_in_order joined u v = recorded u v && go u.what v.what
   where
     go : What → What → Bool
     go (TimeoutRun s made) (TimeoutRun t made2) =
-        both_made (λ x y.
+        are_some_and (λ x y.
         (x.maker == y.maker) && (nat_lt x.place y.place && nat_le x.delay y.delay))
         made made2
     go _ _ = false
@@ -305,7 +305,7 @@ timers_of_joined_pieces_in_order joined u v = recorded u v && go u.what v.what
   where
     go : What → What → Bool
     go (TimeoutRun s made) (TimeoutRun t made2) =
-        both_made (λ x y.
+        are_some_and (λ x y.
         nat_lt x.place y.place && (nat_le x.delay y.delay && joined x.piece y.piece))
         made made2
     go _ _ = false
@@ -351,14 +351,15 @@ replies_in_order joined u v = go v.what
 -- two tasks of one kind, the first declared in an earlier record, and in a piece from which a path leads to the other's
 abbrev pub declared_in_order : (ℕ → ℕ → Bool) → Option Task → Option Task → Bool
 declared_in_order joined made made2 =
-    both_made (λ (x : Task) (y : Task). nat_lt x.place y.place && joined x.piece y.piece) made made2
+    are_some_and (λ (x : Task) (y : Task).
+    nat_lt x.place y.place && joined x.piece y.piece) made made2
 
 -- 24. The event that posted a message before the event of the message. This project's own.
 abbrev pub post_before_message : Rule
 post_before_message joined u v = go v.what
   where
     go : What → Bool
-    go (MessageRun m made) = of_made (λ (x : Task). x.maker == u.number) made
+    go (MessageRun m made) = is_some_and (λ (x : Task). x.maker == u.number) made
     go _ = false
 
 -- 25. The event of a message before that of another that was posted later, in a piece to which a path leads from the piece that posted the first (recorded). This project's own.
@@ -374,7 +375,7 @@ abbrev pub ask_before_anim : Rule
 ask_before_anim joined u v = go v.what
   where
     go : What → Bool
-    go (AnimRun a made) = of_made (λ (x : Task). x.maker == u.number) made
+    go (AnimRun a made) = is_some_and (λ (x : Task). x.maker == u.number) made
     go _ = false
 
 -- 27. An animation callback before another that was asked for later, in a piece to which a path leads from the piece that asked for the first (recorded). This project's own.
@@ -390,7 +391,7 @@ abbrev pub queue_before_job : Rule
 queue_before_job joined u v = go v.what
   where
     go : What → Bool
-    go (JobRun j made within) = of_made (λ (x : Task). x.maker == u.number) made
+    go (JobRun j made within) = is_some_and (λ (x : Task). x.maker == u.number) made
     go _ = false
 
 -- 29. A job before another that was queued later, in a piece to which a path leads from the piece that queued the first (recorded). This project's own.
@@ -406,14 +407,14 @@ abbrev pub jobs_before_callbacks : Rule
 jobs_before_callbacks joined u v = recorded u v && go u.what v.what
   where
     to : ℕ → What → Bool
-    to maker (TimeoutRun t made) = of_made (λ x. x.maker == maker) made
-    to maker (TickRun i m) = of_made (λ (k : ℕ). k == maker) m
-    to maker (MessageRun m made) = of_made (λ (x : Task). x.maker == maker) made
-    to maker (AnimRun a made) = of_made (λ (x : Task). x.maker == maker) made
+    to maker (TimeoutRun t made) = is_some_and (λ x. x.maker == maker) made
+    to maker (TickRun i m) = is_some_and (λ (k : ℕ). k == maker) m
+    to maker (MessageRun m made) = is_some_and (λ (x : Task). x.maker == maker) made
+    to maker (AnimRun a made) = is_some_and (λ (x : Task). x.maker == maker) made
     to maker _ = false
 
     go : What → What → Bool
-    go (JobRun j made within) w = of_made (λ (x : Task). to x.maker w) made
+    go (JobRun j made within) w = is_some_and (λ (x : Task). to x.maker w) made
     go _ _ = false
 
 -- 31. A job that began while a dispatch was on the stack before the close of the dispatch (recorded). This project's own.

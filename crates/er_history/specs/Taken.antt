@@ -12,8 +12,8 @@ pub record IsNow (h : List Record) (x : Record) (now : Now) : Type 0 where
   pub event : now.event ≡ running_action.event.number
 
 -- what stood for a list stands for it still
-abbrev pub Keeps : {X : Type 0} → (X → List Record → Type 0) → X → X → Type 0
-Keeps Are old new = (h : List Record) → Are old h → Are new h
+abbrev pub StillStands : {X : Type 0} → (X → List Record → Type 0) → X → X → Type 0
+StillStands Are old new = (h : List Record) → Are old h → Are new h
 
 -- what stood for a list stands for the list with this record, if this action runs after it
 abbrev pub Takes : {X : Type 0} → (X → List Record → Type 0) → X → X → Record → Now → Type 0

@@ -4,7 +4,7 @@
 //!
 //! - `specs/Noted.antt`: what a note puts under a number.
 //! - `specs/Found.antt`: what the tables answer, against what the list of records says: `MakersAre` (events), `FirstsAre` (other numbers), `IsRanked` (which number was noted first).
-//! - `specs/Taken.antt`: `Keeps`, `Takes`: a value stands for the list still, or for the list with one record more, after which this action runs (`IsNow`).
+//! - `specs/Taken.antt`: `StillStands`, `Takes`: a value stands for the list still, or for the list with one record more, after which this action runs (`IsNow`).
 
 ghost use Rattle.std.specs.Prelude.{◌≡◌, ℕ, ◌<◌, ◌≤◌, Bool, List, ◌∷◌, Option, Some, None, if◌then◌else◌, nat_eq, is_some, OnOk, IfSome};
 ghost use Rattle.indexmap.specs.IndexMap.{get, spare, index_map_len};

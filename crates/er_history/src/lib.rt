@@ -8,7 +8,7 @@ ghost use Rattle.er_history.specs.Laws.{ActionsAreKept, ActionsAreNumbered, Edge
 ghost use Rattle.er_history.specs.Facts.{FactsAreExact, FactsStay};
 ghost use Rattle.er_history.specs.Rules.{parse_rules, timer_rules, request_rules, task_rules};
 ghost use Rattle.er_history.specs.Records.{TasksAreOfVersionThree};
-ghost use Rattle.er_history.specs.Rows.{EachRule, JobsAndCallbacks, JobsInDispatches, LateRecords, MisplacedJobs, NestedDispatches, RulesAreNumbered, TimersOfPieces, TimersOnTimers};
+ghost use Rattle.er_history.specs.Rows.{EachRule, FramesThatScriptsMade, JobsAndCallbacks, JobsInDispatches, LateRecords, LaterLoadEvent, MisplacedJobs, NestedDispatches, RulesAreNumbered, TasksOfLaterPieces, TimersOfPieces, TimersOfStepsInThree, TimersOnTimers};
 ghost use Rattle.er_history.specs.Sound.{NeverLeadBack, SoundListsAreNamed};
 ghost use Rattle.er_history.specs.Unfinished.{StackIsUnfinished};
 ghost use Rattle.er_history.specs.Versions.{CausesAreShared, PathsBeforeSuffice, SetBeforeCallback, SoundListsAreShared};
@@ -147,7 +147,7 @@ pub fn rules_are_numbered()
 {}
 
 /// The edges of small lists that reach each rule and each kind of piece, and the causes of records after another.
-#[tactic(auto, using(crate::proofs::Computed::each_rule, crate::proofs::Computed::nested_dispatches, crate::proofs::Computed::timers_on_timers, crate::proofs::Computed::timers_of_pieces, crate::proofs::Computed::jobs_and_callbacks, crate::proofs::Computed::jobs_in_dispatches, crate::proofs::Computed::misplaced_jobs, crate::proofs::Computed::late_records))]
+#[tactic(auto, using(crate::proofs::Computed::each_rule, crate::proofs::Computed::nested_dispatches, crate::proofs::Computed::timers_on_timers, crate::proofs::Computed::timers_of_pieces, crate::proofs::Computed::jobs_and_callbacks, crate::proofs::Computed::jobs_in_dispatches, crate::proofs::Computed::tasks_of_later_pieces, crate::proofs::Computed::timers_of_steps_in_three, crate::proofs::Computed::frames_that_scripts_made, crate::proofs::Computed::later_load_event, crate::proofs::Computed::misplaced_jobs, crate::proofs::Computed::late_records))]
 pub fn worked_edges()
     ensures rules { EachRule }
     ensures pieces { NestedDispatches }
@@ -155,6 +155,10 @@ pub fn worked_edges()
     ensures joined { TimersOfPieces }
     ensures tasks { JobsAndCallbacks }
     ensures jobs { JobsInDispatches }
+    ensures later_pieces { TasksOfLaterPieces }
+    ensures version_three { TimersOfStepsInThree }
+    ensures made_frames { FramesThatScriptsMade }
+    ensures load_events { LaterLoadEvent }
     ensures misplaced { MisplacedJobs }
     ensures late { LateRecords }
 {}

@@ -2,10 +2,10 @@
 use Rattle.std.specs.Prelude.{◌≡◌, ℕ, ◌==◌, Bool, List, Option, None, nat_eq, reverse}
 use Rattle.indexmap.specs.IndexMap.{get}
 use Rattle.er_history.specs.History.{Event, Action, FireAt, WindowFire}
-use Rattle.er_history.specs.Rules.{is_blocking, is_deferred, same_target}
+use Rattle.er_history.specs.Rules.{is_blocking, is_deferred}
 use Rattle.er_history.specs.Latest.{newest_by, events_of_each, greatest_group}
 use Rattle.er_history.specs.Kinds.{is_step_of, is_run_of, is_static_async, is_tick_of, closes, is_reply_of, is_static_load_of, is_handler_of}
-use Rattle.er_history.specs.LookUps.{event_in, piece_in, script_in}
+use Rattle.er_history.specs.LookUps.{event_in, script_in, last_close_at}
 use Rattle.er_latest.specs.declared.latest.Latest.{Latest}
 use Rattle.er_latest.specs.declared.role.Role.{Role}
 use Rattle.er_latest.specs.declared.role.Now.{Now}
@@ -27,12 +27,10 @@ events_in_order test actions = reverse (events_of_each test actions)
 -- the close of a dispatch of this type at the element, or at the window of the document
 
 abbrev pub closes_at_element : ℕ → List ℕ → List Action → Option ℕ
-closes_at_element e n actions =
-    piece_in (newest_by (closes (λ y. same_target y (FireAt e n None))) actions)
+closes_at_element e n actions = last_close_at (FireAt e n None) actions
 
 abbrev pub closes_at_window : ℕ → List ℕ → List Action → Option ℕ
-closes_at_window d n actions =
-    piece_in (newest_by (closes (λ y. same_target y (WindowFire d n None))) actions)
+closes_at_window d n actions = last_close_at (WindowFire d n None) actions
 
 -- each table has what the list of actions says
 pub record LatestAre (latest : Latest) (actions : List Action) : Type 0 where

@@ -1,7 +1,7 @@
 //! What the records have declared, started and finished, and how one record more is taken.
 
 ghost use Rattle.std.specs.Prelude.{[], OnOk};
-ghost use Rattle.er_history.specs.Taken.{Keeps, Takes};
+ghost use Rattle.er_history.specs.Taken.{StillStands, Takes};
 ghost use Rattle.er_names.specs.Names.{NamesAre, HasRoomFor};
 
 use crate::fired::Fired;
@@ -87,7 +87,7 @@ impl Names {
 
     /// Makes room for what the record declares, starts or finishes.
     pub fn make_room(&mut self, rec: &Record) -> Result<(), NoMemory>
-        ensures kept { Keeps NamesAre self.old self.new }
+        ensures kept { StillStands NamesAre self.old self.new }
         ensures room { OnOk result (HasRoomFor self.new rec.now) }
     {
         self.tables.make_room()?;

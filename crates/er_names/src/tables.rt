@@ -2,7 +2,7 @@
 
 ghost use Rattle.std.specs.Prelude.{◌≡◌, ℕ, ◌<◌, [], OnOk, nat_eq};
 ghost use Rattle.indexmap.specs.IndexMap.{get, spare};
-ghost use Rattle.er_history.specs.Taken.{Keeps, KeepsEach, Takes};
+ghost use Rattle.er_history.specs.Taken.{StillStands, KeepsEach, Takes};
 ghost use Rattle.er_names.specs.Fired.{timer_found};
 ghost use Rattle.er_names.specs.Fired as says;
 ghost use Rattle.er_names.specs.Names.{TablesAre, HaveSpare};
@@ -109,7 +109,7 @@ impl Tables {
 
     /// Makes room for what one record more declares, starts or finishes.
     pub(crate) fn make_room(&mut self) -> Result<(), NoMemory>
-        ensures kept { Keeps TablesAre self.old self.new }
+        ensures kept { StillStands TablesAre self.old self.new }
         ensures timeouts { (k : ℕ)
             → get nat_eq self.new.timeouts k ≡ get nat_eq self.old.timeouts k }
         ensures room { OnOk result (HaveSpare self.new) }

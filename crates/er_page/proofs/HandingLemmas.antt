@@ -10,7 +10,7 @@ use Rattle.er_trace.specs.declared.record.Record.{Record}
 use Rattle.er_paths.specs.Paths.{is_among}
 use Rattle.er_paths.proofs.Paths.{or_cases, or_left, or_right}
 use Rattle.er_history.specs.History.{History, Event, Action, told, maker_by, element_maker}
-use Rattle.er_history.specs.Latest.{newest_by, newest, latest_piece, latest_of, events_of_each}
+use Rattle.er_history.specs.Latest.{newest_by, newest, latest_of_event, latest_of, events_of_each}
 use Rattle.er_history.specs.LookUps.{event_in}
 use Rattle.er_history.specs.Naming.{IsNamed}
 use Rattle.er_page.specs.declared.page.Page.{Page}
@@ -96,26 +96,26 @@ part_later page first second old mid new one two = λ h stands. grew_part_later 
 
 all_append : (us vs : List ℕ) (actions : List Action) → latest_of_all (us ++ vs) actions ≡ latest_of_all us actions ++ latest_of_all vs actions
 all_append [] vs actions = refl
-all_append (u ∷ us) vs actions = ap (λ ks. latest_piece u actions ++ ks) (all_append us vs actions) ∙ sym (append_assoc (latest_piece u actions) (latest_of_all us actions) (latest_of_all vs actions))
+all_append (u ∷ us) vs actions = ap (λ ks. latest_of_event u actions ++ ks) (all_append us vs actions) ∙ sym (append_assoc (latest_of_event u actions) (latest_of_all us actions) (latest_of_all vs actions))
 
 at_end : (us : List ℕ) (b : ℕ) → b < length us → get_or (reverse us) b 0 ≡ get_or us (length us - 1 - b) 0
 at_end us b below = get_or-reverse us b 0 below
 
 pub each_more : (us : List ℕ) (b : ℕ) (actions : List Action) → b < length us
-    → latest_of_all (take (b + 1) (reverse us)) actions ≡ latest_of_all (take b (reverse us)) actions ++ latest_piece (get_or us (length us - 1 - b) 0) actions
+    → latest_of_all (take (b + 1) (reverse us)) actions ≡ latest_of_all (take b (reverse us)) actions ++ latest_of_event (get_or us (length us - 1 - b) 0) actions
 each_more us b actions below =
     let counted = length-reverse us in
     let within : b < length (reverse us) = omega (arith, below, counted) in
     ap (λ vs. latest_of_all vs actions) (take_more (reverse us) b 0 within)
     ∙ (all_append (take b (reverse us)) (get_or (reverse us) b 0 ∷ []) actions
-    ∙ ap (λ ks. latest_of_all (take b (reverse us)) actions ++ ks) (append-nil (latest_piece (get_or (reverse us) b 0) actions) ∙ ap (λ u. latest_piece u actions) (at_end us b below)))
+    ∙ ap (λ ks. latest_of_all (take b (reverse us)) actions ++ ks) (append-nil (latest_of_event (get_or (reverse us) b 0) actions) ∙ ap (λ u. latest_of_event u actions) (at_end us b below)))
 
 pub each_rest : (us : List ℕ) (b : ℕ) (actions : List Action) → b < length us
-    → latest_of_all (take b (reverse us)) actions ++ (latest_piece (get_or us (length us - 1 - b) 0) actions ++ latest_of_all (drop (b + 1) (reverse us)) actions) ≡ latest_of_all (reverse us) actions
+    → latest_of_all (take b (reverse us)) actions ++ (latest_of_event (get_or us (length us - 1 - b) 0) actions ++ latest_of_all (drop (b + 1) (reverse us)) actions) ≡ latest_of_all (reverse us) actions
 each_rest us b actions below =
     let counted = length-reverse us in
     let within : b < length (reverse us) = omega (arith, below, counted) in
-    ap (λ u. latest_of_all (take b (reverse us)) actions ++ (latest_piece u actions ++ latest_of_all (drop (b + 1) (reverse us)) actions)) (sym (at_end us b below))
+    ap (λ u. latest_of_all (take b (reverse us)) actions ++ (latest_of_event u actions ++ latest_of_all (drop (b + 1) (reverse us)) actions)) (sym (at_end us b below))
     ∙ (ap (λ vs. latest_of_all (take b (reverse us)) actions ++ latest_of_all vs actions) (sym (drop_more (reverse us) b 0 within))
     ∙ (sym (all_append (take b (reverse us)) (drop b (reverse us)) actions) ∙ ap (λ vs. latest_of_all vs actions) (take-append-drop b (reverse us))))
 
@@ -143,20 +143,20 @@ one_of_slice page us b below some = ∥∥₁_map some (λ has. record {
     read_among (u ∷ us) zero below = or_left (u == u) (is_among u us) (eq-eqb u u refl)
     read_among (u ∷ us) (suc i) below = or_right (u == get_or us i 0) (is_among (get_or us i 0) us) (read_among us i (omega (arith, below)))
 
-pub each_handed : (page : Page) (us : List ℕ) (b : ℕ) (old mid new : List ℕ) → b < length us → GrewFor page (λ t. latest_of_all (take b (reverse us)) t.actions) old mid → GrewFor page (λ t. latest_piece (of_slice us b) t.actions) mid new
+pub each_handed : (page : Page) (us : List ℕ) (b : ℕ) (old mid new : List ℕ) → b < length us → GrewFor page (λ t. latest_of_all (take b (reverse us)) t.actions) old mid → GrewFor page (λ t. latest_of_event (of_slice us b) t.actions) mid new
     → GrewFor page (λ t. latest_of_all (take (b + 1) (reverse us)) t.actions) old new
 each_handed page us b old mid new below one two = λ h stands.
     let acts = (told h).actions in
-    grew_again old mid new (latest_of_all (take b (reverse us)) acts) (latest_piece (of_slice us b) acts) (one h stands) (two h stands) ∙ ap (λ ks. old ++ ks) (sym (each_more us b acts below))
+    grew_again old mid new (latest_of_all (take b (reverse us)) acts) (latest_of_event (of_slice us b) acts) (one h stands) (two h stands) ∙ ap (λ ks. old ++ ks) (sym (each_more us b acts below))
 
 pub each_part : {E : Type 0} → (page : Page) (us : List ℕ) (b : ℕ) (r : Result (Unit {0}) E) (old mid new : List ℕ) → b < length us → GrewFor page (λ t. latest_of_all (take b (reverse us)) t.actions) old mid
-    → GrewInPartFor page (λ t. latest_piece (of_slice us b) t.actions) mid new → OnErr r (GrewInPartFor page (λ t. latest_of_all (reverse us) t.actions) old new)
+    → GrewInPartFor page (λ t. latest_of_event (of_slice us b) t.actions) mid new → OnErr r (GrewInPartFor page (λ t. latest_of_all (reverse us) t.actions) old new)
 each_part page us b (Ok x) old mid new below one two = tt
 each_part page us b (Err e) old mid new below one two = λ h stands.
     let acts = (told h).actions in
     let rest : List ℕ = latest_of_all (drop (b + 1) (reverse us)) acts in
     subst (λ ks. GrewInPart old ks new) (each_rest us b acts below)
-    (grew_part_later old mid new (latest_of_all (take b (reverse us)) acts) (latest_piece (of_slice us b) acts ++ rest) (one h stands) (grew_part_first mid new (latest_piece (of_slice us b) acts) rest (two h stands)))
+    (grew_part_later old mid new (latest_of_all (take b (reverse us)) acts) (latest_of_event (of_slice us b) acts ++ rest) (one h stands) (grew_part_first mid new (latest_of_event (of_slice us b) acts) rest (two h stands)))
 
 pub each_done : (page : Page) (us : List ℕ) (b : ℕ) (old new : List ℕ) → length us ≤ b → GrewFor page (λ t. latest_of_all (take b (reverse us)) t.actions) old new → GrewFor page (λ t. latest_of_all (reverse us) t.actions) old new
 each_done page us b old new down grew = λ h stands. grew h stands ∙ ap (λ us. old ++ latest_of_all us (told h).actions) (take_all b (reverse us) (let counted = length-reverse us in omega (arith, counted, down)))

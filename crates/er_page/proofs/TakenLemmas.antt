@@ -15,7 +15,7 @@ use Rattle.er_history.specs.Naming.{naming, room}
 use Rattle.er_paths.specs.Limits.{most_actions}
 use Rattle.er_history.proofs.HistoryLemmas.{actions_are_numbered}
 use Rattle.er_history.specs.declared.firsts.Now.{Now}
-use Rattle.er_history.specs.Taken.{IsNow, Keeps}
+use Rattle.er_history.specs.Taken.{IsNow, StillStands}
 use Rattle.er_names.specs.declared.names.Names.{Names}
 use Rattle.er_names.specs.Names.{NamesAre}
 use Rattle.er_names.proofs.AccessLemmas.{names_same}
@@ -183,7 +183,7 @@ depth_next page (Inline p e n) some = ∥∥₁_elim some (hlevel props) (λ nex
 depth_next page _ some = tt
 
 -- where its names and tasks have room, the page stands for what it did
-pub with_room : (page : Page) (names : Names) (tasks : Tasks) (h : List Record) → Keeps NamesAre page.names names → Keeps TasksAre page.tasks tasks → IsPage page h
+pub with_room : (page : Page) (names : Names) (tasks : Tasks) (h : List Record) → StillStands NamesAre page.names names → StillStands TasksAre page.tasks tasks → IsPage page h
     → IsPage (record { names = names; tasks = tasks; stack = page.stack; pieces = page.pieces; latest = page.latest; within = page.within }) h
 with_room page names tasks h kept stays is = record { names = kept h is.names; tasks = stays h is.tasks; stack = is.stack; pieces = is.pieces; latest = is.latest; within = is.within; accepted = is.accepted }
 

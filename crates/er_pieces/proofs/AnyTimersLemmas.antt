@@ -13,7 +13,7 @@ use Rattle.er_history.specs.Edges.{path, up_to, is_ruled}
 use Rattle.er_history.specs.Laws.{Among}
 use Rattle.er_history.specs.Naming.{naming}
 use Rattle.er_history.specs.Handed.{HasGroup, AreSources, AreEnough}
-use Rattle.er_history.specs.Latest.{newest, latest_piece, latest_of, latest_of_each}
+use Rattle.er_history.specs.Latest.{newest, latest_of_event, latest_of, latest_of_each}
 use Rattle.er_history.specs.Kinds.{is_tick_of}
 use Rattle.er_pieces.specs.Enough.{IsSteady, NestedFacts}
 use Rattle.er_pieces.specs.AnyTimers.{timers_by, OnlyToTimeouts, HandsTimersBy}
@@ -67,9 +67,9 @@ reach_timeout_by rule only table h n t (Some x) i among e =
     let v : Event = event_with n (TimeoutRun t (Some x)) in
     let test : Event → Bool = λ u. rule (up_to n (path table h)) u v in
     elim (three rule (up_to n (path table h)) i.event v e) [
-      | inl set ↦ reach_left (path table h) i.number (latest_piece x.maker acts) (latest_of_each test acts) (reach_latest table h i x.maker among (sym (eqb-true x.maker i.event.number set)))
+      | inl set ↦ reach_left (path table h) i.number (latest_of_event x.maker acts) (latest_of_each test acts) (reach_latest table h i x.maker among (sym (eqb-true x.maker i.event.number set)))
       | inr rest ↦ elim rest [
-        | inl other ↦ reach_right (path table h) i.number (latest_piece x.maker acts) (latest_of_each test acts) (reach_each table h test i among other)
+        | inl other ↦ reach_right (path table h) i.number (latest_of_event x.maker acts) (latest_of_each test acts) (reach_each table h test i among other)
         | inr tick ↦ absurd (never tick)
       ]
     ]
@@ -159,7 +159,7 @@ timeout_sources_by rule h joined t (Some x) =
     let v : Event = event_with (length acts) w in
     let test : Event → Bool = λ u. rule j u v in
     let S : Action → Type 0 = λ i. any_holds (timers_by rule) j i.event v ≡ true in
-    each_both S acts (latest_piece x.maker acts) (latest_of_each test acts)
+    each_both S acts (latest_of_event x.maker acts) (latest_of_each test acts)
     (each_latest S x.maker acts (λ i among same. holds_by rule h j w i among (or_left (set_before_timer j i.event v) _ (eq-eqb x.maker i.event.number (sym same)))))
     (each_event S test h (λ i among e. holds_by rule h j w i among (or_right (set_before_timer j i.event v) _ (or_left (rule j i.event v) _ e))))
 

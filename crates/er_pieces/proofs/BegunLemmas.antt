@@ -8,7 +8,7 @@ use Rattle.er_trace.specs.declared.record.Record.TheVariants.{Parse, ParseFrame,
 use Rattle.er_history.specs.History.{Element, Timeout, Dispatch, BeginOf, CloseOf, ScriptRun, What, Event, Action, Entry, told, begins, or_else, first_to, maker_by, element_maker, makes_element, makes_timeout, action_begun, actions_after, event_begun, running}
 use Rattle.er_history.specs.Laws.{Among}
 use Rattle.er_history.specs.Naming.{IsNamed, runs_script, begins_dispatch}
-use Rattle.er_history.specs.Latest.{newest, latest_piece, latest_of}
+use Rattle.er_history.specs.Latest.{newest, latest_of_event, latest_of}
 use Rattle.er_history.specs.Kinds.{runs_element, is_begin_of}
 use Rattle.er_history.specs.LookUps.{event_of, run_of, begin_event, close_event, closes_dispatch}
 use Rattle.er_history.specs.Unfinished.{begins_close}
@@ -168,7 +168,7 @@ newest_begun h named test kind begin is = by (maker_by test (told h).entries) re
         let passes : test made.action.begin ≡ true = ap test (made.begun (begin made.read made.passes)) ∙ made.passes in
         let kind_is = is.to made.action made.among passes in
         sym (newest_of_one h kind made.action made.among kind_is (λ b other f. ap (λ (v : Event). v.number) (is.one b made.action other made.among f kind_is))
-        ∙ ap (λ n. latest_piece n (told h).actions) made.number)
+        ∙ ap (λ n. latest_of_event n (told h).actions) made.number)
 
 -- The run of a script, and the begin and the close of a dispatch.
 

@@ -8,7 +8,7 @@ use Rattle.er_trace.specs.declared.record.Record.TheVariants.{Parse, ParseFrame,
 use Rattle.er_history.specs.History.{Form, Kinded, Framing, Element, Timeout, What, TimeoutRun, FireAt, WindowFire, Event, History, told, first_to, makes_element, makes_timeout, maker_by, element_maker, declares_document, declares_handler, declares_interval, declares_request, event_begun, running}
 use Rattle.er_history.specs.Rules.{Rule, rules, is_blocking, is_deferred, is_dcl_of, same_target, timers_in_order}
 use Rattle.er_history.specs.Edges.{up_to, path}
-use Rattle.er_history.specs.Latest.{newest, number_of, latest_piece, latest_of, latest_of_each, events_of_each, greatest_group}
+use Rattle.er_history.specs.Latest.{newest, number_of, latest_of_event, latest_of, latest_of_each, events_of_each, greatest_group}
 use Rattle.er_history.specs.Kinds.{is_step_of, is_run_of, is_static_async, runs_element, is_tick_of, closes, is_load_of, is_reply_of, is_static_load_of, is_begin_of, is_handler_of}
 use Rattle.er_pieces.specs.HandedPieces.{step_handed, dcl_handed, run_handed, inner_close, eload_handed, timeout_handed, runs_or_begin}
 use Rattle.er_pieces.specs.Counts.{run_count, ParseHandsAtMost, ScriptHandsAtMost, LoadHandsAtMost, TimerHandsAtMost, RequestHandsAtMost, DispatchHandsAtMost}
@@ -38,7 +38,7 @@ parsed_short t d =
 
 run_short : (t : History) (o : Option Element) → length (run_handed t o) ≤ 4
 run_short t None = nothing 4
-run_short t (Some x) = both_short (latest_piece x.maker t.actions) (if is_deferred x then dcl_handed t x.doc else []) 1 3 (latest_short x.maker t.actions) (some (is_deferred x))
+run_short t (Some x) = both_short (latest_of_event x.maker t.actions) (if is_deferred x then dcl_handed t x.doc else []) 1 3 (latest_short x.maker t.actions) (some (is_deferred x))
   where
     some : (b : Bool) → length (if b then dcl_handed t x.doc else []) ≤ 3
     some true = parsed_short t x.doc
@@ -59,7 +59,7 @@ inner_short t (Kinded k) = nothing 1
 eload_short : (t : History) (e : ℕ) (o : Option Element) → length (eload_handed t e o) ≤ 3
 eload_short t e None = let one = newest_short (runs_element e) t.actions in omega (arith, one)
 eload_short t e (Some x) =
-    let maker = latest_piece x.maker t.actions in
+    let maker = latest_of_event x.maker t.actions in
     let run = newest (runs_element e) t.actions in
     both_short (maker ++ run) (inner_close t x.form) 2 1 (both_short maker run 1 1 (latest_short x.maker t.actions) (newest_short (runs_element e) t.actions)) (inner_short t x.form)
 
@@ -88,7 +88,7 @@ timeout_short rule joined t v None = nothing _
 timeout_short rule joined t v (Some x) =
     let test : Event → Bool = λ (u : Event). rule (up_to v.number joined) u v in
     let each = each_short test t.actions in
-    both_short (latest_piece x.maker t.actions) (latest_of_each test t.actions) 1 (length (events_of_each test t.actions)) (latest_short x.maker t.actions)
+    both_short (latest_of_event x.maker t.actions) (latest_of_each test t.actions) 1 (length (events_of_each test t.actions)) (latest_short x.maker t.actions)
     (omega (arith, each, length-reverse (events_of_each test t.actions)))
 
 pub timer_hands_at_most : TimerHandsAtMost

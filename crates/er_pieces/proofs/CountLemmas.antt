@@ -3,7 +3,7 @@ use Rattle.std.proofs.Common.{◌≡◌, ℕ, ◌+◌, ◌≤◌, Bool, true, fa
 use Rattle.std.specs.Prelude.{◌==◌, ◌&&◌, if◌then◌else◌}
 use Rattle.std.proofs.lemmas.List.{length-append, length-reverse}
 use Rattle.er_history.specs.History.{Event, Action}
-use Rattle.er_history.specs.Latest.{newest_by, newest, number_of, latest_piece, latest_of, latest_among, latest_of_each, events_of_each}
+use Rattle.er_history.specs.Latest.{newest_by, newest, number_of, latest_of_event, latest_of, latest_among, latest_of_each, events_of_each}
 
 -- at most one
 
@@ -14,7 +14,7 @@ number_short (Some a) = omega (arith)
 pub newest_short : (test : Event → Bool) (actions : List Action) → length (newest test actions) ≤ 1
 newest_short test actions = number_short (newest_by test actions)
 
-pub latest_short : (u : ℕ) (actions : List Action) → length (latest_piece u actions) ≤ 1
+pub latest_short : (u : ℕ) (actions : List Action) → length (latest_of_event u actions) ≤ 1
 latest_short u actions = number_short (newest_by (λ (e : Event). e.number == u) actions)
 
 pub made_short : (o : Option ℕ) (actions : List Action) → length (latest_of o actions) ≤ 1
@@ -30,9 +30,9 @@ among_short : (test : Event → Bool) (all actions : List Action) → length (la
 among_short test all [] = omega (arith)
 among_short test all (a ∷ older) = step ((a.number == a.event.number) && test a.event) (among_short test all older)
   where
-    step : (b : Bool) → length (latest_among test all older) ≤ length (events_of_each test older) → length (if b then latest_piece a.event.number all ++ latest_among test all older else latest_among test all older)
+    step : (b : Bool) → length (latest_among test all older) ≤ length (events_of_each test older) → length (if b then latest_of_event a.event.number all ++ latest_among test all older else latest_among test all older)
         ≤ length (if b then a.event.number ∷ events_of_each test older else events_of_each test older)
-    step true rest = let both = both_short (latest_piece a.event.number all) (latest_among test all older) 1 (length (events_of_each test older)) (latest_short a.event.number all) rest in omega (arith, both)
+    step true rest = let both = both_short (latest_of_event a.event.number all) (latest_among test all older) 1 (length (events_of_each test older)) (latest_short a.event.number all) rest in omega (arith, both)
     step false rest = rest
 
 -- the look-ups list the events oldest first

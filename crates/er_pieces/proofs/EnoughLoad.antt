@@ -5,11 +5,11 @@ use Rattle.std.proofs.lemmas.Bool.{eqb-true, eq-eqb}
 use Rattle.er_trace.specs.declared.record.Record.{Record}
 use Rattle.er_trace.specs.declared.record.Record.TheVariants.{Dcl, Load, Eload, Fire, Wfire, Reply, Inline, Run, Close, Back}
 use Rattle.er_history.specs.History.{Form, Kinded, Framing, Element, Dispatch, Delivery, DclOf, LoadOf, EloadOf, FireAt, InlineAt, WindowFire, ReplyOf, What, ScriptRun, HandlerOf, CloseOf, Event, Action, told, what_begun, first_to, makes_element, maker_by, element_maker, declares_document, declares_request}
-use Rattle.er_history.specs.Rules.{Rule, of_made, declared, is_blocking, is_deferred, is_dcl_of, load_rules}
+use Rattle.er_history.specs.Rules.{Rule, is_some_and, declared, is_blocking, is_deferred, is_dcl_of, load_rules}
 use Rattle.er_history.specs.Edges.{path, up_to}
 use Rattle.er_history.specs.Laws.{Among}
 use Rattle.er_history.specs.Naming.{has_open}
-use Rattle.er_history.specs.Latest.{newest, latest_piece, latest_of_each}
+use Rattle.er_history.specs.Latest.{newest, latest_of_event, latest_of_each}
 use Rattle.er_history.specs.Kinds.{is_run_of, is_static_async, runs_element, closes, is_load_of, is_static_load_of}
 use Rattle.er_pieces.specs.HandedPieces.{dcl_handed, inner_close, eload_handed}
 use Rattle.er_pieces.specs.Enough.{IsSteady, EnoughLoad}
@@ -124,7 +124,7 @@ reach_inner table h steady x i among e = by x.form refl
 
 -- to the first load event of an element
 reach_eload : (table : List (ℕ × Rule)) (h : List Record) → IsSteady table h → (e : ℕ) (o : Option Element) (i : Action) → Among i (told h).actions
-    → (of_made (λ x. x.maker == i.event.number) o ≡ true) ⊎ ((runs_element e i.event ≡ true) ⊎ (closes (is_load_in o) i.event ≡ true)) → Reaches (path table h) i.number (eload_handed (told h) e o)
+    → (is_some_and (λ x. x.maker == i.event.number) o ≡ true) ⊎ ((runs_element e i.event ≡ true) ⊎ (closes (is_load_in o) i.event ≡ true)) → Reaches (path table h) i.number (eload_handed (told h) e o)
 reach_eload table h steady e None i among (inl maker) = absurd (cc)
 reach_eload table h steady e None i among (inr (inl run)) = reach_element table h steady e i among run
 reach_eload table h steady e None i among (inr (inr inner)) = absurd (none i.event.what inner)
@@ -138,7 +138,7 @@ reach_eload table h steady e None i among (inr (inr inner)) = absurd (none i.eve
     none _ e = cc
 reach_eload table h steady e (Some x) i among is =
     let acts = (told h).actions in
-    let maker : List ℕ = latest_piece x.maker acts in
+    let maker : List ℕ = latest_of_event x.maker acts in
     let run : List ℕ = newest (runs_element e) acts in
     let inner : List ℕ = inner_close (told h) x.form in
     elim is [

@@ -10,7 +10,7 @@ use Rattle.er_history.specs.History.{Element, Event, What, ParseStep, ScriptRun,
 use Rattle.er_history.specs.Rules.{Rule, is_blocking, is_deferred, script_rules}
 use Rattle.er_history.specs.Edges.{path, up_to}
 use Rattle.er_history.specs.Laws.{Among}
-use Rattle.er_history.specs.Latest.{latest_piece}
+use Rattle.er_history.specs.Latest.{latest_of_event}
 use Rattle.er_history.specs.Kinds.{is_run_of}
 use Rattle.er_pieces.specs.HandedPieces.{dcl_handed, run_handed}
 use Rattle.er_pieces.specs.Enough.{IsSteady, EnoughScript}
@@ -137,8 +137,8 @@ reach_run table h steady joined n s None i among e = absurd (no_element joined i
 reach_run table h steady joined n s (Some y) i among e =
     let acts = (told h).actions in
     elim (to_run joined i.event n s y e) [
-      | inl maker ↦ reach_left (path table h) i.number (latest_piece y.maker acts) (if is_deferred y then dcl_handed (told h) y.doc else []) (reach_latest table h i y.maker among (sym maker))
-      | inr parsed ↦ reach_right (path table h) i.number (latest_piece y.maker acts) (if is_deferred y then dcl_handed (told h) y.doc else [])
+      | inl maker ↦ reach_left (path table h) i.number (latest_of_event y.maker acts) (if is_deferred y then dcl_handed (told h) y.doc else []) (reach_latest table h i y.maker among (sym maker))
+      | inr parsed ↦ reach_right (path table h) i.number (latest_of_event y.maker acts) (if is_deferred y then dcl_handed (told h) y.doc else [])
           (ap (λ b. list_any (λ k. path table h i.number k) (if b then dcl_handed (told h) y.doc else [])) parsed.0 ∙ reach_parsed table h steady y.doc i among parsed.1)
     ]
 

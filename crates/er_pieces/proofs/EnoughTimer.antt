@@ -10,7 +10,7 @@ use Rattle.er_history.specs.History.{Timeout, Dispatch, Event, What, TimeoutRun,
 use Rattle.er_history.specs.Rules.{Rule, recorded, made_by, timer_rules, timers_of_one_event_in_order, ticks_in_order}
 use Rattle.er_history.specs.Edges.{path, up_to}
 use Rattle.er_history.specs.Laws.{Among}
-use Rattle.er_history.specs.Latest.{newest, latest_piece, latest_of, latest_of_each}
+use Rattle.er_history.specs.Latest.{newest, latest_of_event, latest_of, latest_of_each}
 use Rattle.er_history.specs.Kinds.{is_tick_of}
 use Rattle.er_pieces.specs.HandedPieces.{timeout_handed}
 use Rattle.er_pieces.specs.Enough.{IsSteady, EnoughTimer}

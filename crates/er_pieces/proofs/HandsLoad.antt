@@ -6,11 +6,11 @@ use Rattle.er_trace.specs.declared.record.Record.{Record}
 use Rattle.er_trace.specs.declared.record.Record.TheVariants.{Dcl, Load, Eload}
 use Rattle.er_paths.proofs.Paths.{or_left, or_right}
 use Rattle.er_history.specs.History.{Form, Kinded, Framing, Element, Delivery, DclOf, LoadOf, EloadOf, Event, What, ParseStep, ScriptRun, CloseOf, Action, told, begins, action_begun, first_to, makes_element, maker_by, declares_document}
-use Rattle.er_history.specs.Rules.{any_holds, recorded, of_made, declared, is_blocking, is_deferred, is_dcl_of, load_rules, parsed_before_dcl, dcl_before_load, parsed_before_load, static_loads_before_load, element_before_its_load, inner_load_before_frame_load}
+use Rattle.er_history.specs.Rules.{any_holds, recorded, is_some_and, declared, is_blocking, is_deferred, is_dcl_of, load_rules, parsed_before_dcl, dcl_before_load, parsed_before_load, static_loads_before_load, element_before_its_load, inner_load_before_frame_load}
 use Rattle.er_history.specs.Edges.{path, is_ruled, up_to}
 use Rattle.er_history.specs.Laws.{Among}
 use Rattle.er_history.specs.Handed.{AreSources}
-use Rattle.er_history.specs.Latest.{newest, latest_piece, latest_of_each}
+use Rattle.er_history.specs.Latest.{newest, latest_of_event, latest_of_each}
 use Rattle.er_history.specs.Kinds.{is_step_of, is_run_of, is_static_async, runs_element, closes, is_load_of, is_static_load_of}
 use Rattle.er_pieces.specs.HandedPieces.{dcl_handed, inner_close, eload_handed, load_handed}
 use Rattle.er_pieces.specs.Hands.{HandsLoad}
@@ -97,7 +97,7 @@ static_to_load joined u n p b d m below e = by u.what e
 -- what leads to the first load event of an element
 
 run_to_eload : (joined : ℕ → ℕ → Bool) (u : Event) (n p b s : ℕ) (made : Option Element) → runs_element s u ≡ true → element_before_its_load joined u (begin_with n p b (EloadOf s made)) ≡ true
-run_to_eload joined u n p b s made e = or_right (of_made (λ (x : Element). x.maker == u.number) made) _ e
+run_to_eload joined u n p b s made e = or_right (is_some_and (λ (x : Element). x.maker == u.number) made) _ e
 
 inner_to_eload : (joined : ℕ → ℕ → Bool) (u : Event) (n p b s f : ℕ) (x : Element) → u.number < n → x.form ≡ Framing f → closes (is_load_of f) u ≡ true → inner_load_before_frame_load joined u (begin_with n p b (EloadOf s (Some x))) ≡ true
 inner_to_eload joined u n p b s f x below form e = by u.what e
@@ -167,8 +167,8 @@ eload_sources h joined p s None =
     let v : Event = begin_with n p n (EloadOf s None) in
     each_newest (To joined v) (runs_element s) acts (λ i among e. holds h joined v refl i among (at_12 joined i.event v (run_to_eload joined i.event n p n s None e)))
 eload_sources h joined p s (Some x) =
-    each_both (To joined v) acts (latest_piece x.maker acts ++ newest (runs_element s) acts) (inner_close (told h) x.form)
-    (each_both (To joined v) acts (latest_piece x.maker acts) (newest (runs_element s) acts)
+    each_both (To joined v) acts (latest_of_event x.maker acts ++ newest (runs_element s) acts) (inner_close (told h) x.form)
+    (each_both (To joined v) acts (latest_of_event x.maker acts) (newest (runs_element s) acts)
     (each_latest (To joined v) x.maker acts (λ i among same. holds h joined v refl i among (at_12 joined i.event v (or_left (x.maker == i.event.number) _ (eq-eqb x.maker i.event.number (sym same))))))
     (each_newest (To joined v) (runs_element s) acts (λ i among e. holds h joined v refl i among (at_12 joined i.event v (run_to_eload joined i.event (length (told h).actions) p (length (told h).actions) s (Some x) e)))))
     (by x.form refl)

@@ -13,7 +13,7 @@ use Rattle.er_history.specs.Laws.{Among}
 use Rattle.er_history.specs.Naming.{naming, runs_script}
 use Rattle.er_history.specs.Sound.{out_of_order}
 use Rattle.er_history.specs.Handed.{AreSources}
-use Rattle.er_history.specs.Latest.{newest, latest_piece}
+use Rattle.er_history.specs.Latest.{newest, latest_of_event}
 use Rattle.er_history.specs.Kinds.{is_step_of, is_run_of}
 use Rattle.er_pieces.specs.HandedPieces.{dcl_handed, run_handed, script_handed}
 use Rattle.er_pieces.specs.Enough.{IsSteady}
@@ -69,7 +69,7 @@ run_sources : (table : List (ℕ × Rule)) (h : List Record) (e : ℕ) → IsSte
     → Each (λ i. any_holds script_rules joined i.event (event_with (length (told h).actions) (ScriptRun e o)) ≡ true) (told h).actions (run_handed (told h) o)
 run_sources table h e steady named ordered joined None found = each_none (λ i. any_holds script_rules joined i.event (event_with (length (told h).actions) (ScriptRun e None)) ≡ true) (told h).actions
 run_sources table h e steady named ordered joined (Some y) found =
-    each_both S acts (latest_piece y.maker acts) (if is_deferred y then dcl_handed (told h) y.doc else [])
+    each_both S acts (latest_of_event y.maker acts) (if is_deferred y then dcl_handed (told h) y.doc else [])
     (each_latest S y.maker acts (λ i among same. made_leads i.event v e y (apart i among) refl (sym same) joined))
     (step (is_deferred y) refl)
   where

@@ -10,7 +10,7 @@ use Rattle.er_history.specs.Rules.{any_holds, recorded, made_by, timer_rules, re
 use Rattle.er_history.specs.Edges.{path, is_ruled, up_to}
 use Rattle.er_history.specs.Laws.{Among}
 use Rattle.er_history.specs.Handed.{AreSources}
-use Rattle.er_history.specs.Latest.{newest, latest_piece, latest_of, latest_of_each}
+use Rattle.er_history.specs.Latest.{newest, latest_of_event, latest_of, latest_of_each}
 use Rattle.er_history.specs.Kinds.{is_tick_of, closes, is_reply_of}
 use Rattle.er_pieces.specs.HandedPieces.{timeout_handed, timer_handed, request_handed}
 use Rattle.er_pieces.specs.Hands.{HandsTimer, HandsRequest}

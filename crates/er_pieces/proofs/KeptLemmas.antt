@@ -6,7 +6,7 @@ use Rattle.er_history.specs.Naming.{IsNamed}
 use Rattle.er_pieces.proofs.StackLemmas.{On, Serves, some_is}
 use Rattle.er_pieces.proofs.OnceLemmas.{BegunBy, begun_by}
 use Rattle.er_pieces.proofs.DispatchLemmas.{HasBegun, open_begun, served_begun, begin_begun, same_dispatch}
-use Rattle.er_pieces.specs.Stack.{IsOn, HasBegin, dispatch_of, Keeps, OpenHaveBegun, KeptHaveBegun, OneDispatchANumber, OpenIsKept}
+use Rattle.er_pieces.specs.Stack.{IsOn, HasBegin, dispatch_of, KeepsDispatch, OpenHaveBegun, KeptHaveBegun, OneDispatchANumber, OpenIsKept}
 
 pub on_it : (o : Open) (s : List Open) → IsOn o s → On o s
 on_it o [] on = on
@@ -22,7 +22,7 @@ begin_of h d named is =
 pub open_have_begun : OpenHaveBegun
 open_have_begun h o named on = begin_of h o.dispatch named (open_begun h o (on_it o (told h).stack on))
 
-kept_begun : (h : List Record) (a : Action) (d : Dispatch) → IsNamed h → Keeps h a d → HasBegun (told h).actions d
+kept_begun : (h : List Record) (a : Action) (d : Dispatch) → IsNamed h → KeepsDispatch h a d → HasBegun (told h).actions d
 kept_begun h a d named keeps = by a.event.what refl keeps.1
   where
     by : (w : What) → a.event.what ≡ w → dispatch_of w ≡ Some d → HasBegun (told h).actions d

@@ -4,7 +4,7 @@ use Rattle.std.specs.Prelude.{◌==◌, ◌&&◌, ◌||◌}
 use Rattle.std.specs.List.{list_any}
 use Rattle.er_paths.proofs.Paths.{or_cases}
 use Rattle.er_history.specs.History.{Element, Dispatch, Delivery, DclOf, LoadOf, EloadOf, What, ParseStep, ScriptRun, BeginOf, HandlerOf, CloseOf, Event}
-use Rattle.er_history.specs.Rules.{Rule, of_made, declared, is_blocking, is_deferred, is_dcl_of, load_rules, parsed_before_dcl, dcl_before_load, parsed_before_load, static_loads_before_load, element_before_its_load, inner_load_before_frame_load}
+use Rattle.er_history.specs.Rules.{Rule, is_some_and, declared, is_blocking, is_deferred, is_dcl_of, load_rules, parsed_before_dcl, dcl_before_load, parsed_before_load, static_loads_before_load, element_before_its_load, inner_load_before_frame_load}
 use Rattle.er_history.specs.Kinds.{is_step_of, is_run_of, runs_element, closes, is_static_load_of}
 use Rattle.er_pieces.proofs.StackLemmas.{Serves}
 use Rattle.er_pieces.proofs.PathLemmas.{never, and_right}
@@ -25,14 +25,14 @@ IsOfDcl d u = (p : Dispatch) × (is_dcl_of d p.delivers ≡ true) × ((u.what �
 
 -- the load of a document that the frame element declared
 abbrev pub is_load_in : Option Element → Delivery → Bool
-is_load_in made (LoadOf f m) = of_made (λ e. declared e.form f) made
+is_load_in made (LoadOf f m) = is_some_and (λ e. declared e.form f) made
 is_load_in made _ = false
 
 -- what leads to a begin, by what it delivers
 abbrev pub LeadsToLoad : Event → Delivery → Type 0
 LeadsToLoad u (DclOf d m) = IsParsed d u
 LeadsToLoad u (LoadOf d m) = IsOfDcl d u ⊎ ((is_step_of d u ≡ true) ⊎ ((is_run_of (λ e. e.is_static) d u ≡ true) ⊎ (closes (is_static_load_of d) u ≡ true)))
-LeadsToLoad u (EloadOf e made) = (of_made (λ x. x.maker == u.number) made ≡ true) ⊎ ((runs_element e u ≡ true) ⊎ (closes (is_load_in made) u ≡ true))
+LeadsToLoad u (EloadOf e made) = (is_some_and (λ x. x.maker == u.number) made ≡ true) ⊎ ((runs_element e u ≡ true) ⊎ (closes (is_load_in made) u ≡ true))
 LeadsToLoad u _ = ⊥
 
 -- rules 11 and 13, whose targets are told by what they deliver
@@ -104,9 +104,9 @@ told_10 joined u n p b d m e = by u.what e
     by _ e = absurd (cc)
 
 told_12 : (joined : ℕ → ℕ → Bool) (u : Event) (n p b e : ℕ) (made : Option Element) → element_before_its_load joined u (begin_with n p b (EloadOf e made)) ≡ true
-    → (of_made (λ x. x.maker == u.number) made ≡ true) ⊎ (runs_element e u ≡ true)
+    → (is_some_and (λ x. x.maker == u.number) made ≡ true) ⊎ (runs_element e u ≡ true)
 told_12 joined u n p b e made is =
-    elim (or_cases (of_made (λ x. x.maker == u.number) made) _ is) [
+    elim (or_cases (is_some_and (λ x. x.maker == u.number) made) _ is) [
       | inl maker ↦ inl maker
       | inr run ↦ inr run
     ]

@@ -8,7 +8,7 @@ use Rattle.er_paths.proofs.Paths.{or_cases, or_left, or_right}
 use Rattle.er_trace.specs.declared.record.Record.{Record}
 use Rattle.er_history.specs.History.{Event, Action, told, action_at}
 use Rattle.er_history.specs.Laws.{Among}
-use Rattle.er_history.specs.Latest.{newest_by, number_of, newest, is_event, latest_piece, latest_of, latest_among, latest_of_each, events_of_each}
+use Rattle.er_history.specs.Latest.{newest_by, number_of, newest, is_event, latest_of_event, latest_of, latest_among, latest_of_each, events_of_each}
 use Rattle.er_history.specs.LookUps as look
 use Rattle.er_history.specs.LookUps.{event_in, piece_in, event_of}
 use Rattle.er_history.proofs.HistoryLemmas.{actions_are_numbered, events_have_first_pieces}
@@ -25,7 +25,7 @@ piece_listed None = refl
 piece_listed (Some a) = refl
 
 -- the latest piece of an event, as `latest_piece` answers it
-pub latest_is : (h : List Record) (u r : ℕ) → Some r ≡ look.latest_piece h u → latest_piece u (told h).actions ≡ r ∷ []
+pub latest_is : (h : List Record) (u r : ℕ) → Some r ≡ look.latest_piece h u → latest_of_event u (told h).actions ≡ r ∷ []
 latest_is h u r e = piece_listed (newest_by (is_event u) (told h).actions) ∙ ap listed (sym e)
 
 -- The newest piece of a kind is the latest piece of the event that the look-up of the kind answers.
@@ -41,9 +41,9 @@ pub each_is_all : (test : Event → Bool) (all actions : List Action) → latest
 each_is_all test all [] = refl
 each_is_all test all (a ∷ older) = step ((a.number == a.event.number) && test a.event) (each_is_all test all older)
   where
-    step : (b : Bool) → latest_among test all older ≡ latest_of_all (events_of_each test older) all → (if b then latest_piece a.event.number all ++ latest_among test all older else latest_among test all older)
+    step : (b : Bool) → latest_among test all older ≡ latest_of_all (events_of_each test older) all → (if b then latest_of_event a.event.number all ++ latest_among test all older else latest_among test all older)
         ≡ latest_of_all (if b then a.event.number ∷ events_of_each test older else events_of_each test older) all
-    step true rest = ap (λ ks. latest_piece a.event.number all ++ ks) rest
+    step true rest = ap (λ ks. latest_of_event a.event.number all ++ ks) rest
     step false rest = rest
 
 pub slice_handed : (h : List Record) (test : Event → Bool) (slice : List ℕ) → slice ≡ reverse (events_of_each test (told h).actions) → latest_of_all (reverse slice) (told h).actions ≡ latest_of_each test (told h).actions

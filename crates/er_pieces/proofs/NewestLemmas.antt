@@ -6,7 +6,7 @@ use Rattle.er_trace.specs.declared.record.Record.{Record}
 use Rattle.er_history.specs.History.{What, ParseStep, Event, Action, told}
 use Rattle.er_history.specs.Laws.{Among}
 use Rattle.er_history.specs.Naming.{IsNamed, may_call}
-use Rattle.er_history.specs.Latest.{newest_by, number_of, newest, latest_piece}
+use Rattle.er_history.specs.Latest.{newest_by, number_of, newest, latest_of_event}
 use Rattle.er_history.specs.Kinds.{is_step_of}
 use Rattle.er_history.proofs.HistoryLemmas.{same_test}
 use Rattle.er_history.proofs.UnfinishedLemmas.{clash}
@@ -31,7 +31,7 @@ newest_none test actions none = ap number_of (newest_same test (λ e. false) act
 
 -- where one event alone passes, it is the latest piece of that event
 pub newest_of_one : (h : List Record) (test : Event → Bool) (c : Action) → Among c (told h).actions → test c.event ≡ true
-    → ((a : Action) → Among a (told h).actions → test a.event ≡ true → a.event.number ≡ c.event.number) → newest test (told h).actions ≡ latest_piece c.event.number (told h).actions
+    → ((a : Action) → Among a (told h).actions → test a.event ≡ true → a.event.number ≡ c.event.number) → newest test (told h).actions ≡ latest_of_event c.event.number (told h).actions
 newest_of_one h test c among passes one = ap number_of (newest_same test (λ (e : Event). e.number == c.event.number) (told h).actions agree)
   where
     agree : (a : Action) → Among a (told h).actions → test a.event ≡ (a.event.number == c.event.number)
@@ -40,7 +40,7 @@ newest_of_one h test c among passes one = ap number_of (newest_same test (λ (e 
         (λ e. ap test (same_event h a c other among (eqb-true a.event.number c.event.number e)) ∙ passes)
 
 -- in any case it is the latest piece of its own event
-pub newest_is_latest : (h : List Record) (test : Event → Bool) (a : Action) → newest_by test (told h).actions ≡ Some a → newest test (told h).actions ≡ latest_piece a.event.number (told h).actions
+pub newest_is_latest : (h : List Record) (test : Event → Bool) (a : Action) → newest_by test (told h).actions ≡ Some a → newest test (told h).actions ≡ latest_of_event a.event.number (told h).actions
 newest_is_latest h test a found = ap number_of (go (told h).actions (λ b among. among) found)
   where
     go : (actions : List Action) → ((b : Action) → Among b actions → Among b (told h).actions) → newest_by test actions ≡ Some a → newest_by test actions ≡ newest_by (λ (e : Event). e.number == a.event.number) actions

@@ -11,7 +11,7 @@ use Rattle.er_history.specs.Rules.{Rule, any_holds}
 use Rattle.er_history.specs.Edges.{around_inline, of_one_event, up_to, is_ruled, edge, edges, path}
 use Rattle.er_history.specs.Laws.{Among, IsNumbered}
 use Rattle.er_history.specs.Handed.{HasGroup}
-use Rattle.er_history.specs.Latest.{newest_by, number_of, newest, latest_piece, latest_among, latest_of_each}
+use Rattle.er_history.specs.Latest.{newest_by, number_of, newest, latest_of_event, latest_among, latest_of_each}
 use Rattle.er_history.proofs.HistoryLemmas.{actions_are_numbered, events_have_first_pieces, paths_lead_over_actions, among_below}
 use Rattle.er_history.proofs.OrderLemmas.{any_append}
 use Rattle.er_history.proofs.HandedLemmas.{action_stands}
@@ -102,7 +102,7 @@ reach_newest joined test actions i n among e to =
     ap (λ o. list_any (λ k. joined i.number k) (number_of o)) is.found ∙ or_left (joined i.number is.action.number) false (to is.action is.among is.passes is.later)
 
 -- each piece reaches the latest piece of its event
-pub reach_latest : (table : List (ℕ × Rule)) (h : List Record) (i : Action) (u : ℕ) → Among i (told h).actions → i.event.number ≡ u → Reaches (path table h) i.number (latest_piece u (told h).actions)
+pub reach_latest : (table : List (ℕ × Rule)) (h : List Record) (i : Action) (u : ℕ) → Among i (told h).actions → i.event.number ≡ u → Reaches (path table h) i.number (latest_of_event u (told h).actions)
 reach_latest table h i u among e =
     reach_newest (path table h) (λ (v : Event). v.number == u) (told h).actions i (actions_are_numbered h) among (eq-eqb i.event.number u e)
     (λ a other same le. piece_path table h i a among other (e ∙ sym (eqb-true a.event.number u same)) le)
@@ -123,12 +123,12 @@ reach_each table h test i among e =
         both (a.number == a.event.number) (test a.event)
         (eq-eqb a.number a.event.number (subst (λ (c : Action). c.number ≡ c.event.number) same number))
         (ap (λ (c : Action). test c.event) (sym same) ∙ (ap test event ∙ e)) in
-        ap (λ c. list_any (λ k. path table h i.number k) (if c then latest_piece a.event.number all ++ latest_among test all older else latest_among test all older)) is
-        ∙ reach_left (path table h) i.number (latest_piece a.event.number all) (latest_among test all older)
+        ap (λ c. list_any (λ k. path table h i.number k) (if c then latest_of_event a.event.number all ++ latest_among test all older else latest_among test all older)) is
+        ∙ reach_left (path table h) i.number (latest_of_event a.event.number all) (latest_among test all older)
         (reach_latest table h i a.event.number among (sym (ap (λ (v : Event). v.number) event) ∙ ap (λ (c : Action). c.event.number) same))
     go (a ∷ older) b (inr deeper) number event = step ((a.number == a.event.number) && test a.event) (go older b deeper number event)
       where
         step : (c : Bool) → Reaches (path table h) i.number (latest_among test all older)
-            → Reaches (path table h) i.number (if c then latest_piece a.event.number all ++ latest_among test all older else latest_among test all older)
-        step true rest = reach_right (path table h) i.number (latest_piece a.event.number all) (latest_among test all older) rest
+            → Reaches (path table h) i.number (if c then latest_of_event a.event.number all ++ latest_among test all older else latest_among test all older)
+        step true rest = reach_right (path table h) i.number (latest_of_event a.event.number all) (latest_among test all older) rest
         step false rest = rest

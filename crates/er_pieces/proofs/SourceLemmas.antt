@@ -8,7 +8,7 @@ use Rattle.er_paths.proofs.Paths.{or_cases}
 use Rattle.er_history.specs.History.{Event, Action, told, running, event_begun}
 use Rattle.er_history.specs.Rules.{made_by}
 use Rattle.er_history.specs.Laws.{Among}
-use Rattle.er_history.specs.Latest.{newest_by, number_of, newest, latest_piece, latest_of, latest_among, latest_of_each}
+use Rattle.er_history.specs.Latest.{newest_by, number_of, newest, latest_of_event, latest_of, latest_among, latest_of_each}
 use Rattle.er_history.proofs.HistoryLemmas.{told_before, event_below, event_new, goes_on}
 use Rattle.er_history.proofs.OrderLemmas.{any_append}
 use Rattle.er_pieces.proofs.PathLemmas.{never, and_right}
@@ -52,7 +52,7 @@ of_number S actions (Some a) from = λ k e.
 pub each_newest : (S : Action → Type 0) (test : Event → Bool) (actions : List Action) → ((a : Action) → Among a actions → test a.event ≡ true → S a) → Each S actions (newest test actions)
 each_newest S test actions from = of_number S actions (newest_by test actions) (λ a e. let is = newest_passes test actions a e in (is.0, from a is.0 is.1))
 
-pub each_latest : (S : Action → Type 0) (u : ℕ) (actions : List Action) → ((a : Action) → Among a actions → a.event.number ≡ u → S a) → Each S actions (latest_piece u actions)
+pub each_latest : (S : Action → Type 0) (u : ℕ) (actions : List Action) → ((a : Action) → Among a actions → a.event.number ≡ u → S a) → Each S actions (latest_of_event u actions)
 each_latest S u actions from = each_newest S (λ (e : Event). e.number == u) actions (λ a among e. from a among (eqb-true a.event.number u e))
 
 pub each_made : (S : Action → Type 0) (m : Option ℕ) (actions : List Action) → ((a : Action) → Among a actions → made_by m a.event ≡ true → S a) → Each S actions (latest_of m actions)
@@ -71,8 +71,8 @@ each_event S test h from = go (told h).actions (λ a among. among)
     go (a ∷ older) within = step ((a.number == a.event.number) && test a.event) refl (go older (λ b among. within b (inr among)))
       where
         step : (c : Bool) → ((a.number == a.event.number) && test a.event) ≡ c → Each S all (latest_among test all older)
-            → Each S all (if c then latest_piece a.event.number all ++ latest_among test all older else latest_among test all older)
-        step true e rest = each_both S all (latest_piece a.event.number all) (latest_among test all older)
+            → Each S all (if c then latest_of_event a.event.number all ++ latest_among test all older else latest_among test all older)
+        step true e rest = each_both S all (latest_of_event a.event.number all) (latest_among test all older)
             (each_latest S a.event.number all (λ b among same. from b among (ap test (same_event h b a among (within a (inl refl)) same) ∙ and_right (a.number == a.event.number) _ e))) rest
         step false e rest = rest
 

@@ -5,7 +5,7 @@ use Rattle.std.proofs.lemmas.Bool.{eqb-true, eq-eqb}
 use Rattle.er_trace.specs.declared.record.Record.{Record}
 use Rattle.er_trace.specs.declared.record.Record.TheVariants.{Parse, ParseFrame, New, NewFrame}
 use Rattle.er_history.specs.History.{Element, Kinded, Framing, kind_of, What, ScriptRun, Action, told, running, actions_after, action_begun, or_else, first_to, makes_element}
-use Rattle.er_history.specs.Rules.{of_made}
+use Rattle.er_history.specs.Rules.{is_some_and}
 use Rattle.er_history.specs.Laws.{Among}
 use Rattle.er_history.specs.Facts.{WhatIs}
 use Rattle.er_history.specs.Naming.{IsNamed}
@@ -111,7 +111,7 @@ pub record RunIs (h : List Record) (test : Element → Bool) (d : ℕ) (a : Acti
 pub run_is : (h : List Record) → IsNamed h → (test : Element → Bool) (d : ℕ) (a : Action) → Among a (told h).actions → is_run_of test d a.event ≡ true → RunIs h test d a
 run_is h named test d a among e = by a.event.what refl e (facts_are_exact h a named among)
   where
-    of : (s : ℕ) (m : Option Element) → a.event.what ≡ ScriptRun s m → of_made (λ x. test x && (x.doc == d)) m ≡ true → m ≡ first_to (makes_element s) (told h).entries → RunIs h test d a
+    of : (s : ℕ) (m : Option Element) → a.event.what ≡ ScriptRun s m → is_some_and (λ x. test x && (x.doc == d)) m ≡ true → m ≡ first_to (makes_element s) (told h).entries → RunIs h test d a
     of s None what e found = absurd (cc)
     of s (Some x) what e found = record { element = s; made = x; is = what; passes = and_left (test x) (x.doc == d) e; doc = eqb-true x.doc d (and_right (test x) (x.doc == d) e); found = sym found }
 

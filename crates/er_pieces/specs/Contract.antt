@@ -12,7 +12,7 @@ use Rattle.er_history.specs.History.{Action, History, told}
 use Rattle.er_history.specs.Rules.{Rule}
 use Rattle.er_history.specs.Edges.{path}
 use Rattle.er_history.specs.Handed.{HasHanded, HasHandedSome}
-use Rattle.er_history.specs.Latest.{latest_piece}
+use Rattle.er_history.specs.Latest.{latest_of_event}
 use Rattle.er_history.specs.Naming.{naming}
 use Rattle.er_history.specs.Sound.{IsSound, out_of_order}
 use Rattle.er_pieces.specs.Enough.{HasSteady}
@@ -79,4 +79,4 @@ listed (Some k) = k ∷ []
 
 abbrev pub latest_of_all : List ℕ → List Action → List ℕ
 latest_of_all [] actions = []
-latest_of_all (u ∷ us) actions = latest_piece u actions ++ latest_of_all us actions
+latest_of_all (u ∷ us) actions = latest_of_event u actions ++ latest_of_all us actions

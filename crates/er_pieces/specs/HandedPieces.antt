@@ -4,10 +4,10 @@ use Rattle.er_trace.specs.declared.record.Record.{Record}
 use Rattle.er_trace.specs.declared.record.Record.TheVariants.{Parse, ParseFrame, Exec, Timer, Tick, Dcl, Load, Eload, Fire, Wfire, Reply, Inline, Run, Close, Back, Message, Anim, Job}
 use Rattle.er_trace.specs.declared.version.Version.{Version}
 use Rattle.er_history.specs.History.{Form, Kinded, Framing, Element, Timeout, FireAt, WindowFire, Event, Action, History, first_to, makes_element, makes_timeout, maker_by, element_maker, declares_document, declares_handler, declares_interval, declares_request, event_begun, running}
-use Rattle.er_history.specs.Rules.{is_blocking, is_deferred, is_dcl_of, same_target, Rule, any_holds, task_rules, timers_in_order}
+use Rattle.er_history.specs.Rules.{is_blocking, is_deferred, is_dcl_of, Rule, any_holds, task_rules, timers_in_order}
 use Rattle.er_history.specs.Edges.{up_to}
-use Rattle.er_history.specs.Latest.{newest, number_of, latest_piece, latest_of, latest_of_each, greatest_group}
-use Rattle.er_history.specs.Kinds.{is_step_of, is_run_of, is_static_async, runs_element, is_tick_of, closes, is_load_of, is_reply_of, is_static_load_of, is_begin_of, is_handler_of}
+use Rattle.er_history.specs.Latest.{newest, number_of, latest_of_event, latest_of, latest_of_each, greatest_group}
+use Rattle.er_history.specs.Kinds.{is_step_of, is_run_of, is_static_async, runs_element, is_tick_of, closes, is_close_at, is_load_of, is_reply_of, is_static_load_of, is_begin_of, is_handler_of}
 
 -- the latest parse step of the document, and the latest piece of the event that declared it
 abbrev pub step_handed : History → ℕ → List ℕ
@@ -31,7 +31,7 @@ dcl_handed h d =
 abbrev pub run_handed : History → Option Element → List ℕ
 run_handed h None = []
 run_handed h (Some x) =
-    latest_piece x.maker h.actions
+    latest_of_event x.maker h.actions
     ++ (if is_deferred x then dcl_handed h x.doc else [])
 
 -- before a parse step the latest blocking run
@@ -50,7 +50,7 @@ inner_close h (Kinded k) = []
 abbrev pub eload_handed : History → ℕ → Option Element → List ℕ
 eload_handed h e None = newest (runs_element e) h.actions
 eload_handed h e (Some x) =
-    latest_piece x.maker h.actions
+    latest_of_event x.maker h.actions
     ++ newest (runs_element e) h.actions
     ++ inner_close h x.form
 
@@ -68,7 +68,7 @@ load_handed h _ = []
 abbrev pub timeout_handed : Rule → (ℕ → ℕ → Bool) → History → Event → Option Timeout → List ℕ
 timeout_handed rule joined h v None = []
 timeout_handed rule joined h v (Some x) =
-    latest_piece x.maker h.actions
+    latest_of_event x.maker h.actions
     ++ latest_of_each (λ (u : Event). rule (up_to v.number joined) u v) h.actions
 
 -- for an interval the event that set it, and its latest callback
@@ -118,14 +118,14 @@ group_handed p test actions = runs_or_begin p actions (greatest_group p test act
 abbrev pub dispatch_handed : History → Record → List ℕ
 dispatch_handed h (Fire p e n) =
     latest_of (element_maker h.entries e) h.actions
-    ++ newest (closes (λ y. same_target y (FireAt e n None))) h.actions
+    ++ newest (is_close_at (FireAt e n None)) h.actions
 dispatch_handed h (Inline p e n) =
     latest_of (element_maker h.entries e) h.actions
-    ++ newest (closes (λ y. same_target y (FireAt e n None))) h.actions
+    ++ newest (is_close_at (FireAt e n None)) h.actions
     ++ number_of (running h.actions)
 dispatch_handed h (Wfire p d n) =
     latest_of (maker_by (declares_document d) h.entries) h.actions
-    ++ newest (closes (λ y. same_target y (WindowFire d n None))) h.actions
+    ++ newest (is_close_at (WindowFire d n None)) h.actions
 dispatch_handed h (Dcl p d) = latest_of (maker_by (declares_document d) h.entries) h.actions
 dispatch_handed h (Load p d) = latest_of (maker_by (declares_document d) h.entries) h.actions
 dispatch_handed h (Run p g x) =

@@ -5,7 +5,7 @@ use Rattle.er_history.specs.History.{Action, told}
 use Rattle.er_history.specs.Rules.{Rule}
 use Rattle.er_history.specs.Edges.{path}
 use Rattle.er_history.specs.Laws.{Among}
-use Rattle.er_history.specs.Latest.{latest_piece}
+use Rattle.er_history.specs.Latest.{latest_of_event}
 
 -- By any table, after any list, a piece of an event has a path to each later piece of it.
 abbrev pub PiecesInOrder : Type 0
@@ -18,5 +18,5 @@ PiecesInOrder = (table : List (ℕ × Rule)) (h : List Record) (a b : Action)
 abbrev pub PiecesReachLatest : Type 0
 PiecesReachLatest = (table : List (ℕ × Rule)) (h : List Record) (a : Action)
     → Among a (told h).actions
-    → (k : ℕ) × (latest_piece a.event.number (told h).actions ≡ k ∷ [])
+    → (k : ℕ) × (latest_of_event a.event.number (told h).actions ≡ k ∷ [])
     × (path table h a.number k ≡ true)

@@ -37,8 +37,8 @@ dispatch_of (CloseOf d) = Some d
 dispatch_of _ = None
 
 -- an action of the list keeps the dispatch
-abbrev pub Keeps : List Record → Action → Dispatch → Type 0
-Keeps h a d = Among a (told h).actions × (dispatch_of a.event.what ≡ Some d)
+abbrev pub KeepsDispatch : List Record → Action → Dispatch → Type 0
+KeepsDispatch h a d = Among a (told h).actions × (dispatch_of a.event.what ≡ Some d)
 
 -- A dispatch on the stack was begun by the action that it names as its begin, and that by a record of its number.
 abbrev pub OpenHaveBegun : Type 0
@@ -47,18 +47,18 @@ OpenHaveBegun = (h : List Record) (o : Open) → IsNamed h → IsOn o (told h).s
 
 -- So was one that an event keeps.
 abbrev pub KeptHaveBegun : Type 0
-KeptHaveBegun = (h : List Record) (a : Action) (d : Dispatch) → IsNamed h → Keeps h a d
+KeptHaveBegun = (h : List Record) (a : Action) (d : Dispatch) → IsNamed h → KeepsDispatch h a d
     → HasBegin (told h).actions d
 
 -- Begin, handlers and close of one number keep one dispatch.
 abbrev pub OneDispatchANumber : Type 0
-OneDispatchANumber = (h : List Record) (a b : Action) (d e : Dispatch) → IsNamed h → Keeps h a d
-    → Keeps h b e
+OneDispatchANumber = (h : List Record) (a b : Action) (d e : Dispatch) → IsNamed h → KeepsDispatch h a d
+    → KeepsDispatch h b e
     → d.number ≡ e.number → d ≡ e
 
 -- It is the one on the stack, while that is not finished.
 abbrev pub OpenIsKept : Type 0
-OpenIsKept = (h : List Record) (a : Action) (d : Dispatch) (o : Open) → IsNamed h → Keeps h a d
+OpenIsKept = (h : List Record) (a : Action) (d : Dispatch) (o : Open) → IsNamed h → KeepsDispatch h a d
     → IsOn o (told h).stack
     → d.number ≡ o.dispatch.number → d ≡ o.dispatch
 

@@ -12,7 +12,7 @@ use Rattle.er_history.specs.Kinds.{is_job_within}
 use Rattle.er_history.specs.Latest.{events_of_each}
 use Rattle.er_history.specs.Laws.{IsNumbered}
 use Rattle.er_history.specs.LookUps.{jobs_in}
-use Rattle.er_history.specs.Rules.{recorded, of_made, declared_in_order, jobs_before_callbacks}
+use Rattle.er_history.specs.Rules.{recorded, is_some_and, declared_in_order, jobs_before_callbacks}
 use Rattle.er_history.specs.Tasks.{TaskKind, OfJob, task_made}
 use Rattle.er_history.proofs.HistoryLemmas.{and_left, action_at_among, actions_are_numbered, among_below}
 use Rattle.er_history.proofs.OrderLemmas.{any_append}
@@ -63,14 +63,14 @@ order_both page kind m n h joined first second x y declared leads is some other 
 
 -- what the event that queued a job declared
 
-callbacks_by : (joined : ℕ → ℕ → Bool) (u v : Event) (j : ℕ) (within : List ℕ) (made : Option history.Task) → u.what ≡ JobRun j made within → jobs_before_callbacks joined u v ≡ (recorded u v && of_made (λ (x : history.Task). declares x.maker v.what) made)
+callbacks_by : (joined : ℕ → ℕ → Bool) (u v : Event) (j : ℕ) (within : List ℕ) (made : Option history.Task) → u.what ≡ JobRun j made within → jobs_before_callbacks joined u v ≡ (recorded u v && is_some_and (λ (x : history.Task). declares x.maker v.what) made)
 callbacks_by joined u v j within made is = ap (λ w. jobs_before_callbacks joined (event_with u.number w) v) is ∙ ap (λ b. recorded u v && b) (of made)
   where
     to : ℕ → What → Bool
-    to maker (TimeoutRun t made) = of_made (λ (x : history.Timeout). x.maker == maker) made
-    to maker (TickRun i m) = of_made (λ (k : ℕ). k == maker) m
-    to maker (MessageRun m made) = of_made (λ (x : history.Task). x.maker == maker) made
-    to maker (AnimRun a made) = of_made (λ (x : history.Task). x.maker == maker) made
+    to maker (TimeoutRun t made) = is_some_and (λ (x : history.Timeout). x.maker == maker) made
+    to maker (TickRun i m) = is_some_and (λ (k : ℕ). k == maker) m
+    to maker (MessageRun m made) = is_some_and (λ (x : history.Task). x.maker == maker) made
+    to maker (AnimRun a made) = is_some_and (λ (x : history.Task). x.maker == maker) made
     to maker _ = false
 
     same : (maker : ℕ) (w : What) → to maker w ≡ declares maker w
@@ -80,7 +80,7 @@ callbacks_by joined u v j within made is = ap (λ w. jobs_before_callbacks joine
     same maker (AnimRun a made) = refl
     same maker _ = refl
 
-    of : (o : Option history.Task) → of_made (λ (x : history.Task). to x.maker v.what) o ≡ of_made (λ (x : history.Task). declares x.maker v.what) o
+    of : (o : Option history.Task) → is_some_and (λ (x : history.Task). to x.maker v.what) o ≡ is_some_and (λ (x : history.Task). declares x.maker v.what) o
     of None = refl
     of (Some x) = same x.maker v.what
 
@@ -90,13 +90,13 @@ callbacks_some page h joined u v j within task x first declared is some at what 
     let says = task_says OfJob page.tasks h is.tasks j x (sym at ∙ some) in
     (λ i. by_first i && by_declared i)
     ∙ (ap (λ m. recorded u v && declares m v.what) (sym says.maker)
-    ∙ (ap (λ o. recorded u v && of_made (λ (y : history.Task). declares y.maker v.what) o) (sym says.is) ∙ sym (callbacks_by joined u v j within (task_made OfJob h j) what)))
+    ∙ (ap (λ o. recorded u v && is_some_and (λ (y : history.Task). declares y.maker v.what) o) (sym says.is) ∙ sym (callbacks_by joined u v j within (task_made OfJob h j) what)))
 
 pub callbacks_none : (page : Page) (h : List Record) (joined : ℕ → ℕ → Bool) (u v : Event) (j : ℕ) (within : List ℕ) (task : Option Task) → IsPage page h → task ≡ None → task ≡ task_at OfJob page.tasks j → u.what ≡ JobRun j (task_made OfJob h j) within
     → false ≡ jobs_before_callbacks joined u v
 callbacks_none page h joined u v j within task is none at what =
     sym (callbacks_by joined u v j within (task_made OfJob h j) what
-    ∙ (ap (λ o. recorded u v && of_made (λ (y : history.Task). declares y.maker v.what) o) (none_made OfJob page.tasks h is.tasks j (sym at ∙ none)) ∙ never (recorded u v)))
+    ∙ (ap (λ o. recorded u v && is_some_and (λ (y : history.Task). declares y.maker v.what) o) (none_made OfJob page.tasks h is.tasks j (sym at ∙ none)) ∙ never (recorded u v)))
   where
     never : (b : Bool) → (b && false) ≡ false
     never true = refl

@@ -2,7 +2,7 @@
 use Rattle.std.specs.Prelude.{ℕ, Bool, false, not, ◌==◌, ◌&&◌, nat_lt, nat_le, List, Option}
 use Rattle.er_trace.specs.declared.record.Record.{Record}
 use Rattle.er_history.specs.History.{Element, Delivery, LoadOf, EloadOf, FireAt, InlineAt, ReplyOf, What, ScriptRun, TimeoutRun, TickRun, CloseOf, MessageRun, AnimRun, Task, Timeout, Event, Action, is_inline}
-use Rattle.er_history.specs.Rules.{of_made, both_made, is_plain, declared, is_blocking, is_deferred, same_bytes}
+use Rattle.er_history.specs.Rules.{is_some_and, are_some_and, is_plain, declared, is_blocking, is_deferred, same_bytes}
 
 -- the run of this script
 abbrev pub runs_element : ℕ → What → Bool
@@ -25,12 +25,12 @@ deferred_before x y =
 -- the first load event of a static element that is not plain, and load of its document
 abbrev pub is_static_load_before : Delivery → Delivery → Bool
 is_static_load_before (EloadOf x made) (LoadOf d m) =
-    of_made (λ e. e.is_static && (not (is_plain e) && (e.doc == d))) made
+    is_some_and (λ e. e.is_static && (not (is_plain e) && (e.doc == d))) made
 is_static_load_before _ _ = false
 
 -- load of a document, and the first load event of the frame that declared it
 abbrev pub is_inner_load_before : Delivery → Delivery → Bool
-is_inner_load_before (LoadOf f m) (EloadOf x made) = of_made (λ e. declared e.form f) made
+is_inner_load_before (LoadOf f m) (EloadOf x made) = is_some_and (λ e. declared e.form f) made
 is_inner_load_before _ _ = false
 
 -- the close of a reply of this request
@@ -50,30 +50,30 @@ is_at e n _ = false
 
 -- the event that set the timeout
 abbrev pub is_setter : Option Timeout → ℕ → Bool
-is_setter made event = of_made (λ x. x.maker == event) made
+is_setter made event = is_some_and (λ x. x.maker == event) made
 
 -- both timeouts were set by one event, the one before the other with no greater delay
 abbrev pub fires_in_order : Option Timeout → Option Timeout → Bool
 fires_in_order made later =
-    both_made (λ x y.
+    are_some_and (λ x y.
     (x.maker == y.maker) && (nat_lt x.place y.place && nat_le x.delay y.delay))
     made later
 
 -- the one timeout was set before the other with no greater delay, and a path leads from the piece that set it to that of the other
 abbrev pub fires_behind : (ℕ → ℕ → Bool) → Option Timeout → Option Timeout → Bool
 fires_behind joined made later =
-    both_made (λ x y.
+    are_some_and (λ x y.
     nat_lt x.place y.place && (nat_le x.delay y.delay && joined x.piece y.piece))
     made later
 
 -- the event that declared the task
 abbrev pub is_declarer : Option Task → ℕ → Bool
-is_declarer made event = of_made (λ (x : Task). x.maker == event) made
+is_declarer made event = is_some_and (λ (x : Task). x.maker == event) made
 
 -- the callback of a timeout or an interval that this event set, the event of a message that it posted, or an animation callback that it asked for
 abbrev pub declares : ℕ → What → Bool
 declares maker (TimeoutRun t made) = is_setter made maker
-declares maker (TickRun i m) = of_made (λ (k : ℕ). k == maker) m
+declares maker (TickRun i m) = is_some_and (λ (k : ℕ). k == maker) m
 declares maker (MessageRun m made) = is_declarer made maker
 declares maker (AnimRun a made) = is_declarer made maker
 declares maker _ = false

@@ -93,7 +93,7 @@ fn deferred_scripts_as_parsed(u: &Event<'_>, v: &Event<'_>) -> bool
 
 /// Whether it is a blocking script of the document that was parsed before this step.
 fn blocks(made: Option<Element>, doc: u32, step: u32) -> bool
-    ensures { result ≡ rules.of_made (blocks_step doc step) (option_map element_of made) }
+    ensures { result ≡ rules.is_some_and (blocks_step doc step) (option_map element_of made) }
 {
     match made {
         Some(x) => is_blocking(&x) & ((x.doc == doc) & (x.piece < step)),
@@ -104,7 +104,7 @@ fn blocks(made: Option<Element>, doc: u32, step: u32) -> bool
 /// Whether it is a deferred script of the document.
 fn is_deferred_in(made: Option<Element>, doc: u32) -> bool
     ensures { result
-        ≡ rules.of_made (λ x. rules.is_deferred x && (x.doc == doc)) (option_map element_of made) }
+        ≡ rules.is_some_and (λ x. rules.is_deferred x && (x.doc == doc)) (option_map element_of made) }
 {
     match made {
         Some(x) => is_deferred(&x) & (x.doc == doc),
@@ -115,7 +115,7 @@ fn is_deferred_in(made: Option<Element>, doc: u32) -> bool
 /// Whether the one is a blocking script, the other a deferred script of its document.
 fn is_blocking_before(made: Option<Element>, later: Option<Element>) -> bool
     ensures { result
-        ≡ rules.both_made blocks_deferred
+        ≡ rules.are_some_and blocks_deferred
         (option_map element_of made) (option_map element_of later) }
 {
     let Some(x) = made else {
@@ -130,7 +130,7 @@ fn is_blocking_before(made: Option<Element>, later: Option<Element>) -> bool
 /// Whether both are deferred scripts of one document, the one parsed before the other.
 fn is_deferred_before(made: Option<Element>, later: Option<Element>) -> bool
     ensures { result
-        ≡ rules.both_made deferred_before
+        ≡ rules.are_some_and deferred_before
         (option_map element_of made) (option_map element_of later) }
 {
     let Some(x) = made else {

@@ -181,7 +181,7 @@ fn is_among(event: u32, events: &[u32]) -> bool
 
 /// Whether the number is this one.
 fn is_it(found: Option<u32>, number: u32) -> bool
-    ensures { result ≡ rules.of_made (λ (k : ℕ). k == number) found }
+    ensures { result ≡ rules.is_some_and (λ (k : ℕ). k == number) found }
 {
     match found {
         Some(found) => found == number,

@@ -165,14 +165,14 @@ due_is old h x m l is same =
     ap (λ y. without_repeats (Kept_of y) old) (sym is) ∙ ap (without_repeats (Kept_of x)) same
 
 -- what the table says of an access, for every list that the page stands for
-abbrev pub Keeps : Page → ℕ → Mode → Loc → List Kept → List Kept → Type 0
-Keeps page line m l old new = (h : List Record) (place : ℕ) → IsPage page h → line ≡ place + 2 → AreKept old (kept_with h place m l old) new
+abbrev pub KeepsAccess : Page → ℕ → Mode → Loc → List Kept → List Kept → Type 0
+KeepsAccess page line m l old new = (h : List Record) (place : ℕ) → IsPage page h → line ≡ place + 2 → AreKept old (kept_with h place m l old) new
 
 abbrev pub IsRefusedRoom : Page → ℕ → Mode → Loc → List Kept → Type 0
 IsRefusedRoom page line m l old = (h : List Record) (place : ℕ) → IsPage page h → line ≡ place + 2 → IsPastRoom old (kept_with h place m l old)
 
 pub accessed : (old new : Session) (page : Page) (h : List Record) (x : Record) (m : Mode) (l : Loc) (line : ℕ) → IsSessionOf old h → x ≡ Access m l → line ≡ old.records + 2 → Accepts old.graph new.graph line x
-    → ((accepted : List Accepted) → IsListed new.graph accepted → IsPage page (records accepted)) → Keeps page line m l old.kept new.kept → new.graph.version ≡ old.graph.version → new.records ≡ old.records + 1 → IsSessionOf new (x ∷ h)
+    → ((accepted : List Accepted) → IsListed new.graph accepted → IsPage page (records accepted)) → KeepsAccess page line m l old.kept new.kept → new.graph.version ≡ old.graph.version → new.records ≡ old.records + 1 → IsSessionOf new (x ∷ h)
 accessed old new page h x m l line stands is e accepts shows keeps version count =
     let a = after old new.graph h x line stands e accepts in
     let k = keeps (x ∷ h) (length (told h).entries) (page_of page new.graph (x ∷ h) shows a.stands) a.line_is in

@@ -10,7 +10,7 @@ ghost use Rattle.er_history.specs.Tasks as says;
 ghost use Rattle.er_history.specs.Tasks.{TaskKind, declares_task, starts_task};
 ghost use Rattle.er_history.specs.Found.{MakersAre};
 ghost use Rattle.er_history.specs.Noted.{is_number};
-ghost use Rattle.er_history.specs.Taken.{IsNow, Keeps, KeepsEach};
+ghost use Rattle.er_history.specs.Taken.{IsNow, StillStands, KeepsEach};
 ghost use Rattle.er_tasks.specs.declared.tasks.Task.{Task};
 ghost use Rattle.er_tasks.specs.Begun.{AreBegun, HasPlace, task_number};
 ghost use Rattle.er_tasks.specs.Tasks.{HaveRoom, IsNoted, IsStarted, TaskGiven, TaskTableIs, TasksAreRanked, TasksDeclared, numbers_in, task_of, task_rank, with_task};
@@ -56,7 +56,7 @@ impl TaskTable {
 
     /// Makes room for one task more, and for one event more.
     pub(crate) fn make_room(&mut self) -> Result<(), NoMemory>
-        ensures kept { (kind : TaskKind) → Keeps (TaskTableIs kind) self.old self.new }
+        ensures kept { (kind : TaskKind) → StillStands (TaskTableIs kind) self.old self.new }
         ensures declared { (k : ℕ) → get nat_eq self.new.declared k
             ≡ get nat_eq self.old.declared k }
         ensures started { (k : ℕ) → get nat_eq self.new.started k ≡ get nat_eq self.old.started k }

@@ -2,7 +2,7 @@
 //! is taken.
 
 ghost use Rattle.std.specs.Prelude.{[], OnOk};
-ghost use Rattle.er_history.specs.Taken.{Keeps, Takes};
+ghost use Rattle.er_history.specs.Taken.{StillStands, Takes};
 ghost use Rattle.er_tasks.specs.Tasks.{HaveRoomFor, HaveRoomIfTask, TasksAre};
 
 use crate::forms::{anim_in, asked_in, is_of_task, job_in, message_in, posted_in, queued_in};
@@ -66,7 +66,7 @@ impl Tasks {
 
     /// Makes room for what the record declares or begins.
     pub fn make_room(&mut self, rec: &Record) -> Result<(), NoMemory>
-        ensures kept { Keeps TasksAre self.old self.new }
+        ensures kept { StillStands TasksAre self.old self.new }
         ensures room { OnOk result (HaveRoomFor self.new rec.now) }
     {
         self.messages.make_room()?;

@@ -18,7 +18,7 @@ use Rattle.er_history.specs.Latest.{events_of_each}
 use Rattle.er_history.specs.Laws.{Among}
 use Rattle.er_history.specs.LookUps.{before, event_of}
 use Rattle.er_history.specs.Naming.{IsNamed}
-use Rattle.er_history.specs.Rules.{Rule, any_holds, of_made, task_rules, recorded, declared_in_order, post_before_message, messages_in_order, ask_before_anim, anims_in_order, queue_before_job, jobs_in_order}
+use Rattle.er_history.specs.Rules.{Rule, any_holds, is_some_and, task_rules, recorded, declared_in_order, post_before_message, messages_in_order, ask_before_anim, anims_in_order, queue_before_job, jobs_in_order}
 use Rattle.er_history.specs.Tasks.{TaskKind, OfMessage, OfAnim, OfJob, declares_task, starts_task, task_made, task_place, task_event}
 use Rattle.er_history.proofs.HandedLemmas.{action_stands}
 use Rattle.er_history.proofs.HistoryLemmas.{BeginsBefore, and_left, told_before, event_before, actions_are_numbered, number_taken}
@@ -117,7 +117,7 @@ tasks_are_events kind tasks h xs are begun u among =
 -- the events of tasks that pass are those that the list has
 
 listed_tasks : (made : ℕ → Option history.Task) (event : ℕ → Option ℕ) (test : history.Task → Bool) (passes : BegunTask → Bool) (xs : List BegunTask)
-    → ((i : ℕ) (x : BegunTask) → StandsAt xs i x → (event x.number ≡ Some x.event) × (of_made test (made x.number) ≡ passes x)) → events_of made event test (map task_number xs) ≡ map event_in (filter passes xs)
+    → ((i : ℕ) (x : BegunTask) → StandsAt xs i x → (event x.number ≡ Some x.event) × (is_some_and test (made x.number) ≡ passes x)) → events_of made event test (map task_number xs) ≡ map event_in (filter passes xs)
 listed_tasks made event test passes [] each = refl
 listed_tasks made event test passes (x ∷ xs) each =
     let here = each 0 x (omega arith, refl) in
@@ -129,7 +129,7 @@ listed_tasks made event test passes (x ∷ xs) each =
     step false = refl
 
 pub task_events : (kind : TaskKind) (tasks : Tasks) (h : List Record) → IsNamed h → TasksAre tasks h → (pick test : history.Task → Bool) (passes : BegunTask → Bool) (xs : List BegunTask) → IsListOf kind tasks (begun_by kind pick h) xs
-    → ((i : ℕ) (x : BegunTask) → StandsAt xs i x → of_made test (task_made kind h x.number) ≡ passes x)
+    → ((i : ℕ) (x : BegunTask) → StandsAt xs i x → is_some_and test (task_made kind h x.number) ≡ passes x)
     → reverse (events_of_each (is_task kind (both_of pick test)) (told h).actions) ≡ map event_in (filter passes xs)
 task_events kind tasks h named are pick test passes xs list tests =
     begun_events kind (task_made kind h) (task_event kind h) pick test h (look_ups_tell kind h named)
@@ -160,8 +160,8 @@ pub all_kept : (xs : List BegunTask) → filter (λ (x : BegunTask). true) xs �
 all_kept [] = refl
 all_kept (x ∷ xs) = ap (λ l. x ∷ l) (all_kept xs)
 
-any_passes : (kind : TaskKind) (tasks : Tasks) (h : List Record) (xs : List BegunTask) → TasksAre tasks h → HaveBegun kind tasks xs → (i : ℕ) (x : BegunTask) → StandsAt xs i x → of_made any_task (task_made kind h x.number) ≡ true
-any_passes kind tasks h xs are begun i x there = ap (of_made any_task) (task_says kind tasks h are x.number x.task (found_at kind tasks xs begun i x there)).is
+any_passes : (kind : TaskKind) (tasks : Tasks) (h : List Record) (xs : List BegunTask) → TasksAre tasks h → HaveBegun kind tasks xs → (i : ℕ) (x : BegunTask) → StandsAt xs i x → is_some_and any_task (task_made kind h x.number) ≡ true
+any_passes kind tasks h xs are begun i x there = ap (is_some_and any_task) (task_says kind tasks h are x.number x.task (found_at kind tasks xs begun i x there)).is
 
 -- all of them
 pub all_events : (kind : TaskKind) (tasks : Tasks) (h : List Record) → IsNamed h → TasksAre tasks h → (pick : history.Task → Bool) (xs : List BegunTask) → IsListOf kind tasks (begun_by kind pick h) xs

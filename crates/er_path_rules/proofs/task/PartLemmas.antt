@@ -8,7 +8,7 @@ use Rattle.er_paths.specs.Paths.{is_among}
 use Rattle.er_paths.proofs.Paths.{or_cases, or_left, or_right}
 use Rattle.er_history.specs.History.{Event, Action, told}
 use Rattle.er_history.specs.Edges.{path}
-use Rattle.er_history.specs.Latest.{latest_piece, latest_of_each, events_of_each}
+use Rattle.er_history.specs.Latest.{latest_of_event, latest_of_each, events_of_each}
 use Rattle.er_history.specs.Laws.{Among}
 use Rattle.er_history.specs.Rules.{Rule}
 use Rattle.er_history.proofs.HistoryLemmas.{events_have_first_pieces}
@@ -95,17 +95,17 @@ part_of_all actions test most old all new sources few (n, below, grew) = record 
 abbrev pub is_event : ℕ → Event → Bool
 is_event m u = m == u.number
 
-latest_sources : (h : List Record) (m : ℕ) (k : ℕ) → is_among k (latest_piece m (told h).actions) ≡ true → (i : Action) × Among i (told h).actions × (i.number ≡ k) × (is_event m i.event ≡ true)
+latest_sources : (h : List Record) (m : ℕ) (k : ℕ) → is_among k (latest_of_event m (told h).actions) ≡ true → (i : Action) × Among i (told h).actions × (i.number ≡ k) × (is_event m i.event ≡ true)
 latest_sources h m = each_latest (λ i. is_event m i.event ≡ true) m (told h).actions (λ a among e. eq-eqb m a.event.number (sym e))
 
-pub event_handed : (table : List (ℕ × Rule)) (h : List Record) (m : ℕ) (old new : List ℕ) → GrewBy old (latest_piece m (told h).actions) new → HandsEvents (path table h) (told h).actions (is_event m) 1 old new
+pub event_handed : (table : List (ℕ × Rule)) (h : List Record) (m : ℕ) (old new : List ℕ) → GrewBy old (latest_of_event m (told h).actions) new → HandsEvents (path table h) (told h).actions (is_event m) 1 old new
 event_handed table h m old new grew = record {
-  some = record { handed = latest_piece m (told h).actions; grown = grew; sources = latest_sources h m; few = latest_short m (told h).actions };
+  some = record { handed = latest_of_event m (told h).actions; grown = grew; sources = latest_sources h m; few = latest_short m (told h).actions };
   enough = λ i among e. reach_latest table h i m among (sym (eqb-true m i.event.number e));
 }
 
-pub event_in_part : (h : List Record) (m : ℕ) (old new : List ℕ) → GrewInPart old (latest_piece m (told h).actions) new → HandsSomeEvents (told h).actions (is_event m) 1 old new
-event_in_part h m old new grew = part_of_all (told h).actions (is_event m) 1 old (latest_piece m (told h).actions) new (latest_sources h m) (latest_short m (told h).actions) grew
+pub event_in_part : (h : List Record) (m : ℕ) (old new : List ℕ) → GrewInPart old (latest_of_event m (told h).actions) new → HandsSomeEvents (told h).actions (is_event m) 1 old new
+event_in_part h m old new grew = part_of_all (told h).actions (is_event m) 1 old (latest_of_event m (told h).actions) new (latest_sources h m) (latest_short m (told h).actions) grew
 
 -- the latest pieces of all events that pass
 

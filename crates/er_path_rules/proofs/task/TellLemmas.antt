@@ -12,7 +12,7 @@ use Rattle.er_history.specs.Latest.{events_of_each}
 use Rattle.er_history.specs.Laws.{Among}
 use Rattle.er_history.specs.LookUps.{jobs_queued}
 use Rattle.er_history.specs.Naming.{IsNamed, begins_message, begins_anim, begins_job}
-use Rattle.er_history.specs.Rules.{of_made}
+use Rattle.er_history.specs.Rules.{is_some_and}
 use Rattle.er_history.specs.Tasks.{TaskKind, OfMessage, OfAnim, OfJob, declares_task, starts_task, task_started, task_made, task_event, started_by, queued_by, tasks_begun, queued_jobs}
 use Rattle.er_history.proofs.DeclaredLemmas.{Found, declared_maker}
 use Rattle.er_history.proofs.EventLemmas.{resumed_goes_on}
@@ -187,7 +187,7 @@ started_is OfJob _ n e = absurd (cc)
 -- by functions that tell of each number what declared it and which event it is: those events, of the numbers that pass
 abbrev pub events_of : (ℕ → Option Task) → (ℕ → Option ℕ) → (Task → Bool) → List ℕ → List ℕ
 events_of made event test [] = []
-events_of made event test (n ∷ ns) = (if of_made test (made n) then listed (event n) else []) ++ events_of made event test ns
+events_of made event test (n ∷ ns) = (if is_some_and test (made n) then listed (event n) else []) ++ events_of made event test ns
 
 -- they tell so of each task of the kind that has begun
 abbrev pub Tell : TaskKind → (ℕ → Option Task) → (ℕ → Option ℕ) → List Action → Type 0
@@ -203,8 +203,8 @@ among_new h x e = step (begins x) e
 events_append : (made : ℕ → Option Task) (event : ℕ → Option ℕ) (test : Task → Bool) (ns ms : List ℕ) → events_of made event test (ns ++ ms) ≡ events_of made event test ns ++ events_of made event test ms
 events_append made event test [] ms = refl
 events_append made event test (n ∷ ns) ms =
-    ap (λ l. (if of_made test (made n) then listed (event n) else []) ++ l) (events_append made event test ns ms)
-    ∙ sym (append_assoc (if of_made test (made n) then listed (event n) else []) (events_of made event test ns) (events_of made event test ms))
+    ap (λ l. (if is_some_and test (made n) then listed (event n) else []) ++ l) (events_append made event test ns ms)
+    ∙ sym (append_assoc (if is_some_and test (made n) then listed (event n) else []) (events_of made event test ns) (events_of made event test ms))
 
 abbrev pub both_of : (Task → Bool) → (Task → Bool) → Task → Bool
 both_of pick test y = pick y && test y
@@ -241,10 +241,10 @@ events_more kind made event pick test h x tell rest = by (task_started kind x) r
     of_pick n y is at true =
         of_test (test y)
         ∙ sym (events_append made event test before (n ∷ [])
-        ∙ ap (λ l. events_of made event test before ++ l) (append-nil (if of_made test (made n) then listed (event n) else []) ∙ (λ i. if of_made test (is i) then listed (at i) else [])))
+        ∙ ap (λ l. events_of made event test before ++ l) (append-nil (if is_some_and test (made n) then listed (event n) else []) ∙ (λ i. if is_some_and test (is i) then listed (at i) else [])))
     of_pick n y is at false = nothing_more
 
-    of_task : (n : ℕ) → event n ≡ Some v → (m : Option Task) → made n ≡ m → reverse (if of_made (both_of pick test) m then v ∷ older else older) ≡ events_of made event test (before ++ listed_if pick n m)
+    of_task : (n : ℕ) → event n ≡ Some v → (m : Option Task) → made n ≡ m → reverse (if is_some_and (both_of pick test) m then v ∷ older else older) ≡ events_of made event test (before ++ listed_if pick n m)
     of_task n at None is = nothing_more
     of_task n at (Some y) is = of_pick n y is at (pick y)
 
@@ -257,7 +257,7 @@ events_more kind made event pick test h x tell rest = by (task_started kind x) r
         ap (λ (b : Bool). reverse (events_of_each passes (if b then action_begun (told h) x ∷ (told h).actions else (told h).actions))) (started_begins kind x n e)
         ∙ (ap (λ (b : Bool). reverse (if b && passes (event_begun (told h) x) then v ∷ older else older)) (eq-eqb (length (told h).actions) v own)
         ∙ (ap (λ (o : Option (ℕ × Option Task)). reverse (if run_passes (both_of pick test) o then v ∷ older else older)) what
-        ∙ (ap (λ (m : Option Task). reverse (if of_made (both_of pick test) m then v ∷ older else older)) (sym tells.0)
+        ∙ (ap (λ (m : Option Task). reverse (if is_some_and (both_of pick test) m then v ∷ older else older)) (sym tells.0)
         ∙ (of_task n tells.1 (made n) refl
         ∙ (ap (λ (m : Option Task). events_of made event test (before ++ listed_if pick n m)) tells.0
         ∙ ap (λ (o : Option ℕ). events_of made event test (before ++ starts_by kind pick h o)) (sym e))))))

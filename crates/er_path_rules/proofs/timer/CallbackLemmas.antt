@@ -11,7 +11,7 @@ use Rattle.er_trace.specs.declared.version.Version.TheVariants.{One, Two, Three}
 use Rattle.er_paths.specs.Paths.{is_among}
 use Rattle.er_paths.proofs.Paths.{or_left, or_right, place_cases}
 use Rattle.er_history.specs.History.{Timeout, TimeoutRun, Event, Action, told, or_else, makes_timeout, running, actions_after, event_begun}
-use Rattle.er_history.specs.Rules.{of_made, rules, timer_rules, any_holds, set_before_timer, timers_in_order}
+use Rattle.er_history.specs.Rules.{is_some_and, rules, timer_rules, any_holds, set_before_timer, timers_in_order}
 use Rattle.er_history.specs.Edges.{path, up_to, is_ruled, around_inline, of_one_event}
 use Rattle.er_history.specs.Facts.{WhatIs}
 use Rattle.er_history.specs.Laws.{Among}
@@ -227,7 +227,7 @@ rise pick (x ∷ h) named = elim (added pick h x) [
 
 -- So rule 19 leads from one to the other.
 
-made_of : {A : Type 0} → (test : A → Bool) (o : Option A) → of_made test o ≡ true → (x : A) × (o ≡ Some x) × (test x ≡ true)
+made_of : {A : Type 0} → (test : A → Bool) (o : Option A) → is_some_and test o ≡ true → (x : A) × (o ≡ Some x) × (test x ≡ true)
 made_of test None e = absurd (cc)
 made_of test (Some x) e = (x, refl, e)
 
@@ -303,7 +303,7 @@ callbacks_join v h named u i j lt within s t at_s at_t goes k among = of (timer_
     newest = newest_is (is_event event.0) acts two.action (actions_are_numbered h) two.among (eq-eqb two.action.event.number event.0 two.event)
 
     so : set_so v (path (rules v) h) last.timeout first.timeout ≡ true
-    so = sym (ap (of_made (set_so v (path (rules v) h) last.timeout)) first.made) ∙ (sym (before_is v h s t last.timeout last.made) ∙ goes)
+    so = sym (ap (is_some_and (set_so v (path (rules v) h) last.timeout)) first.made) ∙ (sym (before_is v h s t last.timeout last.made) ∙ goes)
 
     to : (e : ℕ) → timer_event h s ≡ Some e → (a : Action) → Among a acts → a.event.number ≡ e → path (rules v) h a.number newest.action.number ≡ true
     to e at a among_ number =

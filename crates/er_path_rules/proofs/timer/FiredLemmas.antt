@@ -9,7 +9,7 @@ use Rattle.er_trace.specs.declared.record.Record.TheVariants.{Timer, Run, Close,
 use Rattle.er_trace.specs.declared.version.Version.{Version}
 use Rattle.er_trace.specs.declared.version.Version.TheVariants.{One, Two, Three}
 use Rattle.er_history.specs.History.{Timeout, Dispatch, What, TimeoutRun, HandlerOf, CloseOf, Unnamed, Event, Action, History, told, begins, maker_by, declares_handler, find_open, event_begun, action_begun, event_resumed}
-use Rattle.er_history.specs.Rules.{of_made, rules, timers_in_order, timers_of_joined_pieces_in_order}
+use Rattle.er_history.specs.Rules.{is_some_and, rules, timers_in_order, timers_of_joined_pieces_in_order}
 use Rattle.er_history.specs.Edges.{path, up_to}
 use Rattle.er_history.specs.Laws.{Among}
 use Rattle.er_history.specs.Latest.{latest_of, latest_of_each, events_of_each}
@@ -84,7 +84,7 @@ of_timeout test _ = false
 
 -- that of a timeout that was set so and passes
 abbrev pub is_callback : (Timeout → Bool) → (Timeout → Bool) → What → Bool
-is_callback pick test w = of_timeout (λ s made. of_made (λ (y : Timeout). pick y && test y) made) w
+is_callback pick test w = of_timeout (λ s made. is_some_and (λ (y : Timeout). pick y && test y) made) w
 
 abbrev pub callback_of : (Timeout → Bool) → (Timeout → Bool) → Event → Bool
 callback_of pick test e = is_callback pick test e.what
@@ -92,7 +92,7 @@ callback_of pick test e = is_callback pick test e.what
 -- by functions that tell of each timeout how it was set and which event is its callback: those events, of the timeouts that pass
 abbrev pub events_of : (ℕ → Option Timeout) → (ℕ → Option ℕ) → (Timeout → Bool) → List ℕ → List ℕ
 events_of made fired test [] = []
-events_of made fired test (s ∷ ss) = (if of_made test (made s) then listed (fired s) else []) ++ events_of made fired test ss
+events_of made fired test (s ∷ ss) = (if is_some_and test (made s) then listed (fired s) else []) ++ events_of made fired test ss
 
 -- they tell so of each callback that has begun
 abbrev pub Tell : (ℕ → Option Timeout) → (ℕ → Option ℕ) → List Action → Type 0
@@ -144,7 +144,7 @@ other_more made fired pick test x h is none tell rest =
     new = action_begun (told h) x
 
     fails : ((new.number == new.event.number) && callback_of pick test new.event) ≡ false
-    fails = no_callback (told h) x (λ s made. of_made (λ (y : Timeout). pick y && test y) made) is (λ a among. event_below (told h).actions a (told_before h) among)
+    fails = no_callback (told h) x (λ s made. is_some_and (λ (y : Timeout). pick y && test y) made) is (λ a among. event_below (told h).actions a (told_before h) among)
 
     by : (b : Bool) → Tell made fired (if b then new ∷ (told h).actions else (told h).actions) → events_of_each (callback_of pick test) (if b then new ∷ (told h).actions else (told h).actions) ≡ events_of made fired test (reverse (fired_by pick h))
     by true tell = ap (λ c. if c then new.event.number ∷ events_of_each (callback_of pick test) (told h).actions else events_of_each (callback_of pick test) (told h).actions) fails
@@ -182,7 +182,7 @@ fired_events made fired pick test (Timer t ∷ h) tell =
       where
         choose : (b : Bool) → test y ≡ b → (if test y then n ∷ rest else rest) ≡ events_of made fired test (t ∷ reverse older)
         choose b e =
-            ap (λ c. if c then n ∷ rest else rest) e ∙ (step b ∙ sym (ap (λ o. (if of_made test o then listed (fired t) else []) ++ events_of made fired test (reverse older)) is ∙ (λ i. (if e i then listed (at i) else []) ++ events_of made fired test (reverse older))))
+            ap (λ c. if c then n ∷ rest else rest) e ∙ (step b ∙ sym (ap (λ o. (if is_some_and test o then listed (fired t) else []) ++ events_of made fired test (reverse older)) is ∙ (λ i. (if e i then listed (at i) else []) ++ events_of made fired test (reverse older))))
           where
             step : (c : Bool) → (if c then n ∷ rest else rest) ≡ (if c then n ∷ [] else []) ++ events_of made fired test (reverse older)
             step true = ap (λ l. n ∷ l) same
@@ -194,7 +194,7 @@ fired_events made fired pick test (Timer t ∷ h) tell =
     set_there y false is same = ap (λ c. if c then n ∷ rest else rest) (not_both (n == n) false refl) ∙ nothing_more same
 
     by : (o : Option Timeout) → made t ≡ o → rest ≡ events_of made fired test (reverse older)
-        → (if (n == n) && of_made (λ (y : Timeout). pick y && test y) o then n ∷ rest else rest) ≡ events_of made fired test (reverse (older ++ listed_if pick t o))
+        → (if (n == n) && is_some_and (λ (y : Timeout). pick y && test y) o then n ∷ rest else rest) ≡ events_of made fired test (reverse (older ++ listed_if pick t o))
     by None is same = ap (λ c. if c then n ∷ rest else rest) (not_both (n == n) false refl) ∙ nothing_more same
     by (Some y) is same = set_there y (pick y) is same
 fired_events made fired pick test (x ∷ h) tell = other_more made fired pick test x h tt refl tell (fired_events made fired pick test h)
@@ -245,11 +245,11 @@ events_same f g (a ∷ older) same =
 
 -- what the look-ups say of two timeouts
 
-first_is : (h : List Record) (s t : ℕ) (x : Timeout) → timeout_made h t ≡ Some x → goes_off_first h s t ≡ of_made (set_first x) (timeout_made h s)
+first_is : (h : List Record) (s t : ℕ) (x : Timeout) → timeout_made h t ≡ Some x → goes_off_first h s t ≡ is_some_and (set_first x) (timeout_made h s)
 first_is h s t x is = by (timeout_made h s) ∙ refl
   where
     by : (o : Option Timeout) → (before (option_map (λ (y : Timeout). y.place) o) (option_map (λ (y : Timeout). y.place) (timeout_made h t)) && is_no_longer (option_map (λ (y : Timeout). y.delay) o) (option_map (λ (y : Timeout). y.delay) (timeout_made h t)))
-        ≡ of_made (set_first x) o
+        ≡ is_some_and (set_first x) o
     by None = refl
     by (Some y) = ap (λ o. before (Some y.place) (option_map (λ (z : Timeout). z.place) o) && is_no_longer (Some y.delay) (option_map (λ (z : Timeout). z.delay) o)) is
 
@@ -258,17 +258,17 @@ listed_first None us actions = refl
 listed_first (Some u) us actions = refl
 
 joined_is : (joined : ℕ → ℕ → Bool) (h : List Record) (s t : ℕ) (x : Timeout) → timeout_made h t ≡ Some x
-    → (goes_off_first h s t && is_joined joined (setting_piece h s) (setting_piece h t)) ≡ of_made (λ y. set_first x y && joined y.piece x.piece) (timeout_made h s)
+    → (goes_off_first h s t && is_joined joined (setting_piece h s) (setting_piece h t)) ≡ is_some_and (λ y. set_first x y && joined y.piece x.piece) (timeout_made h s)
 joined_is joined h s t x is =
     ap (λ b. b && is_joined joined (setting_piece h s) (setting_piece h t)) (first_is h s t x is)
-    ∙ (ap (λ o. of_made (set_first x) (timeout_made h s) && is_joined joined (setting_piece h s) (option_map (λ (z : Timeout). z.piece) o)) is
+    ∙ (ap (λ o. is_some_and (set_first x) (timeout_made h s) && is_joined joined (setting_piece h s) (option_map (λ (z : Timeout). z.piece) o)) is
     ∙ by (timeout_made h s))
   where
-    by : (o : Option Timeout) → (of_made (set_first x) o && is_joined joined (option_map (λ (z : Timeout). z.piece) o) (Some x.piece)) ≡ of_made (λ y. set_first x y && joined y.piece x.piece) o
+    by : (o : Option Timeout) → (is_some_and (set_first x) o && is_joined joined (option_map (λ (z : Timeout). z.piece) o) (Some x.piece)) ≡ is_some_and (λ y. set_first x y && joined y.piece x.piece) o
     by None = refl
     by (Some y) = refl
 
-pub before_is : (v : Version) (h : List Record) (s t : ℕ) (x : Timeout) → timeout_made h t ≡ Some x → goes_before v h s t ≡ of_made (set_so v (path (rules v) h) x) (timeout_made h s)
+pub before_is : (v : Version) (h : List Record) (s t : ℕ) (x : Timeout) → timeout_made h t ≡ Some x → goes_before v h s t ≡ is_some_and (set_so v (path (rules v) h) x) (timeout_made h s)
 before_is One h s t x is = first_is h s t x is
 before_is Two h s t x is = joined_is (path (rules Two) h) h s t x is
 before_is Three h s t x is = joined_is (path (rules Three) h) h s t x is
@@ -277,7 +277,7 @@ handed_is : (v : Version) (h : List Record) (t : ℕ) (x : Timeout) (ss : List �
     → latest_of_all (events_of (timeout_made h) (timer_event h) (set_so v (path (rules v) h) x) ss) (told h).actions ≡ handed_for_each v h t ss
 handed_is v h t x [] is = refl
 handed_is v h t x (s ∷ ss) is =
-    step (of_made (set_so v (path (rules v) h) x) (timeout_made h s)) (handed_is v h t x ss is)
+    step (is_some_and (set_so v (path (rules v) h) x) (timeout_made h s)) (handed_is v h t x ss is)
     ∙ ap (λ b. (if b then latest_of (timer_event h s) (told h).actions else []) ++ handed_for_each v h t ss) (sym (before_is v h s t x is))
   where
     test : Timeout → Bool

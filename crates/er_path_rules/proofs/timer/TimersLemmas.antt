@@ -11,7 +11,7 @@ use Rattle.er_history.specs.History.{Action, History, Timeout, TimeoutRun, told}
 use Rattle.er_history.specs.Rules.{Rule, rules, timer_rules, timers_in_order}
 use Rattle.er_history.specs.Edges.{edges, path}
 use Rattle.er_history.specs.Handed.{AreEnough, AreHanded}
-use Rattle.er_history.specs.Latest.{latest_piece, latest_of, newest}
+use Rattle.er_history.specs.Latest.{latest_of_event, latest_of, newest}
 use Rattle.er_history.specs.Kinds.{is_tick_of}
 use Rattle.er_history.specs.LookUps.{event_of, timeout_made, maker_of_timeout, maker_of_interval, setting_piece, last_tick}
 use Rattle.er_history.specs.Naming.{IsNamed}
@@ -33,7 +33,7 @@ use Rattle.er_pieces.proofs.NestedLaws.{nested_facts}
 use Rattle.er_pieces.proofs.PathLemmas.{path_on}
 use Rattle.er_pieces.proofs.SourceLemmas.{each_both, each_made, each_newest}
 use Rattle.er_path_rules.specs.timer.Enough.{HandsEnoughTimers, HandsSourceTimers, timer_due}
-use Rattle.er_path_rules.specs.timer.Fired.{goes_off_first, is_joined, goes_before, handed_for, handed_for_each, set_by, due_for, tick_handed, asks_for_path}
+use Rattle.er_path_rules.specs.timer.Fired.{goes_off_first, is_joined, goes_before, handed_for, handed_for_each, set_by, handed_before, tick_handed, asks_for_path}
 use Rattle.er_path_rules.specs.timer.Grown.{AreOf, Suffice, GrewEnoughFor, GrewSomeFor}
 use Rattle.er_path_rules.specs.timer.Timed.{IsTimed}
 use Rattle.er_path_rules.proofs.timer.FiredLemmas.{fired_are_handed}
@@ -41,12 +41,12 @@ use Rattle.er_path_rules.proofs.timer.GrownLemmas.{Composes, reach_over, grew_al
 
 -- the callback of a timeout
 
-pub due_is_handed : (v : Version) (h : List Record) (t : ℕ) → IsNamed h → due_for v h t ≡ timer_due v (Timer t) h
+pub due_is_handed : (v : Version) (h : List Record) (t : ℕ) → IsNamed h → handed_before v h t ≡ timer_due v (Timer t) h
 due_is_handed v h t named = by (timeout_made h t) refl
   where
     by : (o : Option Timeout) → timeout_made h t ≡ o → set_by v h t (option_map (λ (x : Timeout). x.maker) o) ≡ timeout_handed (timers_in_order v) (path (rules v) h) (told h) (event_with (length (told h).actions) (TimeoutRun t o)) o
     by None is = refl
-    by (Some x) is = ap (λ l. latest_piece x.maker (told h).actions ++ l) (sym (fired_are_handed v h t x named is))
+    by (Some x) is = ap (λ l. latest_of_event x.maker (told h).actions ++ l) (sym (fired_are_handed v h t x named is))
 
 setter_found : (h : List Record) (t u : ℕ) → maker_of_timeout h t ≡ Some u → event_of h u ≡ Some u
 setter_found h t u e = by (timeout_made h t) refl e

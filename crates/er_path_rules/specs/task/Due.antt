@@ -5,7 +5,7 @@ use Rattle.er_trace.specs.declared.record.Record.TheVariants as records
 use Rattle.er_history.specs.History.{Task, What, MessageRun, AnimRun, JobRun, Event}
 use Rattle.er_history.specs.Kinds.{is_job_within}
 use Rattle.er_history.specs.LookUps.{maker_of_timeout, maker_of_interval}
-use Rattle.er_history.specs.Rules.{of_made}
+use Rattle.er_history.specs.Rules.{made_by, is_some_and}
 use Rattle.er_history.specs.Tasks.{TaskKind, OfMessage, OfAnim, OfJob, task_made}
 
 -- the number of the task of the kind whose event it is, with what declared it
@@ -20,7 +20,7 @@ run_of OfJob _ = None
 -- it is one that passes
 abbrev pub run_passes : (Task → Bool) → Option (ℕ × Option Task) → Bool
 run_passes test None = false
-run_passes test (Some p) = of_made test p.1
+run_passes test (Some p) = is_some_and test p.1
 
 -- the event of a task of the kind that passes
 abbrev pub is_task : TaskKind → (Task → Bool) → Event → Bool
@@ -35,11 +35,6 @@ abbrev pub is_earlier : (ℕ → ℕ → Bool) → TaskKind → Option Task → 
 is_earlier joined kind None u = false
 is_earlier joined kind (Some y) u = is_task kind (declared_first joined y) u
 
--- the event
-abbrev pub is_maker : Option ℕ → Event → Bool
-is_maker None u = false
-is_maker (Some m) u = m == u.number
-
 -- a job that the event queued
 abbrev pub is_job_of : Option ℕ → Event → Bool
 is_job_of None u = false
@@ -51,7 +46,7 @@ maker_of (Some x) = Some x.maker
 
 -- what declared the task, and the tasks of its kind before it
 abbrev pub comes_before : (ℕ → ℕ → Bool) → TaskKind → Option Task → Event → Bool
-comes_before joined kind made u = is_maker (maker_of made) u || is_earlier joined kind made u
+comes_before joined kind made u = made_by (maker_of made) u || is_earlier joined kind made u
 
 -- Before a message or an animation callback come besides the jobs of the event that declared it, and before a timeout and a tick these alone; before a close the jobs that began while the dispatch was on the stack.
 abbrev pub due : (ℕ → ℕ → Bool) → List Record → Record → Event → Bool

@@ -3,14 +3,14 @@
 ghost use Rattle.std.specs.Prelude.{◌≡◌, List, [], ◌∷◌, ◌++◌, length, map, take, OnOk, OnErr};
 ghost use Rattle.er_trace.specs.declared.record.Record.{Record};
 ghost use Rattle.er_history.specs.History.{told};
-ghost use Rattle.er_history.specs.Latest.{latest_piece};
+ghost use Rattle.er_history.specs.Latest.{latest_of_event};
 ghost use Rattle.er_names.specs.Fired.{number_of, sets};
 ghost use Rattle.er_names.specs.Names.{IsSet};
 ghost use Rattle.er_page.specs.Page.{IsPage, IsSomePage};
 ghost use Rattle.er_pieces.specs.Contract.{GrewForEach, GrewInPartForEach, HandsFew};
 ghost use Rattle.er_pieces.specs.Counts.{most_timer};
 ghost use Rattle.er_page.specs.Handing.{HasEvents};
-ghost use Rattle.er_path_rules.specs.timer.Fired.{fired_handed, due_for, tick_handed};
+ghost use Rattle.er_path_rules.specs.timer.Fired.{fired_handed, handed_before, tick_handed};
 ghost use Rattle.er_path_rules.specs.timer.Fired as says;
 ghost use Rattle.er_path_rules.specs.timer.Enough.{HandsEnoughTimers, HandsSourceTimers, timer_due};
 ghost use Rattle.er_path_rules.specs.timer.Grown.{GrewEnoughFor, GrewSomeFor};
@@ -84,9 +84,9 @@ fn hand_for_timer(
 ) -> Result<(), NoMemory>
     requires some { ∥ IsSomePage page.now ∥₁ }
     ensures whole { OnOk result (GrewEnoughFor version page.now clocks.now
-        (λ h. due_for version h timeout) out.old.items out.new.items) }
+        (λ h. handed_before version h timeout) out.old.items out.new.items) }
     ensures part { OnErr result (GrewSomeFor version page.now clocks.now
-        (λ h. due_for version h timeout) out.old.items out.new.items) }
+        (λ h. handed_before version h timeout) out.old.items out.new.items) }
 {
     match page.timeout(timeout) {
         Some(next) => hand_set_by(page, clocks, version, next, out),
@@ -119,10 +119,12 @@ fn hand_set_by(
     requires next { IsSet page.now.names next }
     requires events { ∥ HasEvents page.now (next.maker ∷ []) ∥₁ }
     ensures whole { OnOk result (GrewEnoughFor version page.now clocks.now
-        (λ h. latest_piece next.maker (told h).actions ++ fired_handed version h next.timeout next.maker)
+        (λ h. latest_of_event next.maker (told h).actions
+        ++ fired_handed version h next.timeout next.maker)
         out.old.items out.new.items) }
     ensures part { OnErr result (GrewSomeFor version page.now clocks.now
-        (λ h. latest_piece next.maker (told h).actions ++ fired_handed version h next.timeout next.maker)
+        (λ h. latest_of_event next.maker (told h).actions
+        ++ fired_handed version h next.timeout next.maker)
         out.old.items out.new.items) }
 {
     hand_latest(page, Some(next.maker), out)?;

@@ -3,9 +3,8 @@ use Rattle.std.proofs.Common.{◌≡◌, ℕ, List, ◌++◌, Option, Some, None
 use Rattle.std.specs.Prelude.{◌==◌, reverse, Result, Ok, Err, OnOk, OnErr}
 use Rattle.er_trace.specs.declared.record.Record.{Record}
 use Rattle.er_history.specs.History.{FireAt, WindowFire, told, running}
-use Rattle.er_history.specs.Rules.{same_target}
 use Rattle.er_history.specs.Latest.{newest_by, number_of, latest_of}
-use Rattle.er_history.specs.Kinds.{closes, is_handler_of}
+use Rattle.er_history.specs.Kinds.{is_close_at, is_handler_of}
 use Rattle.er_history.specs.LookUps.{running_action, maker_of_element, maker_of_document, maker_of_handler, begin_event, last_element_close, last_window_close, group_below, runs_in}
 use Rattle.er_history.specs.Naming.{IsNamed}
 use Rattle.er_pieces.specs.Contract.{GrewBy, GrewInPart, GrewForEach, GrewInPartForEach, listed, latest_of_all}
@@ -16,12 +15,12 @@ use Rattle.er_rules.specs.dispatch.Due.{at_element, at_window, in_piece, before_
 
 pub element_is_due : (h : List Record) (e : ℕ) (n : List ℕ) (maker close : Option ℕ) → maker ≡ maker_of_element h e → close ≡ last_element_close h e n → latest_of maker (told h).actions ++ listed close ≡ at_element h e n
 element_is_due h e n maker close is also =
-    let found = newest_by (closes (λ y. same_target y (FireAt e n None))) (told h).actions in
+    let found = newest_by (is_close_at (FireAt e n None)) (told h).actions in
     λ i. latest_of (is i) (told h).actions ++ (ap listed also ∙ sym (piece_listed found)) i
 
 pub window_is_due : (h : List Record) (d : ℕ) (n : List ℕ) (close : Option ℕ) → close ≡ last_window_close h d n → latest_of (maker_of_document h d) (told h).actions ++ listed close ≡ at_window h d n
 window_is_due h d n close also =
-    let found = newest_by (closes (λ y. same_target y (WindowFire d n None))) (told h).actions in
+    let found = newest_by (is_close_at (WindowFire d n None)) (told h).actions in
     λ i. latest_of (maker_of_document h d) (told h).actions ++ (ap listed also ∙ sym (piece_listed found)) i
 
 pub running_is_due : (h : List Record) (now : Option ℕ) → now ≡ running_action h → listed now ≡ number_of (running (told h).actions)

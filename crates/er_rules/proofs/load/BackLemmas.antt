@@ -5,7 +5,7 @@ use Rattle.std.specs.List.{list_any}
 use Rattle.std.proofs.lemmas.Bool.{ne_eqb}
 use Rattle.std.proofs.lemmas.Bool.Decides.{eqb_tells}
 use Rattle.er_history.specs.History.{Element, Delivery, DclOf, LoadOf, EloadOf, FireAt, InlineAt, WindowFire, ReplyOf, What, ParseStep, ScriptRun, TimeoutRun, TickRun, BeginOf, HandlerOf, CloseOf, MessageRun, AnimRun, JobRun, Unnamed, Event}
-use Rattle.er_history.specs.Rules.{Rule, of_made, is_dcl_of, load_rules, parsed_before_dcl, dcl_before_load, parsed_before_load, static_loads_before_load, element_before_its_load, inner_load_before_frame_load}
+use Rattle.er_history.specs.Rules.{Rule, is_some_and, is_dcl_of, load_rules, parsed_before_dcl, dcl_before_load, parsed_before_load, static_loads_before_load, element_before_its_load, inner_load_before_frame_load}
 use Rattle.er_history.specs.Kinds.{is_load_of}
 use Rattle.er_history.proofs.OrderLemmas.{WhatBefore, DeliveryBefore, not_element_maker}
 use Rattle.er_pieces.proofs.ChainLemmas.{event_with}
@@ -32,7 +32,7 @@ behind_dcl _ z = false
 -- an event of the first kind comes too late behind one of the second
 abbrev pub late_by : What → What → Bool
 late_by (ParseStep d m) z = begins_a (is_dcl_of d) z || begins_a (is_load_of d) z
-late_by (ScriptRun e made) z = of_made (λ x. (runs_before_dcl x && begins_a (is_dcl_of x.doc) z) || (x.is_static && begins_a (is_load_of x.doc) z)) made || begins_a (is_eload_of e) z
+late_by (ScriptRun e made) z = is_some_and (λ x. (runs_before_dcl x && begins_a (is_dcl_of x.doc) z) || (x.is_static && begins_a (is_load_of x.doc) z)) made || begins_a (is_eload_of e) z
 late_by (BeginOf q) z = behind_dcl q.delivers z
 late_by (HandlerOf q g x m) z = behind_dcl q.delivers z
 late_by (CloseOf q) z = behind_dcl q.delivers z
@@ -112,7 +112,7 @@ other_behind : (y z : Delivery) (p b : ℕ) → ((d : ℕ) → is_load_of d z �
 other_behind (DclOf d m) z p b none = sym (none d)
 other_behind _ z p b none = refl
 
-to_eload : (joined : ℕ → ℕ → Bool) (n k p b f : ℕ) (made : Option Element) (w : What) → of_made (λ (x : Element). x.maker == n) made ≡ false
+to_eload : (joined : ℕ → ℕ → Bool) (n k p b f : ℕ) (made : Option Element) (w : What) → is_some_and (λ (x : Element). x.maker == n) made ≡ false
     → four_hold joined (event_with n w) (event_with k (BeginOf (record { number = p; begin = b; delivers = EloadOf f made }))) ≡ late_by w (BeginOf (record { number = p; begin = b; delivers = EloadOf f made }))
 to_eload joined n k p b f made w e = ap (λ c. (c || runs f w) || false) e ∙ by w
   where

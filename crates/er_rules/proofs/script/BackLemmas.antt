@@ -4,7 +4,7 @@ use Rattle.std.specs.Prelude.{◌==◌, ◌&&◌, ◌||◌, nat_lt}
 use Rattle.std.proofs.lemmas.Bool.{ne_eqb}
 use Rattle.std.proofs.lemmas.Bool.Decides.{eqb_tells}
 use Rattle.er_history.specs.History.{Element, What, ParseStep, ScriptRun}
-use Rattle.er_history.specs.Rules.{of_made, is_blocking, is_deferred}
+use Rattle.er_history.specs.Rules.{is_some_and, is_blocking, is_deferred}
 use Rattle.er_history.proofs.EventLemmas.{event_with, IsOther}
 use Rattle.er_history.proofs.MakersLemmas.{ElementBelow}
 use Rattle.er_history.proofs.OrderLemmas.{WhatBefore}
@@ -46,7 +46,7 @@ from_unmade joined n u e w before = to_other joined n u (ScriptRun e None) w tt
 
 -- the script of the run was parsed after step p
 abbrev pub parsed_after : ℕ → What → Bool
-parsed_after p (ScriptRun f made) = of_made (λ (z : Element). nat_lt p z.piece) made
+parsed_after p (ScriptRun f made) = is_some_and (λ (z : Element). nat_lt p z.piece) made
 parsed_after p _ = false
 
 -- the run of script y comes too late behind the event

@@ -2,7 +2,7 @@
 use Rattle.std.proofs.Common.{◌≡◌, ℕ, Bool, true, false, List, [], ◌++◌, Option, Some, None, refl}
 use Rattle.std.specs.Prelude.{if◌then◌else◌}
 use Rattle.er_history.specs.History.{Element, History, element_maker, first_to, makes_element}
-use Rattle.er_history.specs.Latest.{latest_piece, latest_of}
+use Rattle.er_history.specs.Latest.{latest_of_event, latest_of}
 use Rattle.er_history.specs.Rules.{is_deferred}
 use Rattle.er_pieces.specs.HandedPieces.{dcl_handed, run_handed}
 use Rattle.er_rules.specs.script.Scripts.{before_deferred}
@@ -18,7 +18,7 @@ run_parts t e = of (first_to (makes_element e) t.entries)
     by None = []
     by (Some d) = dcl_handed t d
 
-    deferred : (x : Element) (b : Bool) → latest_piece x.maker t.actions ++ by (if b then Some x.doc else None) ≡ latest_piece x.maker t.actions ++ (if b then dcl_handed t x.doc else [])
+    deferred : (x : Element) (b : Bool) → latest_of_event x.maker t.actions ++ by (if b then Some x.doc else None) ≡ latest_of_event x.maker t.actions ++ (if b then dcl_handed t x.doc else [])
     deferred x true = refl
     deferred x false = refl
 

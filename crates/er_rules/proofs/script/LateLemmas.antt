@@ -7,7 +7,7 @@ use Rattle.er_trace.specs.declared.record.Record.TheVariants.{Parse, ParseFrame,
 use Rattle.er_trace.specs.declared.record.Kind.{Kind}
 use Rattle.er_trace.specs.declared.record.Kind.TheVariants as kinds
 use Rattle.er_history.specs.History.{Element, What, ParseStep, ScriptRun, Action, History, told, begins, maker_by, declares_document, what_begun}
-use Rattle.er_history.specs.Rules.{of_made, has_kind, is_blocking, is_deferred, script_rules, any_holds}
+use Rattle.er_history.specs.Rules.{is_some_and, has_kind, is_blocking, is_deferred, script_rules, any_holds}
 use Rattle.er_history.specs.Edges.{path}
 use Rattle.er_history.specs.Naming.{IsNamed}
 use Rattle.er_history.specs.Laws.{Among}
@@ -33,7 +33,7 @@ use Rattle.er_rules.proofs.script.BackLemmas.{parsed_after, comes_late, from_ste
 
 -- what the look-ups say
 
-event_after : (p : ℕ) (o : Option Action) → of_made (begins_after p) o ≡ of_made (λ (last : ℕ). nat_lt p last) (event_in o)
+event_after : (p : ℕ) (o : Option Action) → is_some_and (begins_after p) o ≡ is_some_and (λ (last : ℕ). nat_lt p last) (event_in o)
 event_after p None = refl
 event_after p (Some a) = refl
 
@@ -44,7 +44,7 @@ both_static true false true l g q e = refl
 both_static true true true l g q e = refl
 
 pub passed_is : (h : List Record) (y : Element) (o : Option Action) → IsNamed h → newest_by (is_run_of is_deferred y.doc) (told h).actions ≡ o
-    → (is_deferred y && of_made (run_after y.piece) o) ≡ (is_deferred y && of_made (λ (last : ℕ). is_parsed_before (Some y) (element_made h last)) (script_in o))
+    → (is_deferred y && is_some_and (run_after y.piece) o) ≡ (is_deferred y && is_some_and (λ (last : ℕ). is_parsed_before (Some y) (element_made h last)) (script_in o))
 passed_is h y None named e = refl
 passed_is h y (Some a) named e =
     let last = newest_passes (is_run_of is_deferred y.doc) (told h).actions a e in
@@ -62,7 +62,7 @@ passed_is h y (Some a) named e =
         is_defer _ = false
 
     by : (w : What) → WhatIs (told h).entries w → is_run_of is_deferred y.doc (event_with a.event.number w) ≡ true
-        → (is_deferred y && parsed_after y.piece w) ≡ (is_deferred y && of_made (λ (last : ℕ). is_parsed_before (Some y) (element_made h last)) (script_run w))
+        → (is_deferred y && parsed_after y.piece w) ≡ (is_deferred y && is_some_and (λ (last : ℕ). is_parsed_before (Some y) (element_made h last)) (script_run w))
     by (ScriptRun f made) is ran = of_script f made is.0 ran
     by w is ran = absurd (cc)
 
@@ -104,11 +104,11 @@ blocking_late h y named =
     let acts = (told h).actions in
     let steps : Action → Bool = λ i. is_step_of y.doc i.event && begins_after y.piece i in
     let runs : Action → Bool = event_passes (is_run_of is_deferred y.doc) in
-    let last : list_any steps acts ≡ of_made (λ (last : ℕ). nat_lt y.piece last) (last_parse h y.doc) =
+    let last : list_any steps acts ≡ is_some_and (λ (last : ℕ). nat_lt y.piece last) (last_parse h y.doc) =
     any_last h (is_step_of y.doc) (begins_after y.piece) (steps_pass_on h named y.doc y.piece) ∙ event_after y.piece (newest_by (is_step_of y.doc) acts) in
     any_under (is_blocking y) (λ i. steps i || runs i) acts
     ∙ (ap (λ b. is_blocking y && b) (any_either steps runs acts ∙ (λ k. last k || any_newest (is_run_of is_deferred y.doc) acts k))
-    ∙ static_blocks y.is_static (has_kind is_sync y.form) (of_made (λ (last : ℕ). nat_lt y.piece last) (last_parse h y.doc)) (has_deferred_run h y.doc))
+    ∙ static_blocks y.is_static (has_kind is_sync y.form) (is_some_and (λ (last : ℕ). nat_lt y.piece last) (last_parse h y.doc)) (has_deferred_run h y.doc))
   where
     is_sync : Kind → Bool
     is_sync kinds.Inline = true

@@ -6,7 +6,7 @@ use Rattle.std.proofs.lemmas.Bool.{lt-ltb, ltb-true}
 use Rattle.er_trace.specs.declared.record.Record.{Record}
 use Rattle.er_paths.proofs.Paths.{or_cases, or_left, or_right, place_cases}
 use Rattle.er_history.specs.History.{Element, ScriptRun, Event, Action, told}
-use Rattle.er_history.specs.Rules.{Rule, of_made, is_deferred, script_rules}
+use Rattle.er_history.specs.Rules.{Rule, is_some_and, is_deferred, script_rules}
 use Rattle.er_history.specs.Handed.{HasGroup}
 use Rattle.er_history.specs.Kinds.{is_step_of, is_run_of}
 use Rattle.er_history.specs.Laws.{Among}
@@ -64,17 +64,17 @@ newest_passes test (b ∷ older) a e = step (test b.event) refl (newest_passes t
     step false t rest e = let found = rest e in (inr found.0, found.1)
 
 -- some event passes both where the newest that passes the first does
-pub any_last : (h : List Record) (test : Event → Bool) (other : Action → Bool) → PassesOn test other (told h).actions → list_any (λ i. test i.event && other i) (told h).actions ≡ of_made other (newest_by test (told h).actions)
+pub any_last : (h : List Record) (test : Event → Bool) (other : Action → Bool) → PassesOn test other (told h).actions → list_any (λ i. test i.event && other i) (told h).actions ≡ is_some_and other (newest_by test (told h).actions)
 any_last h test other on = same_test _ _ to (from (newest_by test (told h).actions) refl)
   where
-    to : list_any (λ i. test i.event && other i) (told h).actions ≡ true → of_made other (newest_by test (told h).actions) ≡ true
+    to : list_any (λ i. test i.event && other i) (told h).actions ≡ true → is_some_and other (newest_by test (told h).actions) ≡ true
     to e =
         let found = any_found (λ i. test i.event && other i) (told h).actions e in
         let passes = and_left (test found.0.event) (other found.0) found.2 in
         let is = newest_is test (told h).actions found.0 (actions_are_numbered h) found.1 passes in
-        ap (of_made other) is.found ∙ on is.action found.0 is.among found.1 is.passes passes is.later (and_right (test found.0.event) (other found.0) found.2)
+        ap (is_some_and other) is.found ∙ on is.action found.0 is.among found.1 is.passes passes is.later (and_right (test found.0.event) (other found.0) found.2)
 
-    from : (o : Option Action) → newest_by test (told h).actions ≡ o → of_made other o ≡ true → list_any (λ i. test i.event && other i) (told h).actions ≡ true
+    from : (o : Option Action) → newest_by test (told h).actions ≡ o → is_some_and other o ≡ true → list_any (λ i. test i.event && other i) (told h).actions ≡ true
     from None same e = absurd (cc)
     from (Some a) same e = let is = newest_passes test (told h).actions a same in any_one (λ i. test i.event && other i) (told h).actions a is.0 (both (test a.event) (other a) is.1 e)
 

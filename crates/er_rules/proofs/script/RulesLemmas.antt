@@ -4,7 +4,7 @@ use Rattle.std.specs.Prelude.{not, ◌==◌, ◌&&◌, ◌||◌, nat_lt}
 use Rattle.std.specs.List.{list_any}
 use Rattle.std.proofs.lemmas.Bool.{ne_eqb}
 use Rattle.er_history.specs.History.{Element, What, ParseStep, ScriptRun}
-use Rattle.er_history.specs.Rules.{Rule, of_made, is_blocking, is_deferred, script_rules}
+use Rattle.er_history.specs.Rules.{Rule, is_some_and, is_blocking, is_deferred, script_rules}
 use Rattle.er_history.proofs.EventLemmas.{event_with, IsOther}
 
 -- the rules from an event to another
@@ -14,7 +14,7 @@ rules_hold joined u n w v = list_any (λ (r : ℕ × Rule). r.1 joined (event_wi
 -- to a parse step
 
 abbrev pub blocking_run : ℕ → ℕ → What → Bool
-blocking_run n d (ScriptRun e made) = of_made (λ (x : Element). is_blocking x && ((x.doc == d) && nat_lt x.piece n)) made
+blocking_run n d (ScriptRun e made) = is_some_and (λ (x : Element). is_blocking x && ((x.doc == d) && nat_lt x.piece n)) made
 blocking_run n d _ = false
 
 or_none : (b : Bool) → (b || false) ≡ b

@@ -3,7 +3,7 @@ use Rattle.std.specs.Prelude.{◌≡◌, ℕ, Bool, false, nat_lt, List, Option,
 use Rattle.er_trace.specs.declared.record.Record.{Record}
 use Rattle.er_trace.specs.declared.record.Record.TheVariants.{Run}
 use Rattle.er_history.specs.History.{told}
-use Rattle.er_history.specs.Rules.{Rule, of_made, dispatch_rules}
+use Rattle.er_history.specs.Rules.{Rule, is_some_and, dispatch_rules}
 use Rattle.er_history.specs.Edges.{path}
 use Rattle.er_history.specs.Naming.{naming, IsNamed}
 use Rattle.er_history.specs.Sound.{leads_back}
@@ -11,7 +11,7 @@ use Rattle.er_history.specs.LookUps.{last_group}
 
 -- there is such a group, and it is greater
 abbrev pub is_greater : ℕ → Option ℕ → Bool
-is_greater g group = of_made (λ (k : ℕ). nat_lt g k) group
+is_greater g group = is_some_and (λ (k : ℕ). nat_lt g k) group
 
 -- A handler comes too late where one of a greater group of its dispatch has run; no other record does.
 abbrev pub is_late : List Record → Record → Bool

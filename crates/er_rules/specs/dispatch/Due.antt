@@ -2,19 +2,18 @@
 use Rattle.std.specs.Prelude.{ℕ, nat_lt, List, ◌++◌, None}
 use Rattle.er_trace.specs.declared.record.Record.{Record}
 use Rattle.er_history.specs.History.{FireAt, WindowFire, told, running}
-use Rattle.er_history.specs.Rules.{same_target}
 use Rattle.er_history.specs.Latest.{newest, number_of, latest_of}
-use Rattle.er_history.specs.Kinds.{closes}
+use Rattle.er_history.specs.Kinds.{is_close_at}
 use Rattle.er_history.specs.LookUps.{maker_of_element, maker_of_document, maker_of_handler}
 use Rattle.er_pieces.specs.HandedPieces.{group_handed}
 
 -- the latest close piece of the type at the element, and at the window of the document
 
 abbrev pub closed_at : List Record → ℕ → List ℕ → List ℕ
-closed_at h e n = newest (closes (λ y. same_target y (FireAt e n None))) (told h).actions
+closed_at h e n = newest (is_close_at (FireAt e n None)) (told h).actions
 
 abbrev pub closed_in : List Record → ℕ → List ℕ → List ℕ
-closed_in h d n = newest (closes (λ y. same_target y (WindowFire d n None))) (told h).actions
+closed_in h d n = newest (is_close_at (WindowFire d n None)) (told h).actions
 
 -- before the begin of a dispatch at the element, and at the window
 

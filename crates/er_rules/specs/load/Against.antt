@@ -3,7 +3,7 @@ use Rattle.std.specs.Prelude.{◌≡◌, ℕ, Bool, false, ◌&&◌, ◌||◌, L
 use Rattle.er_trace.specs.declared.record.Record.{Record}
 use Rattle.er_trace.specs.declared.record.Record.TheVariants.{Parse, ParseFrame, Exec, Dcl}
 use Rattle.er_history.specs.History.{Element, told}
-use Rattle.er_history.specs.Rules.{Rule, of_made, is_blocking, is_deferred, load_rules}
+use Rattle.er_history.specs.Rules.{Rule, is_some_and, is_blocking, is_deferred, load_rules}
 use Rattle.er_history.specs.Edges.{path}
 use Rattle.er_history.specs.Handed.{HasGroup}
 use Rattle.er_history.specs.LookUps.{element_made, dcl_of, load_of, eload_of}
@@ -32,7 +32,7 @@ is_script_late h x = (runs_before_dcl x && has_dcl h x.doc) || (x.is_static && h
 
 -- or behind its own load event
 abbrev pub is_run_late : List Record → ℕ → Option Element → Bool
-is_run_late h e made = of_made (is_script_late h) made || has_eload h e
+is_run_late h e made = is_some_and (is_script_late h) made || has_eload h e
 
 -- a parse step comes too late
 abbrev pub is_step_late : List Record → ℕ → Bool

@@ -3,7 +3,7 @@ use Rattle.std.specs.Prelude.{◌≡◌, ℕ, Bool, false, ◌&&◌, ◌||◌, n
 use Rattle.er_trace.specs.declared.record.Record.{Record}
 use Rattle.er_trace.specs.declared.record.Record.TheVariants.{Parse, ParseFrame, Exec}
 use Rattle.er_history.specs.History.{Element, told}
-use Rattle.er_history.specs.Rules.{Rule, of_made, script_rules}
+use Rattle.er_history.specs.Rules.{Rule, is_some_and, script_rules}
 use Rattle.er_history.specs.Edges.{path}
 use Rattle.er_history.specs.Naming.{naming}
 use Rattle.er_history.specs.Handed.{HasGroup}
@@ -18,14 +18,14 @@ has_deferred_run h d = is_some (last_deferred_run h d)
 -- a parse step made it, and the latest parse step of the document is a later one
 abbrev pub is_parsed_past : List Record → ℕ → Option Element → Bool
 is_parsed_past h d y =
-    of_made (λ (x : Element).
-    x.is_static && of_made (λ (last : ℕ). nat_lt x.piece last) (last_parse h d))
+    is_some_and (λ (x : Element).
+    x.is_static && is_some_and (λ (last : ℕ). nat_lt x.piece last) (last_parse h d))
     y
 
 -- the last deferred script of the document that ran was parsed after it
 abbrev pub is_passed : List Record → ℕ → Option Element → Bool
 is_passed h d y =
-    of_made (λ (last : ℕ). is_parsed_before y (element_made h last)) (last_deferred_element h d)
+    is_some_and (λ (last : ℕ). is_parsed_before y (element_made h last)) (last_deferred_element h d)
 
 -- the run of a blocking script comes too late: the document was parsed on, or one of its deferred scripts has run
 abbrev pub is_blocking_late : List Record → ℕ → Option Element → Bool
@@ -37,7 +37,7 @@ is_deferred_late h d y = defers y && is_passed h d y
 
 abbrev pub is_run_late : List Record → Option Element → Bool
 is_run_late h y =
-    of_made (λ (x : Element). is_blocking_late h x.doc y || is_deferred_late h x.doc y) y
+    is_some_and (λ (x : Element). is_blocking_late h x.doc y || is_deferred_late h x.doc y) y
 
 -- record by record
 abbrev pub is_late : List Record → Record → Bool

@@ -3,7 +3,7 @@
 ghost use Rattle.std.specs.Prelude.{◌≡◌, ℕ, List, None};
 ghost use Rattle.er_trace.specs.declared.record.Record.{Record};
 ghost use Rattle.er_history.specs.History.{told};
-ghost use Rattle.er_history.specs.Rules.{Rule, of_made, load_rules};
+ghost use Rattle.er_history.specs.Rules.{Rule, is_some_and, load_rules};
 ghost use Rattle.er_history.specs.Edges.{path};
 ghost use Rattle.er_history.specs.LookUps.{element_made};
 ghost use Rattle.er_history.specs.Naming.{naming};
@@ -71,7 +71,7 @@ fn is_run_late(page: &Page, element: u32) -> bool
 /// Whether it comes too late in its document.
 fn is_late_in_document(page: &Page, element: u32) -> bool
     ensures { (h : List Record) → IsPage page.now h
-        → result ≡ of_made (says.is_script_late h) (element_made h element) }
+        → result ≡ is_some_and (says.is_script_late h) (element_made h element) }
 {
     let Some(doc) = page.document_of(element) else {
         return false;
@@ -83,7 +83,7 @@ fn is_late_in_document(page: &Page, element: u32) -> bool
 /// Whether it is a blocking or a deferred script: a parse step made it, and it is of the kind `inline`, `sync` or `defer`.
 fn runs_before_dcl(page: &Page, element: u32) -> bool
     ensures { (h : List Record) → IsPage page.now h
-        → result ≡ of_made says.runs_before_dcl (element_made h element) }
+        → result ≡ is_some_and says.runs_before_dcl (element_made h element) }
 {
     page.is_static(element)
         && matches!(
