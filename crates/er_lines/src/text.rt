@@ -8,6 +8,7 @@ ghost use Rattle.er_lines.specs.Format.{IsVersionOf};
 ghost use Rattle.er_lines.specs.Steps.{IsLater, IsFront};
 ghost use Rattle.er_lines.specs.Text.{text, IsSpelled, text_is_format};
 
+use crate::feed::LineFeed;
 use crate::format::{Later, Lines};
 use er_outside::NoMemory;
 use er_syntax::parse::parse_record;
@@ -23,6 +24,9 @@ const END: &str = "end";
 
 /// Lines of text.
 pub struct TextLines;
+
+/// Reads a trace of lines of text that comes in pieces of any length.
+pub type Feed = LineFeed<TextLines>;
 
 impl Lines for TextLines {
     ghost format = { text };
