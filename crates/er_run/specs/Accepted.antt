@@ -104,7 +104,9 @@ IsCompared session old new = (h : List Record) → IsSessionOf session h
 
 -- the count of tests rose by four at most for each pair of a class and a group of these records
 abbrev pub IsTested : Session → ℕ → ℕ → Type 0
-IsTested session old new = (h : List Record) → IsSessionOf session h → (old ≤ new) × (new ≤ old + 4 * (length (classes session.graph.version h) * length (groups session.graph.version h)))
+IsTested session old new = (h : List Record) → IsSessionOf session h
+    → (old ≤ new) × (new ≤ old + 4
+    * (length (classes session.graph.version h) * length (groups session.graph.version h)))
 
 -- the same by what is asked
 abbrev pub IsComparedFor : Command → Session → ℕ → ℕ → Type 0

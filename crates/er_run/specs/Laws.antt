@@ -48,7 +48,8 @@ abbrev pub CutTrace : Type 0
 CutTrace = (asked : Command) (v : Version) (records : List Record) (bytes more : List ℕ)
     → IsTrace (format_of asked) v (bytes ++ more) records → IsLegal (rules v) (reverse records)
     → 0 < length more
-    → Answers (format_of asked) asked bytes (Refused (count_of_lf bytes + 1) NoEnd) (refusal_for asked (count_of_lf bytes + 1) NoEnd)
+    → Answers (format_of asked) asked bytes (Refused (count_of_lf bytes + 1) NoEnd)
+    (refusal_for asked (count_of_lf bytes + 1) NoEnd)
 
 -- The kept accesses stand in the order of their lines, each once.
 abbrev pub KeptInOrder : Type 0
@@ -66,7 +67,8 @@ RacesInOrder = (v : Version) (h : List Record) (i j : ℕ) (p q : Kept × Kept) 
 -- race k names a group that covers it, and none of the groups before that one does
 pub record NamesFirstCover (v : Version) (h : List Record) (k : ℕ)
     (race : Kept × Kept) : Type 0 where
-  pub cover : NamesACover (path (rules v) h) (classes_by_race (path (rules v) h) (kept h)) k (class_of race)
+  pub cover : NamesACover (path (rules v) h) (classes_by_race (path (rules v) h) (kept h)) k
+      (class_of race)
   pub first : (m : ℕ) (g : Class) → m < cover.number → slice_get (groups v h) m ≡ Some g
       → covers (path (rules v) h) g (class_of race) ≡ false
 

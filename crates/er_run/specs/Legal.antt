@@ -30,7 +30,10 @@ IsLegal table (x ∷ h) = (cause table h x ≡ None) × IsLegal table h
 
 -- the limit of the pairs or of the races that the records before the `end` line are over; where they are over none, another cause
 abbrev pub listing_cause : Version → List Record → Option Cause → Option Cause
-listing_cause v h other = if nat_lt most_pairs (length (candidates h)) then Some TooManyPairs else if nat_lt most_races (length (races v h)) then Some TooManyRaces else other
+listing_cause v h other =
+    if nat_lt most_pairs (length (candidates h)) then Some TooManyPairs
+    else if nat_lt most_races (length (races v h)) then Some TooManyRaces
+    else other
 
 -- the limit of the classes
 abbrev pub class_cause : Version → List Record → Option Cause

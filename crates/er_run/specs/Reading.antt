@@ -70,7 +70,9 @@ IsEnd left None = Unit {0}
 IsEnd left (Some refused) = IsSpent left ⊎ (refused.cause ≢ NoEnd)
 
 -- A piece was read, and behind the bytes before it the feed and the session stand for it too.
-pub record Advances (f : Format) (left_old left_new : Option (List ℕ)) (mark : Mark) (kept : List ℕ) (fault : Option FeedFault) (session : Session) (bytes : List ℕ) (records : List Record) : Type 0 where
+pub record Advances (f : Format) (left_old left_new : Option (List ℕ)) (mark : Mark)
+    (kept : List ℕ) (fault : Option FeedFault) (session : Session) (bytes : List ℕ)
+    (records : List Record) : Type 0 where
   pub piece : List ℕ
   pub some : 0 < length piece
   pub gave : Gives left_old piece left_new

@@ -59,7 +59,10 @@ IsFaultAfter v h x NoMemory = Unit {0}
 
 -- The record of the line is the first that has a cause after those before it, which is the one answered; or memory ran out.
 abbrev pub IsFaultOf : Version → List Record → FeedFault → Type 0
-IsFaultOf v records (Refused line cause) = (at : ℕ) × (line ≡ at + 2) × IsLegal (rules v) (reverse (take at records)) × ((x : Record) × (slice_get records at ≡ Some x) × (legality.cause (rules v) (reverse (take at records)) x ≡ Some cause))
+IsFaultOf v records (Refused line cause) =
+    (at : ℕ) × (line ≡ at + 2) × IsLegal (rules v) (reverse (take at records))
+    × ((x : Record) × (slice_get records at ≡ Some x)
+    × (legality.cause (rules v) (reverse (take at records)) x ≡ Some cause))
 IsFaultOf v records NoMemory = Unit {0}
 
 -- the page stands for some list, and the accesses are of earlier lines and of actions that have begun
@@ -71,7 +74,12 @@ pub record AreEarlier (page : Page) (line : ℕ) (accesses : List Kept) : Type 0
 
 -- these accesses with one of the running action, which the record at that place makes
 abbrev pub kept_with : List Record → ℕ → Mode → Loc → List Kept → List Kept
-kept_with h place m l old = without_repeats (access_in (record { read = Access m l; place = place; action = running (told h).actions })) old
+kept_with h place m l old =
+    without_repeats (access_in (record {
+      read = Access m l;
+      place = place;
+      action = running (told h).actions;
+    })) old
 
 -- the new accesses are these; where one came to the old ones, there was room for it
 pub record AreKept (old due new : List Kept) : Type 0 where

@@ -97,7 +97,8 @@ impl Session {
         requires some { IsSession self.old }
         requires room { self.old.records + length records.now ≤ most_lines }
         requires of_version { list_all (has_record self.old.graph.version) records.now ≡ true }
-        ensures taken { OnOk result ((earlier : List Record) → IsSessionOf self.old (reverse earlier)
+        ensures taken { OnOk result ((earlier : List Record)
+            → IsSessionOf self.old (reverse earlier)
             → IsSessionOf self.new (reverse (earlier ++ records.now))) }
         ensures refused { IfErr result (λ fault. (earlier : List Record)
             → IsSessionOf self.old (reverse earlier)
