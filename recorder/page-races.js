@@ -1,4 +1,3 @@
-#!/usr/bin/env node
 'use strict';
 // er_page URL: records a page, asks the program, and writes trace, names, report and view into a folder of the page's name.
 
@@ -8,7 +7,7 @@ const { resolveAddress } = require('./browser/folder.js');
 const { Known, KnownFault } = require('./list/known.js');
 const { Listing } = require('./list/listing.js');
 const { writeOutputs, tellLines } = require('./list/outputs.js');
-const { writeWhole, WriteFault } = require('./list/whole-file.js');
+const { writeWhole, makeFolder, WriteFault } = require('./list/whole-file.js');
 const { parseOptions, UsageFault, USAGE } = require('./options.js');
 const { recordInto } = require('./record.js');
 const { Recorder } = require('./recorder.js');
@@ -74,7 +73,7 @@ async function judgeRuns(files, known) {
 async function pageRaces(given, options) {
   const known = options.known ? Known.readFile(options.known, options.writesKnown) : null;
   const folder = folderFor(given);
-  fs.mkdirSync(folder, { recursive: true });
+  makeFolder(folder);
   fs.rmSync(path.join(folder, 'runs'), { recursive: true, force: true });
   fs.rmSync(path.join(folder, 'page.replay.json'), { force: true });
   const first = new Recorder(given, options.isReplayed ? withEnd({ ...options, keepsBrowser: true, fixed: chance(options) }) : options);

@@ -1,10 +1,9 @@
-#!/usr/bin/env node
 'use strict';
 // er_record URL OUT.trace: records a page. Writes OUT.trace and OUT.names.json.
 
-const fs = require('node:fs');
 const { AttachedRecorder } = require('./attached-recorder.js');
 const { parseOptions, UsageFault, USAGE } = require('./options.js');
+const { writeWhole, mustTake, WriteFault } = require('./list/whole-file.js');
 const { Progress } = require('./progress.js');
 const { Recorder, RecordingFault } = require('./recorder.js');
 const { originOf } = require('./replay/origin.js');
@@ -14,6 +13,7 @@ const { Names } = require('./trace/names.js');
 const { Spelling, keepWithin, NEWEST_VERSION } = require('./trace/spelling.js');
 
 const USAGE_STATUS = 2;
+const WRITE_STATUS = 5;
 
 const namesFile = (traceFile) => `${traceFile.replace(/\.trace$/, '')}.names.json`;
 
@@ -40,10 +40,10 @@ function readRun(recorder, options) {
 /** Writes the trace and its names, also of a recording that ended early. Answers what the limits left out, as lines. */
 function writeFiles(recorder, options, traceFile) {
   const { text, names, accesses, large, leftOut, cut } = readRun(recorder, options);
-  fs.writeFileSync(traceFile, text);
+  writeWhole(traceFile, text);
   const recording = originOf(recorder, options, traceFile, text);
   const facts = { page: recorder.given, trace: traceFile.replace(/^.*\//, ''), recording, ofLibraries: accesses.libraries(), ...(large.length ? { leftOut: large } : {}) };
-  fs.writeFileSync(namesFile(traceFile), names.toJson(facts));
+  writeWhole(namesFile(traceFile), names.toJson(facts));
   const lines = accesses.lines();
   for (const { location, accesses: count, pairs } of large) lines.push(`${location}, more than the program takes: ${count} accesses, ${pairs} pairs`);
   if (leftOut) lines.push(`parse steps in which nothing happened, left out for the limit on actions: ${leftOut}`);
@@ -67,9 +67,10 @@ function reportPage({ errors, loadTime }) {
 
 /**
  * Records a page into a file.
- * @returns {Promise<number>} the exit status
+ * @returns {Promise<number>} the exit status; fails with a WriteFault, before anything is recorded where the folder takes no files
  */
 async function recordInto(given, traceFile, options, recorder = new Recorder(given, options)) {
+  if (!options.isRaw) [traceFile, namesFile(traceFile)].forEach(mustTake);
   const stop = () => recorder.interrupt();
   ['SIGINT', 'SIGTERM', 'SIGHUP'].forEach((signal) => process.on(signal, stop));
   const progress = new Progress(process.stderr, () => ({ actions: recorder.intake.actions, requests: recorder.openRequests() }));
@@ -110,7 +111,13 @@ async function main(words) {
     return USAGE_STATUS;
   }
   const recorder = options.attach ? new AttachedRecorder(options.words[0], options) : undefined;
-  return recordInto(options.words[0], options.words[1], options, recorder);
+  try {
+    return await recordInto(options.words[0], options.words[1], options, recorder);
+  } catch (fault) {
+    if (!(fault instanceof WriteFault)) throw fault;
+    console.error(`er_record: ${fault.message}`);
+    return WRITE_STATUS;
+  }
 }
 
 module.exports = { recordInto, readRun, writeFiles, namesFile };

@@ -1,4 +1,3 @@
-#!/usr/bin/env node
 'use strict';
 // er_replay OUT.trace --race K: records the page of a trace once more, finds the race again by its name, and runs the page in the other order.
 
@@ -7,6 +6,7 @@ const path = require('node:path');
 const { HELP } = require('./help.js');
 const { LastingNames } = require('./list/lasting.js');
 const { Listing } = require('./list/listing.js');
+const { writeWhole, makeFolder, WriteFault } = require('./list/whole-file.js');
 const { recordInto } = require('./record.js');
 const { Recorder } = require('./recorder.js');
 const { canReplay, replayRaces } = require('./replay/command.js');
@@ -17,7 +17,7 @@ const { runProgram, NO_PROGRAM } = require('./view/program.js');
 const { judgeWithin } = require('./view/within-limits.js');
 const { view, besides } = require('./view.js');
 
-const STATUS = { found: 0, lost: 1, usage: 2, refused: 3, noFile: 4, noBrowser: 5 };
+const STATUS = { found: 0, lost: 1, usage: 2, refused: 3, noFile: 4, notWritten: 5 };
 /** A race that does not come by chance may come in a further recording. */
 const MOST_RECORDINGS = 3;
 
@@ -77,7 +77,7 @@ async function recordAgain(given, options, traceFile, wanted, kept) {
     kept.browser = recorder.browser;
     if (status !== 0) return { status };
     const judged = await stoppable(() => process.exit(STOPPED), async () => {
-      fs.writeFileSync(besides(traceFile, '.report'), (await runProgram([], traceFile)).output);
+      writeWhole(besides(traceFile, '.report'), (await runProgram([], traceFile)).output);
       return view(traceFile, 'er_replay');
     });
     if (!judged.model) return judged;
@@ -102,7 +102,7 @@ async function replayTrace({ trace, races, time, isLive, mayChange }) {
   const origin = readOrigin(trace);
   const wanted = await racesOf(trace, races, origin);
   const folder = `${besides(trace, '')}.replay`;
-  fs.mkdirSync(folder, { recursive: true });
+  makeFolder(folder);
   const traceFile = path.join(folder, 'page.trace');
   fs.rmSync(besides(traceFile, '.replay.json'), { force: true });
   const own = { isLive: isLive || origin.options.isLive, time: time || origin.options.time, mayChange, most: Infinity, isJson: false };
@@ -131,9 +131,10 @@ async function main(words) {
     return canReplay('er_replay') ? await replayTrace(given) : NO_PROGRAM;
   } catch (fault) {
     if (fault instanceof OriginFault) console.error(`er_replay: ${fault.message}`);
-    else if (fault instanceof ReplayFault) console.error(`er_replay: ${fault.message}`);
+    else if (fault instanceof ReplayFault || fault instanceof WriteFault) console.error(`er_replay: ${fault.message}`);
     else if (!(fault instanceof UsageFault)) throw fault;
     else console.error(`${fault.message ? `er_replay: ${fault.message}\n` : ''}${HELP.er_replay}`);
+    if (fault instanceof WriteFault) return STATUS.notWritten;
     return fault instanceof UsageFault ? STATUS.usage : fault.status || STATUS.noFile;
   }
 }

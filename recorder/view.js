@@ -1,4 +1,3 @@
-#!/usr/bin/env node
 'use strict';
 // er_view OUT.trace: writes OUT.html, the races of a recorded page in words, with their places in its source.
 // er_view OUT.trace --why A B: tells why action A comes before action B, where the program has the mode `explain`.
