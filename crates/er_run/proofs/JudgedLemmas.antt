@@ -1,5 +1,5 @@
 -- From a session and what was listed to the judgement of its records, and to the report.
-use Rattle.std.proofs.Common.{◌≡◌, ℕ, ◌+◌, ◌-◌, ◌<◌, ◌≤◌, Bool, true, false, inl, inr, ◌⊎◌, List, [], All, length, get_or, refl, sym, ap, subst, ◌∙◌, arith, slice_get, Option, Some, None}
+use Rattle.std.proofs.Common.{◌≡◌, ℕ, ◌+◌, ◌-◌, ◌<◌, ◌≤◌, Bool, true, false, inl, inr, ◌⊎◌, List, [], All, length, get_or, refl, sym, ap, subst, ◌∙◌, arith, Option, Some, None}
 use Rattle.std.specs.Prelude.{nat_lt, nat_le, ◌||◌, if◌then◌else◌, Vec}
 use Rattle.std.specs.declared.alloc.Global.{Global}
 use Rattle.std.proofs.Math.Path.{fun_ext}
@@ -22,7 +22,8 @@ use Rattle.er_graph.specs.Accepted.{Accepted, AreTimed, records}
 use Rattle.er_page.specs.declared.page.Page.{Page}
 use Rattle.er_page.specs.Page.{IsPage}
 use Rattle.er_schedule.specs.Schedules.{Orders, orders_of}
-use Rattle.er_schedule.specs.Text.{AreOrders, AreSomeOrders, schedule_text}
+use Rattle.er_schedule.specs.Text.{race_number, AreOrders, AreSomeOrders, schedule_text}
+use Rattle.er_schedule.proofs.TextLemmas.{race_number_from_one}
 use Rattle.er_pieces.specs.steps.Steps.{Step, explanation}
 use Rattle.er_trace.specs.declared.record.Loc.{Loc}
 use Rattle.er_trace.specs.declared.record.Loc.TheVariants.{Var}
@@ -46,7 +47,7 @@ use Rattle.er_run.specs.declared.findings.Found.TheVariants as findings
 use Rattle.er_words.specs.declared.commands.Input.{Input}
 use Rattle.er_words.specs.declared.commands.Command.{Command}
 use Rattle.er_words.specs.declared.commands.Command.TheVariants.{Check, Gen, Schedule, Explain}
-use Rattle.er_run.specs.Legal.{listing_cause, end_cause, schedule_cause, explain_cause}
+use Rattle.er_run.specs.Legal.{listing_cause, end_cause, race_cause, schedule_cause, explain_cause}
 use Rattle.er_run.specs.Races.{kept, candidates, races, classes}
 use Rattle.er_json.specs.Json as lines
 use Rattle.er_run.specs.Report.{report, json_report, summary, schedule}
@@ -111,6 +112,10 @@ caused k n c more = let over : nat_lt k n ≡ true = grind (arith, nat_tests) in
 
 not_caused : (k n : ℕ) (c : Cause) → n ≤ k → (if nat_lt k n then Some c else None) ≡ None
 not_caused k n c few = let under : nat_lt k n ≡ false = grind (arith, nat_tests) in rw under refl
+
+or_true : (a b : Bool) → b ≡ true → (a || b) ≡ true
+or_true true b e = refl
+or_true false b e = e
 
 -- where the races are listed, no cause of the listing comes
 listing_within : (v : Version) (h : List Record) (found : List Race) (last : Option Cause) → AreListed v found h → listing_cause v h last ≡ last
@@ -205,8 +210,14 @@ judged_summary s asked n h listing same stands is =
 
 pub no_race : (v : Version) (h : List Record) (found : List Race) (k : ℕ) → AreListed v found h → length found < k → schedule_cause k v h ≡ Some NoRace
 no_race v h found k l past =
-    listing_within v h found (if nat_lt (length (races v h)) k then Some NoRace else None) l
-    ∙ caused (length (races v h)) k NoRace (omega (arith, past, as_many (kept h) found (races v h) (are_pairs v found h l)))
+    listing_within v h found (race_cause k v h) l
+    ∙ by (length (races v h)) (omega (arith, past, as_many (kept h) found (races v h) (are_pairs v found h l)))
+  where
+    by : (n : ℕ) → n < k → (if nat_lt k 1 || nat_lt n k then Some NoRace else None) ≡ Some NoRace
+    by n more =
+        let over : nat_lt n k ≡ true = grind (arith, nat_tests) in
+        let both : (nat_lt k 1 || nat_lt n k) ≡ true = or_true (nat_lt k 1) (nat_lt n k) over in
+        rw both refl
 
 -- the actions of a race, by the clocks
 pub race_by_clocks : (s : Session) (links : List (List ℕ)) (h : List Record) (found : List Race) (k : ℕ) (d : Race) (x y : access.Access) → AreClocks s.graph links → IsSessionOf s h → AreListed s.graph.version found h → k < length found
@@ -236,7 +247,7 @@ ordered s links h found k orders i j timed stands l least within race tells =
       are = record {
         races_are = l.are_races;
         race = race.race;
-        found = ap (λ ps. slice_get ps (k - 1)) (sym told_pairs) ∙ race.found;
+        found = ap (λ ps. race_number ps k) (sym told_pairs) ∙ (race_number_from_one (races_by (joins links) s.kept) k least ∙ race.found);
         orders_are = tells lists (clocks_stand s links h timed stands)
             ∙ (ap (λ n. orders_of (joins lists) (length lists) n j) (sym race.first) ∙ ap (λ n. orders_of (joins lists) (length lists) race.race.0.action n) (sym race.second));
       };
@@ -253,10 +264,16 @@ race_within s h found k d stands l below =
 pub judged_orders : (s : Session) (k : ℕ) (h : List Record) (found : Vec Race Global) (orders : Orders) → IsSessionOf s h → AreOrdersOf s.graph.version k found.items orders h → IsJudged (Schedule k) s (findings.Orders k found orders) h
 judged_orders s k h found orders stands are = record {
   stands = stands;
-  within = listing_within s.graph.version h found.items (if nat_lt (length (races s.graph.version h)) k then Some NoRace else None) are.listed
-      ∙ not_caused (length (races s.graph.version h)) k NoRace (omega (arith, are.has_race.1, as_many (kept h) found.items (races s.graph.version h) (are_pairs s.graph.version found.items h are.listed)));
+  within = listing_within s.graph.version h found.items (race_cause k s.graph.version h) are.listed
+      ∙ by (length (races s.graph.version h)) are.has_race.0 (omega (arith, are.has_race.1, as_many (kept h) found.items (races s.graph.version h) (are_pairs s.graph.version found.items h are.listed)));
   is_found = (refl, are);
 }
+  where
+    by : (n : ℕ) → 1 ≤ k → k ≤ n → (if nat_lt k 1 || nat_lt n k then Some NoRace else None) ≡ None
+    by n least few =
+        let left : nat_lt k 1 ≡ false = grind (arith, nat_tests) in
+        let right : nat_lt n k ≡ false = grind (arith, nat_tests) in
+        rw (left, right) refl
 
 -- why two actions are ordered
 
@@ -271,10 +288,6 @@ has_begun s h action stands below = record {
   listed = stands.graph.listed;
   begun = subst (λ l. action < length (told l).actions) (sym (sessions.records_with_lines h)) below;
 }
-
-or_true : (a b : Bool) → b ≡ true → (a || b) ≡ true
-or_true true b e = refl
-or_true false b e = e
 
 pub no_action : (h : List Record) (i j : ℕ) → (length (told h).actions ≤ i) ⊎ (length (told h).actions ≤ j) → explain_cause i j h ≡ Some NoAction
 no_action h i j past = by (length (told h).actions) past

@@ -39,9 +39,9 @@ listing_cause v h other =
 abbrev pub class_cause : Version → List Record → Option Cause
 class_cause v h = if nat_lt most_classes (length (classes v h)) then Some TooManyClasses else None
 
--- there is no race of this number
+-- there is no race of this number: they are numbered from 1
 abbrev pub race_cause : ℕ → Version → List Record → Option Cause
-race_cause k v h = if nat_lt (length (races v h)) k then Some NoRace else None
+race_cause k v h = if nat_lt k 1 || nat_lt (length (races v h)) k then Some NoRace else None
 
 -- of a report: the first limit that they are over
 abbrev pub end_cause : Version → List Record → Option Cause

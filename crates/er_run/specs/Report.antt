@@ -27,7 +27,7 @@ json_report v h = json_texts.report (edges (rules v) (told h).actions) (kept h)
 abbrev pub summary : Version → ℕ → List Record → List ℕ
 summary v n h = texts.summary n (edges (rules v) (told h).actions) (kept h)
 
--- the two orders for race number k, from 1, of its actions
+-- the two orders for race number k, from 1, of its actions; for race 0 none
 abbrev pub schedule : Version → ℕ → List Record → List ℕ
 schedule v k h = schedules.schedule_text (edges (rules v) (told h).actions) (kept h) k
 

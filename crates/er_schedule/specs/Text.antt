@@ -1,5 +1,5 @@
 -- The text of the two orders of a race. Lists of predecessors stand newest first, all others oldest first.
-use Rattle.std.specs.Prelude.{◌≡◌, ℕ, ◌-◌, List, [], ◌++◌, length, codes, slice_get, Option, Some, None}
+use Rattle.std.specs.Prelude.{◌≡◌, ℕ, zero, suc, List, [], ◌++◌, length, codes, slice_get, Option, Some, None}
 use Rattle.er_trace.specs.Trace.{line}
 use Rattle.er_paths.specs.Paths.{joins}
 use Rattle.er_access.specs.Kept.{Kept}
@@ -35,17 +35,22 @@ text_of lists k None = []
 text_of lists k (Some race) =
     schedules_of k race (orders_of (joins lists) (length lists) race.0.action race.1.action)
 
--- the text of race number k, from 1, of the kept accesses
+-- the race of this number, from 1: there is no race 0
+abbrev pub race_number : List (Kept × Kept) → ℕ → Option (Kept × Kept)
+race_number races zero = None
+race_number races (suc k) = slice_get races k
+
+-- the text of race number k of the kept accesses
 abbrev pub schedule_text : List (List ℕ) → List Kept → ℕ → List ℕ
 schedule_text lists accesses k =
-    text_of lists k (slice_get (races_by (joins lists) accesses) (k - 1))
+    text_of lists k (race_number (races_by (joins lists) accesses) k)
 
 -- By these lists, these are the races of the kept accesses, and the orders of race number k.
 pub record AreOrders (lists : List (List ℕ)) (accesses : List Kept) (races : List Race) (k : ℕ)
     (orders : Orders) : Type 0 where
   pub races_are : races ≡ races_of (joins lists) accesses
   pub race : Kept × Kept
-  pub found : slice_get (races_by (joins lists) accesses) (k - 1) ≡ Some race
+  pub found : race_number (races_by (joins lists) accesses) k ≡ Some race
   pub orders_are : orders ≡ orders_of (joins lists) (length lists) race.0.action race.1.action
 
 -- the same by some lists

@@ -135,7 +135,7 @@ mode_of (Explain i j) = codes "explain"
 
 -- no options are given but those that belong to the mode, and those that it requires are
 abbrev pub AreOptions : Given → Command → Type 0
-AreOptions g (Check asked input) = g ≡ record nothing { shards = g.shards; json = asked }
+AreOptions g (Check json input) = g ≡ record nothing { shards = g.shards; json = json }
 AreOptions g (Gen n) =
     Has IsNumberGiven g.number n × (g ≡ record nothing { shards = g.shards; number = g.number })
 AreOptions g (Schedule k) =

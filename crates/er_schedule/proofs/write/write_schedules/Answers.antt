@@ -24,7 +24,7 @@ returns-in_err-put_schedules g c = λ lists are.
     let d : Race = record { first = 0; second = 0 } in
     let below : k - 1 < length c.args.races.now = omega (arith, c.requires.first, c.requires.within) in
     let told : schedules_of k (both_at c.access-first.result c.access-second.result c.location.result.now) c.args.orders.now ≡ schedule_text lists table k =
-    text_told lists table c.args.races.now k c.args.orders.now d c.access-first.result c.access-second.result c.location.result.now are below c.location.ensures c.access-second.ensures.known c.access-first.ensures.kept c.access-second.ensures.kept in
+    text_told lists table c.args.races.now k c.args.orders.now d c.access-first.result c.access-second.result c.location.result.now are c.requires.first below c.location.ensures c.access-second.ensures.known c.access-first.ensures.kept c.access-second.ensures.kept in
     let part : GetsPart (sink c.args.sink.now) (schedule_text lists table k) (sink c.put_schedules.new.sink) = rw told at c.in_err-put_schedules.ensures.part in
     record {
       whole = search rules;
@@ -43,7 +43,7 @@ returns g c = λ lists are.
     let d : Race = record { first = 0; second = 0 } in
     let below : k - 1 < length c.args.races.now = omega (arith, c.requires.first, c.requires.within) in
     let told : schedules_of k (both_at c.access-first.result c.access-second.result c.location.result.now) c.args.orders.now ≡ schedule_text lists table k =
-    text_told lists table c.args.races.now k c.args.orders.now d c.access-first.result c.access-second.result c.location.result.now are below c.location.ensures c.access-second.ensures.known c.access-first.ensures.kept c.access-second.ensures.kept in
+    text_told lists table c.args.races.now k c.args.orders.now d c.access-first.result c.access-second.result c.location.result.now are c.requires.first below c.location.ensures c.access-second.ensures.known c.access-first.ensures.kept c.access-second.ensures.kept in
     let all : Gets (sink c.args.sink.now) (schedule_text lists table k) (sink c.put_schedules.new.sink) = rw told at c.in_ok-put_schedules.ensures.whole in
     record {
       whole = all;
