@@ -4,7 +4,7 @@ ghost use Rattle.std.specs.Prelude.{◌≡◌, false, OnOk};
 
 use er_clocks::{Clocks, Meter, Paths};
 use er_ends::MemorySink;
-use er_explain::{explain, write_steps};
+use er_explain::{explain, rule_of, write_steps};
 use er_graph::Graph;
 use er_outside::NoMemory;
 use er_schedule::{check_schedule, make_schedules};
@@ -23,19 +23,34 @@ struct Row {
     text: &'static str,
 }
 
+/// A script sets two timeouts, which fire in their order.
+const TIMEOUTS_IN_ORDER: &[&str] = &[
+    "parse 0 1 inline",
+    "exec 1",
+    "set 1 0",
+    "set 2 10",
+    "timer 1",
+    "w var 0 x",
+    "timer 2",
+    "r var 0 x",
+];
+
+/// And in the other.
+const TIMEOUTS_OUT_OF_ORDER: &[&str] = &[
+    "parse 0 1 inline",
+    "exec 1",
+    "set 1 10",
+    "set 2 0",
+    "timer 2",
+    "w var 0 x",
+    "timer 1",
+    "r var 0 x",
+];
+
 const EXPLAINED: &[Row] = &[
     Row {
         version: Version::One,
-        lines: &[
-            "parse 0 1 inline",
-            "exec 1",
-            "set 1 0",
-            "set 2 10",
-            "timer 1",
-            "w var 0 x",
-            "timer 2",
-            "r var 0 x",
-        ],
+        lines: TIMEOUTS_IN_ORDER,
         from: 0,
         to: 3,
         text: "explain 0 3\nstep 0 1 3\nstep 1 2 18\nstep 2 3 19\nend\n",
@@ -61,16 +76,7 @@ const EXPLAINED: &[Row] = &[
     },
     Row {
         version: Version::One,
-        lines: &[
-            "parse 0 1 inline",
-            "exec 1",
-            "set 1 10",
-            "set 2 0",
-            "timer 2",
-            "w var 0 x",
-            "timer 1",
-            "r var 0 x",
-        ],
+        lines: TIMEOUTS_OUT_OF_ORDER,
         from: 2,
         to: 3,
         text: "explain 2 3\nunordered\nend\n",
@@ -174,6 +180,17 @@ const EXPLAINED: &[Row] = &[
     },
 ];
 
+/// Two actions of the timeouts in order, and the least rule that makes an edge between them, if one does.
+const RULES: &[(u32, u32, Option<u32>)] = &[
+    (0, 1, Some(3)),
+    (1, 2, Some(18)),
+    (1, 3, Some(18)),
+    (2, 3, Some(19)),
+    (0, 2, None),
+    (2, 2, None),
+    (3, 2, None),
+];
+
 /// Each of two timeouts sets one more.
 const TWO_PAIRS: &[&str] = &[
     "parse 0 1 inline",
@@ -268,6 +285,53 @@ fn has_orders(
     Ok(orders.first() == first && orders.second() == second && is_first && is_second && !is_other)
 }
 
+/// Whether the order is one in which i stands directly before j.
+fn is_order(
+    alloc: Global,
+    clocks: &Clocks,
+    order: &[u32],
+    i: u32,
+    j: u32,
+) -> Result<bool, NoMemory> {
+    if i >= clocks.len() {
+        return Ok(false);
+    }
+    if j >= clocks.len() {
+        return Ok(false);
+    }
+    check_schedule(alloc, clocks, order, i, j)
+}
+
+/// Whether the two orders of two timeouts are told, and none of three other lists is one of the first: the other order, one that breaks an edge, one that lacks an action.
+fn tells_orders(alloc: Global, clocks: &Clocks) -> Result<bool, NoMemory> {
+    let both = has_orders(alloc, clocks, 2, 3, &[0, 1, 2, 3], &[0, 1, 3, 2])?;
+    let turned = is_order(alloc, clocks, &[0, 1, 3, 2], 2, 3)?;
+    let broken = is_order(alloc, clocks, &[1, 0, 2, 3], 2, 3)?;
+    let short = is_order(alloc, clocks, &[0, 1, 2], 2, 3)?;
+    Ok(both & !turned & !broken & !short)
+}
+
+/// The rule of the edge, if both actions have begun.
+fn rule_between(graph: &Graph, from: u32, to: u32) -> Option<u32> {
+    let count = graph.page().actions();
+    if from >= count {
+        return None;
+    }
+    if to >= count {
+        return None;
+    }
+    rule_of(graph, from, to)
+}
+
+fn has_rules(graph: &Graph) -> bool {
+    for (from, to, rule) in RULES {
+        if rule_between(graph, *from, *to) != *rule {
+            return false;
+        }
+    }
+    true
+}
+
 fn let_go(_: Graph) {}
 
 #[test]
@@ -301,5 +365,29 @@ fn ordered(rt: HostRuntime) -> Result<(), Fail> {
     let_go(graph);
     assert!(rt; accepted, "all are accepted");
     assert!(rt; right, "both orders");
+    Ok(())
+}
+
+#[test]
+fn checked(rt: HostRuntime) -> Result<(), Fail> {
+    let alloc = rt.alloc();
+    let mut graph = Graph::new(alloc, Version::One)?;
+    let accepted = hand_all(&mut graph, alloc, TIMEOUTS_OUT_OF_ORDER)?;
+    let right = tells_orders(alloc, graph.clocks())?;
+    let_go(graph);
+    assert!(rt; accepted, "all are accepted");
+    assert!(rt; right, "both orders, and none of the others");
+    Ok(())
+}
+
+#[test]
+fn ruled(rt: HostRuntime) -> Result<(), Fail> {
+    let alloc = rt.alloc();
+    let mut graph = Graph::new(alloc, Version::One)?;
+    let accepted = hand_all(&mut graph, alloc, TIMEOUTS_IN_ORDER)?;
+    let right = has_rules(&graph);
+    let_go(graph);
+    assert!(rt; accepted, "all are accepted");
+    assert!(rt; right, "the rule of each edge");
     Ok(())
 }

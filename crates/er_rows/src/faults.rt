@@ -11,6 +11,13 @@ const TIMEOUTS: &str =
 const REPORT: &str =
     "report 1\nrace 1 6 8 wr 1 2 var 0 x\ncover 1 1\ngroup 1 1 1\nactions 3\naccesses 2\npairs 1\nraces 1\ngroups 1\nchains 2\nlinks 2\nend\n";
 
+/// Three accesses, of which two pairs race.
+const THREE_ACCESSES: &str =
+    "webtrace 1\nparse 0 1 plain\nset 1 10\nset 2 0\ntimer 2\nr var 0 x\nr var 0 x\nw var 0 x\ntimer 1\nw var 0 x\nend\n";
+
+const TWO_RACES: &str =
+    "report 1\nrace 1 6 10 rw 1 2 var 0 x\nrace 2 8 10 ww 1 2 var 0 x\ncover 1 1\ncover 2 1\ngroup 1 1 2\nactions 3\naccesses 3\npairs 2\nraces 2\ngroups 1\nchains 2\nlinks 2\nend\n";
+
 const NOTHING: &str =
     "report 1\nactions 0\naccesses 0\npairs 0\nraces 0\ngroups 0\nchains 0\nlinks 0\nend\n";
 
@@ -338,8 +345,9 @@ fn is_report_or_nothing(
     rt: &(impl Threads + Sync),
     alloc: Global,
     call: &Call<'_, '_>,
+    report: &str,
 ) -> Result<bool, AllocError> {
-    let done = through(rt, alloc, call, REPORT)?;
+    let done = through(rt, alloc, call, report)?;
     Ok(match done.outcome {
         Outcome::NoMemory => done.written == Written::Front(0),
         Outcome::Races => done.written == Written::Whole,
@@ -350,10 +358,9 @@ fn is_report_or_nothing(
 /// Whichever allocation fails, the answer is want of memory and nothing written, or the report.
 #[test]
 fn want_of_memory(rt: HostRuntime) {
-    let call = Call {
-        input: TIMEOUTS,
-        ..SOUND
-    };
-    let right = is_report_or_nothing(&rt, rt.alloc(), &call);
-    assert!(rt; right != Ok(false));
+    for (input, report) in [(TIMEOUTS, REPORT), (THREE_ACCESSES, TWO_RACES)] {
+        let call = Call { input, ..SOUND };
+        let right = is_report_or_nothing(&rt, rt.alloc(), &call, report);
+        assert!(rt; right != Ok(false));
+    }
 }

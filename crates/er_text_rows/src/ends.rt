@@ -112,6 +112,24 @@ fn a_piece_is_put_in_part(rt: HostRuntime) -> Result<(), Fail> {
     Ok(())
 }
 
+/// Whichever of the three calls for a piece of six bytes fails, it is the last, and the next one is asked as any other.
+#[test]
+fn each_call_of_a_sink_fails(rt: HostRuntime) -> Result<(), Fail> {
+    for (failing, held, next) in [(1, "", "xy"), (2, "ab", "abxy"), (3, "abcd", "abcdxy")] {
+        let mut sink = frail_sink(rt.alloc(), failing)?;
+        assert_eq!(rt; put_all(&mut sink, b"abcdef"), Err(Failed));
+        assert_eq!(rt; (sink.calls(), sink.fault_count()), (failing, 1));
+        assert_eq!(rt; sink.bytes(), held.as_bytes());
+        assert_eq!(rt; sink.write(b"xyz"), Ok(2));
+        assert_eq!(rt;
+            (sink.calls(), sink.fault_count()),
+            (failing.saturating_add(1), 1)
+        );
+        assert_eq!(rt; sink.bytes(), next.as_bytes());
+    }
+    Ok(())
+}
+
 #[test]
 fn a_reader_is_a_source(rt: HostRuntime) {
     let mut buf = [0; 3];
