@@ -12,10 +12,15 @@ const CALLBACKS = [
   ['DataTransferItem', 'getAsString', [0]],
 ];
 
+/** The promises of a view transition. */
+const OF_TRANSITION = ['updateCallbackDone', 'ready', 'finished'];
+
 class Callbacks {
   constructor(page) {
     this.page = page;
     this.recording = page.recording;
+    /** By view transition: where its callback has run. */
+    this.transitions = new WeakMap();
   }
 
   start() {
@@ -23,17 +28,32 @@ class Callbacks {
     each(CALLBACKS, ([owner, name, indices, property]) => {
       if (window[owner]) this.replaceCall(window[owner].prototype, name, indices, property);
     });
+    if (window.ViewTransition) each(OF_TRANSITION, (name) => this.replacePromise(window.ViewTransition.prototype, name));
   }
 
   replaceCall(owner, name, indices, property) {
     const callbacks = this;
     replaceMethod(owner, name, (native) => function ask() {
       const words = [...arguments];
-      if (!callbacks.recording.isOver) callbacks.wrapWords(name, words, indices, property);
-      return native.apply(this, words);
+      const asked = callbacks.recording.isOver ? null : callbacks.wrapWords(name, words, indices, property);
+      const result = native.apply(this, words);
+      if (asked && name === 'startViewTransition') callbacks.transitions.set(result, asked.ends);
+      return result;
     });
   }
 
+  /** What waits for a view transition comes behind its callback. */
+  replacePromise(owner, name) {
+    const callbacks = this;
+    replaceGetter(owner, name, (native) => function get() {
+      const promise = native.call(this);
+      const ends = callbacks.transitions.get(this);
+      if (ends) callbacks.page.jobs.several.set(promise, ends);
+      return promise;
+    });
+  }
+
+  /** Answers what is known of the call, or null where no word of it is a function. */
   wrapWords(name, words, indices, property) {
     let asked = null;
     const wrap = (callback) => {
@@ -45,6 +65,7 @@ class Callbacks {
       if (typeof word === 'function') words[index] = wrap(word);
       else if (property && isPlainObject(word) && typeof word[property] === 'function') words[index] = { ...word, [property]: wrap(word[property]) };
     });
+    return asked;
   }
 
   ask(name, callback) {
@@ -52,10 +73,10 @@ class Callbacks {
     const number = recording.next('interval');
     recording.noteAsking(`every ${number} 0`);
     recording.log.name('interval', number, { why: name, function: nameOfFunction(callback) });
-    return { number, event: recording.isRunning() ? recording.running : null };
+    return { number, event: recording.isRunning() ? recording.running : null, ends: { moments: [], isByOne: false, why: name } };
   }
 
-  wrap({ number, event }, callback) {
+  wrap({ number, event, ends }, callback) {
     const { recording } = this;
     return function called() {
       if (recording.isOver || recording.contexts.length) return callback.apply(this, arguments);
@@ -65,6 +86,7 @@ class Callbacks {
       try {
         return callback.apply(this, arguments);
       } finally {
+        ends.moments[0] = recording.moment();
         recording.leave();
       }
     };

@@ -132,6 +132,7 @@ class Calls {
       const key = String(name).toLowerCase();
       const isSource = key === SOURCE_OF[this.localName];
       if (isSource && !page.recording.isOver) page.elements.noteSource(this);
+      if (key === 'src' && isMedia(this)) page.media.noteLoading(this);
       if (key === 'integrity' && this.localName === 'script') return undefined;
       const result = native.apply(this, arguments);
       if (isSource && !page.recording.isOver) page.elements.nameSource(this);

@@ -12,7 +12,7 @@ const CONSEQUENCES = {
   pointerup: ['mouseup'],
   mousedown: [...FOCUS, 'selectstart', 'contextmenu'],
   mouseup: ['click', 'auxclick', 'contextmenu', 'dblclick', ...FOCUS],
-  click: ['click', 'dblclick', 'toggle', 'formdata', 'close', 'popstate', ...EDITS],
+  click: ['click', 'dblclick', 'toggle', 'formdata', 'close', 'popstate', 'navigate', ...EDITS],
   keydown: ['keypress', 'cancel', 'close', 'toggle', 'popstate', ...EDITS],
   keypress: EDITS,
   keyup: ['click'],
@@ -21,7 +21,7 @@ const CONSEQUENCES = {
   change: FOCUS,
   blur: FOCUS,
   focus: FOCUS,
-  submit: ['formdata', 'close', 'toggle'],
+  submit: ['formdata', 'close', 'toggle', 'navigate'],
 };
 /** Those that the browser queues behind a user's act come within so many milliseconds; and so does a key's letter, which may be an act of its own. */
 const LATER = new Set(['select', 'selectionchange', 'toggle', 'close', 'keypress']);

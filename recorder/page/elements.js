@@ -384,6 +384,7 @@ class Elements {
     const number = this.number(element);
     this.markDeclared(element, kind);
     this.page.inOrder.note(element, number);
+    if (element.localName === 'source' && isMedia(element.parentNode)) this.page.media.noteLoading(element.parentNode);
     if (this.joinsParsing(element, number, kind)) return;
     this.noteAwaited(element, number, kind);
     this.recording.log.line(`new ${this.page.number} ${number} ${kind}`, this.placeOfCode());

@@ -154,7 +154,7 @@ class Jobs {
     const { recording, page } = this;
     const asker = asked.moment && asked.moment.event;
     dispatch.beginning = dispatch.beginning || recording.running;
-    const told = page.joins.tell(dispatch, keep(this.othersOf(asked), (moment) => moment && moment.event !== asker), asked.why || 'one of several promises');
+    const told = page.joins.tell(dispatch, keep(this.othersOf(asked), (moment) => moment && moment.event !== asker), asked.why || this.several.get(asked.v)?.why || 'one of several promises');
     if (told.length) dispatch.hasJoined = true;
     recording.begin(`run ${dispatch.number} ${told.length ? 1 : 0} ${handler}`, 'handler', undefined, [dispatch.beginning, asker, ...told]);
     recording.noteInside(dispatch);

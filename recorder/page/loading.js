@@ -44,7 +44,7 @@ class Loading {
   begin(dispatch) {
     const { event, target } = dispatch;
     if (this.isOfDocument(event, target)) return this.beginOfDocument(dispatch);
-    if (!this.recording.steering.isTrusted(event) || target.nodeType !== 1) return false;
+    if (!this.recording.steering.isTrusted(event) || target.nodeType !== 1 || isMedia(target)) return false;
     return event.type === 'load' || event.type === 'error' ? this.beginOfElement(dispatch) : false;
   }
 

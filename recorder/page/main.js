@@ -13,6 +13,8 @@ class Page {
     this.imports = new Imports(this);
     this.dispatches = new Dispatches(this);
     this.queued = new Queued(this);
+    this.media = new Media(this);
+    this.navigations = new Navigations(this);
     this.handlers = new Handlers(this);
     this.calls = new Calls(this);
     this.lookups = new Lookups(this);
@@ -34,8 +36,8 @@ class Page {
     this.recording.elementNumbers.delete(this.window); // a frame's window stays the same object for its next page
     if (this.recording.objects) this.recording.objects.addWindow(this);
     this.beginDocument();
-    const parts = [this.handlers, this.dispatches, this.calls, this.lookups, this.fields, this.queued, this.timers, this.callbacks, this.jobs,
-      this.observers, this.requests, this.connections, this.messages, this.globals];
+    const parts = [this.handlers, this.dispatches, this.calls, this.lookups, this.fields, this.queued, this.media, this.navigations, this.timers, this.callbacks,
+      this.jobs, this.observers, this.requests, this.connections, this.messages, this.globals];
     parts.forEach((part) => part.start());
     this.replaceToString();
     this.elements.start();

@@ -1,6 +1,8 @@
 // Messages: `postMessage` of windows, of ports and of broadcast channels. Each message has a plain element, at which its listeners are handlers: in
 // version 2 its sender makes it, so that the message comes after its sender and no rule joins it with another one.
 
+const tagOf = Object.prototype.toString;
+
 class Messages {
   constructor(page) {
     this.page = page;
@@ -17,7 +19,7 @@ class Messages {
     const messages = this;
     const { window } = this.page;
     replaceMethod(window, 'postMessage', (native) => function postMessage() {
-      const hold = messages.post(window);
+      const hold = messages.post(window, arguments);
       messages.recording.steering.post(hold, window, () => native.apply(window, arguments));
     });
     this.replaceChannel(window);
@@ -54,7 +56,7 @@ class Messages {
     });
     replaceMethod(window.MessagePort.prototype, 'postMessage', (native) => function postMessage() {
       const peer = peers.get(this);
-      const hold = peer && messages.post(peer);
+      const hold = peer && messages.post(peer, arguments);
       messages.recording.steering.post(hold, peer, () => native.apply(this, arguments));
     });
   }
@@ -66,8 +68,8 @@ class Messages {
     if (moment) starts.set(port, moment);
   }
 
-  /** Answers what keeps the message back in a replay. */
-  post(receiver) {
+  /** `words` are those of the call. Answers what keeps the message back in a replay. */
+  post(receiver, words = []) {
     const { recording } = this;
     if (recording.isOver) return undefined;
     const message = recording.next('message');
@@ -75,7 +77,7 @@ class Messages {
     recording.noteAsking(`post ${message} ${this.page.number} ${standIn}`);
     recording.log.name('element', standIn, { why: 'a message', message });
     if (!recording.posted.has(receiver)) recording.posted.set(receiver, []);
-    recording.posted.get(receiver).push({ message, standIn, sender: recording.isRunning() ? recording.running : null });
+    recording.posted.get(receiver).push({ message, standIn, sender: recording.isRunning() ? recording.running : null, ports: portsOf(words) });
     return recording.steering.asks('post');
   }
 
@@ -84,11 +86,28 @@ class Messages {
     const { event, target } = dispatch;
     const waiting = event.type === 'message' && this.recording.steering.isTrusted(event) && this.recording.posted.get(target);
     if (!waiting || !waiting.length) return false;
-    const { message, standIn, sender } = waiting.shift();
+    const { message, standIn, sender, ports } = waiting.shift();
+    for (let k = 0; k < ports.length; k++) this.move(ports[k], event.ports[k]);
     this.recording.begin(`message ${message} ${dispatch.number} ${standIn}`, 'begin', undefined, [sender]);
     dispatch.moments = [this.recording.starts.get(target)];
     dispatch.why = 'the start of the port';
     this.page.joins.tellOf(dispatch); // at once, so that the look-up of handlers comes behind it too
     return true;
   }
+
+  /** A port that goes with a message is another object where it arrives. What was posted to it meanwhile comes there. */
+  move(port, arrived) {
+    const { peers, posted } = this.recording;
+    const peer = peers.get(port);
+    if (!peer || !arrived || arrived === port) return;
+    peers.set(arrived, peer);
+    peers.set(peer, arrived);
+    if (posted.has(port)) posted.set(arrived, posted.get(port));
+  }
+}
+
+/** The ports that go with a message, in the order in which they arrive. */
+function portsOf([, second, third]) {
+  const given = isArray(third) ? third : isArray(second) ? second : isPlainObject(second) ? second.transfer : null;
+  return isArray(given) ? keep(given, (one) => apply(tagOf, one, []) === '[object MessagePort]') : [];
 }

@@ -111,5 +111,15 @@ function replaceProperty(owner, name, make) {
   Object.defineProperty(owner, name, { ...descriptor, ...make(descriptor) });
 }
 
+/** Puts a getter in the place of that of a property. */
+function replaceGetter(owner, name, make) {
+  const descriptor = Object.getOwnPropertyDescriptor(owner, name);
+  if (!descriptor || !descriptor.get || !descriptor.configurable) return;
+  const get = make(descriptor.get);
+  Object.defineProperty(get, 'name', { value: `get ${name}`, configurable: true });
+  replacedFunctions.set(get, descriptor.get);
+  Object.defineProperty(owner, name, { ...descriptor, get });
+}
+
 /** What `toString` of a replaced function shows. */
 const replacedFunctions = new WeakMap();

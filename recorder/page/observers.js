@@ -1,6 +1,8 @@
 // Observers: a mutation observer's callback is a job, those of the others are tasks. Each comes behind the call that told the observer what to look at.
 
-const OBSERVERS = ['MutationObserver', 'IntersectionObserver', 'ResizeObserver', 'PerformanceObserver'];
+const OBSERVERS = ['MutationObserver', 'IntersectionObserver', 'ResizeObserver', 'PerformanceObserver', 'ReportingObserver'];
+/** Those whose news are not of one thing that they were told to look at. */
+const OF_ALL = new Set(['PerformanceObserver', 'ReportingObserver']);
 
 class Observers {
   constructor(page) {
@@ -16,14 +18,16 @@ class Observers {
       this.replaceObserver(window, name);
       this.replaceObserve(window[name].prototype);
     });
+    this.replaceRegistry(window);
   }
 
   replaceObserver(window, name) {
     const observers = this;
     const Native = window[name];
     function Observer(callback, ...rest) {
+      if (!new.target) return Native(callback, ...rest); // which throws
       const about = typeof callback === 'function' && !observers.recording.isOver ? observers.describe(name, callback) : null;
-      const made = Reflect.construct(Native, [about ? observers.wrap(about, callback) : callback, ...rest], new.target && new.target !== Observer ? new.target : Native);
+      const made = Reflect.construct(Native, [about ? observers.wrap(about, callback) : callback, ...rest], new.target !== Observer ? new.target : Native);
       if (about) observers.known.set(made, about);
       return made;
     }
@@ -66,8 +70,47 @@ class Observers {
     const isOf = (target) => ({ target: of }) => of === target || (name === 'MutationObserver' && contains.call(target, of));
     const moments = [];
     each(told, ({ target, moment }) => {
-      if (name === 'PerformanceObserver' || findItem(entries, isOf(target))) moments[moments.length] = moment;
+      if (OF_ALL.has(name) || findItem(entries, isOf(target))) moments[moments.length] = moment;
     });
     return moments;
+  }
+
+  // ---- what is called when an object is no more
+
+  /** A callback comes behind the call that registered what is gone: the registry holds the moment of that beside the page's value. */
+  replaceRegistry(window) {
+    const observers = this;
+    const Native = window.FinalizationRegistry;
+    function FinalizationRegistry(callback) {
+      if (!new.target) return Native(callback); // which throws
+      const isSeen = typeof callback === 'function' && !observers.recording.isOver;
+      return Reflect.construct(Native, [isSeen ? observers.wrapCleanup(callback) : callback], new.target !== FinalizationRegistry ? new.target : Native);
+    }
+    putConstructor(window, 'FinalizationRegistry', FinalizationRegistry);
+    replaceMethod(Native.prototype, 'register', (native) => function register(target, value, ...token) {
+      const held = target === value || observers.recording.isOver ? value : new Held(value, observers.recording.moment());
+      return native.call(this, target, held, ...token);
+    });
+  }
+
+  wrapCleanup(callback) {
+    const observers = this;
+    const about = this.describe('FinalizationRegistry', callback);
+    return function cleanUp(held) {
+      const { recording, page: { dispatches, jobs } } = observers;
+      const call = () => callback.call(this, held instanceof Held ? held.value : held);
+      if (recording.isOver) return call();
+      about.type = about.type || `FinalizationRegistry-${recording.next('observer')}`;
+      const asked = { ...about.asked, others: [held.moment], why: 'the call of register()' };
+      return jobs.runAsHandler(dispatches.beginPlain(jobs.place, about.type), about.handler, asked, call);
+    };
+  }
+}
+
+/** The value that is handed to a registry's callback, and the moment of its registration. */
+class Held {
+  constructor(value, moment) {
+    this.value = value;
+    this.moment = moment;
   }
 }

@@ -1,6 +1,10 @@
 // Events that a call, or an act of the user, has queued: they come in a later task, at a stand-in that is made in the action that caused them.
 
-const TRANSITIONS = { transitionend: 'transitionrun', transitioncancel: 'transitionrun', animationend: 'animationstart', animationiteration: 'animationstart' };
+/** The events of transitions and animations, and which of them is the first. */
+const TRANSITIONS = { transitionrun: 'transitionrun', transitionstart: 'transitionrun', transitionend: 'transitionrun', transitioncancel: 'transitionrun',
+  animationstart: 'animationstart', animationiteration: 'animationstart', animationend: 'animationstart', animationcancel: 'animationstart' };
+/** Those that come in this order behind one cause, whatever else happens. */
+const IN_ORDER = new Set(['transitionrun', 'transitionstart', 'transitionend', 'animationstart', 'animationiteration', 'animationend', ...MEDIA_IN_ORDER]);
 const MOST_WAITING_EVENTS = 100;
 /** A change of an element's class or style starts a transition in one of the next frames. */
 const FRAMES_OF_A_CHANGE = 3;
@@ -11,8 +15,6 @@ class Queued {
     this.recording = page.recording;
     /** By target: what is to come, `{type, moment, isIt}`. */
     this.waiting = new WeakMap();
-    /** Calls of `history.back()` and the like whose step has not come. */
-    this.steps = [];
     /** By element: who changed its class or style now, and by the name of a property who has started its transition. */
     this.changed = new WeakMap();
     this.started = new WeakMap();
@@ -23,8 +25,8 @@ class Queued {
 
   start() {
     const { window } = this.page;
-    this.watchHistory(window);
     this.watchToggles(window);
+    this.watchFullScreen(window);
   }
 
   // ---- what is to come
@@ -39,7 +41,7 @@ class Queued {
     return recording.lastMoment();
   }
 
-  /** An event of a type will come at a target. */
+  /** An event of a type, or of any (null), will come at a target. */
   note(target, type, moment, isIt = () => true) {
     if (this.recording.isOver || !moment) return;
     if (!this.waiting.has(target)) this.waiting.set(target, []);
@@ -57,48 +59,39 @@ class Queued {
 
   /** What caused an event, or undefined. */
   take(event, target) {
-    if (TRANSITIONS[event.type]) return this.started.get(target)?.get(nameOfMotion(event));
+    const first = TRANSITIONS[event.type];
+    if (first === event.type) this.noteStart(event);
+    if (first) return this.started.get(target)?.get(nameOfMotion(event));
+    if (isMedia(target)) return this.page.media.causeOf(event, target);
+    return this.takeNoted(event, target) || this.rejectionOf(event);
+  }
+
+  takeNoted(event, target) {
     const list = this.waiting.get(target);
-    const found = list && findItem(list, (one) => one.type === event.type && one.isIt(event));
+    const found = list && findItem(list, (one) => (one.type || event.type) === event.type && one.isIt(event));
     if (found) this.waiting.set(target, keep(list, (one) => one !== found));
-    return found || this.rejectionOf(event);
+    return found;
   }
 
   /** Writes the begin of a dispatch that was caused by an action which is over. Answers whether it is one. */
-  begin({ event, target, number }) {
+  begin(dispatch) {
+    const { event, target, number } = dispatch;
     const cause = event.isTrusted && this.take(event, target);
     if (!cause) return false;
-    cause.standIn = cause.standIn || this.page.elements.standInIn(cause.moment, target, 'its cause');
-    this.recording.begin(`fire ${number} ${cause.standIn} ${spellName(event.type)}`, 'begin', undefined, [cause.moment.event]);
+    const { elements, joins } = this.page;
+    const { moment } = cause;
+    cause.standIn = cause.standIn || (moment ? elements.standInIn(moment, target, 'its cause') : elements.standIn(target, 'what it loads'));
+    this.recording.begin(`fire ${number} ${cause.standIn} ${spellName(event.type)}`, 'begin', undefined, [moment && moment.event]);
+    if (IN_ORDER.has(event.type)) this.keepOrder(dispatch, cause);
+    joins.tellOf(dispatch);
     return true;
   }
 
-  // ---- the address
-
-  /** `navigate` comes before each step: at once for a change of the fragment, and for a way back when it is made. */
-  watchHistory(window) {
-    if (!window.navigation) return;
-    const queued = this;
-    const { recording } = this;
-    each(['back', 'forward', 'go'], (name) => replaceMethod(window.History.prototype, name, (native) => function step(delta) {
-      const { canGoBack, canGoForward } = window.navigation;
-      const isForward = name === 'forward' || (name === 'go' && delta > 0);
-      const moment = (isForward ? canGoForward : canGoBack) && recording.moment();
-      if (moment) queued.steps[queued.steps.length] = moment;
-      return native.apply(this, arguments);
-    }));
-    this.page.natives.addEventListener.call(window.navigation, 'navigate', (event) => this.noteNavigation(event));
-  }
-
-  noteNavigation({ navigationType, hashChange, destination }) {
-    if (this.recording.isOver) return;
-    const { window } = this.page;
-    const isStep = navigationType === 'traverse';
-    const moment = isStep ? this.steps.shift() : hashChange && this.causeNow();
-    if (!moment || !destination.sameDocument) return;
-    if (isStep) this.note(window, 'popstate', moment);
-    const { url } = destination;
-    if (hashChange) this.note(window, 'hashchange', moment, ({ newURL }) => newURL === url);
+  /** An event comes behind the one before it that has the same cause. */
+  keepOrder(dispatch, cause) {
+    dispatch.moments = [cause.last];
+    dispatch.why = 'the event before';
+    dispatch.whenClosed = () => { cause.last = this.recording.lastMoment(); };
   }
 
   // ---- what opens and closes
@@ -127,6 +120,23 @@ class Queued {
   /** The attribute `open` of a details element has come or gone. */
   noteOpen(element) {
     if (element.localName === 'details') this.noteAgain(element, 'toggle', this.recording.lastMoment());
+  }
+
+  // ---- the full screen
+
+  /** An element fills the screen, or can't, in a later frame. */
+  watchFullScreen({ Element, Document }) {
+    const queued = this;
+    const isOfScreen = ({ type }) => /fullscreen(change|error)$/.test(type);
+    const note = (element) => { if (element) queued.note(element, null, queued.recording.moment(), isOfScreen); };
+    each(['requestFullscreen', 'webkitRequestFullscreen', 'webkitRequestFullScreen'], (name) => replaceMethod(Element.prototype, name, (native) => function request() {
+      if (queued.page.document.fullscreenElement !== this) note(this);
+      return native.apply(this, arguments);
+    }));
+    each(['exitFullscreen', 'webkitExitFullscreen', 'webkitCancelFullScreen'], (name) => replaceMethod(Document.prototype, name, (native) => function exit() {
+      note(queued.page.document.fullscreenElement);
+      return native.apply(this, arguments);
+    }));
   }
 
   // ---- storage of another frame

@@ -21,6 +21,13 @@ exports.cases = [
     races: [],
   },
 
+  {
+    page: 'port-to-frame.html',
+    due: ['run hands', 'post', 'timer', 'w settings', 'post', 'message', 'run takes', 'on got', 'on the start of the port', 'message', 'run the start of the port',
+      'run got', 'w seen', 'r settings'],
+    races: [],
+  },
+
   // ---- timeouts
   {
     page: 'nested-clamp.html',
@@ -67,6 +74,24 @@ exports.cases = [
   { page: 'observe-later.html', due: ['timer', 'w settings', 'fire promise reactions ResizeObserver-1', 'run the call of observe()', 'run resized', 'r settings'], races: [] },
   { page: 'callbacks.html', due: ['w asked', 'every 0', 'every 0', 'tick', 'w seen'], races: [] },
   { page: 'locks.html', due: ['every 0', 'tick', 'w last', 'tick', 'w last'], races: ['last'] },
+  {
+    page: 'view-transition.html',
+    due: ['timer', 'w asked', 'every 0', 'on done', 'tick', 'r asked', 'w seen', 'run startViewTransition', 'run done', 'r seen'],
+    races: [],
+  },
+  { page: 'geolocation.html', due: ['timer', 'w asked', 'every 0', 'tick', 'r asked', 'w seen'], races: [] },
+  {
+    page: 'registry.html',
+    due: ['timer', 'w registered', 'on the call of register()', 'fire promise reactions FinalizationRegistry-1', 'run the call of register()', 'run gone',
+      'r registered', 'w seen'],
+    races: [],
+  },
+  {
+    page: 'reporting.html',
+    due: ['timer', 'w observed', 'on the call of observe()', 'fire promise reactions ReportingObserver-1', 'run the call of observe()', 'run told', 'r observed',
+      'w seen'],
+    races: [],
+  },
   { page: 'scheduler-yield.html', due: ['w part', 'fire promise reactions then-1', 'run await', 'w part'], races: [] },
   { page: 'stream-read.html', due: ['w asked', 'reply', 'run await', 'w got', 'w whole'], races: [] },
 
@@ -97,5 +122,42 @@ exports.cases = [
     races: ['last'],
   },
   { page: 'transition.html', due: ['timer', 'w asked', 'new p#text plain', 'fire p#text transitionend', 'run faded', 'r asked'], races: [] },
+  {
+    page: 'animation.html',
+    due: ['timer', 'w asked', 'new p#text plain', 'fire p#text animationstart', 'run begins', 'r asked', 'close', 'on the event before', 'fire p#text animationend',
+      'run the event before', 'run ends', 'r started'],
+    races: [],
+  },
+  {
+    page: 'media-calls.html',
+    words: ['--do', 'click:button'],
+    due: ['timer', 'w change', 'timer', 'w chosen', 'new audio#sound plain', 'fire audio#sound loadedmetadata', 'run known', 'r chosen', 'close',
+      'on the event before', 'fire audio#sound canplay', 'run the event before', 'run ready', 'r seconds', 'inline button click', 'w asked', 'new audio#sound plain',
+      'fire audio#sound play', 'run begins', 'r asked', 'close', 'on the event before', 'fire audio#sound ended', 'run the event before', 'run over', 'r isPlaying'],
+    races: ['click of button'],
+  },
+  {
+    page: 'media-unordered.html',
+    due: ['timer', 'new audio#sound plain', 'timer', 'new audio#sound plain', 'fire audio#sound volumechange', 'fire audio#sound volumechange'],
+    races: ['last', 'loadedmetadata of audio#sound', 'place'],
+  },
+  {
+    page: 'full-screen.html',
+    words: ['--do', 'click:button'],
+    due: ['inline button click', 'run asks', 'w asked', 'new p#text plain', 'fire p#text fullscreenchange', 'run filled', 'r asked'],
+    races: ['click of button'],
+  },
+  {
+    page: 'navigate-by-click.html',
+    words: ['--do', 'click:#link'],
+    due: ['inline a#link click', 'run clicked', 'w asked', 'close', 'inline Navigation navigate', 'run goes', 'r asked', 'on handler', 'run handler', 'w shown',
+      'new Navigation plain', 'back', 'fire Navigation navigatesuccess', 'run over', 'r shown'],
+    races: ['click of a#link'],
+  },
+  {
+    page: 'navigate-by-script.html',
+    due: ['timer', 'w asked', 'inline Navigation navigate', 'run goes', 'r asked', 'close', 'back', 'w shown', 'r shown', 'w behind'],
+    races: [],
+  },
   { page: 'focus-late.html', due: ['timer', 'w focus of window'], never: ['wfire focus'], races: [] },
 ];

@@ -20,10 +20,19 @@ const { Words } = require('../view/words.js');
 const LONGEST_ANSWER = 60000;
 const PAGES = path.join(__dirname, 'pages');
 
+/** One whose page may ask where it is on the globe, and is told. */
+class RecorderSomewhere extends Recorder {
+  async prepareTab(folder) {
+    await super.prepareTab(folder);
+    await this.browser.send('Browser.grantPermissions', { permissions: ['geolocation'], browserContextId: this.tab.contextId });
+    await this.tab.send('Emulation.setGeolocationOverride', { latitude: 1, longitude: 2, accuracy: 3 });
+  }
+}
+
 /** Records a page of pages/ in a browser that runs: all of it, and what the rules leave. With `isWhole` false it is recorded as a user does. */
 async function recordPage(browser, page, words = [], version = NEWEST_VERSION, isWhole = true) {
   const options = parseOptions([...words, ...(isWhole ? ['--keep'] : []), page], NEWEST_VERSION, 1);
-  const recorder = new Recorder(/^https?:/.test(page) ? page : path.resolve(PAGES, page), { ...options, browser });
+  const recorder = new RecorderSomewhere(/^https?:/.test(page) ? page : path.resolve(PAGES, page), { ...options, browser });
   await recorder.record();
   return readTrace(recorder, version);
 }
