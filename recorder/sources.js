@@ -64,6 +64,7 @@ class Source {
     this.tags.get(name).push({ id, source, offset });
   }
 
+  noteMarked(own, marked) { this.sources.markedTexts.set(own, marked); }
   drop(what) { this.sources.count(this.sources.dropped, what); }
   miss(what) { this.sources.count(this.sources.missed, what); }
 
@@ -114,6 +115,8 @@ class Sources {
     this.modules = [];
     /** The numbers of the modules that have an address of their own. */
     this.numbersOfModules = new Map();
+    /** The scripts and handler attributes of pages, and what they are with marks. */
+    this.markedTexts = new Map();
     this.dropped = new Map();
     this.missed = new Map();
     /** What was left out of the names alone. */

@@ -2,6 +2,7 @@
 // Takes each response on its way (the protocol's Fetch domain): answers from a folder, marks pages and scripts, holds files back.
 
 const { BrowserFault } = require('./chromium.js');
+const { policyWithMarks, hasTypes, holdAt, HOLD_NAME } = require('./content-policy.js');
 const { readText } = require('./text.js');
 const { sleep } = require('./time.js');
 const { mayChange, isOfThisMachine } = require('../replay/changing.js');
@@ -9,8 +10,8 @@ const { mayChange, isOfThisMachine } = require('../replay/changing.js');
 const PAGE_TYPE = /^text\/html\b/i;
 const XML_PAGE_TYPE = /^application\/xhtml\+xml\b/i;
 const SCRIPT_TYPE = /javascript|ecmascript|^text\/plain\b|^application\/octet-stream\b/i;
-const DROPPED_HEADERS = /^(content-security-policy(-report-only)?|content-length|content-encoding|transfer-encoding|content-type|sourcemap|x-sourcemap)$/i;
-const POLICY_HEADER = /^content-security-policy/i;
+const DROPPED_HEADERS = /^(content-length|content-encoding|transfer-encoding|content-type|sourcemap|x-sourcemap)$/i;
+const POLICY_HEADER = /^content-security-policy(-report-only)?$/i;
 
 /** A number for a text, the same in each run, so that `--slow` holds the same files back by the same times. */
 function hash(text) {
@@ -19,10 +20,9 @@ function hash(text) {
   return value;
 }
 
-/** The name of what a replay puts into a page, so that the page waits for it. */
-const HOLD_NAME = '__er-hold';
 const HOLD_ADDRESS = new RegExp(`/${HOLD_NAME}\\?(\\d+)$`);
 const isHold = (address) => HOLD_ADDRESS.test(address);
+const TRUSTED_TYPES = 'trusted types of content policies';
 
 class Responses {
   /**
@@ -161,7 +161,6 @@ class Responses {
     this.hasPageBegun = true;
     const { body, base64Encoded } = await this.tab.send('Fetch.getResponseBody', { requestId: event.requestId }, this.longest);
     const bytes = Buffer.from(body, base64Encoded ? 'base64' : 'utf8');
-    if (event.responseHeaders.some(({ name }) => POLICY_HEADER.test(name))) this.sources.count(this.sources.dropped, 'content policies');
     const headers = event.responseHeaders.filter(({ name }) => !DROPPED_HEADERS.test(name));
     await this.fulfill(event, status, headers, this.contentType(event), bytes);
   }
@@ -185,12 +184,18 @@ class Responses {
   async fulfill(event, status, headers, type, bytes) {
     const isMarked = this.sources && status === 200 && this.isText(event, type);
     const { body, type: contentType } = isMarked ? this.mark(event, type || 'text/javascript', bytes) : { body: bytes, type };
+    const ofCopy = isMarked ? headers.map((one) => (POLICY_HEADER.test(one.name) ? this.policyOfCopy(event, one) : one)) : headers;
     await this.tab.send('Fetch.fulfillRequest', {
       requestId: event.requestId,
       responseCode: status,
-      responseHeaders: [...headers, { name: 'content-type', value: contentType }],
+      responseHeaders: [...ofCopy, { name: 'content-type', value: contentType }],
       body: body.toString('base64'),
     });
+  }
+
+  policyOfCopy({ request }, { name, value }) {
+    if (hasTypes(value)) this.sources.count(this.sources.dropped, TRUSTED_TYPES);
+    return { name, value: policyWithMarks(value, this.sources.markedTexts, this.steering && holdAt(request.url)) };
   }
 
   /** The marked copy of a page or a script, and its content type: the browser reads it as it would have read the original. */
@@ -205,4 +210,4 @@ class Responses {
   }
 }
 
-module.exports = { Responses, HOLD_NAME };
+module.exports = { Responses };

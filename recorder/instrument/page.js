@@ -1,8 +1,9 @@
 'use strict';
 // The copy of a page that the browser gets: its scripts, handler attributes and `javascript:` addresses marked,
-// and what would stop the marked copy (integrity, content policies) dropped.
+// its content policies so that they allow that, and `integrity` attributes, which would stop it, dropped.
 
 const { EditedText } = require('./edits.js');
+const { policyWithMarks, hasTypes, holdAt } = require('../browser/content-policy.js');
 const { instrument } = require('./instrument.js');
 const { scanTags, attributeOf, decodeValue, encodeValue } = require('./html-scanner.js');
 
@@ -33,12 +34,12 @@ class PageRewriter {
     const tags = scanTags(this.html);
     for (const tag of tags) if (tag.name === 'script' && tag.text && !attributeOf(tag, 'src')) this.rewriteScript(tag); // first: what they declare, attributes use
     for (const tag of tags) this.rewriteTag(tag);
+    for (const tag of tags) if (tag.name === 'meta') this.rewritePolicy(tag); // last: it knows all marks
     return this.edits;
   }
 
   rewriteTag(tag) {
     for (const attribute of tag.attributes) this.rewriteAttribute(tag, attribute);
-    if (tag.name === 'meta') this.dropPolicy(tag);
     if (!tag.inTemplate) this.source.noteTag(tag.name, this.knownBy(tag), tag.start);
   }
 
@@ -63,10 +64,17 @@ class PageRewriter {
     this.edits.push({ start: attribute.start, end: attribute.end, insert: text(), again: text });
   }
 
-  dropPolicy(tag) {
-    if (!/content-security-policy/i.test(attributeOf(tag, 'http-equiv')?.value || '')) return;
-    this.edits.push({ start: tag.start, end: tag.end, insert: '' });
-    this.source.drop('content policies');
+  rewritePolicy(tag) {
+    const content = attributeOf(tag, 'content');
+    const policy = content && /^content-security-policy$/i.test(attributeOf(tag, 'http-equiv')?.value.trim() || '') ? decodeValue(content.value) : null;
+    if (policy === null) return;
+    const { address, sources } = this.source;
+    if (hasTypes(policy)) this.source.drop('trusted types of content policies');
+    const text = (insertions) => {
+      const hold = insertions(address, this.html).length ? holdAt(address) : null;
+      return this.spell(content, policyWithMarks(policy, sources.markedTexts, hold));
+    };
+    this.edits.push({ start: content.start, end: content.end, insert: '', again: text });
   }
 
   rewriteScript(tag) {
@@ -76,7 +84,10 @@ class PageRewriter {
     if (!kind || !code) return;
     const result = instrument(code, this.source.options(kind, start));
     if (result.fault) this.source.miss('scripts that are no JavaScript', result.fault);
-    else for (const edit of result.edits) this.edits.push({ ...edit, start: edit.start + start, end: edit.end + start });
+    else {
+      this.source.noteMarked(code, new EditedText(code, result.edits).text);
+      for (const edit of result.edits) this.edits.push({ ...edit, start: edit.start + start, end: edit.end + start });
+    }
   }
 
   /** The marked text of a piece of code in an attribute, or null where it has to stay. */
@@ -94,7 +105,9 @@ class PageRewriter {
     const code = decodeValue(attribute.value);
     if (code === null || !code.trim()) return;
     const text = this.markValue(code, 'handler', attribute, attribute.name.slice(2));
-    if (text !== null) this.replace(attribute, text);
+    if (text === null) return;
+    this.source.noteMarked(code, text);
+    this.replace(attribute, text);
   }
 
   rewriteAddress(attribute) {

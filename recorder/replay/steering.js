@@ -1,7 +1,7 @@
 'use strict';
 // The driver's side of a replay: what is kept back in a run, each until something else has come.
 
-const { HOLD_NAME } = require('../browser/responses.js');
+const { HOLD_NAME } = require('../browser/content-policy.js');
 
 const isReply = (type) => type === 'XHR' || type === 'Fetch';
 const keyOf = ({ networkId, requestId }) => networkId ?? requestId;
@@ -190,7 +190,7 @@ class Steering {
   insertions(address, text) {
     return this.holds.filter((hold) => hold.isOfPage(address)).map((hold) => {
       const start = hold.cause.offset ?? text.length;
-      return { start, end: start, insert: `<script data-er-hold src="${hold.source(address)}"></script>` };
+      return { start, end: start, insert: `<script data-er-hold nonce="${HOLD_NAME}" src="${hold.source(address)}"></script>` };
     });
   }
 

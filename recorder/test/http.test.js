@@ -2,10 +2,12 @@
 // A page from a web server: a redirect, encodings, compression, a content policy, a file that is missing, a page that sends nothing.
 
 const assert = require('node:assert');
+const { createHash } = require('node:crypto');
 const http = require('node:http');
 const zlib = require('node:zlib');
 const { after, before, test } = require('node:test');
 const { Chromium } = require('../browser/chromium.js');
+const { policyWithMarks } = require('../browser/content-policy.js');
 const { LocalServer } = require('../browser/local-server.js');
 const { markAhead } = require('../instrument/ahead.js');
 const { Sources } = require('../sources.js');
@@ -26,6 +28,12 @@ document.getElementById('go').addEventListener('click', function onGo() { clicks
 for (let k = 0; k < 1000; k++) document.getElementById('go').click();
 </script>`;
 const CODE = 'var named = 1;\n';
+const hashOf = (text) => `'sha256-${createHash('sha256').update(text).digest('base64')}'`;
+/** A header and an element, each with a policy: what runs is allowed by both. */
+const POLICY = `script-src 'unsafe-hashes' ${hashOf('first = 1')} ${hashOf('forbidden = 1')} ${hashOf('clicked = 1')} 'nonce-abc'; require-trusted-types-for 'script'`;
+const OF_POLICY = `<!doctype html><meta http-equiv="Content-Security-Policy" content="script-src 'unsafe-hashes' ${hashOf('first = 1')} ${hashOf('clicked = 1')} 'nonce-abc'">
+<script>first = 1</script><script>forbidden = 1</script><script>neither = 1</script><button onclick="clicked = 1" onmousedown="pressed = 1">go</button>
+<script nonce="abc">setTimeout('byText = 1', 0); document.querySelector('button').onmouseup = function lets() { up = 1; };</script>`;
 const ANSWERS = {
   '/named': [302, { location: '/folder/named' }, ''],
   '/folder/named': [200, { 'content-type': 'text/html' }, `<!doctype html><script src="code.js"></script><script src="/lost.js"></script><script src="http://127.0.0.2:1/never.js"></script><script src="/code.js"></script>`],
@@ -33,7 +41,8 @@ const ANSWERS = {
   '/many': [200, { 'content-type': 'text/html' }, MANY],
   '/source': [200, { 'content-type': 'text/html' }, '<!doctype html><script>var last; var source = new EventSource("stream"); source.onmessage = function onMessage(event) { last = event.data; };</script>'],
   '/start': [302, { location: '/page' }, ''],
-  '/page': [200, { 'content-type': 'text/html; charset=iso-8859-1', 'content-security-policy': "script-src 'none'" }, PAGE],
+  '/page': [200, { 'content-type': 'text/html; charset=iso-8859-1', 'content-security-policy': `script-src 'self' ${hashOf('seen = word')}` }, PAGE],
+  '/policy': [200, { 'content-type': 'text/html', 'content-security-policy': POLICY }, OF_POLICY],
   '/code.js': [200, { 'content-type': 'text/javascript; charset=utf-8', 'content-encoding': 'gzip' }, zlib.gzipSync("var word = document.getElementById('caf\u00e9').textContent;\nif (word !== 'caf\u00e9') throw new Error(word);\n")],
 };
 
@@ -80,9 +89,24 @@ test('a page that is redirected, compressed, in another encoding, under a policy
   assert.strictEqual(firstMissing(trace.readable, due), null, trace.readable.join('\n'));
   assert.ok(trace.lines.includes('w elem 0 caf%C3%A9'));
   assert.deepStrictEqual(trace.errors, []);
-  assert.ok(trace.losses.some((line) => /content policies dropped .*: 1/.test(line)), trace.losses.join('\n'));
+  assert.ok(!trace.losses.some((line) => /content policies/.test(line)), trace.losses.join('\n'));
   assert.ok(trace.losses.some((line) => /integrity attributes dropped .*: 1/.test(line)));
   assert.strictEqual(judge(trace).refused, '');
+});
+
+test('what a content policy forbids does not run, and what it allows by a hash runs with its marks', { timeout: 150000 }, async () => {
+  const trace = await recordPage(browser, `${origin}/policy`, ['--do', 'click:button']);
+  const due = ['exec script', 'w first', 'exec script', 'fire button mousedown', 'run lets', 'w up', 'run click', 'w clicked'];
+  assert.strictEqual(firstMissing(trace.readable, due), null, trace.readable.join('\n'));
+  for (const name of ['forbidden', 'neither', 'pressed', 'byText']) assert.ok(!trace.readable.includes(`w ${name}`), name);
+  assert.ok(trace.losses.some((line) => /trusted types of content policies dropped .*: 1/.test(line)), trace.losses.join('\n'));
+});
+
+test('a policy lets come what a replay puts into a page', () => {
+  const hold = { address: 'http://h/hold', nonce: 'n' };
+  const policy = "default-src 'none'; script-src 'nonce-x'; img-src 'self'; style-src 'self'";
+  assert.strictEqual(policyWithMarks(policy, [], null), policy);
+  assert.strictEqual(policyWithMarks(policy, [], hold), " default-src http://h/hold; script-src 'nonce-x' 'nonce-n' http://h/hold; img-src 'self' http://h/hold; style-src 'self'");
 });
 
 test('a page that never answers', { timeout: 150000 }, async () => {
