@@ -1,19 +1,24 @@
 //! The program: standard input, standard output and the words of the command, and what `run` makes of them.
 #![tactic(auto)]
 
-ghost use Rattle.std.specs.Prelude.{◌≡◌, map, string_bytes};
+ghost use Rattle.std.specs.Prelude.{◌≡◌, drop, map, string_bytes, IfErr, IfOk};
 ghost use Rattle.std.specs.Process.{exit_status};
-ghost use Rattle.er_run.specs.Status.{status_of};
-ghost use Rattle.er_cli.specs.Ended.{EndsWith};
+ghost use Rattle.std.specs.Vec.Iter.{into_iter_items};
+ghost use Rattle.er_run.specs.Status.{line_of, status_of};
+ghost use Rattle.er_cli.specs.Ended.{EndsWith, LacksWords, line_printed};
+
+mod printed;
 
 use er_clocks::Meter;
 use er_ends::{FromRead, ToWrite};
+use er_outside::{Sink, Source};
 use er_run::outcome::Outcome;
 use er_run::run;
 use er_shard::FreeGate;
-use std::alloc::Global;
-use std::env::{self, Env};
-use std::io::{self, Read, Write};
+use printed::{Printed, print};
+use std::alloc::{AllocError, Global};
+use std::env::{self, Args};
+use std::io;
 use std::process::ExitCode;
 use std::thread::Threads;
 
@@ -21,42 +26,83 @@ use std::thread::Threads;
 const NO_WORDS: u8 = 7;
 
 fn main(rt: HostRuntime) -> ExitCode {
-    match words(&rt) {
-        Ok(words) => judge(&rt, rt.alloc(), &words, rt.stdin(), rt.stdout()),
-        Err(error) if error.kind() == io::ErrorKind::OutOfMemory => finish(&rt, Outcome::NoMemory),
-        Err(_) => {
-            let _ = rt.eprintln("er_cli: arguments could not be read");
-            ExitCode::from(NO_WORDS)
-        }
+    let mut source = FromRead::new(rt.stdin());
+    let mut sink = ToWrite::new(rt.stdout());
+    start(&rt, rt.alloc(), env::args(&rt), &mut source, &mut sink).code
+}
+
+/// How the program ends: its status, and the line that was printed on standard error.
+#[derive(Drop)]
+struct Ending {
+    code: ExitCode,
+    line: Option<Printed>,
+}
+
+/// Does what the words of the system ask for over these two ends, and shows how that ended.
+fn start<R: Threads + Sync + Eprint, S: Source, K: Sink>(
+    rt: &R,
+    alloc: Global,
+    args: io::Result<Args>,
+    source: &mut S,
+    sink: &mut K,
+) -> Ending
+    ensures ran { IfOk args (λ all. EndsWith (map string_bytes (drop 1 (into_iter_items all)))
+        (S.left source.old) (K.got sink.old) (S.left source.new) (K.got sink.new)
+        (line_printed result.line) (exit_status result.code)) }
+    ensures no_words { IfErr args
+        (λ _. LacksWords (line_printed result.line) (exit_status result.code)) }
+{
+    match args {
+        Ok(all) => begin(rt, alloc, all, source, sink),
+        Err(error) => refuse(rt, error),
     }
 }
 
-/// The words behind the program's own name.
-fn words(rt: &(impl Env + AllocGlobal)) -> io::Result<Vec<String>> {
-    let words = env::args(rt)?.skip(1).collect(rt.alloc())?;
-    Ok(words)
+/// Does what the words behind the program's own name ask for.
+fn begin<R: Threads + Sync + Eprint, S: Source, K: Sink>(
+    rt: &R,
+    alloc: Global,
+    args: Args,
+    source: &mut S,
+    sink: &mut K,
+) -> Ending
+    ensures { EndsWith (map string_bytes (drop 1 (into_iter_items args)))
+        (S.left source.old) (K.got sink.old) (S.left source.new) (K.got sink.new)
+        (line_printed result.line) (exit_status result.code) }
+{
+    let Ok(words) = words_of(alloc, args) else {
+        return finish(rt, Outcome::NoMemory);
+    };
+    judge(rt, alloc, words.as_slice(), source, sink)
 }
 
-/// Does what the words ask for over these two ends, and shows how that ended.
-fn judge<R: Threads + Sync + Eprint, I: Read + Drop, O: Write + Drop>(
+/// The words behind the program's own name.
+fn words_of(alloc: Global, args: Args) -> Result<Vec<String>, AllocError>
+    ensures { IfOk result (λ words. words.items ≡ drop 1 (into_iter_items args)) }
+{
+    args.skip(1).collect(alloc)
+}
+
+/// Does what these words ask for.
+fn judge<R: Threads + Sync + Eprint, S: Source, K: Sink>(
     rt: &R,
     alloc: Global,
     words: &[String],
-    input: I,
-    output: O,
-) -> ExitCode
-    ensures { EndsWith (map string_bytes words.now) (exit_status result) }
+    source: &mut S,
+    sink: &mut K,
+) -> Ending
+    ensures { EndsWith (map string_bytes words.now)
+        (S.left source.old) (K.got sink.old) (S.left source.new) (K.got sink.new)
+        (line_printed result.line) (exit_status result.code) }
 {
-    let mut source = FromRead::new(input);
-    let mut sink = ToWrite::new(output);
     let mut compares = Meter::new();
     let mut tests = Meter::new();
     let outcome = run(
         rt,
         alloc,
         words,
-        &mut source,
-        &mut sink,
+        source,
+        sink,
         &mut compares,
         &mut tests,
         &FreeGate,
@@ -64,12 +110,30 @@ fn judge<R: Threads + Sync + Eprint, I: Read + Drop, O: Write + Drop>(
     finish(rt, outcome)
 }
 
-/// Prints the line of the outcome, where it has one, and answers its status.
-fn finish(rt: &impl Eprint, outcome: Outcome) -> ExitCode
-    ensures { exit_status result ≡ status_of outcome }
+/// Prints the line of the outcome, where it has one, and answers it with the status.
+fn finish(rt: &impl Eprint, outcome: Outcome) -> Ending
+    ensures status { exit_status result.code ≡ status_of outcome }
+    ensures line { line_printed result.line ≡ line_of outcome }
 {
-    if let Some(line) = outcome.line() {
-        let _ = rt.eprintln(line);
+    let code = ExitCode::from(outcome.status());
+    match outcome.line() {
+        Some(text) => Ending {
+            code,
+            line: Some(print(rt, text)),
+        },
+        None => Ending { code, line: None },
     }
-    ExitCode::from(outcome.status())
+}
+
+/// Shows that the system did not hand over the words.
+fn refuse(rt: &impl Eprint, error: io::Error) -> Ending
+    ensures { LacksWords (line_printed result.line) (exit_status result.code) }
+{
+    if error.kind() == io::ErrorKind::OutOfMemory {
+        return finish(rt, Outcome::NoMemory);
+    }
+    Ending {
+        code: ExitCode::from(NO_WORDS),
+        line: Some(print(rt, "er_cli: arguments could not be read")),
+    }
 }
