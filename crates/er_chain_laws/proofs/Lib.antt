@@ -1,2 +1,4 @@
 pub mod KeptLemmas
+pub mod LeastLemmas
 pub mod TaskLemmas
+pub mod VersionLemmas

@@ -1,2 +1,4 @@
 pub mod Kept
+pub mod LeastRule
 pub mod Tasks
+pub mod Versions

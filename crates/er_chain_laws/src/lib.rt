@@ -1,10 +1,12 @@
-//! What later records leave of the chains and links of actions, and what the events of tasks keep of the records before them.
+//! What later records leave of the chains and links of actions, what the events of tasks keep of the records before them, which rule an explanation names, and what each version orders.
 //!
-//! Laws that join those of er_history: on the edges of longer lists with those of links and chains (er_paths), on the stack with what a job keeps of it. No state, and nothing stands on this crate. Each law is a function with no parameters, whose contract is the law.
+//! Laws that join those of er_history: on the edges of longer lists with those of links and chains (er_paths), on the stack with what a job keeps of it, on edges with the rule of a step (er_pieces) and with the version. No state, and nothing stands on this crate. Each law is a function with no parameters, whose contract is the law.
 #![tactic(auto)]
 
 ghost use Rattle.er_chain_laws.specs.Kept.{ChainsAreKept, LinksAreKept};
+ghost use Rattle.er_chain_laws.specs.LeastRule.{NoRuleWithoutEdge, RulesAreLeast, StepsHaveLeastRules};
 ghost use Rattle.er_chain_laws.specs.Tasks.{DeclaredBeforeEvent, WithinIsUnfinished};
+ghost use Rattle.er_chain_laws.specs.Versions.{EdgesRemain, PathsRemain};
 
 /// Later records change no chain, place or entry of an earlier action.
 pub fn chains_are_kept()
@@ -26,4 +28,30 @@ pub fn declared_before_event()
 /// A job began while those dispatches were on the stack that had begun and were not finished before its record.
 pub fn within_is_unfinished()
     ensures { WithinIsUnfinished }
+{}
+
+/// The rule that an explanation names makes the edge, and none of a lesser number does.
+pub fn rules_are_least()
+    ensures { RulesAreLeast }
+{}
+
+/// So it is of each step of an explanation.
+pub fn steps_have_least_rules()
+    ensures { StepsHaveLeastRules }
+{}
+
+/// No rule is named exactly where none makes an edge.
+#[tactic(auto, using(crate::proofs::LeastLemmas::no_rule_without_edge))]
+pub fn no_rule_without_edge()
+    ensures { NoRuleWithoutEdge }
+{}
+
+/// Each edge of version 1 is one of each version.
+pub fn edges_remain()
+    ensures { EdgesRemain }
+{}
+
+/// Each path of version 1 is one of each version.
+pub fn paths_remain()
+    ensures { PathsRemain }
 {}
