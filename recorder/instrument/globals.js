@@ -86,7 +86,7 @@ class GlobalInstrumenter {
 
   /** A function that a variable or a property gets is known by its name. */
   nameFunction(node, name) {
-    if (node && name && /Function/.test(node.type)) this.namesOf.set(node, name);
+    if (node && name && CODE.test(node.type)) this.namesOf.set(node, name);
   }
 
   /** An assignment gives its variable's or property's name. */

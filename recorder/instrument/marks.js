@@ -16,8 +16,11 @@ function withoutMarks(text) {
 }
 
 const spelled = (sign) => `\\u${sign.charCodeAt(0).toString(16).padStart(4, '0')}`;
-/** A text as it stands in a mark. It ends neither the mark nor the script of a page, and is the same in all encodings. */
-const quote = (text) => JSON.stringify(text).replace(/\*\/|<[/!]/g, ([first, second]) => `${first}\\${second}`).replace(/[\u007f-\uffff]/g, spelled);
+const NAME = /^[\w$]+$/;
+/** What JSON can say, as it stands in a mark. It ends neither the mark nor the script of a page, and is the same in all encodings. */
+const quoteAny = (text) => JSON.stringify(text).replace(/\*\/|<[/!]/g, ([first, second]) => `${first}\\${second}`).replace(/[\u007f-\uffff]/g, spelled);
+/** Most texts are names, which stand for themselves. */
+const quote = (text) => (typeof text === 'string' && NAME.test(text) ? `"${text}"` : quoteAny(text));
 /** The same for a text that has many quotation marks. */
 const quoteList = (list) => `'${quote(list).replace(/'/g, "\\'")}'`;
 

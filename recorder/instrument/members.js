@@ -3,7 +3,7 @@
 // is: `a.b` becomes `call(a).b`, and `a[k]` becomes `a[call(a,k)]`. So what the page's code does, and in which order, does not change:
 // getters, proxies, `this` and errors are its own.
 
-const { keysOf, isNode } = require('./scopes.js');
+const { keysOf, isNode, declaresInBody } = require('./scopes.js');
 const { ClosureInstrumenter } = require('./closures.js');
 const { CODE, nothing } = require('./globals.js');
 const { quote } = require('./marks.js');
@@ -274,10 +274,17 @@ class MemberInstrumenter extends ClosureInstrumenter {
     close();
   }
 
-  /** Only a function with a word `arguments` of its own has the words of a call at hand. */
+  /** Whether the code of a function has the words of its call at hand when it begins: a generator begins late, and an arrow has no `arguments`. */
+  hasWords(node) {
+    if (node.generator || node.type === 'ArrowFunctionExpression') return false;
+    const { params, body } = node;
+    const ofParameters = this.code.slice(params[0].start, params[params.length - 1].end);
+    return !ofParameters.includes('arguments') && !(this.textOf(body).includes('arguments') && declaresInBody(node, 'arguments'));
+  }
+
   readsOfParameters(node) {
     const patterns = patternsOf(node.params);
-    if (this.isLooking || !patterns.length || node.generator || node.type === 'ArrowFunctionExpression' || this.textOf(node).includes('arguments')) return '';
+    if (this.isLooking || !patterns.length || !this.hasWords(node)) return '';
     return patterns.map(({ pattern, index }) => {
       const shape = shapeOf(pattern);
       return shape && `__er.d(arguments[${index}],${this.siteOfWhole(pattern)},${shape});`;

@@ -89,6 +89,14 @@ function addLexical(statements, names) {
   }
 }
 
+/** Whether the code of a function declares a name. */
+function declaresInBody({ body: { body } }, name) {
+  const names = new Set();
+  addHoistedOfAll(body, names);
+  addLexical(body, names);
+  return names.has(name);
+}
+
 /** One scope. A dynamic one (`with`) may have any name. */
 class Scope {
   constructor(parent, names = [], dynamic = false) {
@@ -180,4 +188,4 @@ class ModuleScope extends Scope {
   }
 }
 
-module.exports = { Scope, ModuleScope, keysOf, isNode, namesOfPattern, addDeclared, addHoisted, addLexical };
+module.exports = { Scope, ModuleScope, keysOf, isNode, namesOfPattern, declaresInBody, addDeclared, addHoisted, addLexical };

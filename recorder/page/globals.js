@@ -28,8 +28,8 @@ class Globals {
     this.holder = null;
     /** Names of properties that an enumeration of the window does not give. */
     this.hidden = [];
-    /** For each site in marked code the number of the last action that had its access. */
-    this.lastActions = new Uint32Array(FIRST_SITES);
+    /** For each site in marked code the number of the last piece of code that had its access. */
+    this.lastPieces = new Uint32Array(FIRST_SITES);
   }
 
   /** A script declares variables that have names of the browser's. A `var` of such a name is the page's where it can be written. */
@@ -44,19 +44,20 @@ class Globals {
     return `var ${this.page.number} ${spellName(name)}`;
   }
 
-  /** Whether the running action has had this access already: most accesses of code that loops are such, and cost no more. */
+  /** Whether the running piece of code has had this access already: most accesses of code that loops are such, and cost no more. */
   isRepeat(site) {
-    const { actions } = this.recording;
-    if (site >= this.lastActions.length) this.lastActions = enlarged(this.lastActions, site);
-    if (this.lastActions[site] === actions) return true;
-    this.lastActions[site] = actions;
-    return false;
+    return this.lastPieces[site] === this.recording.pieces;
+  }
+
+  note(site) {
+    if (site >= this.lastPieces.length) this.lastPieces = enlarged(this.lastPieces, site);
+    this.lastPieces[site] = this.recording.pieces;
   }
 
   read(name, site) {
-    if (!this.recording.mayAccess()) return;
+    if (this.isRepeat(site) || !this.recording.mayAccess()) return;
     const isVariable = hasOwn(this.page.window, name) || this.lexicals.has(name);
-    if (isVariable && this.isRepeat(site)) return;
+    if (isVariable) this.note(site);
     if (this.builtins.has(name)) return;
     this.touch(name, READ, site);
     if (!isVariable) this.readNamedElement(name, site);
@@ -96,9 +97,14 @@ class Globals {
 
   /** A `let`, a `const` or a class at the top of a script has its value in a cell of its own, as no property of the window has it. */
   noteValueAt(site, name, value) {
+    if (site >= this.cells.length) this.makeRoom(site);
     let cell = this.cells[site];
     if (cell === undefined) cell = this.cells[site] = this.cellOf(name);
     if (cell !== null) cell.now = value;
+  }
+
+  makeRoom(site) {
+    for (let k = this.cells.length; k <= site; k++) this.cells[k] = undefined;
   }
 
   cellOf(name) {
@@ -107,8 +113,15 @@ class Globals {
     return this.lexicals.get(name);
   }
 
+  /** Whether an access can be told that the running piece of code has not had yet. From now on it has. */
+  isFirst(site) {
+    if (this.isRepeat(site) || !this.recording.mayAccess()) return false;
+    this.note(site);
+    return true;
+  }
+
   isDue(name, site) {
-    return this.recording.mayAccess() && !this.isRepeat(site) && !this.builtins.has(name);
+    return this.isFirst(site) && !this.builtins.has(name);
   }
 
   touch(name, mode, site) {

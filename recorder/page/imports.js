@@ -39,6 +39,6 @@ class Imports {
     const { recording, page } = this;
     const { module } = found;
     if (module.scope) recording.objects.helpers.v(module.scope, found.name, site);
-    else if (recording.mayAccess() && !page.globals.isRepeat(site)) recording.accessNow('r', `var ${module.number} ${spellName(found.name)}`, site);
+    else if (page.globals.isFirst(site)) recording.accessNow('r', `var ${module.number} ${spellName(found.name)}`, site);
   }
 }

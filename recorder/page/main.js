@@ -109,7 +109,7 @@ function helpersOf(page) {
   };
   const ofObject = (access) => (object, name, site) => { if (object === window) access(name, site); return object; };
   const ofModule = (modes) => (module, name, site, value) => {
-    if (!recording.mayAccess() || globals.isRepeat(site)) return value;
+    if (!globals.isFirst(site)) return value;
     each(modes, (mode) => recording.accessNow(mode, `var ${module} ${spellName(name)}`, site));
     return value;
   };

@@ -34,7 +34,7 @@ class Objects {
   /** What came so far is wanted, and the action may go on. */
   settleEarly() {
     this.variables.settleEarly();
-    this.forget();
+    this.recording.startPiece();
   }
 
   forget() {

@@ -21,6 +21,8 @@ class Recording {
     this.running = { kind: 'none', after: [] };
     this.hasBegun = false;
     this.actions = 0;
+    /** A number for each piece of code in which the running action can't change: what an access was looked at in it, it is not looked at again. */
+    this.pieces = 0;
     /** What stands on the stack, outermost first: 'script', 'callback', 'handler', 'job' or 'call' (of the browser). */
     this.contexts = [];
     this.isCheckpoint = false;
@@ -63,6 +65,12 @@ class Recording {
     this.accessed.clear();
     this.hasBegun = true;
     this.actions++;
+    this.startPiece();
+  }
+
+  /** What was looked at so far is looked at again. */
+  startPiece() {
+    this.pieces++;
     if (this.objects) this.objects.forget();
   }
 
@@ -175,6 +183,7 @@ class Recording {
       for (const dispatch of this.dispatches) dispatch.active = 0;
     }
     this.isCheckpoint = false;
+    this.startPiece();
     this.nesting = 0;
     this.task++;
     this.finishAll();
@@ -202,7 +211,7 @@ class Recording {
   }
 
   leaveCall() {
-    if (this.objects) this.objects.forget();
+    this.startPiece();
     this.contexts.pop();
     if (!this.contexts.length) this.startCheckpoint();
   }
@@ -229,6 +238,7 @@ class Recording {
   turn() {
     if (!this.isCheckpoint) return;
     this.turns--;
+    this.startPiece(); // accesses of a job keep the turns going
     if (this.turns > 0) {
       this.natives.queueMicrotask(() => this.turn());
       return;
@@ -244,7 +254,8 @@ class Recording {
   }
 
   top() {
-    return this.dispatches[this.dispatches.length - 1];
+    const { dispatches } = this;
+    return dispatches.length ? dispatches[dispatches.length - 1] : undefined;
   }
 
   push(dispatch) {

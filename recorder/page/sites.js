@@ -21,6 +21,8 @@ class Sites {
     this.items = [];
     this.counts = [];
     this.countedIn = [];
+    /** The last piece of code in which a site had too many. */
+    this.fullIn = [];
     /** The sites that have an object. */
     this.touched = [];
   }
@@ -42,15 +44,19 @@ class Sites {
       this.items[k] = 0;
       this.counts[k] = 0;
       this.countedIn[k] = 0;
+      this.fullIn[k] = -1;
     }
   }
 
   /** Whether an access is to be looked at. Then its site knows of it. */
   isDue(object, site) {
     const { recording } = this;
-    if (!isThing(object) || recording.isOver || !recording.mayAccess()) return false;
+    if (!isThing(object) || this.fullIn[site] === recording.pieces || !recording.mayAccess()) return false;
     if (site >= this.objects.length) this.makeRoom(site);
-    if (this.isTooMany(site)) return false;
+    if (this.isTooMany(site)) {
+      this.fullIn[site] = recording.pieces;
+      return false;
+    }
     if (this.objects[site] === null) this.touched[this.touched.length] = site;
     this.objects[site] = object;
     this.keys[site] = null;

@@ -191,7 +191,7 @@ exports.cases = [
   { page: 'frozen-builtins.html', due: ['timer', 'w total of cart', 'timer', 'r total of cart'], races: ['total of cart', '[a] of kept'] },
   { page: 'replaced-builtins.html', due: ['timer', 'w total of cart', 'timer', 'r total of cart'], never: ['w called'], races: ['total of cart', '[a] of kept'] },
   { page: 'patterns-and-scopes.html',
-    races: ['first of this', 'second of box.inner', 'put of this', 'inSwitch of the closure of {', 'inCatch of the closure of {', 'inArrow of the closure of ofArrow', 'inStatic of the closure of {'] },
+    races: ['first of this', 'third of this', 'second of box.inner', 'put of this', 'inSwitch of the closure of {', 'inCatch of the closure of {', 'inArrow of the closure of ofArrow', 'inStatic of the closure of {'] },
   { page: 'late-writes.html', never: ['w neverSet'], races: ['inVar', 'inLet', 'inClosure of the closure of store', 'parts of kept'] },
   { page: 'late-writes-module.html', races: ['last'] },
   { page: 'late-writes-module.html', words: ['--depth', 'globals'], races: ['last'] },
