@@ -8,6 +8,7 @@ const { resolveAddress } = require('./browser/folder.js');
 const { LocalServer, ServerOfScript } = require('./browser/local-server.js');
 const { User } = require('./browser/user.js');
 const { sleep, within } = require('./browser/time.js');
+const { isOfThisMachine } = require('./replay/changing.js');
 const { markAhead } = require('./instrument/ahead.js');
 const { warmUp } = require('./instrument/warm-up.js');
 const { Sources } = require('./sources.js');
@@ -165,6 +166,8 @@ class Recorder {
         await isPrepared;
       }
       this.tab = await Tab.open(this.browser, SIZE);
+      // the browser does not know of a marked copy that it came from this machine, as it would of the page itself
+      if (isOfThisMachine(address)) await this.tab.allowLocalNetwork(new URL(address).origin);
     } catch (fault) {
       throw new RecordingFault(`the browser could not be started: ${fault.message}`, STATUS.noBrowser);
     }

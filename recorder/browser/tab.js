@@ -1,6 +1,9 @@
 'use strict';
 // One tab of the browser: its session of the DevTools protocol.
 
+/** What a browser asks its user for before a page reaches servers of this machine, and of the network around it. */
+const LOCAL_NETWORK = ['loopback-network', 'local-network'];
+
 class Tab {
   static async open(browser, { width, height }) {
     const { browserContextId } = await browser.send('Target.createBrowserContext');
@@ -13,6 +16,12 @@ class Tab {
   constructor(browser, { contextId, targetId, sessionId }) {
     Object.assign(this, { browser, contextId, targetId, sessionId });
     this.listeners = [];
+  }
+
+  /** Pages of an origin may ask servers of this machine and of its network. A browser that knows no such permission needs none. */
+  async allowLocalNetwork(origin) {
+    const grant = { setting: 'granted', origin, browserContextId: this.contextId };
+    await Promise.all(LOCAL_NETWORK.map((name) => this.browser.send('Browser.setPermission', { permission: { name }, ...grant }).catch(() => {})));
   }
 
   /** Closes the tab and forgets what its page stored. */
