@@ -85,6 +85,17 @@ function placeOnStack() {
   return ownPlace(keep(takeStack(), isOfPage));
 }
 
+/** The page's calls that led to what it asks for now, the innermost first. */
+const callsOfPage = () => keep(takeStack(LONGEST_WAY), isOfPage);
+
+/** The places of several calls, a line each; '' where there is no more than one. */
+function wayOf(calls) {
+  if (calls.length < 2) return '';
+  let text = '';
+  each(calls, (call) => { text += `${placeOfCall(call)}\n`; });
+  return text.trimEnd();
+}
+
 class Log {
   constructor(send) {
     this.send = send;
@@ -111,16 +122,15 @@ class Log {
     if (this.sendSoon) this.askToSend();
   }
 
-  /** The number of a stack with several places of the page's code, the innermost first; 0 where there is no more than one. */
+  /** The number of a way over several places of the page's code; 0 where there is no more than one. */
   numberOfStack(calls) {
-    if (calls.length < 2) return 0;
-    let text = '';
-    each(calls, (call) => { text += `${placeOfCall(call)}\n`; });
-    let number = this.stacks.get(text);
+    const way = wayOf(calls);
+    if (!way) return 0;
+    let number = this.stacks.get(way);
     if (number === undefined) {
       number = ++this.lastStack;
-      if (this.stacks.size < MOST_STACKS) this.stacks.set(text, number);
-      this.name('stack', number, { places: text.trimEnd() });
+      if (this.stacks.size < MOST_STACKS) this.stacks.set(way, number);
+      this.name('stack', number, { places: way });
     }
     return number;
   }

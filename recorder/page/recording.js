@@ -87,7 +87,7 @@ class Recording {
 
   /** A note of what code asks for, with the whole way of the call: a library may do it for the page. Answers the place. */
   noteAsking(line) {
-    const calls = keep(takeStack(LONGEST_WAY), isOfPage);
+    const calls = callsOfPage();
     const place = ownPlace(calls);
     this.note(line, place, this.log.numberOfStack(calls));
     return place;

@@ -3,9 +3,10 @@
 class Steering {
   /**
    * @param {object} natives
-   * @param {{id: number, word: string, place?: string, nth?: number, address?: string, event?: object}[]|null} holds what is kept back: its note in
-   *   the log (`set`, `every`, `ask`, `post`, `on` or `send`), the place of the code in the browser's copy, and which of those at this place it is; or
-   *   `load` with the page's address. With `event`, an event at the target of the handler that is noted, or at an element: `{type, nth, tag, id, source}`
+   * @param {{id: number, word: string, place?: string, way?: string, nth?: number, address?: string, event?: object}[]|null} holds what is kept back:
+   *   its note in the log (`set`, `every`, `ask`, `post`, `on` or `send`), the place of the code in the browser's copy, the way of the calls that led
+   *   there, and which of those with both it is; or `load` with the page's address. With `event`, an event at the target of the handler that is noted,
+   *   or at an element: `{type, nth, tag, id, source}`
    * @param {{word: string, place: string, count: number}|null} turns how often what the code at a place asks for comes, of a page that never rests
    */
   constructor(natives, holds, turns) {
@@ -31,8 +32,9 @@ class Steering {
   asks(word) {
     const mayBe = keep(this.holds, (hold) => hold.word === word && !hold.isLet);
     if (!mayBe.length) return undefined;
-    const place = placeOnStack();
-    const here = keep(mayBe, (hold) => (hold.place || '') === place);
+    const calls = callsOfPage();
+    const [place, way] = [ownPlace(calls), wayOf(calls)];
+    const here = keep(mayBe, (hold) => (hold.place || '') === place && hold.way === way);
     each(here, (hold) => hold.asked++);
     return findItem(here, (hold) => hold.asked === hold.nth);
   }
@@ -54,7 +56,7 @@ class Steering {
   /** A callback of which only so many come. */
   limited(word, run) {
     const { turns } = this;
-    if (!turns || turns.word !== word || placeOnStack() !== turns.place) return run;
+    if (!turns || turns.word !== word || ownPlace(callsOfPage()) !== turns.place) return run;
     return (...words) => {
       if (turns.taken >= turns.count) return;
       turns.taken++;

@@ -12,22 +12,35 @@ const BEFORE_BODY = new Set(['html', 'head']);
 const LONGEST_WAY = 60;
 const TASK_OBSERVERS = new Set(['IntersectionObserver', 'ResizeObserver', 'PerformanceObserver']);
 
+/** The notes of what code asks for: their word and their number. */
+const ASKS = /^(?:early )?(set|every|ask|post|on|send) (\d+)/;
+
 /**
  * @typedef {object} Cause what is kept back
  * @property {'response'|'parser'|'load'|'callback'|'event'|'act'} means
  * @property {number} action the first action that cannot come then
  * @property {string} words what is done, in words
+ * @property {number} [nth] which of those that have nothing else to tell them apart; `of` is how many there are
  */
 
 class Causes {
   /**
    * @param {import('./keys.js').Keys} keys of the recorded run
-   * @param {{text: string, place: string|undefined}[]} entries its log
+   * @param {import('../trace/intake.js').Intake} log of that run
    * @param {object[]} acts what the user did, with their numbers
    * @param {(file: number) => {address: string, text: string}} sourceOf the text of a file
    */
-  constructor(keys, entries, acts, sourceOf) {
-    Object.assign(this, { keys, entries, acts, sourceOf, names: keys.names, list: keys.actions.list, words: keys.words });
+  constructor(keys, log, acts, sourceOf) {
+    Object.assign(this, { keys, acts, sourceOf, names: keys.names, list: keys.actions.list, words: keys.words });
+    /** What code asked for, by the word of the note: its number, place and way. */
+    this.asked = new Map();
+    const ways = new Map(log.names.filter(({ kind }) => kind === 'stack').map(({ number, places }) => [String(number), places]));
+    for (const { text, place, stack } of log.entries) {
+      const [, word, number] = ASKS.exec(text) || [];
+      if (!word) continue;
+      if (!this.asked.has(word)) this.asked.set(word, []);
+      this.asked.get(word).push({ number, place, way: ways.get(stack) || '' });
+    }
   }
 
   /** @returns {Cause[]} */
@@ -78,20 +91,19 @@ class Causes {
     return why === 'setInterval' || why === 'requestIdleCallback' ? this.callback('every', number, action) : null;
   }
 
-  /** A callback is known by the place of the code that asked for it, in the browser's copy, and which of those at this place it is. */
+  /**
+   * A callback is known by the place of the code that asked for it, in the browser's copy, by the way of the calls that led there, and by which of those
+   * with both it is.
+   */
   callback(word, number, action) {
-    let nth = 0;
-    const counts = new Map();
-    const found = this.entries.find(({ text, place = '' }) => {
-      const words = text.replace(/^early /, '').split(' ');
-      if (words[0] !== word) return false;
-      counts.set(place, (counts.get(place) || 0) + 1);
-      nth = counts.get(place);
-      return words[1] === String(number);
-    });
+    const asked = this.asked.get(word) || [];
+    const found = asked.find((one) => one.number === String(number));
     if (!found) return null;
+    const { place, way } = found;
+    const same = asked.filter((one) => one.place === place && one.way === way);
     const first = word === 'every' ? this.list.find(({ words }) => words[0] === 'tick' && words[1] === String(number)) : action;
-    return { means: 'callback', word, place: found.place, nth, action: first.number, words: `${this.words.action(action.number)} is put off` };
+    const words = `${this.words.action(action.number)} is put off`;
+    return { means: 'callback', word, place, way, nth: same.indexOf(found) + 1, of: same.length, action: first.number, words };
   }
 
   /** The callbacks of an observer are tasks; those of a mutation observer belong to what they observe. */
@@ -116,9 +128,8 @@ class Causes {
 
   /** An event at an object is known by the first handler that the page gave it. */
   eventAt(target, type, action) {
-    const handlers = this.entries.map(({ text }) => /^(?:early )?on (\d+)$/.exec(text)?.[1]);
-    const handler = handlers.find((one) => one && this.names.handlers[one]?.target === target);
-    const cause = handler && this.callback('on', handler, action);
+    const handler = (this.asked.get('on') || []).find(({ number }) => this.names.handlers[number]?.target === target);
+    const cause = handler && this.callback('on', handler.number, action);
     if (!cause || !cause.place) return null;
     const nth = this.countEvents(action, type, (words) => this.targetOf(words) === target);
     return { ...cause, means: 'event', event: { type, nth }, words: `${this.words.action(action.number)} is kept back` };

@@ -59,7 +59,11 @@ class Replay {
     this.unsteady = [];
     /** What keeps a page going that never rests: other runs end behind as many of these turns. */
     this.turns = recorder.isRestless ? mostFrequent(recorder.intake.entries) : null;
-    this.causes = new Causes(this.recorded.keys, recorder.intake.entries, this.numberedActs(), (file) => this.recorder.sources.files[file]);
+    this.causes = this.causesIn(this.recorded);
+  }
+
+  causesIn({ keys, recorder }) {
+    return new Causes(keys, recorder.intake, this.numberedActs(), (file) => this.recorder.sources.files[file]);
   }
 
   numberedActs() {
@@ -202,9 +206,10 @@ class Replay {
       const one = await this.tryCause({ cause, race, isLoose }, `${number}${tries.length ? `-${tries.length + 1}` : ''}`);
       tries.push({ cause, ...one });
       if (one.isTurned) return { verdict: 'turned', means: cause.words, ...await this.found(one, race, number) };
-      if (one.isLate && !isLoose) left.unshift({ cause, isLoose: true });
+      if (one.counted) left.unshift({ cause: one.counted, isLoose });
+      else if (one.isLate && !isLoose) left.unshift({ cause, isLoose: true });
     }
-    const whys = tries.map(({ cause, why: said }) => `${cause.words}: ${said}`);
+    const whys = tries.map(({ cause, why: said }) => `${cause.words}: ${said}${amongOthers(cause)}`);
     return { verdict: 'not turned', why: [...new Set(whys)].join('; ') };
   }
 
@@ -212,11 +217,25 @@ class Replay {
     try {
       const sides = isLoose ? this.orders.identify(race, this.recorded.looseKeys) : this.orders.sidesOf(race);
       const turned = { cause, race, sides, isLoose, needed: this.lastActBefore(race.actions[1]) };
-      return { ...await this.runInOrder(name, turned), turned };
+      const one = await this.runInOrder(name, turned);
+      return { ...one, turned, counted: one.isTurned ? null : this.countedIn(one.run, turned) };
     } catch (fault) {
       if (!(fault instanceof RecordingFault) || fault.status === STOPPED || this.recorder.browser.isGone) throw fault;
       return { isTurned: false, why: fault.message };
     }
+  }
+
+  /**
+   * What is kept back, as a run that was not turned has it: of several that are asked for at one place in the code another one may be the one that is meant.
+   * Null where it is the same.
+   */
+  countedIn(run, { cause, sides: [side], isLoose }) {
+    const keys = isLoose ? run.looseKeys : run.keys;
+    const there = keys.find(side) || keys.findAction(side);
+    const causes = there ? this.causesIn(run).of(there.action) : [];
+    const found = causes.find((one) => one.means === cause.means && one.word === cause.word && one.place === cause.place && one.address === cause.address);
+    const isSame = !found || (found.nth === cause.nth && found.way === cause.way && found.event?.nth === cause.event?.nth);
+    return isSame ? null : { ...found, action: cause.action, words: cause.words };
   }
 
   whyNot(hold) {
@@ -234,11 +253,18 @@ class Replay {
     if (!first && !hold.isReached) return { isTurned: false, why: this.whyNot(hold) };
     const notes = [first ? '' : 'the access that was recorded first did not come any more', access ? '' : 'what was recorded second came first, and without this access'];
     if (!first || !access) return { isTurned: true, isListed: false, note: notes.filter(Boolean).join('; ') };
-    const { report, fault } = await judgeWithin(run.file);
+    const { report, fault, leftOut } = await judgeWithin(run.file);
     if (fault || report.refused) return { isTurned: false, why: `the program gave no report of this run: ${fault || report.refused.cause}` };
     const pair = [second.action, first.action];
     const isListed = report.races.some((race) => race.actions.join(' ') === pair.join(' '));
-    return { isTurned: true, isListed, pair, note: isListed ? '' : `in this run the rules order them: ${called('er_view')} ${run.file} --why ${pair.join(' ')}` };
+    return { isTurned: true, isListed, pair, note: isListed ? '' : this.whyUnlisted(run, second.line, pair, leftOut) };
+  }
+
+  /** Why the program lists no race of two accesses in a run; `line` is that of one of them. */
+  whyUnlisted(run, line, pair, leftOut) {
+    const location = run.keys.actions.lines[line - 1].slice(2);
+    if (leftOut.some((one) => one.location === location)) return 'in this run the accesses there are more than the program takes, so it was not asked about them';
+    return `in this run the rules order them: ${called('er_view')} ${run.file} --why ${pair.join(' ')}`;
   }
 
   // ---- what is found in a turned run
@@ -333,6 +359,9 @@ class Replay {
     };
   }
 }
+
+/** What is one of several that only their order tells apart, in words. */
+const amongOthers = ({ means, of }) => (means === 'callback' && of > 1 ? `, where ${of} are asked for in one way and told apart by their order alone` : '');
 
 /** Those of a list that are meant, and the others. */
 const split = (list, isMeant) => [list.filter(isMeant), list.filter((one) => !isMeant(one))];

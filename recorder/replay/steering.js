@@ -40,8 +40,8 @@ class Hold {
 
   /** In the page: what page/steering.js takes, or null. */
   forPage() {
-    const { means, word, place, nth, address, event } = this.cause;
-    if (means === 'callback' || means === 'event') return { id: this.id, word, place, nth, event };
+    const { means, word, place, way, nth, address, event } = this.cause;
+    if (means === 'callback' || means === 'event') return { id: this.id, word, place, way, nth, event };
     if (means === 'load') return { id: this.id, word: 'load', address, source: this.source(address) };
     return null;
   }

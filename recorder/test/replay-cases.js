@@ -10,14 +10,14 @@ const CONTENT = 'another content';
 exports.cases = [
   { page: 'race-async-parser.html', location: '#offer', worst: 'an uncaught error', differs: /error in the (recorded|other) order alone: TypeError.*text in the (recorded|other) order alone: "Two for one"/ },
   { page: 'race-async-async.html', location: 'theme', worst: CONTENT, isLong: true, differs: last('light', 'dark') },
-  { page: 'race-reply-reply.html', location: 'shown', worst: CONTENT, differs: last('found for te', 'found for tea') },
+  { page: 'race-reply-reply.html', location: 'shown', isLong: true, worst: CONTENT, differs: last('found for te', 'found for tea') },
   { page: 'race-timeouts.html', location: 'price', worst: CONTENT, differs: last('price 0', 'price 7') },
   { page: 'race-timeout-image.html', location: 'load of img#dot', worst: 'a lost event', differs: /lost event in the (recorded|other) order: the load of img#dot: the load handler loaded/ },
   { page: 'race-click-handler.html', words: ['--do', 'click:#buy'], location: 'click of button#buy', worst: 'a lost act', differs: /lost event in the other order: the click at button#buy: the click handler onBuy/ },
   { page: 'race-click-handler.html', words: ['--slow', '3500', '--do', 'early click:#buy'], location: 'click of button#buy', isLong: true, worst: 'a lost act', differs: /lost event in the recorded order: the click at button#buy: the click handler onBuy/ },
   { page: 'race-typed-text.html', words: ['--do', 'wait:500', '--do', 'type:#field:tea'], location: 'value of input#field', worst: 'a lost input', differs: /value of input#field: books tea in the recorded order, books ea in the other order/ },
   { page: 'race-typed-text.html', words: ['--do', 'early type:#field:tea'], location: 'value of input#field', isLong: true, worst: 'a lost input', differs: /value of input#field: / },
-  { page: 'race-frame-timeout.html', location: 'greeting', worst: 'an uncaught error', differs: /error in the (recorded|other) order alone: TypeError.*; text in the (recorded|other) order alone: "HELLO"/ },
+  { page: 'race-frame-timeout.html', location: 'greeting', isLong: true, worst: 'an uncaught error', differs: /error in the (recorded|other) order alone: TypeError.*; text in the (recorded|other) order alone: "HELLO"/ },
   { page: 'race-animation-timeout.html', location: 'width', isLong: true, worst: CONTENT, differs: last('width 100', 'width 0') },
   { page: 'race-message-timeout.html', location: 'settings', worst: 'an uncaught error', differs: /error in the (recorded|other) order alone: TypeError/ },
   { page: 'race-parsed-async.html', location: 'plugin', worst: CONTENT, differs: /text in the (recorded|other) order alone: "a plugin"/ },
@@ -31,7 +31,7 @@ exports.cases = [
   { page: 'race-property.html', location: 'total of cart, the object first used at race-property.html:11', isLong: true, worst: CONTENT, differs: last('total 0', 'total 7') },
   { page: 'race-items.html', location: 'the items of list, the array first used at race-items.html:9', isLong: true, worst: CONTENT, differs: last('soon, late', 'late, soon') },
   { page: 'race-content.html', location: 'the content of p#out', isLong: true, worst: CONTENT, differs: last('soon') },
-  { page: 'race-put-back.html', location: 'isOpen of page, the object first used at race-put-back.html:8', worst: CONTENT, differs: last('soon') },
+  { page: 'race-put-back.html', location: 'isOpen of page, the object first used at race-put-back.html:8', isLong: true, worst: CONTENT, differs: last('soon') },
 ];
 
 exports.more = [
@@ -46,9 +46,9 @@ exports.more = [
   { page: 'race-worker.html', location: 'state', worst: CONTENT, differs: last('work done') },
   { page: 'race-import.html', location: 'state', worst: CONTENT, differs: last('lazy') },
   { page: 'race-data-frame.html', location: 'state', isLong: true, worst: CONTENT, differs: last('loaded') },
-  { page: 'race-srcdoc.html', location: 'state', worst: CONTENT, differs: last('inside') },
+  { page: 'race-srcdoc.html', location: 'state', isLong: true, worst: CONTENT, differs: last('inside') },
   // harm and none
-  { page: 'race-same-value.html', location: 'theme', differs: null },
+  { page: 'race-same-value.html', location: 'theme', isLong: true, differs: null },
   { page: 'race-counter.html', location: 'left', isLong: true, differs: null },
   { page: 'race-first-asks.html', location: 'cache', isLong: true, differs: null },
   { page: 'race-storage.html', location: 'localStorage.volume', isLong: true, worst: 'another state', differs: /localStorage\.volume: [37] in the recorded order, [37] in the other order/ },
@@ -57,5 +57,7 @@ exports.more = [
   { page: 'race-draft.html', words: ['--do', 'wait:500', '--do', 'type:#text:tea'], location: 'value of textarea#text', isLong: true, worst: 'a lost input', differs: /value of textarea#text: kept draft tea in the recorded order, / },
   { page: 'race-checkbox.html', words: ['--do', 'wait:500', '--do', 'click:#agree'], location: 'checked of input#agree', isLong: true, worst: 'a lost input', differs: /checked of input#agree: true in the recorded order, false in the other order/ },
   { page: 'race-restless.html', location: 'state', worst: CONTENT, differs: last('soon'), says: /the page never rests: compared behind \d+ of its own turns in each run/ },
+  { page: 'race-post-late.html', location: 'cart', worst: CONTENT, differs: last('bought', 'empty'), says: /; not sent again without --yes: POST http:\/\/shop\.invalid:1\/reset/ },
+  { page: 'race-post-late.html', words: ['--replay', '--yes'], location: 'cart', isLong: true, worst: CONTENT, differs: last('bought', 'empty'), says: /^(?!.*not sent again)/ },
   { page: 'race-slow-note.html', words: ['--do', 'wait:3500'], location: 'came', differs: null, says: /but what the delay alone does too: text in the other order alone: "The network is slow"/ },
 ];

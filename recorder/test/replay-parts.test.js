@@ -6,6 +6,7 @@ const fs = require('node:fs');
 const path = require('node:path');
 const { test } = require('node:test');
 const { temporaryFolder } = require('./cleanup.js');
+const { Responses } = require('../browser/responses.js');
 const { changing } = require('../replay/changing.js');
 const { checkOrder, otherWayInWords } = require('../replay/lawful.js');
 const { mostFrequent, countTurns } = require('../replay/turns.js');
@@ -13,6 +14,7 @@ const { Orders } = require('../replay/orders.js');
 const { orderOfResults, verdictInWords, worstOf } = require('../replay/verdict.js');
 const { Keys } = require('../replay/keys.js');
 const { Causes } = require('../replay/causes.js');
+const { Replay } = require('../replay/replay.js');
 const { Steering } = require('../replay/steering.js');
 const { compare, someInWords } = require('../replay/compare.js');
 
@@ -58,9 +60,34 @@ test('a look-up of handlers is found where nobody has set one', () => {
 test('what can be kept back for an action, the nearest first', () => {
   const facts = { elements: { 1: { tag: 'p', place: [0, 1, 1] }, 2: { tag: 'script', place: [0, 2, 1], loads: 'http://localhost/a.js', source: 'a.js' } }, timeouts: { 1: { place: [0, 2, 3] } } };
   const keys = run(['parse 0 1 plain', 'parse 0 2 sync', 'exec 2', 'set 1 5', 'timer 1', 'w var 0 x'], { 5: [0, 2, 3] }, facts);
-  const causes = new Causes(keys, [{ text: 'set 1 5 0', place: 'here' }], [], (file) => NAMES.files[file]);
+  const causes = new Causes(keys, { entries: [{ text: 'set 1 5 0', place: 'here' }], names: [] }, [], (file) => NAMES.files[file]);
   assert.deepStrictEqual(causes.of(3).map(({ means, action }) => [means, action]), [['callback', 3], ['response', 2], ['parser', 1]]);
-  assert.deepStrictEqual(causes.of(3)[0], { means: 'callback', word: 'set', place: 'here', nth: 1, action: 3, words: 'the timeout set at page.html:2 is put off' });
+  assert.deepStrictEqual(causes.of(3)[0], { means: 'callback', word: 'set', place: 'here', way: '', nth: 1, of: 1, action: 3, words: 'the timeout set at page.html:2 is put off' });
+});
+
+/** A script that sets timeouts, all at one place: their numbers as they are set, with the numbers of their stacks. */
+function causesOfTimeouts(stacks) {
+  const numbers = Object.keys(stacks);
+  const lines = ['parse 0 2 inline', 'exec 2', ...numbers.map((number) => `set ${number} 5`), ...numbers.flatMap((number) => [`timer ${number}`, `w var 0 x${number}`])];
+  const keys = run(lines, Object.fromEntries(numbers.map((number, k) => [4 + k, [0, 2, 3]])));
+  const entries = numbers.map((number) => ({ text: `set ${number} 5 0`, place: 'here', stack: stacks[number] }));
+  const names = ['one\ntwo', 'one\nthree'].map((places, k) => ({ kind: 'stack', number: k + 1, places }));
+  return { keys, causes: new Causes(keys, { entries, names }, [], (file) => NAMES.files[file]) };
+}
+
+test('of several timeouts at one place, which one it is: by the way of the calls, else by their order', () => {
+  const { causes } = causesOfTimeouts({ 1: '1', 2: '2', 3: '1', 4: undefined });
+  assert.deepStrictEqual([2, 3, 4, 5].map((action) => causes.of(action)[0]).map(({ way, nth, of }) => [way, nth, of]), [['one\ntwo', 1, 2], ['one\nthree', 1, 1], ['one\ntwo', 2, 2], ['', 1, 1]]);
+});
+
+test('a timeout that another run sets in another order is counted as in that run', () => {
+  const recorded = causesOfTimeouts({ 1: '1', 2: '1' });
+  const other = causesOfTimeouts({ 1: '2', 2: '1' });
+  const side = recorded.keys.identify({ location: 'var 0 x2', mode: 'w', action: 3, line: 9 });
+  const [cause] = recorded.causes.of(3);
+  const countedIn = (one) => Replay.prototype.countedIn.call({ causesIn: () => one.causes }, one, { cause, sides: [side] });
+  assert.strictEqual(countedIn(recorded), null);
+  assert.deepStrictEqual(countedIn(other), { ...cause, nth: 1, of: 1 });
 });
 
 test('an act that is kept back comes behind those that are needed', () => {
@@ -92,7 +119,7 @@ test('events that the browser brings, and what can keep them back', () => {
     handlers: { 4: { type: 'message', target: 7 } },
   };
   const keys = run(['parse 0 2 inline', 'exec 2', 'on 4', 'fire 1 5 canplay', 'fire 2 5 canplay', 'fire 3 7 message', 'run 3 0 4'], {}, facts);
-  const causes = new Causes(keys, [{ text: 'on 4', place: 'here' }], [], (file) => NAMES.files[file]);
+  const causes = new Causes(keys, { entries: [{ text: 'on 4', place: 'here' }], names: [] }, [], (file) => NAMES.files[file]);
   const [film] = causes.of(3);
   assert.deepStrictEqual([film.means, film.event], ['event', { type: 'canplay', nth: 2, tag: 'video', id: 'film', source: 'a.webm' }]);
   const [message] = causes.of(5);
@@ -119,6 +146,29 @@ test('what may change something on a server, and on which', () => {
   const asked = ['GET http://shop.example/', 'POST http://localhost/cart', 'PUT https://127.0.0.1:8443/cart', 'POST https://shop.example/cart', 'POST https://shop.example/cart'];
   assert.deepStrictEqual(changing(asked).filter(({ isForeign }) => isForeign), [{ text: 'POST https://shop.example/cart', isForeign: true }]);
   assert.strictEqual(changing(asked).length, 3);
+});
+
+/** What is done with a request on its way: the method of the protocol, and why it fails. */
+async function passRequest(options, method, url) {
+  const sent = [];
+  const tab = { send: async (word, { errorReason }) => { sent.push([word, errorReason]); } };
+  const folder = { has: (address) => address.startsWith('http://localhost/'), answer: () => ({ status: 200, type: 'text/plain', body: Buffer.alloc(0) }) };
+  const responses = new Responses(tab, { sources: null, folder, slow: 0, longest: 1000, ...options });
+  await responses.pass({ requestId: '1', resourceType: 'Fetch', request: { method, url } });
+  return [...sent[0], ...responses.refused];
+}
+
+test('what a later run sends to another machine, and what only with --yes', async () => {
+  const foreign = 'https://shop.example/cart';
+  const later = { isGuarded: true };
+  for (const method of ['POST', 'PUT', 'DELETE', 'PATCH', 'post']) {
+    assert.deepStrictEqual(await passRequest(later, method, foreign), ['Fetch.failRequest', 'BlockedByClient', `${method} ${foreign}`]);
+    assert.deepStrictEqual(await passRequest({ isGuarded: false }, method, foreign), ['Fetch.continueRequest', undefined]);
+  }
+  for (const method of ['GET', 'HEAD', 'OPTIONS']) assert.deepStrictEqual(await passRequest(later, method, foreign), ['Fetch.continueRequest', undefined]);
+  assert.deepStrictEqual(await passRequest(later, 'POST', 'http://127.0.0.1:8080/cart'), ['Fetch.continueRequest', undefined]);
+  assert.deepStrictEqual(await passRequest(later, 'POST', 'http://localhost/cart'), ['Fetch.fulfillRequest', undefined]);
+  assert.deepStrictEqual(await passRequest(later, 'POST', 'http://localhost.example/cart'), ['Fetch.failRequest', 'BlockedByClient', 'POST http://localhost.example/cart']);
 });
 
 test('the worst effect, and the order of what is told', () => {

@@ -99,15 +99,30 @@ test('the shop, by the command', { timeout: 400000 }, async () => {
   await seeView(path.join(folder, 'shop.races', 'page.html'), races.length);
 });
 
-test('Ctrl-C while the page runs again', { timeout: 150000 }, async () => {
+/** Two races, each of its own two timeouts. */
+const TWO_RACES = `<!doctype html><p id="out">nothing</p><script>
+var price = 0, count = 0;
+function show(text) { document.getElementById('out').textContent = text; }
+setTimeout(function late() { price = 7; }, 60);
+setTimeout(function soon() { show('price ' + price); }, 20);
+setTimeout(function fill() { count = 1; }, 160);
+setTimeout(function ask() { document.title = 'count ' + count; }, 120);
+</script>`;
+
+test('Ctrl-C while the page runs again: what was judged so far is told and written', { timeout: 150000 }, async () => {
   const own = path.join(folder, 'temporary');
   fs.mkdirSync(own);
-  const command = start(path.join(TOP, 'er_page'), [path.join(PAGES, 'race-timeouts.html'), '--replay'], { cwd: folder, env: { ...process.env, TMPDIR: own } });
-  while (!command.said.includes('run again in the other order')) await new Promise((resolve) => setTimeout(resolve, 50));
+  fs.writeFileSync(path.join(folder, 'two-races.html'), TWO_RACES);
+  const command = start(path.join(TOP, 'er_page'), ['two-races.html', '--replay'], { cwd: folder, env: { ...process.env, TMPDIR: own } });
+  while (!command.said.includes('  1 of 2: ')) await new Promise((resolve) => setTimeout(resolve, 50));
   command.kill('SIGINT');
   assert.strictEqual(await command.ended, 130, command.said);
   assert.match(command.said, /er_page: stopped/);
-  assert.deepStrictEqual(JSON.parse(fs.readFileSync(path.join(folder, 'race-timeouts.races', 'page.replay.json'), 'utf8')).races, []);
+  assert.match(command.output, /^Of 1: 1 differ, 0 could not be turned, 0 have no visible difference\.$/m);
+  const { races } = JSON.parse(fs.readFileSync(path.join(folder, 'two-races.races', 'page.replay.json'), 'utf8'));
+  assert.deepStrictEqual(races.map(({ verdict, effect }) => [verdict, effect]), [['turned', 'another content']]);
+  const view = fs.readFileSync(path.join(folder, 'two-races.races', 'page.html'), 'utf8');
+  assert.strictEqual(JSON.parse(/id="model">(.*)<\/script>/.exec(view)[1]).replays.length, 1);
   assert.deepStrictEqual(fs.readdirSync(own), []);
 });
 

@@ -8,6 +8,7 @@ const { pathToFileURL } = require('node:url');
 const { after, before, test } = require('node:test');
 const { Chromium } = require('../browser/chromium.js');
 const { Tab } = require('../browser/tab.js');
+const { writePage } = require('../view.js');
 const { run, temporaryFolder } = require('./cleanup.js');
 
 const TOP = path.join(__dirname, '..', '..');
@@ -32,10 +33,14 @@ async function openView(name, lines, names) {
   tab.on('Runtime.exceptionThrown', ({ exceptionDetails }) => errors.push(exceptionDetails.text));
   await tab.send('Page.enable');
   await tab.send('Runtime.enable');
+  await load(tab, name);
+  return { tab, errors };
+}
+
+async function load(tab, name) {
   const loaded = new Promise((resolve) => tab.on('Page.loadEventFired', resolve));
   await tab.send('Page.navigate', { url: pathToFileURL(path.join(folder, `${name}.html`)).href });
   await loaded;
-  return { tab, errors };
 }
 
 /** Clicks at what a selector finds, and waits until what folds out is there. */
@@ -97,6 +102,38 @@ test('groups in words, a filter, and what folds out', { timeout: 150000 }, async
   assert.strictEqual(await count(tab, 'details.group svg'), 2);
   await clickAt(tab, 'details.group summary');
   assert.strictEqual(await tab.evaluate("document.querySelector('details.group').open"), false);
+  assert.deepStrictEqual(errors, []);
+});
+
+/** What a replay found of a race, as a command puts it into the view. */
+function replayOf(race, facts) {
+  const none = { differences: [], beside: [], unsteady: [], byDelay: [], picture: null, groupWords: '' };
+  return { race, verdict: 'turned', words: 'turned: no visible difference', means: 'a timeout is put off', isListed: true, trace: `replays/${race}.trace`, ...none, ...facts };
+}
+
+test('races that were run again: what differs first, and the harmless folded', { timeout: 150000 }, async () => {
+  const { tab, errors } = await openView('again', SHOP, NAMES);
+  const lost = { kind: 'event', subject: 'the click: <b>', isSeen: true, recorded: 'buy', other: 'not run' };
+  const replays = [
+    replayOf(1),
+    replayOf(3, { verdict: 'not turned', words: 'could not be turned: <i>both</i> come from one act of the user' }),
+    replayOf(2, { effect: 'a lost act', words: 'turned: differs: lost event', differences: [lost] }),
+  ];
+  writePage(path.join(folder, 'again.trace'), { ...JSON.parse(await textOf(tab, '#model')), replays, recordedPicture: null });
+  await load(tab, 'again');
+  const texts = (selector) => tab.evaluate(`[...document.querySelectorAll(${JSON.stringify(selector)})].map((one) => one.textContent)`);
+  assert.deepStrictEqual(await texts('details.group > summary .verdict'), ['turned: differs', 'not turned']);
+  assert.deepStrictEqual(await texts('details.group > summary .effect'), ['a lost act']);
+  assert.deepStrictEqual(await texts('.harmless > summary'), ['1 problem with no visible difference in the other order']);
+  assert.ok(!await tab.evaluate("document.querySelector('.harmless').open"));
+  await clickAt(tab, '.harmless > summary');
+  assert.deepStrictEqual(await texts('.harmless details.group > summary .verdict'), ['turned: no visible difference']);
+  await clickAt(tab, '.harmless details.group > summary');
+  assert.match(await textOf(tab, '.harmless .replay'), /To turn them, a timeout is put off\. .*No visible difference was found at the end\./);
+  assert.strictEqual(await textOf(tab, '.harmless .replay code'), `./er_view ${path.join(folder, 'replays/1.trace')}`);
+  await clickAt(tab, 'details.group > summary');
+  assert.deepStrictEqual(await texts('.replay .differences td'), ['event: the click: <b>', 'buy', 'not run']);
+  assert.strictEqual(await count(tab, 'main b, main i'), 0);
   assert.deepStrictEqual(errors, []);
 });
 

@@ -74,6 +74,9 @@ function foldedTable(differences, words) {
   return [foldable('others', summary, () => differenceTable(differences))];
 }
 
+/** The command that views a trace, whose path is told from the recorded one's folder. */
+const viewOf = (trace) => `${model.command.replace(/[^/ ]*$/, '')}${trace}`;
+
 const asSentence = (text) => `${text[0].toUpperCase()}${text.slice(1)}.`;
 
 function replayBox(race) {
@@ -93,6 +96,6 @@ function replayBox(race) {
   const boxes = replay.differences.find(({ kind }) => kind === 'picture')?.boxes || [];
   const pictures = make('div', { class: 'columns' });
   pictures.append(pictureBox(model.recordedPicture, 'The end in the recorded order', boxes), pictureBox(replay.picture, 'The end in the other order', boxes));
-  box.append(pictures, make('p', {}, 'The trace of the run in the other order, for its own view: ', make('code', {}, `${model.command.split(' ')[0]} ${replay.trace}`)));
+  box.append(pictures, make('p', {}, 'The trace of the run in the other order, for its own view: ', make('code', {}, viewOf(replay.trace))));
   return [box];
 }
