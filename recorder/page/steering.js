@@ -5,8 +5,8 @@ class Steering {
    * @param {object} natives
    * @param {{id: number, word: string, place?: string, way?: string, nth?: number, address?: string, event?: object}[]|null} holds what is kept back:
    *   its note in the log (`set`, `every`, `ask`, `post`, `on` or `send`), the place of the code in the browser's copy, the way of the calls that led
-   *   there, and which of those with both it is; or `load` with the page's address. With `event`, an event at the target of the handler that is noted,
-   *   or at an element: `{type, nth, tag, id, source}`
+   *   there ('' where the place is all that is told), and which of those with both it is; or `load` with the page's address. With `event`, an event at
+   *   the target of the handler that is noted, or at an element: `{type, nth, tag, id, source}`
    * @param {{word: string, place: string, count: number}|null} turns how often what the code at a place asks for comes, of a page that never rests
    */
   constructor(natives, holds, turns) {
@@ -32,9 +32,8 @@ class Steering {
   asks(word) {
     const mayBe = keep(this.holds, (hold) => hold.word === word && !hold.isLet);
     if (!mayBe.length) return undefined;
-    const calls = callsOfPage();
-    const [place, way] = [ownPlace(calls), wayOf(calls)];
-    const here = keep(mayBe, (hold) => (hold.place || '') === place && hold.way === way);
+    const [way, place] = [wayOf(callsOfPage()), placeOnStack()];
+    const here = keep(mayBe, (hold) => (hold.way ? hold.way === way : (hold.place || '') === place));
     each(here, (hold) => hold.asked++);
     return findItem(here, (hold) => hold.asked === hold.nth);
   }

@@ -21,7 +21,7 @@ const SIZE = { width: 1100, height: 800 };
 const folder = temporaryFolder('replay-test');
 /** So many pages load at once. */
 const AT_ONCE = 5;
-const LONGEST = 240000;
+const LONGEST = 400000;
 let browser;
 before(async () => { browser = await Chromium.launch(SIZE); });
 after(async () => { await browser.close(); });
@@ -55,14 +55,19 @@ describe('pages with a user', () => {
   for (const one of chosen.filter(hasUser)) it(nameOf(one), { timeout: LONGEST }, () => check(one));
 });
 
+/** Those that stand in the gate come from the folder there. */
+const OF_SERVER = [
+  { page: 'race-reply-reply.html', location: 'shown', said: /^turned: differs: text in the recorded order alone: "found for tea?"/ },
+  { page: 'race-async-parser.html', location: '#offer', isLong: true, said: /^turned: differs: error in the (recorded|other) order alone: TypeError/ },
+  { page: 'race-timeout-image.html', location: 'load of img#dot', isLong: true, said: /^turned: differs: lost event in the (recorded|other) order: the load of img#dot/ },
+];
+
 test('pages of a web server', { timeout: LONGEST }, async () => {
   const server = await serveFolder(PAGES);
-  const saidOf = async (page, location) => (await replayPage(browser, server.addressOf(`http://localhost/${page}`), [], location, folder)).said;
   try {
-    const said = await Promise.all([saidOf('race-reply-reply.html', 'shown'), saidOf('race-async-parser.html', '#offer'), saidOf('race-timeout-image.html', 'load of img#dot')]);
-    assert.match(said[0], /^turned: differs: text in the recorded order alone: "found for tea?"/);
-    assert.match(said[1], /^turned: differs: error in the (recorded|other) order alone: TypeError/);
-    assert.match(said[2], /^turned: differs: lost event in the (recorded|other) order: the load of img#dot/);
+    await Promise.all(OF_SERVER.filter(isChosen).map(async ({ page, location, said }) => {
+      assert.match((await replayPage(browser, server.addressOf(`http://localhost/${page}`), [], location, folder)).said, said);
+    }));
   } finally {
     server.close();
   }
@@ -109,7 +114,7 @@ setTimeout(function fill() { count = 1; }, 160);
 setTimeout(function ask() { document.title = 'count ' + count; }, 120);
 </script>`;
 
-test('Ctrl-C while the page runs again: what was judged so far is told and written', { timeout: 150000 }, async () => {
+test('Ctrl-C while the page runs again: what was judged so far is told and written', { timeout: LONGEST }, async () => {
   const own = path.join(folder, 'temporary');
   fs.mkdirSync(own);
   fs.writeFileSync(path.join(folder, 'two-races.html'), TWO_RACES);

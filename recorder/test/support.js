@@ -16,6 +16,7 @@ const { Spelling, NEWEST_VERSION } = require('../trace/spelling.js');
 const { Actions } = require('../view/actions.js');
 const { PROGRAM, judge: judgeFile } = require('../view/program.js');
 const { Words } = require('../view/words.js');
+const { isAt } = require('./replay-cases.js');
 
 const LONGEST_ANSWER = 60000;
 const PAGES = path.join(__dirname, 'pages');
@@ -49,7 +50,7 @@ async function replayPage(browser, page, words, location, folder) {
   writeFiles(recorder, options, traceFile);
   const { report } = await judgeFile(traceFile);
   const inWords = new Words(JSON.parse(fs.readFileSync(namesFile(traceFile), 'utf8')), new Actions(fs.readFileSync(traceFile, 'utf8')));
-  const number = report.races.findIndex((race) => inWords.location(race.location).text === location);
+  const number = report.races.findIndex((race) => isAt(inWords.location(race.location).text, location));
   if (number < 0) throw new Error(`no race at ${location}: ${report.races.map((race) => inWords.race(race)).join('; ')}`);
   const replay = new Replay(recorder, options, traceFile, report);
   await replay.runFreely();
