@@ -130,7 +130,7 @@ test('races that were run again: what differs first, and the harmless folded', {
   assert.deepStrictEqual(await texts('.harmless details.group > summary .verdict'), ['turned: no visible difference']);
   await clickAt(tab, '.harmless details.group > summary');
   assert.match(await textOf(tab, '.harmless .replay'), /To turn them, a timeout is put off\. .*No visible difference was found at the end\./);
-  assert.strictEqual(await textOf(tab, '.harmless .replay code'), `./er_view ${path.join(folder, 'replays/1.trace')}`);
+  assert.ok((await textOf(tab, '.harmless .replay code')).endsWith(`er_view ${path.join(folder, 'replays/1.trace')}`));
   await clickAt(tab, 'details.group > summary');
   assert.deepStrictEqual(await texts('.replay .differences td'), ['event: the click: <b>', 'buy', 'not run']);
   assert.strictEqual(await count(tab, 'main b, main i'), 0);
