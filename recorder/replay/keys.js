@@ -45,6 +45,7 @@ class Keys {
    * @param {boolean} isLoose whether what asked for a thing is left out of its name
    */
   constructor(text, names, isLoose = false) {
+    this.text = text;
     this.names = names;
     this.isLoose = isLoose;
     this.actions = new Actions(text.replace(/end\n$/, ''));
@@ -55,6 +56,12 @@ class Keys {
     this.documents = new Map();
     this.ofActions = [];
     this.readLines();
+  }
+
+  /** The keys of the same run by looser names. */
+  loose() {
+    this.looser = this.looser || new Keys(this.text, this.names, true);
+    return this.looser;
   }
 
   /** The keys of what is declared, in the order of the trace. */

@@ -72,14 +72,14 @@ class Replay {
 
   read(recorder) {
     const { text, names } = readRun(recorder, this.options);
-    return { recorder, text, keys: new Keys(text, names.facts()), looseKeys: new Keys(text, names.facts(), true), end: recorder.end, names };
+    return { recorder, text, keys: new Keys(text, names.facts()), end: recorder.end, names };
   }
 
   /** The recorded run as it was judged: what the program can't take is left out of its file. */
   readRecorded() {
     const text = fs.readFileSync(this.traceFile, 'utf8');
     const names = JSON.parse(fs.readFileSync(this.traceFile.replace(/trace$/, 'names.json'), 'utf8'));
-    return { name: 'recorded', text, keys: new Keys(text, names), looseKeys: new Keys(text, names, true), end: this.recorder.end, recorder: this.recorder };
+    return { name: 'recorded', text, keys: new Keys(text, names), end: this.recorder.end, recorder: this.recorder };
   }
 
   // ---- runs
@@ -215,7 +215,7 @@ class Replay {
 
   async tryCause({ cause, race, isLoose }, name) {
     try {
-      const sides = isLoose ? this.orders.identify(race, this.recorded.looseKeys) : this.orders.sidesOf(race);
+      const sides = isLoose ? this.orders.identify(race, this.recorded.keys.loose()) : this.orders.sidesOf(race);
       const turned = { cause, race, sides, isLoose, needed: this.lastActBefore(race.actions[1]) };
       const one = await this.runInOrder(name, turned);
       return { ...one, turned, counted: one.isTurned ? null : this.countedIn(one.run, turned) };
@@ -230,7 +230,7 @@ class Replay {
    * Null where it is the same.
    */
   countedIn(run, { cause, sides: [side], isLoose }) {
-    const keys = isLoose ? run.looseKeys : run.keys;
+    const keys = isLoose ? run.keys.loose() : run.keys;
     const there = keys.find(side) || keys.findAction(side);
     const causes = there ? this.causesIn(run).of(there.action) : [];
     const found = causes.find((one) => one.means === cause.means && one.word === cause.word && one.place === cause.place && one.address === cause.address);
@@ -245,7 +245,7 @@ class Replay {
 
   /** Whether the two accesses came in the other order in a run; the program says whether they race there too. */
   async judgeTurn(run, hold, { sides, isLoose }) {
-    const keys = isLoose ? run.looseKeys : run.keys;
+    const keys = isLoose ? run.keys.loose() : run.keys;
     const [first, access] = sides.map((side) => keys.find(side));
     const second = access || keys.findAction(sides[1]);
     if (!second) return { isTurned: false, isLate: true, why: 'the second access did not come meanwhile' };
