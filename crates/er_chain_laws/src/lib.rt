@@ -6,7 +6,7 @@
 ghost use Rattle.er_chain_laws.specs.Kept.{ChainsAreKept, LinksAreKept};
 ghost use Rattle.er_chain_laws.specs.LeastRule.{NoRuleWithoutEdge, RulesAreLeast, StepsHaveLeastRules};
 ghost use Rattle.er_chain_laws.specs.Tasks.{DeclaredBeforeEvent, WithinIsUnfinished};
-ghost use Rattle.er_chain_laws.specs.Versions.{EdgesRemain, PathsRemain};
+ghost use Rattle.er_chain_laws.specs.Versions.{EdgesRemain, PathsRemain, RacesAreOfVersionOne};
 
 /// Later records change no chain, place or entry of an earlier action.
 pub fn chains_are_kept()
@@ -54,4 +54,9 @@ pub fn edges_remain()
 /// Each path of version 1 is one of each version.
 pub fn paths_remain()
     ensures { PathsRemain }
+{}
+
+/// The races of a version are those of version 1 that it leaves unordered, so it lists none that version 1 does not list.
+pub fn races_are_of_version_one()
+    ensures { RacesAreOfVersionOne }
 {}
