@@ -1,0 +1,69 @@
+"""Manual pages out of what the commands tell with --help: no option stands in one of them alone."""
+import re
+from collections import Counter
+
+PURPOSES = {
+    "er_cli": "lists the races of a recorded page load",
+    "er_page": "records a web page and lists its races",
+    "er_record": "records the load of a web page as a trace",
+    "er_replay": "runs a race of a recorded page in the other order",
+    "er_view": "writes the view of a recorded page",
+}
+SYNOPSIS = re.compile(r"(?:usage|   or): (.*)")
+# what is explained begins with two spaces, and its words stand behind a gap or in lines that are set in further
+ENTRY = re.compile(r"  (\S.*?)(?:  +(\S.*))?")
+FURTHER = re.compile(r"   +(\S.*)")
+
+
+def escape(text):
+    text = text.replace("\\", "\\e").replace("-", "\\-").replace('"', "\\(dq")
+    return f"\\&{text}" if text[:1] in (".", "'") else text
+
+
+class Help:
+    """The parts of a text of --help: how the command is called, what its words do, and the sentences above and below."""
+
+    def __init__(self, text):
+        self.synopsis, self.above, self.entries, self.below = [], [], [], []
+        lines = text.splitlines()
+        begins = Counter(entry.start(2) for entry in map(ENTRY.fullmatch, lines) if entry and entry[2])
+        self.column = begins.most_common(1)[0][0] if begins else 0
+        for line in lines:
+            self.take(line)
+
+    def take(self, line):
+        called, entry, further = (form.fullmatch(line) for form in (SYNOPSIS, ENTRY, FURTHER))
+        if called:
+            self.synopsis.append(called[1])
+        elif further and self.entries:
+            self.entries[-1][1].append(further[1])
+        elif entry:
+            self.entries.append(self.parts(line, entry))
+        elif line:
+            (self.below if self.entries else self.above).append(line)
+
+    def parts(self, line, entry):
+        """What is explained, and its words; they may stand behind one space, in the column of the others."""
+        if not entry[2] and line[self.column - 1 : self.column] == " ":
+            return line[: self.column].strip(), [line[self.column :]]
+        return entry[1], [entry[2]] if entry[2] else []
+
+
+def manual(name, text, version, date):
+    """The manual page of a command whose --help is `text`."""
+    told = Help(text)
+    lines = [f'.TH {name.upper()} 1 "{date}" "eventracer {version}"', ".SH NAME", f"{name} \\- {PURPOSES[name]}", ".SH SYNOPSIS"]
+    for called in told.synopsis:
+        command, _, words = called.partition(" ")
+        lines += [f".B {command}", escape(words), ".br"]
+    lines.append(".SH DESCRIPTION")
+    lines += [escape(line.removesuffix(" Options:")) for line in told.above] or [f"The command {name} {PURPOSES[name]}."]
+    if told.entries:
+        lines.append(".SH OPTIONS")
+    for words, meaning in told.entries:
+        lines += [".TP", f".B {escape(words)}", *map(escape, meaning)]
+    if told.below:
+        lines += [".SH NOTES", *map(escape, told.below)]
+    others = [f".BR {other} (1)" for other in PURPOSES if other != name]
+    lines += [".SH SEE ALSO", ",\n".join(others), ".PP", "The documents are in /usr/share/doc/eventracer, with README.md as the first of them."]
+    return "\n".join(lines) + "\n"
