@@ -50,6 +50,10 @@ class NoRoot(Exception):
     """Why there is no root of its own here."""
 
 
+class Failed(Exception):
+    """What a command of root's said in the root, where it did not do what it is called for."""
+
+
 class FreshRoot:
     """Either this machine's Debian, without what stands in HIDDEN, or one that debootstrap makes in `archive`."""
 
@@ -89,7 +93,7 @@ class FreshRoot:
     def as_root(self, *words):
         status, said, fault = self.run(*words, longest=LONGEST_INSTALL, user="root", HOME="/root", DEBIAN_FRONTEND="noninteractive")
         if status:
-            raise NoRoot(f"{' '.join(words)}: {(fault or said).strip()[-500:]}")
+            raise Failed(f"{' '.join(words)}: {(fault or said).strip()[-500:]}")
         return said
 
     def written(self):

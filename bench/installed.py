@@ -6,13 +6,15 @@ import subprocess
 import time
 
 from fresh_root import LONGEST, TESTER, changes
-from staging import TOP
+from staging import TOP, read
 
 HOME = f"/home/{TESTER}"
 WORK, TEMPORARY = f"{HOME}/work", f"{HOME}/temporary"
 EXAMPLES = "/usr/share/doc/eventracer/examples"
 SHOP = f"{EXAMPLES}/shop/index.html"
 COMMANDS = ("er_cli", "er_page", "er_record", "er_replay", "er_view")
+OPTION = re.compile(r"--[a-z][a-z-]*")
+TAKEN = {"options.js": ("er_page", "er_record"), "replay-race.js": ("er_replay",), "view.js": ("er_view",)}
 TRACES = len(glob.glob(f"{TOP}/examples/*.trace"))
 EACH_TRACE = """
 for trace in *.trace; do
@@ -53,10 +55,18 @@ class Installed:
             yield f"{name} --version", None if status == 0 and not fault and output.startswith(f"eventracer {self.version}\n") and "\ncommit " in output else (status, output, fault)
             status, output, fault = self.run(name, "--help")
             yield f"{name} --help", None if status == 0 and not fault and output.startswith(f"usage: {name} ") and "--build" not in output else (status, output, fault)
-            told = set(re.findall(r"--[a-z-]+", output))
-            page = self.run("zcat", f"/usr/share/man/man1/{name}.1.gz")[1].replace("\\-", "-")
-            lacking = {it for it in told if it not in page}
-            yield f"the manual page of {name} names each option", lacking or (None if told else "no options")
+            told = OPTION.findall(output)
+            page = OPTION.findall(self.run("zcat", f"/usr/share/man/man1/{name}.1.gz")[1].replace("\\-", "-"))
+            yield f"the manual page of {name} names each option", {*told} - {*page} or (None if told else "no options")
+
+    def check_options(self):
+        """The options that the commands take, by their own texts, are told by one of the commands that take them."""
+        for script, names in TAKEN.items():
+            taken = re.findall(r"'(--[a-z-]+)'", read(f"{TOP}/recorder/{script}"))
+            told = [it for name in names for it in OPTION.findall(self.run(name, "--help")[1])]
+            yield f"--help tells each option of {script}", {*taken} - {*told} or (None if taken else "no options")
+        taken, told = OPTION.findall(self.run("er_cli", "word")[2]), OPTION.findall(self.run("er_cli", "--help")[1])
+        yield "--help tells each option of the program", {*taken} - {*told} or (None if taken else "no options")
 
     def check_traces(self):
         status, differing, count = self.run("bash", "-c", EACH_TRACE, cwd=EXAMPLES)
@@ -98,7 +108,7 @@ class Installed:
         yield "a browser without its sandbox is told", None if status == 0 and "sandbox is off" in fault else (status, output, fault)
 
     def watch_renderers(self, recording):
-        """Whether each process that runs a page was in the sandbox, once it had begun: cut off from the system's calls, and not in the user's own namespaces."""
+        """Whether each process that runs a page was in the sandbox, once it had begun: cut off from the system's calls and from other processes."""
         seen = {}
         while recording.poll() is None:
             for number in filter(str.isdigit, os.listdir("/proc")):
@@ -132,7 +142,7 @@ class Installed:
 
     def check_all(self):
         before = self.written()
-        for check in (self.check_words, self.check_traces, self.check_page, self.check_sandbox, self.check_folders):
+        for check in (self.check_words, self.check_options, self.check_traces, self.check_page, self.check_sandbox, self.check_folders):
             yield from check()
         yield "nothing is written beside the current folder", changes(before, self.written()) or None
         yield from self.check_no_browser()
@@ -148,13 +158,13 @@ def facts_of_renderer(number, top):
     """Whether a process that runs a page of this root's browser is in the sandbox; nothing of any other process."""
     try:
         with open(f"/proc/{number}/cmdline", "rb") as words, open(f"/proc/{number}/status", encoding="utf-8") as told:
-            if b"--type=renderer" not in words.read() or not is_of(number, top):
+            if b"--type=renderer" not in words.read() or not is_of(number, top, "mnt"):
                 return None
-            return "\nSeccomp:\t2\n" in told.read() and os.stat(f"/proc/{number}/ns/user").st_ino != os.stat("/proc/self/ns/user").st_ino
+            return "\nSeccomp:\t2\n" in told.read() and not is_of(number, top, "pid")
     except (OSError, ProcessLookupError):
         return None
 
 
-def is_of(number, top):
-    """Whether a process sees the mounts of this root."""
-    return os.stat(f"/proc/{number}/ns/mnt").st_ino == os.stat(f"{top}proc/1/ns/mnt").st_ino
+def is_of(number, top, kind):
+    """Whether a process is in the namespace of a kind that the first one of this root is in."""
+    return os.stat(f"/proc/{number}/ns/{kind}").st_ino == os.stat(f"{top}proc/1/ns/{kind}").st_ino
