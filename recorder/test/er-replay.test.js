@@ -12,7 +12,9 @@ const TOP = path.join(__dirname, '..', '..');
 const folder = temporaryFolder('er-replay-test');
 const TRACE = path.join(folder, 'site', 'kept.trace');
 const NAMES = path.join(folder, 'site', 'kept.names.json');
-const command = (name, words, cwd = folder) => run(path.join(TOP, name), words, { longest: 140000, cwd });
+/** A busy machine takes long for the three recordings and more of one command. */
+const LONGEST = 280000;
+const command = (name, words, cwd = folder) => run(path.join(TOP, name), words, { longest: LONGEST, cwd });
 
 before(async () => {
   fs.mkdirSync(path.join(folder, 'site'));
@@ -56,7 +58,7 @@ test('bad input is refused in a line', async () => {
   assert.strictEqual(await refused([path.join(folder, 'site', 'bad.trace'), '--race', '1'], 4, /is no file of names/), 1);
 });
 
-test('a race is found again, also where the page and the trace were moved and the page has a further line', { timeout: 150000 }, async () => {
+test('a race is found again, also where the page and the trace were moved and the page has a further line', { timeout: LONGEST + 10000 }, async () => {
   const moved = path.join(folder, 'moved');
   fs.cpSync(path.join(folder, 'site'), moved, { recursive: true });
   const page = path.join(moved, 'page.html');
@@ -70,7 +72,7 @@ test('a race is found again, also where the page and the trace were moved and th
   for (const file of ['page.trace', 'page.names.json', 'page.report', 'page.html']) assert.ok(fs.existsSync(path.join(moved, 'kept.replay', file)));
 });
 
-test('a race that does not come any more is told', { timeout: 150000 }, async () => {
+test('a race that does not come any more is told', { timeout: LONGEST + 10000 }, async () => {
   const page = path.join(folder, 'site', 'page.html');
   const text = fs.readFileSync(page, 'utf8');
   fs.writeFileSync(page, '<!doctype html><input id="field">');

@@ -13,7 +13,7 @@ const { run, temporaryFolder } = require('./cleanup.js');
 
 const TOP = path.join(__dirname, '..', '..');
 const SIZE = { width: 1100, height: 800 };
-const LONGEST_RUN = 90000;
+const LONGEST_RUN = 140000;
 const folder = temporaryFolder('view-test');
 let browser;
 before(async () => { browser = await Chromium.launch(SIZE); });

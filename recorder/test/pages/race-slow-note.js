@@ -1,2 +1,2 @@
 came = 1;
-if (performance.now() > 2800) document.getElementById('out').textContent = 'The network is slow';
+if (performance.now() - begun > 2800) document.getElementById('out').textContent = 'The network is slow';
