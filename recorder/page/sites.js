@@ -115,7 +115,7 @@ function helpersOfProperties(objects) {
     if (sites.isDue(object, site)) access(object, name, modes, site);
     return object;
   };
-  const hasHad = (key, site) => lastKeys[site] === key || (typeof key === 'number' && (lastItems[site] & bitOf(key)) !== 0);
+  const hasHad = (key, site) => (typeof key === 'number' && (lastItems[site] & bitOf(key)) !== 0) || lastKeys[site] === key;
   const accessByKey = (object, key, modes, site) => {
     if (typeof key !== 'string' && typeof key !== 'number') return;
     const items = lastObjects[site] === object ? lastItems[site] : 0;
