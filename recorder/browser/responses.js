@@ -8,7 +8,7 @@ const { sleep } = require('./time.js');
 const { mayChange, isOfThisMachine } = require('../replay/changing.js');
 
 const PAGE_TYPE = /^text\/html\b/i;
-const XML_PAGE_TYPE = /^application\/xhtml\+xml\b/i;
+const XML_PAGE_TYPE = /^(application\/xhtml\+xml|image\/svg\+xml|(text|application)\/xml)\b/i;
 const SCRIPT_TYPE = /javascript|ecmascript|^text\/plain\b|^application\/octet-stream\b/i;
 const DROPPED_HEADERS = /^(content-length|content-encoding|transfer-encoding|content-type|sourcemap|x-sourcemap)$/i;
 const POLICY_HEADER = /^content-security-policy(-report-only)?$/i;
@@ -176,7 +176,7 @@ class Responses {
 
   /** Marks would break the texts of an XML page, so its inline scripts stay as they are. */
   isPage(type) {
-    if (XML_PAGE_TYPE.test(type) && this.sources) this.sources.missed.set('XML pages with their inline scripts', 1);
+    if (XML_PAGE_TYPE.test(type) && this.sources) this.sources.missed.set('XML pages, as XHTML and SVG, with their inline scripts', 1);
     return PAGE_TYPE.test(type);
   }
 

@@ -180,7 +180,7 @@ class Dispatches {
     const isNear = (one) => one.task === recording.task || (LATER.has(type) && this.natives.now() - one.lastTime < LONGEST_PAUSE);
     const causes = (one) => one.event && one.event.isTrusted && !one.active && hasItem(CONSEQUENCES[one.event.type] || [], type) && isNear(one);
     const height = heightOfLast(recording.dispatches, causes);
-    if (!height || heightOfLast(recording.dispatches, (one) => one.active) > height) return false;
+    if (!height || height >= MOST_OPEN || heightOfLast(recording.dispatches, (one) => one.active) > height) return false;
     recording.isCheckpoint = false;
     while (recording.dispatches.length > height) recording.finishTop();
     recording.close(recording.top());
@@ -228,7 +228,6 @@ class Dispatches {
     if (!dispatch) return this.unrecorded();
     this.page.joins.tellOf(dispatch);
     dispatch.active++;
-    this.page.loading.writeJoins(dispatch);
     const visit = `${event.type}:${event.eventPhase}:${this.page.elements.number(current)}`;
     if (dispatch.visit !== visit) {
       dispatch.visit = visit;

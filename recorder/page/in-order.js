@@ -13,24 +13,24 @@ class InOrder {
     if (element.localName !== 'script' || element.async !== false || !this.page.elements.has(element, 'src')) return;
     const { recording, last } = this;
     const isBehind = last && (last.maker === recording.running || recording.isBeforeRunning(last.maker));
-    this.last = { maker: recording.running, before: isBehind ? last : null, handlers: [] };
+    this.last = { maker: recording.running, before: isBehind ? last : null, ends: [] };
     this.scripts.set(number, this.last);
   }
 
-  /** What was registered at the ends of the last script before one that has run at all. */
-  handlersBefore({ before }) {
+  /** The ends of the last script before one that has run at all. */
+  endsBefore({ before }) {
     if (!before) return [];
-    return before.handlers.length ? before.handlers : this.handlersBefore(before);
+    return before.ends.length ? before.ends : this.endsBefore(before);
   }
 
   begins(number) {
     const script = this.scripts.get(number);
-    if (script) this.page.loading.comeBehind(this.handlersBefore(script), 'the script that was inserted before');
+    if (script) this.page.joins.here(this.endsBefore(script), 'the end of a script');
   }
 
   /** The run of a script is over, or its load event. */
   ends(number) {
     const script = this.scripts.get(number);
-    if (script) script.handlers[script.handlers.length] = this.page.loading.registerJoin(number, 'the end of a script');
+    if (script) script.ends[script.ends.length] = this.recording.moment() || this.recording.lastMoment();
   }
 }

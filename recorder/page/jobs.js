@@ -120,7 +120,7 @@ class Jobs {
     this.endContinuation();
     if (!recording.isCheckpoint || this.isOfLone(asked)) return this.runAsHandler(this.loneOf(asked), handler, asked, call);
     if (!this.isBehindMore(asked)) return this.runHere('job', call);
-    return this.runAsHandler(this.page.joins.beginInline('a promise reaction'), handler, asked, call);
+    return this.runAsHandler(this.beginInline('a promise reaction'), handler, asked, call);
   }
 
   runHere(kind, call) {
@@ -148,6 +148,10 @@ class Jobs {
       if (dispatch.isInline && recording.top() === dispatch) recording.finishTop();
       recording.leaveCall();
     }
+  }
+
+  beginInline(why) {
+    return this.page.joins.beginInline('then', { standsFor: this.place, why });
   }
 
   beginHandler(dispatch, handler, asked) {
@@ -187,7 +191,7 @@ class Jobs {
     const isAlone = !recording.isCheckpoint || this.isOfLone(asked);
     if (!isAlone && !this.isBehindMore(asked)) return;
     if (recording.isCheckpoint) recording.endPiece();
-    const dispatch = isAlone ? this.loneOf(asked) : this.page.joins.beginInline('what stands behind an await');
+    const dispatch = isAlone ? this.loneOf(asked) : this.beginInline('what stands behind an await');
     this.beginHandler(dispatch, this.page.joins.registerIn(asked.moment, { type: 'await' }, asked.site), asked);
     recording.startCheckpoint();
     if (!isAlone) this.watchEnd(dispatch);

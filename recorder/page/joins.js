@@ -1,5 +1,5 @@
-// Events that come behind more than one other: what a promise of several promises waits for, a port that was started after a message was
-// posted, an observer that was told later what to look at. Each of the others is told by an empty handler that was registered in it.
+// Events that come behind more than one other, or behind one that no rule knows: what a promise of several promises, or the window's load, waits
+// for, a port that was started after a message was posted, scripts in their order. Each of the others is told by an empty handler that was registered in it.
 
 class Joins {
   constructor(page) {
@@ -34,7 +34,7 @@ class Joins {
     const before = recording.running;
     const events = [];
     each(this.needed(moments), (moment) => {
-      const handler = this.registerIn(moment, { type: 'join', function: why });
+      const handler = this.registerIn(moment, { type: why, isEmpty: true });
       recording.begin(`run ${dispatch.number} 0 ${handler}`, 'handler', undefined, [before, moment.event]);
       events[events.length] = moment.event;
     });
@@ -56,21 +56,21 @@ class Joins {
   here(moments, why) {
     const { recording } = this;
     if (!this.needed(moments).length || !recording.mayDispatch()) return;
-    const dispatch = this.beginInline(why);
+    const dispatch = this.beginInline('behind', { tag: why });
     const told = this.tell(dispatch, moments, why);
     recording.finishTop();
     dispatch.suspended.after.push(...told);
   }
 
-  /** An inline dispatch at an element that stands for promise reactions. */
-  beginInline(why) {
+  /** An inline dispatch of a type at an element of its own. */
+  beginInline(type, facts) {
     const { recording, page } = this;
     const number = recording.next('dispatch');
     const standIn = recording.next('element');
     recording.log.line(`new ${page.number} ${standIn} plain`);
-    recording.log.name('element', standIn, { standsFor: page.jobs.place, why });
+    recording.log.name('element', standIn, facts);
     const dispatch = recording.push({ number, isInline: true, suspended: recording.running });
-    recording.begin(`inline ${number} ${standIn} then`, 'begin', undefined, [dispatch.suspended]);
+    recording.begin(`inline ${number} ${standIn} ${type}`, 'begin', undefined, [dispatch.suspended]);
     return dispatch;
   }
 }

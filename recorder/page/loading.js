@@ -12,14 +12,14 @@ class Loading {
     this.loaded = new WeakSet();
     /** The dispatch `dcl` or `load` that events at the same moment of loading join, in groups of their own. */
     this.moment = null;
-    /** The handlers that put those of the window's load behind what it has waited for. */
-    this.joins = [];
-    /** That of the end of `readystatechange` to `interactive`, until a deferred script, or DOMContentLoaded, comes behind it. */
+    /** The ends of what the window's load has waited for, which its handlers come behind. */
+    this.awaited = [];
+    /** The end of `readystatechange` to `interactive`, until a deferred script, or DOMContentLoaded, comes behind it. */
     this.parsed = [];
-    /** How far the page is left, and the handlers that stand for the end of the last event of it. */
-    this.leaving = { step: 0, handlers: [] };
-    /** The last blocking script, and what was registered at the end of its run. */
-    this.lastRun = { number: 0, handler: 0 };
+    /** How far the page is left, and the end of the last event of it. */
+    this.leaving = { step: 0, ends: [] };
+    /** The last blocking script, and the end of its run. */
+    this.lastRun = { number: 0, end: null };
   }
 
   isOfDocument(event, target) {
@@ -66,22 +66,29 @@ class Loading {
     const standIn = recording.next('element');
     recording.noteBeside(elements.lastParsed, `new ${page.number} ${standIn} plain`);
     recording.log.name('element', standIn, { standsFor: elements.number(page.document), why: 'the end of parsing' });
-    recording.begin(`fire ${dispatch.number} ${standIn} readystatechange`, 'begin', undefined, [scripts.last.event]);
-    dispatch.empties = this.lastRun.number === elements.lastParsed ? [this.lastRun.handler] : [];
-    dispatch.whenClosed = () => { this.parsed = [this.registerJoin(standIn, 'the end of parsing')]; };
+    const isBehindRun = this.lastRun.number === elements.lastParsed; // else a parse step stands between
+    recording.begin(`fire ${dispatch.number} ${standIn} readystatechange`, 'begin', undefined, isBehindRun ? [] : [scripts.last.event]);
+    this.comeBehind(dispatch, isBehindRun ? [this.lastRun.end] : [], 'the end of a script');
+    dispatch.whenClosed = () => { this.parsed = [recording.lastMoment()]; };
     return true;
   }
 
   /** A blocking script has run. */
   noteRunOf(number) {
-    if (this.page.dispatches.listened.has('readystatechange')) this.lastRun = { number, handler: this.registerJoin(number, 'the end of a script') };
+    this.lastRun = { number, end: this.recording.moment() };
   }
 
   /** A deferred script begins to run. */
   comeBehindParsing() {
     const { parsed } = this;
     this.parsed = [];
-    this.comeBehind(parsed, 'the end of parsing');
+    this.page.joins.here(parsed, 'the end of parsing');
+  }
+
+  /** The handlers of a dispatch come behind some ends. */
+  comeBehind(dispatch, ends, why) {
+    dispatch.moments = ends;
+    dispatch.why = why;
   }
 
   beginEnd(dispatch, end) {
@@ -90,8 +97,8 @@ class Loading {
     dispatch.end = end;
     if (end === 'dcl') {
       dispatch.awaits = this.page;
-      dispatch.empties = this.parsed;
-    }
+      this.comeBehind(dispatch, this.parsed, 'the end of parsing');
+    } else this.comeBehind(dispatch, this.awaited, 'what load waits for');
     this.moment = dispatch;
     this.recording.begin(`${end} ${dispatch.number} ${this.page.number}`, 'begin');
     return true;
@@ -134,10 +141,9 @@ class Loading {
     const { event, target } = dispatch;
     const step = this.isOfDocument(event, target) ? LEAVING.indexOf(event.type) : -1;
     if (step < 0 || this.leaving.step > step || (event.type === 'visibilitychange' && this.leaving.step < LEAVING.indexOf('pagehide'))) return;
-    dispatch.empties = this.leaving.handlers;
+    this.comeBehind(dispatch, this.leaving.ends, 'an event before');
     dispatch.whenClosed = () => {
-      const handlers = dispatch.group < 0 ? this.leaving.handlers : [this.registerJoin(this.page.elements.number(target), 'an event before')];
-      this.leaving = { step, handlers };
+      this.leaving = { step, ends: dispatch.group < 0 ? this.leaving.ends : [this.recording.lastMoment()] };
     };
   }
 
@@ -145,52 +151,15 @@ class Loading {
 
   /**
    * Where an event for which load waits has made an element that load waits for too, no rule says that the element's load comes before load. So the
-   * close of its load event registers a handler, and load runs it, empty, before its own handlers.
+   * close of its load event has an empty handler, which load runs before its own ones.
    */
   noteAwaited(dispatch, number) {
     const { elements } = this.page;
     const isMade = elements.awaited.has(number);
     if (isMade || elements.staticLoads.has(number)) dispatch.awaits = this.page;
     dispatch.whenClosed = () => {
-      if (isMade && !this.hasBegunLoad) this.join(number);
+      if (isMade && !this.hasBegunLoad) this.awaited[this.awaited.length] = this.recording.lastMoment();
       this.page.inOrder.ends(number);
     };
-  }
-
-  join(number) {
-    this.joins[this.joins.length] = this.registerJoin(number, 'what load waits for');
-  }
-
-  /** A handler that is registered in the running action, and that something later runs, empty, to come behind it. */
-  registerJoin(number, type) {
-    const { recording } = this;
-    const handler = recording.next('handler');
-    recording.log.line(`on ${handler}`);
-    recording.log.name('handler', handler, { type, target: number, isEmpty: true });
-    return handler;
-  }
-
-  /** What follows in the running event comes behind the actions in which some handlers were registered: an inline dispatch runs them, empty. */
-  comeBehind(handlers, why) {
-    const { recording, page } = this;
-    if (!handlers.length || !recording.mayDispatch()) return;
-    const number = recording.next('dispatch');
-    const standIn = page.placeOf(why);
-    const dispatch = recording.push({ number, isInline: true, suspended: recording.running });
-    recording.begin(`inline ${number} ${standIn} behind`, 'begin', undefined, [dispatch.suspended]);
-    const beginning = recording.running;
-    each(handlers, (handler) => recording.begin(`run ${number} 0 ${handler}`, 'handler', undefined, [beginning]));
-    recording.finishTop();
-  }
-
-  /** A dispatch runs its first handler. */
-  writeJoins(dispatch) {
-    const { recording } = this;
-    const handlers = dispatch.end === 'load' ? this.joins : dispatch.empties || [];
-    if (!handlers.length) return;
-    each(handlers, (handler) => recording.begin(`run ${dispatch.number} 0 ${handler}`, 'handler', undefined, [dispatch.beginning]));
-    if (dispatch.end === 'load') this.joins = [];
-    dispatch.empties = null;
-    dispatch.group = 0;
   }
 }

@@ -8,7 +8,7 @@ const OF_PLAYING = new Set(['play', 'playing', 'waiting', 'timeupdate', 'pause',
 /** What a change of a property queues. */
 const CHANGES = { volume: 'volumechange', muted: 'volumechange', playbackRate: 'ratechange', defaultPlaybackRate: 'ratechange' };
 
-const isMedia = (target) => target.localName === 'video' || target.localName === 'audio';
+const isMedia = (target) => !!target && (target.localName === 'video' || target.localName === 'audio');
 
 class Media {
   constructor(page) {

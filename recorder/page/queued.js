@@ -76,7 +76,7 @@ class Queued {
   /** Writes the begin of a dispatch that was caused by an action which is over. Answers whether it is one. */
   begin(dispatch) {
     const { event, target, number } = dispatch;
-    const cause = event.isTrusted && this.take(event, target);
+    const cause = this.recording.steering.isTrusted(event) && this.take(event, target);
     if (!cause) return false;
     const { elements, joins } = this.page;
     const { moment } = cause;
@@ -129,14 +129,13 @@ class Queued {
     const queued = this;
     const isOfScreen = ({ type }) => /fullscreen(change|error)$/.test(type);
     const note = (element) => { if (element) queued.note(element, null, queued.recording.moment(), isOfScreen); };
-    each(['requestFullscreen', 'webkitRequestFullscreen', 'webkitRequestFullScreen'], (name) => replaceMethod(Element.prototype, name, (native) => function request() {
-      if (queued.page.document.fullscreenElement !== this) note(this);
+    const replace = (owner, names, elementOf) => each(names, (name) => replaceMethod(owner, name, (native) => function change() {
+      note(elementOf(this));
       return native.apply(this, arguments);
     }));
-    each(['exitFullscreen', 'webkitExitFullscreen', 'webkitCancelFullScreen'], (name) => replaceMethod(Document.prototype, name, (native) => function exit() {
-      note(queued.page.document.fullscreenElement);
-      return native.apply(this, arguments);
-    }));
+    const shown = () => queued.page.document.fullscreenElement;
+    replace(Element.prototype, ['requestFullscreen', 'webkitRequestFullscreen', 'webkitRequestFullScreen'], (element) => element !== shown() && element);
+    replace(Document.prototype, ['exitFullscreen', 'webkitExitFullscreen', 'webkitCancelFullScreen'], shown);
   }
 
   // ---- storage of another frame

@@ -230,6 +230,7 @@ class Scripts {
   tellModule(element, run) {
     const { recording } = this;
     const { elements } = this.page;
+    this.showOwnText(element);
     const number = this.runnable(element);
     this.hasRun.add(number);
     run.element = number;

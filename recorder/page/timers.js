@@ -68,12 +68,12 @@ class Timers {
     recording.startTask();
     recording.nesting = nesting;
     recording.begin(line, kind, undefined, [asker]);
-    if (place?.before) page.loading.comeBehind(place.before.ends, 'the idle callback before');
+    if (place?.before) page.joins.here(place.before.ends, 'the end of an idle callback');
     recording.enter('callback');
     try {
       return callback.apply(page.window, words);
     } finally {
-      if (place?.isFollowed) place.ends = [page.loading.registerJoin(this.page.elements.number(page.window), 'the end of an idle callback')];
+      if (place) place.ends = [recording.moment()];
       recording.leave();
     }
   }
@@ -121,8 +121,7 @@ class Timers {
     const { recording } = this;
     if (!recording.isRunning() || (options && options.timeout > 0)) return null;
     const before = this.lastIdle?.asker === recording.running ? this.lastIdle : null;
-    if (before) before.isFollowed = true;
-    this.lastIdle = { asker: recording.running, before, isFollowed: false, ends: [] };
+    this.lastIdle = { asker: recording.running, before, ends: [] };
     return this.lastIdle;
   }
 

@@ -29,6 +29,7 @@ exports.cases = [
     page: 'script-text.html',
     due: ['w content of script#first', 'exec script#first', 'w count', 'r content of script#first', 'exec script#second', 'w count', 'timer', 'w count'],
   },
+  { page: 'module-text.html', due: ['exec script#first', 'w seen', 'dcl'] },
   {
     page: 'module.html',
     words: ['--depth', 'globals'],
@@ -114,7 +115,7 @@ exports.cases = [
     page: 'scripts-in-order.html',
     due: [
       'timer', 'new script async', 'new script async', 'exec script', 'w ready', 'on the end of a script', 'eload script', 'exec script',
-      'inline the script that was inserted before behind', 'run the end of a script', 'run the end of a script', 'back', 'r ready', 'exec script', 'run the end of a script',
+      'inline the end of a script behind', 'run the end of a script', 'run the end of a script', 'back', 'r ready', 'exec script', 'run the end of a script',
       'r status',
     ],
   },
@@ -125,6 +126,7 @@ exports.cases = [
       'close', 'on the end of parsing', 'exec script', 'inline the end of parsing behind', 'run the end of parsing', 'back', 'r states', 'dcl',
     ],
   },
+  { page: 'drawing.svg', due: ['parse svg plain', 'parse script plain', 'parse rect#part plain', 'load'], losses: [/^XML pages, as XHTML and SVG/] },
   {
     page: 'no-javascript.html',
     due: [
@@ -238,7 +240,7 @@ exports.cases = [
   {
     page: 'idle-callbacks.html',
     due: [
-      'exec script', 'every 0', 'every 0', 'tick', 'w seen', 'on the end of an idle callback', 'tick', 'inline the idle callback before behind',
+      'exec script', 'every 0', 'every 0', 'tick', 'w seen', 'on the end of an idle callback', 'tick', 'inline the end of an idle callback behind',
       'run the end of an idle callback', 'back', 'r seen', 'w seen',
     ],
     races: ['other'],
@@ -482,6 +484,7 @@ exports.cases = [
     races: ['beforeunload of window'],
     losses: [/steps to another page not followed: 1/],
   },
+  { page: 'dialogs-many.html', due: ['exec script', 'w n', 'w after', 'exec script', 'r after', 'w seen'], races: [] },
   {
     page: 'opened-window.html',
     words: CLICK,

@@ -23,7 +23,7 @@ exports.cases = [
 
   {
     page: 'port-to-frame.html',
-    due: ['run hands', 'post', 'timer', 'w settings', 'post', 'message', 'run takes', 'on got', 'on the start of the port', 'message', 'run the start of the port',
+    due: ['run hands', 'post', 'message', 'run takes', 'on got', 'on the start of the port', 'timer', 'w settings', 'post', 'message', 'run the start of the port',
       'run got', 'w seen', 'r settings'],
     races: [],
   },
@@ -138,7 +138,7 @@ exports.cases = [
   },
   {
     page: 'media-unordered.html',
-    due: ['timer', 'new audio#sound plain', 'timer', 'new audio#sound plain', 'fire audio#sound volumechange', 'fire audio#sound volumechange'],
+    due: ['timer', 'new audio#sound plain', 'fire audio#sound volumechange', 'run louder', 'fire audio#sound volumechange', 'run louder'],
     races: ['last', 'loadedmetadata of audio#sound', 'place'],
   },
   {

@@ -6,8 +6,8 @@ const { Chromium } = require('../browser/chromium.js');
 const { recordPage, judge } = require('./support.js');
 
 async function main(words) {
-  const pages = words.filter((word) => word.endsWith('.html'));
-  const options = words.filter((word) => !word.endsWith('.html'));
+  const pages = words.filter((word) => /\.(html|svg)$/.test(word));
+  const options = words.filter((word) => !/\.(html|svg)$/.test(word));
   const browser = await Chromium.launch({ width: 1100, height: 800 });
   try {
     for (const page of pages) {
