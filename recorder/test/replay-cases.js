@@ -62,5 +62,5 @@ exports.more = [
   { page: 'race-restless.html', location: 'state', worst: CONTENT, differs: last('soon'), says: /the page never rests: compared behind \d+ of its own turns in each run/ },
   { page: 'race-post-late.html', location: 'cart', worst: CONTENT, differs: last('bought', 'empty'), says: /; not sent again without --yes: POST http:\/\/shop\.invalid:1\/reset/ },
   { page: 'race-post-late.html', words: ['--replay', '--yes'], location: 'cart', isLong: true, worst: CONTENT, differs: last('bought', 'empty'), says: /^(?!.*not sent again)/ },
-  { page: 'race-slow-note.html', words: ['--do', 'wait:3500'], location: 'came', differs: null, says: /but what the delay alone does too: text in the other order alone: "The network is slow"/ },
+  { page: 'race-slow-note.html', words: ['--do', 'wait:3500'], location: 'came', isLong: true, differs: null, says: /but what the delay alone does too: text in the other order alone: "The network is slow"/ },
 ];
