@@ -6,6 +6,8 @@ const path = require('node:path');
 const { ANSWERS, WITHOUT_ANSWER } = require('./instrument/marks.js');
 
 const FOLDER = path.join(__dirname, 'page');
+/** How the browser tells of the script. */
+const SCRIPT_NAME = '__er-recorder';
 /** What the recorder uses of the window is taken before the page can put something else in its place (page/taken.js). */
 const TAKEN = ['Array', 'ArrayBuffer', 'Error', 'Function', 'Number', 'RegExp', 'String', 'Symbol', 'TextEncoder', 'Uint8Array'];
 const STATICS = ['JSON', 'Math', 'Object', 'Reflect'];
@@ -27,7 +29,7 @@ function pageScript(handlerOwners, { depth, keepsAll, libraries, holds = null, f
     `const HOLDS = ${JSON.stringify(holds)};`, `const FIXED = ${JSON.stringify(fixed)};`, `const IS_DRIVEN = ${isDriven};`,
     `const STANDS_STILL = ${standsStill};`, `const TURNS = ${JSON.stringify(turns)};`,
     `const ANSWERS_OF_HELPERS = ${JSON.stringify(ANSWERS)};`, `const HELPERS_WITHOUT_ANSWER = ${JSON.stringify(WITHOUT_ANSWER)};`, ...files];
-  return `(function (window) {\n${lines.join('\n')}\n})(window);\n//# sourceURL=__er-recorder`;
+  return `(function (window) {\n${lines.join('\n')}\n})(window);\n//# sourceURL=${SCRIPT_NAME}`;
 }
 
-module.exports = { pageScript, TAKES };
+module.exports = { pageScript, SCRIPT_NAME, TAKES };

@@ -13,7 +13,7 @@ const { markAhead } = require('./instrument/ahead.js');
 const { warmUp } = require('./instrument/warm-up.js');
 const { Sources } = require('./sources.js');
 const { Intake } = require('./trace/intake.js');
-const { pageScript } = require('./page-script.js');
+const { pageScript, SCRIPT_NAME } = require('./page-script.js');
 const { shown, withoutCommands } = require('./view/shown.js');
 
 const SIZE = { width: 1100, height: 800 };
@@ -118,7 +118,7 @@ class Recorder {
 
   async recordToEnd() {
     const { address, folder } = this.resolve();
-    this.folder = folder;
+    Object.assign(this, { address, folder });
     await this.openBrowser(address, folder);
     await this.prepareTab(folder);
     this.until = Date.now() + this.options.time * 1000; // the browser's own start does not count
@@ -215,7 +215,7 @@ class Recorder {
   listen() {
     const { tab } = this;
     tab.on('Runtime.bindingCalled', ({ name, payload }) => name === '__erSend' && this.take(payload));
-    tab.on('Runtime.exceptionThrown', ({ exceptionDetails }) => this.errors.push(errorOf(exceptionDetails)));
+    tab.on('Runtime.exceptionThrown', ({ exceptionDetails }) => this.errors.push(errorOf(exceptionDetails, this.address)));
     tab.on('Runtime.consoleAPICalled', ({ type, args }) => (type === 'error' || type === 'assert') && this.consoleErrors.push(textOf(args)));
     tab.on('Page.javascriptDialogOpening', ({ type, message }) => this.dialogs.push(`${type}: ${shown(message)}`));
     tab.on('Page.loadEventFired', () => { this.isLoaded = true; });
@@ -380,9 +380,17 @@ class Recorder {
 const withoutMarks = (text) => text.replace(/__er\.\w+\(\.\.\.\)/g, '…');
 const textOf = (values) => withoutCommands(withoutMarks(values.map(({ value, description, type }) => (value !== undefined ? String(value) : description || type)).join(' ').split('\n')[0]).slice(0, 300));
 
-function errorOf({ exception, text, url, lineNumber }) {
+/** Where an error is, outside of the recorder's own script; where nothing else ran, at the begin of the page, as without it. */
+function placeOfError({ url, lineNumber, stackTrace }, page) {
+  if (url !== SCRIPT_NAME) return { url: url || '', lineNumber };
+  return stackTrace?.callFrames.find((frame) => frame.url && frame.url !== SCRIPT_NAME) || { url: page || '', lineNumber: 0 };
+}
+
+function errorOf(details, page) {
+  const { exception, text } = details;
+  const { url, lineNumber } = placeOfError(details, page);
   const message = (exception && exception.description ? exception.description.split('\n')[0] : text) || '';
-  return `${shown(withoutMarks(message))} (${shown((url || '').replace(/^.*\//, ''))}:${lineNumber + 1})`;
+  return `${shown(withoutMarks(message))} (${shown(url.replace(/^.*\//, ''))}:${lineNumber + 1})`;
 }
 
 module.exports = { Recorder, RecordingFault, numberOfAct, LETTERS_OF_ACT };

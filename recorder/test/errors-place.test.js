@@ -1,0 +1,37 @@
+'use strict';
+// Where an error of a page is told to be: never in the recorder's own script. No browser.
+
+const assert = require('node:assert');
+const { EventEmitter } = require('node:events');
+const { test } = require('node:test');
+const { parseOptions } = require('../options.js');
+const { Recorder } = require('../recorder.js');
+const { NEWEST_VERSION } = require('../trace/spelling.js');
+
+/** What is told of an error, as the browser tells the recorder of it. */
+function toldOf(details) {
+  const recorder = new Recorder('page.html', parseOptions(['page.html'], NEWEST_VERSION, 1));
+  recorder.tab = new EventEmitter();
+  recorder.address = 'http://folder/page.html';
+  recorder.listen();
+  recorder.tab.emit('Runtime.exceptionThrown', { exceptionDetails: { text: 'Uncaught', exception: { description: 'Error: no\n    at f' }, ...details } });
+  return recorder.errors;
+}
+
+const frame = (url, lineNumber) => ({ url, lineNumber, columnNumber: 0 });
+const RECORDER = '__er-recorder';
+
+test('an error has the place that the browser tells', () => {
+  assert.deepStrictEqual(toldOf({ url: 'http://folder/script.js', lineNumber: 4 }), ['Error: no (script.js:5)']);
+  assert.deepStrictEqual(toldOf({ lineNumber: 0 }), ['Error: no (:1)']);
+});
+
+test('one that a function of the recorder hands on has the place of the code that it was called by', () => {
+  const callFrames = [frame(RECORDER, 99), frame('', 1), frame('http://folder/script.js', 7)];
+  assert.deepStrictEqual(toldOf({ url: RECORDER, lineNumber: 99, stackTrace: { callFrames } }), ['Error: no (script.js:8)']);
+});
+
+test('where no other code ran it has the begin of the page', () => {
+  assert.deepStrictEqual(toldOf({ url: RECORDER, lineNumber: 99, stackTrace: { callFrames: [frame(RECORDER, 99)] } }), ['Error: no (page.html:1)']);
+  assert.deepStrictEqual(toldOf({ url: RECORDER, lineNumber: 99 }), ['Error: no (page.html:1)']);
+});
