@@ -199,8 +199,23 @@ class ClosureInstrumenter extends GlobalInstrumenter {
   }
 
   ExpressionStatement(node, scope) {
-    this.unused.add(node.expression);
+    this.noteUnused(node.expression);
     super.ExpressionStatement(node, scope);
+  }
+
+  /** Where the value of an expression goes nowhere, that of its branches goes nowhere either: files that were made small have them for `if` and `else`. */
+  noteUnused(node) {
+    this.unused.add(node);
+    if (node.type === 'ConditionalExpression') this.noteUnused(node.consequent);
+    if (node.type === 'ConditionalExpression') this.noteUnused(node.alternate);
+    if (node.type === 'LogicalExpression') this.noteUnused(node.right);
+    if (node.type === 'SequenceExpression') this.noteUnused(node.expressions[node.expressions.length - 1]);
+  }
+
+  /** Of a list the last expression alone has a value that may be used. */
+  SequenceExpression(node, scope) {
+    node.expressions.slice(0, -1).forEach((one) => this.noteUnused(one));
+    this.visitChildren(node, scope);
   }
 
   /** 'U' where an expression counts up or down, and its value goes nowhere. */
@@ -222,7 +237,7 @@ class ClosureInstrumenter extends GlobalInstrumenter {
   ForStatement(node, scope) {
     const isLexical = node.init && node.init.type === 'VariableDeclaration' && node.init.kind !== 'var';
     if (isLexical) this.scopeOf(node, () => Scope.ofBlock(scope, [node.init])).isHidden = true;
-    if (node.update) this.unused.add(node.update);
+    if (node.update) this.noteUnused(node.update);
     this.inLoop(() => super.ForStatement(node, scope));
   }
 

@@ -5,6 +5,10 @@
 const LONGEST_LINE = 200;
 const LONGEST_REST = 80;
 
+/** What stands before a name that begins a statement; behind a bracket or `else` it is a branch. And the same with the sign of a count. */
+const BEGIN_OF_STATEMENT = /(?:^|[;{})]|\belse|\bdo)\s*(?:[\w$]+\.)*$/;
+const BEGIN_OF_COUNT = /(?:^|[;{})]|\belse|\bdo)\s*(?:\+\+|--)\s*(?:[\w$]+\.)*$/;
+
 /** An address without its query, and without this machine as the server. */
 const shortAddress = (address) => (address || '').replace(/[?#].*$/, '').replace(/^\w+:\/\/(?:localhost|127\.0\.0\.1|\[::1\])(?::\d+)?(?=\/|$)/, '');
 /** Builds put a number for a file's text into its name. */
@@ -40,8 +44,8 @@ class SourceText {
     const text = this.linesOf(file)[line] || '';
     const before = text.slice(0, column - 1);
     const after = text.slice(column - 1);
-    if (/(?:^|[;{}])\s*(?:[\w$]+\.)*$/.test(before)) return /^[\w$]+\s*(?:\+\+|--)\s*(?:[;}]|$)/.test(after) || /^(?:\+\+|--)\s*[\w$.]+\s*(?:[;}]|$)/.test(after);
-    return /(?:^|[;{}])\s*(?:\+\+|--)\s*(?:[\w$]+\.)*$/.test(before) && /^[\w$]+\s*(?:[;}]|$)/.test(after);
+    if (BEGIN_OF_STATEMENT.test(before)) return /^[\w$]+\s*(?:\+\+|--)\s*(?:[;}]|$)/.test(after) || /^(?:\+\+|--)\s*[\w$.]+\s*(?:[;}]|$)/.test(after);
+    return BEGIN_OF_COUNT.test(before) && /^[\w$]+\s*(?:[;}]|$)/.test(after);
   }
 
   /** What stands at a place: its file, the function around it, and the text of its line. */

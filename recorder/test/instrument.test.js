@@ -82,6 +82,9 @@ test('marks at objects and closures stand around what they tell of', () => {
   assert.strictEqual(marks('function f(a) { a.b = g() }'), 'function f(a) { a.b = __er.f(a,"b",0,g()) }');
   assert.strictEqual(marks('f()[k]'), '(__er.t=f())[__er.k(__er.t,k)]');
   assert.strictEqual(marks('Math.max([1].length)'), 'Math.max([1].length)');
+  assert.strictEqual(marks('if (ok) a.n++; else b.n--;'), 'if (ok) __er.B(a,"n").n++; else __er.B(b,"n").n--;');
+  assert.strictEqual(marks('ok ? a.n++ : b.n--, a.m += 1'), 'ok ? __er.B(a,"n").n++ : __er.B(b,"n").n--, __er.B(a,"m").m += 1');
+  assert.strictEqual(marks('f((a.n++, ok && b.n--))'), 'f((__er.B(a,"n").n++, ok && __er.b(b,"n").n--))');
   assert.strictEqual(marks('function f() { let n = 0, m = 0; return () => n++ + m }'),
     'function f() {;var __er_1=__er.s(0); let n = 0, m = 0; return () => __er.y(__er_1,"n",0,n,n++,n) + m }');
 });

@@ -158,10 +158,11 @@ test('objects and closures: a use before the definition, a flag, a counter, the 
 });
 
 test('where a variable is counted, and nobody uses the value', () => {
-  const lines = ['n++;', 'app.n--', '++n;', '{ ++app.n; }', 'if (n++) go();', 'x = n++;', '() => n++', 'for (;; n++) go();', 'n++, go();'];
+  const lines = ['n++;', 'app.n--', '++n;', '{ ++app.n; }', 'if (n++) go();', 'x = n++;', '() => n++', 'for (;; n++) go();', 'n++, go();',
+    'if (ok) n++;', '} else n--;', 'else app.n++', 'if (ok) ++n;', 'if (ok) --app.n;', 'do n++; while (ok)', '(ok) + n++;', 'x = ok ? n++ : 0;'];
   const text = new SourceText({ files: [{ address: PAGE, text: lines.join('\n') }] });
   const isCount = lines.map((line, k) => text.isCount([0, k + 1, line.search(/n(?![a-z])/) + 1]));
-  assert.deepStrictEqual(isCount, [true, true, true, true, false, false, false, false, false]);
+  assert.deepStrictEqual(isCount, [...Array(4).fill(true), ...Array(5).fill(false), ...Array(6).fill(true), false, false]);
   assert.ok(text.isCount([0, 3, 1]));
 });
 

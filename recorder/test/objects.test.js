@@ -44,7 +44,7 @@ test('each object and closure by what a page author can find', { timeout: 150000
 test('counts whose value nobody uses', { timeout: 150000 }, async () => {
   const { told, facts } = await recordRun('counters.html');
   const counted = told.filter(({ line }) => facts.counts[line]).map(({ what }) => what.replace(/ of .*/, ''));
-  assert.deepStrictEqual(unique(counted).sort(), ['calls', 'hits']);
+  assert.deepStrictEqual(unique(counted).sort(), ['both', 'calls', 'few', 'hits', 'small']);
 });
 
 test('values, and writes of the value that was there', { timeout: 150000 }, async () => {
