@@ -5,14 +5,11 @@ const path = require('node:path');
 const { pathToFileURL } = require('node:url');
 const { ORIGIN } = require('../browser/folder.js');
 
-/** The place of an access, or that of its action; null where none is known. */
-function placesOf(problems, race) {
-  const { words, report } = problems;
+/** The place of each access, that of its action or that of its element; null where none is known. */
+function placesOf({ words, report }, race) {
   const { lines, actions } = report.races[race];
-  return lines.map((line, k) => words.placeOfAccess(line, actions[k]) || placeOfElement(words, words.actions.list[words.actions.list[actions[k]].first]));
+  return lines.map((line, k) => words.placeOfAccess(line, actions[k]));
 }
-
-const placeOfElement = ({ names }, { words: [word, , element] }) => (word === 'parse' ? names.elements[element]?.place || null : null);
 
 /** An address as the standard for URIs has it; names out of a source map may be no addresses. */
 function asUri(address) {

@@ -202,7 +202,7 @@ exports.cases = [
   { page: 'names-of-new.html', due: ['timer', 'w first of made', 'timer', 'r (names) of made', 'w (names) of other'], never: ['r (names) of alone'],
     races: ['(names) of made', '(names) of other'] },
   { page: 'counters.html', due: ['timer', 'r hits of state', 'w hits of state', 'timer', 'w calls of the closure of ?'],
-    races: ['calls of the closure of ?', 'hits of state', 'turn of state'] },
+    races: ['both of the closure of ?', 'calls of the closure of ?', 'few of the closure of ?', 'hits of state', 'small of state', 'turn of state', 'used of the closure of ?'] },
   { page: 'map-and-set.html', due: ['timer', 'r [c] of byName', 'r [a] of byName', 'r (names) of seen', 'timer', 'w [b] of byName', 'w [a] of byName'],
     never: ['w [b] of byName', 'r [c] of byName'], races: ['(names) of seen', '[a] of byName', '[object%201] of seen'] },
   { page: 'counted-builtins.html', due: ['timer', 'r total of cart', 'timer', 'w total of cart'], races: ['count of the closure of ?', 'total of cart'] },

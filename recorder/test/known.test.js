@@ -134,6 +134,15 @@ test('two acts of a user fail no build unless it is asked for', async () => {
   assert.deepStrictEqual(plainListing(plain, { page: '', status: 0, files: [], folder: null }).problems.map(({ fails }) => fails), [false]);
 });
 
+test('the members of the object are those that the document has', async () => {
+  const document = fs.readFileSync(path.join(__dirname, '..', '..', 'docs', 'viewing.md'), 'utf8');
+  const tableOf = (head) => document.slice(document.indexOf(head)).split('\n\n')[0].split('\n').slice(2);
+  const membersOf = (head) => tableOf(head).flatMap((row) => row.split('|')[1].split(',').map((name) => name.replace(/[` ]/g, ''))).sort();
+  const plain = plainListing(new Listing([await run()], null), { page: '', status: 1, files: [], folder: null });
+  assert.deepStrictEqual(Object.keys(plain).sort(), membersOf('| Member | Is |\n|---|---|\n| `races` | 1'));
+  assert.deepStrictEqual(Object.keys(plain.problems[0]).sort(), membersOf('| Member of a problem | Is |'));
+});
+
 test('what was left out of the trace is told', async () => {
   const { text, report } = await judgeLines(['parse 0 1 async', 'exec 1']);
   const leftOut = [{ location: 'var 0 steps', accesses: 40000, pairs: 799980000 }];

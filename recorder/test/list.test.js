@@ -8,6 +8,7 @@ const { test } = require('node:test');
 const { Known } = require('../list/known.js');
 const { Listing } = require('../list/listing.js');
 const { linesOf } = require('../list/outputs.js');
+const { placesOf } = require('../list/places.js');
 const { Problems, listed } = require('../list/problems.js');
 const { SourceText } = require('../list/source-text.js');
 const { Actions } = require('../view/actions.js');
@@ -116,6 +117,14 @@ test('one problem of two clicks, told with both', async () => {
   assert.strictEqual(list[0].look.name, 'late handler');
 });
 
+test('a user\'s act has the place of the element at which it is', async () => {
+  const { elements } = CLICK_FACTS;
+  const problems = await problemsOf(CLICKS, { ...CLICK_FACTS, elements: { ...elements, 2: { ...elements[2], place: [0, 1, 1] } }, places: { 3: [0, 1, 3], ...CLICK_FACTS.places } });
+  assert.deepStrictEqual(problems.report.races.map((race, k) => placesOf(problems, k)), [[[1, 3, 1], null], [[1, 3, 1], [0, 1, 1]]]);
+  const made = await problemsOf(CLICKS, { ...CLICK_FACTS, places: { 2: [0, 1, 3], ...CLICK_FACTS.places } });
+  assert.deepStrictEqual(placesOf(made, 0)[1], [0, 1, 3]);
+});
+
 const looksOf = async (lines, facts) => (await problemsOf(lines, facts)).list.map(({ look }) => [look.name, look.seen]);
 
 test('a field written over what a user typed', async () => {
@@ -185,8 +194,11 @@ test('what several races have in common is told once', () => {
   assert.strictEqual(listed(['a', 'b', 'c', 'd', 'e'].map((name) => `the click at ${name}`)), 'the click at a, b, c, d, ..');
 });
 
-test('the steps\' words know all rules', () => {
-  const table = fs.readFileSync(path.join(__dirname, '..', '..', 'docs', 'rules.md'), 'utf8');
-  const known = [...table.matchAll(/^\| (\d+) \| /gm)].map(([, number]) => number);
-  assert.deepStrictEqual(Object.keys(RULES), known);
+test('the steps\' words know all rules, those of the document and of the program', () => {
+  const textOf = (...names) => fs.readFileSync(path.join(__dirname, '..', '..', ...names), 'utf8');
+  const told = [...textOf('docs', 'rules.md').matchAll(/^\| (\d+) \| /gm)].map(([, number]) => number);
+  assert.deepStrictEqual(Object.keys(RULES), told);
+  const betweenEvents = [...textOf('crates', 'er_history', 'specs', 'Rules.antt').matchAll(/ \((\d+), \w+(?: v)?\)/g)].map(([, number]) => number);
+  const betweenPieces = ['22', '23'];
+  assert.deepStrictEqual(Object.keys(RULES), [...betweenEvents, ...betweenPieces].sort((a, b) => a - b));
 });

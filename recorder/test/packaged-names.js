@@ -1,10 +1,12 @@
 #!/usr/bin/env node
 'use strict';
-// packaged-names.js [--record N] FOLDER [PACKAGE..]: of pages that were recorded several times, FOLDER/PAGE/RUN/page.trace, what the list is worth: lines before
-// and after folding, the share of places outside of libraries, how many names are the same in all runs, and what the races look like. With --record the
-// pages of packaged.json are recorded before, N times each.
+// packaged-names.js [--record N] [--first M] [--into DOCUMENT] FOLDER [PACKAGE..]: of pages that were recorded several times, FOLDER/PAGE/RUN/page.trace, what the list is worth:
+// lines before and after folding, the share of places outside of libraries, how many names are the same in all runs, and what the races look like; at last
+// the tables of docs/viewing.md, which with --into get their place there. With --record the pages of packaged.json are recorded before, N times each: the first M
+// of them, or those that are named.
 
 const fs = require('node:fs');
+const os = require('node:os');
 const path = require('node:path');
 const { Listing } = require('../list/listing.js');
 const { placesOf } = require('../list/places.js');
@@ -12,9 +14,12 @@ const { Problems } = require('../list/problems.js');
 const { LOOKS } = require('../list/looks.js');
 const { judgeWithin } = require('../view/within-limits.js');
 const { run } = require('./cleanup.js');
+const { tablesOf, withTables } = require('./packaged-tables.js');
 
 const RECORD = path.join(__dirname, '..', '..', 'er_record');
 const LONGEST_RUN = 120000;
+/** What --record says of itself. */
+const SAID = 'recorded.txt';
 
 async function record({ page, root = '/usr/share', words }, folder) {
   fs.mkdirSync(folder, { recursive: true });
@@ -24,12 +29,26 @@ async function record({ page, root = '/usr/share', words }, folder) {
   if (status !== 0) throw new Error(`${page}: status ${status}: ${stderr}`);
 }
 
-async function recordAll(times, folder, only) {
+/** Records each page several times; one that fails is told and left out. */
+async function recordAll(times, folder, first, only) {
   const pages = JSON.parse(fs.readFileSync(path.join(__dirname, 'packaged.json'), 'utf8'));
-  for (const one of pages.filter(({ package: name }) => !only.length || only.includes(name))) {
-    if (!fs.existsSync(one.page.replace(/\?.*$/, ''))) console.log(`${one.package}: not installed`);
-    else for (let k = 1; k <= times; k++) await record(one, path.join(folder, one.package, String(k)));
+  const loads = [];
+  for (const one of pages.slice(0, first).filter(({ package: name }) => !only.length || only.includes(name))) {
+    const own = path.join(folder, one.package);
+    try {
+      if (!fs.existsSync(one.page.replace(/\?.*$/, ''))) throw new Error('not installed');
+      for (let k = 1; k <= times; k++) {
+        await record(one, path.join(own, String(k)));
+        loads.push(os.loadavg()[0]);
+      }
+    } catch (fault) {
+      console.log(`${one.package}: left out: ${fault.message.trim()}`);
+      fs.rmSync(own, { recursive: true, force: true });
+    }
   }
+  const { stdout } = await run(process.env.CHROMIUM || '/usr/bin/chromium', ['--version'], { longest: LONGEST_RUN });
+  const chromium = stdout.trim().split(' ').slice(0, 2).join(' ');
+  fs.writeFileSync(path.join(folder, SAID), `Recorded ${times} times each with ${chromium}, at a load of ${Math.min(...loads).toFixed(1)} to ${Math.max(...loads).toFixed(1)}.`);
 }
 
 async function read(folder) {
@@ -86,7 +105,6 @@ function countLooks(problems, counts) {
 }
 
 const inWords = (counts) => Object.values(LOOKS).filter(({ name }) => counts[name]).map(({ name }) => `${counts[name]} ${name}`).join(', ') || 'none';
-const percent = (part, all) => `${all ? Math.round((100 * part) / all) : 0} %`;
 
 /** The measures of one page. */
 function measure(runs) {
@@ -121,30 +139,38 @@ function tellOthers(runs, names) {
   }
 }
 
-function tellAll(measures) {
-  const sum = (what) => measures.reduce((total, one) => total + what(one), 0);
-  const looks = {};
-  measures.forEach((one) => Object.entries(one.looks).forEach(([name, count]) => { looks[name] = (looks[name] || 0) + count; }));
-  const [own, library, none] = ['own', 'library', 'none'].map((kind) => sum(({ places }) => places[kind]));
-  console.log(`together: ${sum(({ races }) => races)} races, ${sum(({ groups }) => groups)} groups, ${sum(({ problems }) => problems)} problems, ${sum(({ lines }) => lines)} lines; `
-    + `problems ${sum(({ ofProblems }) => ofProblems.equal)} of ${sum(({ ofProblems }) => ofProblems.all)} equal, races ${sum(({ ofRaces }) => ofRaces.equal)} of ${sum(({ ofRaces }) => ofRaces.all)}, ${sum((one) => one.lost)} strayed; `
-    + `places outside of libraries ${percent(own, own + library + none)} (of the access itself ${percent(sum(({ places }) => places.access), own + library + none)}), in libraries ${percent(library, own + library + none)}, by way of a library ${percent(sum(({ places }) => places.byWay), own + library + none)}; ${inWords(looks)}`);
+function optionsOf(words) {
+  const left = [...words];
+  const options = { times: 0, first: Infinity, document: '' };
+  for (;;) {
+    if (left[0] === '--record') options.times = Number(left.splice(0, 2)[1]);
+    else if (left[0] === '--first') options.first = Number(left.splice(0, 2)[1]);
+    else if (left[0] === '--into') [, options.document] = left.splice(0, 2);
+    else return { ...options, folder: left[0], only: left.slice(1) };
+  }
 }
 
-async function main(words) {
-  const times = words[0] === '--record' ? Number(words.splice(0, 2)[1]) : 0;
-  const [folder, ...only] = words;
-  if (times) await recordAll(times, folder, only);
+async function measureAll(folder, only) {
   const measures = [];
-  for (const page of fs.readdirSync(folder).filter((name) => !only.length || only.includes(name)).sort()) {
+  const pages = fs.readdirSync(folder).filter((name) => name !== SAID && (!only.length || only.includes(name))).sort();
+  for (const page of pages) {
     const own = path.join(folder, page);
     const runs = [];
     for (const one of fs.readdirSync(own).sort()) runs.push(await read(path.join(own, one)));
-    measures.push(measure(runs));
+    measures.push({ page, ...measure(runs) });
     tell(page, measures[measures.length - 1]);
     tellOthers(runs, measures[measures.length - 1].ofProblems.others);
   }
-  tellAll(measures);
+  return measures;
+}
+
+async function main(words) {
+  const { times, first, document, folder, only } = optionsOf(words);
+  if (times) await recordAll(times, folder, first, only);
+  const said = path.join(folder, SAID);
+  const tables = tablesOf(await measureAll(folder, only), fs.existsSync(said) ? fs.readFileSync(said, 'utf8') : 'Recorded before.');
+  console.log(tables.join('\n\n'));
+  if (document) fs.writeFileSync(document, withTables(fs.readFileSync(document, 'utf8'), tables));
 }
 
 main(process.argv.slice(2));

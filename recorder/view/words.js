@@ -17,6 +17,8 @@ const INTERVALS = {
 };
 /** Actions that are no run of code. */
 const NO_RUN = new Set(['fire', 'wfire', 'inline', 'dcl', 'load', 'eload', 'parse', 'message']);
+/** Actions at an element, which is their second number. */
+const AT_ELEMENT = new Set(['parse', 'fire', 'inline', 'eload']);
 const ORDINALS = ['first', 'second', 'third', 'fourth', 'fifth', 'sixth', 'seventh', 'eighth', 'ninth', 'tenth'];
 
 class Words {
@@ -63,11 +65,15 @@ class Words {
     return !!this.names.files[file]?.isLibrary;
   }
 
-  /** The place to look at for an access: its own, or that of its action, where this one is in the page's own code and the other is a library's. */
+  /**
+   * The place to look at for an access: its own, or that of its action, where this one is in the page's own code and the other is a library's. What the
+   * browser does at an element, as for a user's act, has the element's.
+   */
   placeOfAccess(line, number) {
     const action = this.actions.list[number];
-    const known = [line, action.line, this.actions.list[action.first].line].map((one) => this.placeOfLine(one)).filter(Boolean);
-    return known.find((place) => !this.isOfLibrary(place)) || known[0] || null;
+    const { line: begin, words: [word, , element] } = this.actions.list[action.first];
+    const known = [line, action.line, begin].map((one) => this.placeOfLine(one)).filter(Boolean);
+    return known.find((place) => !this.isOfLibrary(place)) || known[0] || (AT_ELEMENT.has(word) && this.placeOfElement(element)) || null;
   }
 
   // ---- things
