@@ -12,6 +12,8 @@ const PAGES = path.join(__dirname, 'pages');
 const PAGE = path.join(PAGES, 'race-timeouts.html');
 const LIMIT = { timeout: 150000 };
 const LONGEST_RUN = 120000;
+const SARIF_CHECK = path.join(__dirname, 'drivers', 'check_sarif.py');
+const hasSarifClasses = fs.existsSync('/usr/lib/python3/dist-packages/sarif_om');
 const folder = temporaryFolder('build-test');
 const pageOf = (name, ...words) => run(path.join(TOP, 'er_page'), [path.join(PAGES, name), ...words], { cwd: folder, longest: LONGEST_RUN });
 const page = (...words) => pageOf('race-timeouts.html', ...words);
@@ -31,6 +33,8 @@ test('a build fails on a new race alone', LIMIT, async () => {
   const sarif = JSON.parse(read('out.sarif'));
   const names = sarif.runs[0].results.map(({ partialFingerprints }) => partialFingerprints['raceName/v1']);
   assert.deepStrictEqual(names.sort(), problems.filter(({ hasLine }) => hasLine).map(({ name }) => name).sort());
+  assert.ok(sarif.runs[0].results.every(({ locations, relatedLocations }) => locations?.length === 1 && relatedLocations?.length === 1));
+  if (hasSarifClasses) assert.strictEqual((await run('/usr/bin/python3', [SARIF_CHECK, path.join(folder, 'out.sarif')], { longest: LONGEST_RUN })).status, 0);
 });
 
 test('several runs are one list', LIMIT, async () => {
