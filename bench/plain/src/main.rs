@@ -704,19 +704,21 @@ impl Accesses {
 // ---------------------------------------------------------------- groups
 type Class = (Action, Action);
 
-/// Whether races of one class cover those of the other.
-fn covers(clocks: &Clocks, inner: Class, outer: Class) -> bool {
-    clocks.joins(outer.0, inner.0) && clocks.joins(inner.1, outer.1)
-}
-
-/// The classes that no other covers. What covers a class has no lesser first action and no greater second one.
+/// The classes that no other covers. What covers one has no lesser first action, and no greater second one.
 fn maximal(clocks: &Clocks, classes: &[Class]) -> Vec<usize> {
     let mut order: Vec<usize> = (0..classes.len()).collect();
     order.sort_unstable_by_key(|&class| (std::cmp::Reverse(classes[class].0), classes[class].1));
     let mut found: Vec<(Class, usize)> = Vec::new();
+    // the second actions of those found to whose first action a path leads from x
+    let (mut reached, mut last) = (Vec::new(), None);
     for class in order {
-        if !found.iter().any(|&(one, _)| covers(clocks, one, classes[class])) {
+        let (x, y) = classes[class];
+        if last.replace(x) != Some(x) {
+            reached = found.iter().filter(|((a, _), _)| clocks.joins(x, *a)).map(|((_, b), _)| *b).collect();
+        }
+        if !reached.iter().any(|&b| clocks.joins(b, y)) {
             found.push((classes[class], class));
+            reached.push(y);
         }
     }
     found.sort_unstable_by_key(|&(_, class)| class);
@@ -738,7 +740,8 @@ fn group(clocks: &Clocks, pairs: &[Class]) -> Result<(Vec<usize>, Vec<(usize, us
         return Err("too-many-classes");
     }
     let heads = maximal(clocks, &classes);
-    let covering = |class: usize| heads.iter().position(|&head| covers(clocks, classes[head], classes[class])).unwrap();
+    let covers = |(a, b): Class, (x, y): Class| clocks.joins(x, a) && clocks.joins(b, y);
+    let covering = |class: usize| heads.iter().position(|&head| covers(classes[head], classes[class])).unwrap();
     let named = |class: usize| heads.binary_search(&class).unwrap_or_else(|_| covering(class));
     let group_of: Vec<usize> = (0..classes.len()).map(named).collect();
     let mut groups: Vec<(usize, usize)> = heads.iter().map(|&head| (firsts[head], 0)).collect();
@@ -791,13 +794,11 @@ fn judge(input: impl BufRead) -> Result<Judged, Stop> {
     let version = versions.iter().position(|&version| version == lines.line).ok_or(lines.refuse("bad-header"))? + 1;
     let mut page = Page { version, ..Page::default() };
     let mut accesses = Accesses::default();
-    loop {
-        lines.next()?;
-        if lines.line == b"end" {
-            break;
-        }
+    lines.next()?;
+    while lines.line != b"end" {
         let taken = take(&lines.line, lines.number as u32, &mut page, &mut accesses);
         taken.map_err(|cause| lines.refuse(cause))?;
+        lines.next()?;
     }
     let judged = find(page, accesses).map_err(|cause| lines.refuse(cause))?;
     if lines.is_at_end()? { Ok(judged) } else { Err(Stop::Refused(lines.number + 1, "after-end")) }
@@ -887,8 +888,7 @@ fn answer(rounds: Option<u32>, out: &mut impl Write) -> Result<i32, i32> {
 
 fn main() {
     let words: Vec<String> = std::env::args().skip(1).collect();
-    let words: Vec<&str> = words.iter().map(String::as_str).collect();
-    let rounds = match words[..] {
+    let rounds = match words.iter().map(String::as_str).collect::<Vec<_>>()[..] {
         [] | ["check"] => None,
         ["gen", "--number", number] => match Tokens(Some(number.as_bytes())).number() {
             Some(rounds @ 1..=MOST_ROUNDS) => Some(rounds),
