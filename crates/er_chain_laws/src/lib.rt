@@ -56,7 +56,7 @@ pub fn paths_remain()
     ensures { PathsRemain }
 {}
 
-/// The races of a version are those of version 1 that it leaves unordered, so it lists none that version 1 does not list.
+/// The races of a version are those of version 1 that it leaves unordered, so it has none that version 1 has not.
 pub fn races_are_of_version_one()
     ensures { RacesAreOfVersionOne }
 {}

@@ -5,7 +5,7 @@ ghost use Rattle.std.specs.Prelude.{◌≡◌, drop, map, string_bytes, IfErr, I
 ghost use Rattle.std.specs.Process.{exit_status};
 ghost use Rattle.std.specs.Vec.Iter.{into_iter_items};
 ghost use Rattle.er_run.specs.Status.{line_of, status_of};
-ghost use Rattle.er_cli.specs.Ended.{EndsWith, LacksWords, line_printed};
+ghost use Rattle.er_cli.specs.Ended.{EndsWith, LacksWords, line_printed, outside};
 
 mod printed;
 
@@ -47,10 +47,12 @@ fn start<R: Threads + Sync + Eprint, S: Source, K: Sink>(
     sink: &mut K,
 ) -> Ending
     ensures ran { IfOk args (λ all. EndsWith (map string_bytes (drop 1 (into_iter_items all)))
-        (S.left source.old) (K.got sink.old) (S.left source.new) (K.got sink.new)
+        (outside (S.left source.old) (K.got sink.old) (S.faults source.old) (K.faults sink.old))
+        (outside (S.left source.new) (K.got sink.new) (S.faults source.new) (K.faults sink.new))
         (line_printed result.line) (exit_status result.code)) }
     ensures no_words { IfErr args
         (λ _. LacksWords (line_printed result.line) (exit_status result.code)) }
+    ensures untouched { IfErr args (λ _. (source.new ≡ source.old) × (sink.new ≡ sink.old)) }
 {
     match args {
         Ok(all) => begin(rt, alloc, all, source, sink),
@@ -67,7 +69,8 @@ fn begin<R: Threads + Sync + Eprint, S: Source, K: Sink>(
     sink: &mut K,
 ) -> Ending
     ensures { EndsWith (map string_bytes (drop 1 (into_iter_items args)))
-        (S.left source.old) (K.got sink.old) (S.left source.new) (K.got sink.new)
+        (outside (S.left source.old) (K.got sink.old) (S.faults source.old) (K.faults sink.old))
+        (outside (S.left source.new) (K.got sink.new) (S.faults source.new) (K.faults sink.new))
         (line_printed result.line) (exit_status result.code) }
 {
     let Ok(words) = words_of(alloc, args) else {
@@ -92,7 +95,8 @@ fn judge<R: Threads + Sync + Eprint, S: Source, K: Sink>(
     sink: &mut K,
 ) -> Ending
     ensures { EndsWith (map string_bytes words.now)
-        (S.left source.old) (K.got sink.old) (S.left source.new) (K.got sink.new)
+        (outside (S.left source.old) (K.got sink.old) (S.faults source.old) (K.faults sink.old))
+        (outside (S.left source.new) (K.got sink.new) (S.faults source.new) (K.faults sink.new))
         (line_printed result.line) (exit_status result.code) }
 {
     let mut compares = Meter::new();

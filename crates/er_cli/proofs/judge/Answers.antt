@@ -12,6 +12,16 @@ returns g c = record {
   refused = c.run-outcome.ensures.refused;
   answered = λ asked asks is. rw (c.new-compares.ensures, c.new-tests.ensures) at (c.run-outcome.ensures.answered asked asks is);
   cut_short = λ asked asks is. rw (c.new-compares.ensures, c.new-tests.ensures) at (c.run-outcome.ensures.cut_short asked asks is);
-  generated = λ asked n asks is. (c.run-outcome.ensures.generated asked n asks is).1;
+  read_once = c.run-outcome.ensures.once;
+  read_stands = c.run-outcome.ensures.read_stands;
+  writes = record {
+    rose = c.run-outcome.ensures.write_fault;
+    once = c.run-outcome.ensures.write_once;
+    stands = c.run-outcome.ensures.write_stands;
+    count = c.run-outcome.ensures.writes;
+  };
+  unread = λ is. ap g.S.Source.left (c.run-outcome.ensures.unread is);
+  generated = λ asked n asks is. let given = c.run-outcome.ensures.generated asked n asks is in (ap g.S.Source.left given.0, given.1);
   unwritten = λ silent. ap g.K.Sink.got (c.run-outcome.ensures.unwritten silent);
+  complete = c.run-outcome.ensures.complete;
 }
