@@ -100,6 +100,14 @@ function hasWay({ words: [word, number, , handler] }, names) {
   return !!facts?.way;
 }
 
+/** Of the sides of the race by which each problem is told those with a place in the page's own code. */
+function countFirsts(problems, counts) {
+  problems.lines().forEach(({ first }) => placesOf(problems, first).forEach((place) => {
+    counts.all++;
+    if (place && !problems.words.isOfLibrary(place)) counts.own++;
+  }));
+}
+
 function countLooks(problems, counts) {
   problems.lines().forEach(({ look }) => { counts[look.name] = (counts[look.name] || 0) + 1; });
 }
@@ -110,7 +118,8 @@ const inWords = (counts) => Object.values(LOOKS).filter(({ name }) => counts[nam
 function measure(runs) {
   const places = { own: 0, library: 0, none: 0, access: 0, byWay: 0 };
   const looks = {};
-  runs.forEach((one) => countPlaces(one, places));
+  const firsts = { own: 0, all: 0 };
+  runs.forEach((one) => { countPlaces(one, places); countFirsts(one, firsts); });
   countLooks(runs[0], looks);
   const problems = share(runs.map((one) => new Set(one.list.map(({ name }) => name))));
   return {
@@ -122,6 +131,7 @@ function measure(runs) {
     ofProblems: problems,
     lost: lost(runs, problems.others).length,
     places,
+    firsts,
     looks,
   };
 }

@@ -18,6 +18,7 @@ function together(measures) {
     page: 'together',
     ...Object.fromEntries([...COUNTS, 'lost'].map((name) => [name, sumOf(measures, (one) => one[name])])),
     places: sums('places', ['own', 'library', 'none', 'access', 'byWay']),
+    firsts: sums('firsts', ['own', 'all']),
     ofProblems: sums('ofProblems', ['equal', 'all']),
     ofRaces: sums('ofRaces', ['equal', 'all']),
   };
@@ -46,7 +47,7 @@ function tablesOf(measures, recorded) {
   const others = measures.filter((one) => !racy.includes(one)).map(({ page }) => page).join(', ') || 'none';
   return [
     [row(HEAD), `|${'---|'.repeat(HEAD.length)}`, ...[...racy, all].map(rowOfPage)].join('\n'),
-    `${recorded} Sides without any place: ${percent(none, own + library + none)}. Problems that came in each recording by their words, and have another name: ${all.lost}. No race: ${others}.`,
+    `${recorded} Of the sides of the races by which problems are told, ${percent(all.firsts.own, all.firsts.all)} have a place outside of libraries. Sides of races without any place: ${percent(none, own + library + none)}. Problems that came in each recording by their words, and have another name: ${all.lost}. No race: ${others}.`,
     [row(HEAD_OF_LOOKS), `|${'---|'.repeat(HEAD_OF_LOOKS.length)}`, ...looks.map((name) => rowOfLook(name, racy))].join('\n'),
   ];
 }

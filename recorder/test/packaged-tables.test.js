@@ -10,6 +10,7 @@ const { tablesOf, withTables } = require('./packaged-tables.js');
 const DOCUMENT = path.join(__dirname, '..', '..', 'docs', 'viewing.md');
 const page = (name, size, looks) => ({
   page: name, races: size, groups: size, problems: size, lines: size, lost: 0, looks, places: { own: size, library: size, none: 2 * size, access: size, byWay: 0 },
+  firsts: { own: size, all: 4 * size },
   ofProblems: { equal: size, all: 2 * size }, ofRaces: { equal: 0, all: size },
 });
 
@@ -17,7 +18,7 @@ test('pages add up, and one without races is named alone', () => {
   const [pages, sentences, looks] = tablesOf([page('a', 1, { other: 1 }), page('b', 3, { other: 2, counter: 1 }), page('c', 0, {})], 'Recorded by hand.');
   assert.deepStrictEqual(pages.split('\n').slice(2), ['| a | 1 | 1 | 1 | 1 | 25 % (25 %) | 1 of 2 | 0 of 1 |', '| b | 3 | 3 | 3 | 3 | 25 % (25 %) | 3 of 6 | 0 of 3 |',
     '| together | 4 | 4 | 4 | 4 | 25 % (25 %) | 4 of 8 | 0 of 4 |']);
-  assert.strictEqual(sentences, 'Recorded by hand. Sides without any place: 50 %. Problems that came in each recording by their words, and have another name: 0. No race: c.');
+  assert.strictEqual(sentences, 'Recorded by hand. Of the sides of the races by which problems are told, 25 % have a place outside of libraries. Sides of races without any place: 50 %. Problems that came in each recording by their words, and have another name: 0. No race: c.');
   assert.deepStrictEqual(looks.split('\n').slice(2), ['| `other` | 3 | b 2, a 1 |', '| `counter` | 1 | b 1 |']);
 });
 
