@@ -27,7 +27,8 @@ test('the document takes them in the place of its own, and nothing else of it ch
   const tables = tablesOf([page('a', 1, { other: 1 })], 'Recorded by hand.');
   const renewed = withTables(document, tables);
   tables.forEach((one) => assert.ok(renewed.includes(`\n\n${one}\n\n`), one));
-  const [begin, end] = [document.indexOf('| Page | Races |'), document.indexOf('A problem without the same name')];
+  const begin = document.indexOf('| Page | Races |');
+  const end = document.indexOf('\n\n', document.indexOf('| Looks like | Problems |')) + 2;
   assert.strictEqual(renewed, document.slice(0, begin) + tables.join('\n\n') + '\n\n' + document.slice(end));
   assert.strictEqual(withTables(renewed, tables), renewed);
   assert.throws(() => withTables('no table', tables), /no such table: \| Page \| Races/);
