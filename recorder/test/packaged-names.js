@@ -72,11 +72,16 @@ function plainWords({ words }) {
   return [what, ...sides.split(', and ').sort()].join(' | ');
 }
 
-/** Names that are not in all runs though the problem is, in words: those that do not last. */
+/**
+ * Names that are not in all runs though the problem is, in words: those that do not last. A run without a name has a problem of its words then, under a name
+ * that no run with this one has too: two problems may differ in their lines alone, which the words lack.
+ */
 function lost(runs, names) {
-  const wordsOf = runs.map((one) => new Set(one.list.map(plainWords)));
+  const setsOf = runs.map(({ list }) => new Set(list.map(({ name }) => name)));
   const problemOf = (name) => runs.flatMap(({ list }) => list).find((one) => one.name === name);
-  return names.filter((name) => wordsOf.every((words) => words.has(plainWords(problemOf(name)))));
+  const isBeside = (name, other) => setsOf.some((set) => set.has(name) && set.has(other));
+  const hasOther = ({ list }, name) => list.some((one) => plainWords(one) === plainWords(problemOf(name)) && !isBeside(name, one.name));
+  return names.filter((name) => runs.every((run, k) => setsOf[k].has(name) || hasOther(run, name)));
 }
 
 /**
