@@ -1,0 +1,28 @@
+'use strict';
+// The errors of a page are told as without the recorder: the same ones, each with its place. In a browser.
+
+const assert = require('node:assert');
+const path = require('node:path');
+const { after, before, test } = require('node:test');
+const { Chromium } = require('../browser/chromium.js');
+const { parseOptions } = require('../options.js');
+const { Recorder } = require('../recorder.js');
+const { NEWEST_VERSION } = require('../trace/spelling.js');
+const { PAGES } = require('./support.js');
+
+let browser;
+before(async () => { browser = await Chromium.launch({ width: 1100, height: 800 }); });
+after(async () => { await browser.close(); });
+
+async function errorsOf(page, words) {
+  const recorder = new Recorder(path.join(PAGES, page), { ...parseOptions([...words, page], NEWEST_VERSION, 1), browser });
+  await recorder.record();
+  return recorder.errors.sort();
+}
+
+test('errors with their places, and one that a function of the browser hands on', { timeout: 150000 }, async () => {
+  const plain = await errorsOf('errors.html', ['--raw']);
+  assert.strictEqual(plain.length, 4, plain.join('\n'));
+  assert.deepStrictEqual(await errorsOf('errors.html', []), plain);
+  assert.deepStrictEqual(await errorsOf('errors.html', ['--depth', 'globals']), plain);
+});
