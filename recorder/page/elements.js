@@ -281,7 +281,7 @@ class Elements {
         if (maker !== 'parser') this.addTree(node, maker);
         else {
           this.add(node, maker);
-          if (this.recording.running.kind === 'parse') this.noteChange(record); // a text behind a script has no action of its own
+          if (this.recording.running.parsed === this.page.number) this.noteChange(record); // a text has no action of its own: behind a script, or a step of a frame, it is lost
         }
       });
     } else if (record.type === 'attributes') this.handleAttribute(record, maker);
@@ -369,7 +369,7 @@ class Elements {
   }
 
   writeParsed(element, number, kind) {
-    this.recording.begin(`parse ${this.page.number} ${number} ${kind}`, 'parse');
+    this.recording.beginParse(this.page.number, `${number} ${kind}`);
     this.recording.running.awaits = this.page;
     this.lastParsed = number;
     this.lastParsedElement = element;

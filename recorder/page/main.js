@@ -51,7 +51,7 @@ class Page {
     elements.markDeclared(document, 'plain');
     const number = elements.number(document);
     if (recording.contexts.length) recording.note(`new ${this.number} ${number} plain`);
-    else recording.begin(`parse ${this.number} ${number} plain`, 'parse');
+    else recording.beginParse(this.number, `${number} plain`);
     elements.markDeclared(this.window, 'plain');
     recording.log.line(`new ${this.number} ${elements.number(this.window)} plain`);
     recording.log.name('document', this.number, { address: String(document.URL).slice(0, 400) });

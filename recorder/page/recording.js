@@ -68,6 +68,12 @@ class Recording {
     this.startPiece();
   }
 
+  /** A step of the parser of this document. */
+  beginParse(document, step) {
+    this.begin(`parse ${document} ${step}`, 'parse');
+    this.running.parsed = document;
+  }
+
   /** What was looked at so far is looked at again. */
   startPiece() {
     this.pieces++;
