@@ -84,7 +84,16 @@ function verdictInWords(result) {
   return `could not be turned: ${result.why}${chance ? `; ${chance}` : ''}`;
 }
 
-/** What OUT.replay.json has of a race. */
+/**
+ * What OUT.replay.json has of a race: it in the report (`race`, `lines`, `location`); `verdict` ('turned' or 'not turned'), `effect` (the worst one), `words`;
+ * `means`, what was kept back, `why` it was not turned, and what is to be noted (`note`).
+ * What differs, each `{kind, subject, recorded, other}`: `differences` is seen, `beside` no user sees; `unsteady` differs by itself, `byDelay` by the delay alone.
+ * `isListed`: the program lists the two in the new trace; `isSteady`: the run with nothing turned has the recorded order; `isSeenTwice`: in a second turn too.
+ * `order`: how many actions the two need (`needed`), how many were `asked` for, and in words which are `missing`, came `behind`, or are `unordered`.
+ * `group`: the numbers of the other races of its group by how they came (`turned`, `kept`, `gone`); `astray`: other races that came in another order; `chance`:
+ * runs in which this one came in which order by itself (`kept`, `turned`), or in the other one since another race was turned (`implied`).
+ * `comparedAt`: where a restless page was compared; `trace`: that of the turned run.
+ */
 function plain(result, race, number) {
   const { verdict, why, means, note, isListed, isSteady, isSeenTwice, astray, differences, beside, unsteady, byDelay, group, order, chance, comparedAt, trace } = result;
   const worst = worstOf(result);

@@ -1,7 +1,7 @@
 #!/usr/bin/env node
 'use strict';
 // packaged-replay.js [--most N] FOLDER [PACKAGE..]: runs the races of the pages of Debian packages (packaged.json; those that are installed) again in the
-// other order. Prints each verdict, and at the end a table as docs/viewing.md has it.
+// other order. Prints each verdict, and at the end a table of the pages.
 
 const fs = require('node:fs');
 const path = require('node:path');

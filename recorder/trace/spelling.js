@@ -1,5 +1,21 @@
 'use strict';
 // Spells a log as records of one version of the format.
+//
+// A line of the log is a record, or one of these. Behind it stand, after tabs, its place in the browser's copy (or the number of a mark), what an access found
+// or wrote (page/values.js), and, where code asks for something, the number of its stack: trace/names.js takes the first place in it outside of libraries.
+// - `early NOTE`: a note in the first action, as nothing recorded ran; `beside E NOTE`: behind the declaration of element E; `into A NOTE`: at the end of
+//   action A, which may be long over: the stand-in of an event that A has queued, the handler of what asked there.
+// - `look E TYPE`: reads of all slots of E for the type that the log ever writes.
+// - `set T DELAY DOCUMENT`: `set`, or `every` where the timeouts of another window are the ones that are compared.
+// - `ask A`, `anim A`: so in version 3; before, `every` and `tick`.
+// - `post M DOCUMENT E`, `message M P E`: so in version 3, in the message a stand-in, an `inline` dispatch P at it, and its `back`; before, `new` of a plain
+//   element in the sender and `fire` at it.
+// - `module N`, `is N E`, `asked I known`, `came N I`: the run of the module's script element, or of what `import()` asked for, by its address, else in the
+//   order of the calls.
+// - `at N LOCATION`, `in A MODE N`: an access to a variable of an object, a scope or a window in action A, written once it may race (trace/accesses.js puts
+//   it there). MODE is `r`, `w`, or `k`: a write of the value that was there, told as a read.
+// - `all MODE N WHY`, `same N`: with `--keep` the same in its own place, whatever the rules say of it, which is WHY; the write of N by the running action
+//   left the old value.
 
 const { BEGINS, wordOf } = require('./intake.js');
 
