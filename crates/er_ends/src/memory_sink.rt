@@ -34,7 +34,8 @@ impl Model for MemorySink {
       faults = s.calls.faults;
     } };
 
-    ghost invariant = { λ s. (0 < s.most) × (length s.bytes.items ≤ s.room) × (s.room ≤ vec_capacity s.bytes) };
+    ghost invariant = { λ s.
+        (0 < s.most) × (length s.bytes.items ≤ s.room) × (s.room ≤ vec_capacity s.bytes) };
 }
 
 impl MemorySink {
@@ -46,7 +47,9 @@ impl MemorySink {
         failing: Vec<u32>,
     ) -> Result<MemorySink, NoMemory>
         requires { 0 < most }
-        ensures { IfOk result (λ s. s ≡ record { got = []; room = room; most = most; failing = failing.items; calls = 0; faults = 0 }) }
+        ensures { IfOk result (λ s. s ≡ record {
+            got = []; room = room; most = most; failing = failing.items; calls = 0; faults = 0
+        }) }
     {
         Ok(MemorySink {
             bytes: Vec::with_capacity(alloc, room as usize)?,
@@ -104,11 +107,17 @@ impl Sink for MemorySink {
         ensures raised { OnErr result (self.new.faults ≡ one_more self.old.faults) }
         ensures count { self.old.faults ≤ self.new.faults }
         ensures stands { OnOk result (self.new.faults ≡ self.old.faults) }
-        ensures fails { IsErr result ↔ ((0 < length piece.now) × (Contains self.old.failing (next_call self.old.calls) ⊎ (self.old.room ≤ length self.old.got))) }
+        ensures fails { IsErr result ↔ ((0 < length piece.now)
+            × (Contains self.old.failing (next_call self.old.calls)
+                ⊎ (self.old.room ≤ length self.old.got))) }
         ensures amount { IfOk result (λ n. n
             ≡ min self.old.most (min (length piece.now) (self.old.room - length self.old.got))) }
-        ensures after { IfOk result (λ n. self.new ≡ record self.old { got = self.old.got ++ take n piece.now; calls = next_call self.old.calls }) }
-        ensures after_fault { OnErr result (self.new ≡ record self.old { calls = next_call self.old.calls; faults = one_more self.old.faults }) }
+        ensures after { IfOk result (λ n. self.new ≡ record self.old {
+            got = self.old.got ++ take n piece.now; calls = next_call self.old.calls
+        }) }
+        ensures after_fault { OnErr result (self.new ≡ record self.old {
+            calls = next_call self.old.calls; faults = one_more self.old.faults
+        }) }
     {
         let fails = self.calls.begin();
         if piece.is_empty() {

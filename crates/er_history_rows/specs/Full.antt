@@ -78,7 +78,8 @@ pub record FullEload : Type 0 where
 -- A frame behind load of its document, and a script that ran.
 abbrev pub LegalEload : Type 0
 LegalEload =
-    (length (load_handed (told (reverse (ParseFrame 0 1 1 ∷ Load 1 1 ∷ Close 1 ∷ []))) (Eload 2 1)) ≡ 2)
+    (length (load_handed (told (reverse (ParseFrame 0 1 1 ∷ Load 1 1 ∷ Close 1 ∷ []))) (Eload 2 1))
+        ≡ 2)
     × (length (load_handed (told (reverse (Parse 0 1 kinds.Async ∷ Exec 1 ∷ []))) (Eload 1 1)) ≡ 2)
 
 abbrev pub AllFullTimers : Version → List Next → Type 0

@@ -17,7 +17,8 @@ use Rattle.er_history.specs.Rows.{Line, records_in, IsRow}
 pub record IsRowBefore (lines : List Line) (nexts : List (Record × Option Cause)) : Type 0 where
   pub row : IsRow lines
   pub next :
-      map (λ (n : Record × Option Cause). sound.cause (tables.rules One) (records_in lines) n.0) nexts
+      map (λ (n : Record × Option Cause).
+          sound.cause (tables.rules One) (records_in lines) n.0) nexts
       ≡ map (λ (n : Record × Option Cause). n.1) nexts
 
 abbrev pub FirstPage : Type 0

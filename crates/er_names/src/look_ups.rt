@@ -213,7 +213,8 @@ impl Names {
 
     /// The timeouts set in the event that have fired, in order of firing, as they were set.
     pub fn fired_timeouts_with(&self, event: u32) -> &[FiredTimeout]
-        ensures numbers { Answers self.now (λ h. says.fired_with h event) (map number_of (sets result.now)) }
+        ensures numbers { Answers self.now
+            (λ h. says.fired_with h event) (map number_of (sets result.now)) }
         ensures set { (h : List Record) → NamesAre self.now h
             → All (IsSet self.now) (sets result.now) }
         ensures counted { (h : List Record) → NamesAre self.now h → AreCounted result.now }

@@ -138,7 +138,8 @@ impl Page {
 impl Page {
     /// The element: its document, its form, and what made it.
     pub fn element(&self, element: u32) -> Option<Element>
-        ensures { Answers self.now (λ h. says.element_made h element) (option_map element_of result) }
+        ensures { Answers self.now
+            (λ h. says.element_made h element) (option_map element_of result) }
     {
         self.names.element(element)
     }
@@ -315,7 +316,8 @@ impl Page {
 
     /// The timeouts set in the event that have fired, in order of firing, as they were set.
     pub fn fired_timeouts_with(&self, event: u32) -> &[FiredTimeout]
-        ensures numbers { Answers self.now (λ h. says.fired_with h event) (map number_of (sets result.now)) }
+        ensures numbers { Answers self.now
+            (λ h. says.fired_with h event) (map number_of (sets result.now)) }
         ensures set { (h : List Record) → IsPage self.now h
             → All (IsSet self.now.names) (sets result.now) }
         ensures counted { (h : List Record) → IsPage self.now h → AreCounted result.now }

@@ -52,13 +52,15 @@ KeptHaveBegun = (h : List Record) (a : Action) (d : Dispatch) → IsNamed h → 
 
 -- Begin, handlers and close of one number keep one dispatch.
 abbrev pub OneDispatchANumber : Type 0
-OneDispatchANumber = (h : List Record) (a b : Action) (d e : Dispatch) → IsNamed h → KeepsDispatch h a d
+OneDispatchANumber = (h : List Record) (a b : Action) (d e : Dispatch)
+    → IsNamed h → KeepsDispatch h a d
     → KeepsDispatch h b e
     → d.number ≡ e.number → d ≡ e
 
 -- It is the one on the stack, while that is not finished.
 abbrev pub OpenIsKept : Type 0
-OpenIsKept = (h : List Record) (a : Action) (d : Dispatch) (o : Open) → IsNamed h → KeepsDispatch h a d
+OpenIsKept = (h : List Record) (a : Action) (d : Dispatch) (o : Open)
+    → IsNamed h → KeepsDispatch h a d
     → IsOn o (told h).stack
     → d.number ≡ o.dispatch.number → d ≡ o.dispatch
 

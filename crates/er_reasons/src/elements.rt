@@ -29,7 +29,8 @@ pub(crate) fn made_by(maker: Option<u32>, u: &Event<'_>) -> bool
 
 /// Whether u is the event that made the element.
 pub(crate) fn is_maker(made: Option<Element>, u: &Event<'_>) -> bool
-    ensures { result ≡ rules.is_some_and (λ x. x.maker == u.now.number) (option_map element_of made) }
+    ensures { result
+        ≡ rules.is_some_and (λ x. x.maker == u.now.number) (option_map element_of made) }
 {
     match made {
         Some(made) => made.maker == u.number,

@@ -48,7 +48,8 @@ impl Model for Kept {
 
     ghost view = { λ k. k.table };
 
-    ghost invariant = { λ k. All (λ x. x.line < k.line) k.table × All (λ x. x.action ≤ k.action) k.table };
+    ghost invariant = { λ k.
+        All (λ x. x.line < k.line) k.table × All (λ x. x.action ≤ k.action) k.table };
 }
 
 impl Kept {
