@@ -10,7 +10,7 @@ use Rattle.er_history.specs.Kinds.{is_step_of, is_run_of, is_static_async, is_ti
 use Rattle.er_history.specs.LookUps.{event_in, piece_in, script_in, script_run}
 use Rattle.er_latest.specs.declared.latest.Latest.{Latest}
 use Rattle.er_latest.specs.declared.role.Role.{Role}
-use Rattle.er_latest.specs.declared.role.Now.{Now}
+use Rattle.er_history.specs.declared.firsts.Now.{Now}
 use Rattle.er_latest.specs.Latest.{LatestAre, IsTold}
 use Rattle.er_latest.specs.Roles.{Kept, said_by, role_of, step_of, blocking_of, deferred_of, script_of, async_of, tick_of, handler_of, reply_of, static_of, element_of, window_of}
 use Rattle.er_latest.specs.Tables.{by_name, items_of, pair_eq, greatest_in, IsRising, put_last, put_named, put_first, group_put}

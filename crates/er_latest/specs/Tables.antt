@@ -5,7 +5,7 @@ use Rattle.std.specs.declared.hash.BuildHasherDefault.{BuildHasherDefault}
 use Rattle.std.specs.Cmp.Lexicographic.{pointwise}
 use Rattle.indexmap.specs.IndexMap.{IndexMap, get, spare}
 use Rattle.er_history.specs.Latest.{greater}
-use Rattle.er_latest.specs.declared.role.Now.{Now}
+use Rattle.er_history.specs.declared.firsts.Now.{Now}
 
 abbrev pub Table : Type 0 → Type 0 → Type 0
 Table K V = IndexMap K V (BuildHasherDefault FoldHasher)

@@ -5,8 +5,9 @@ ghost use Rattle.er_history.specs.History.{Action};
 ghost use Rattle.er_latest.specs.Roles.{said_by};
 ghost use Rattle.er_latest.specs.Latest.{LatestAre, HasRoomOf, IsTold};
 
-use crate::role::{Now, Role};
+use crate::role::Role;
 use crate::{groups, lists, named, newest};
+use er_history::firsts::Now;
 use er_outside::NoMemory;
 use er_trace::name::Name;
 use indexmap::IndexMap;

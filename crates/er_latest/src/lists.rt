@@ -4,7 +4,7 @@ ghost use Rattle.std.specs.Prelude.{◌≡◌, ℕ, IsSome, OnOk};
 ghost use Rattle.indexmap.specs.IndexMap.{get};
 ghost use Rattle.er_latest.specs.Tables.{items_of, HasRoom, HasRoomFor, put_first};
 
-use crate::role::Now;
+use er_history::firsts::Now;
 use er_outside::NoMemory;
 use indexmap::IndexMap;
 use std::alloc::Global;

@@ -32,13 +32,6 @@ pub enum Role<'a> {
     AtWindow { doc: u32, name: &'a Name },
 }
 
-/// The number of an action, and that of the event that it is a piece of.
-#[derive(Clone, Copy)]
-pub struct Now {
-    pub action: u32,
-    pub event: u32,
-}
-
 // Under which number, pair or name each table keeps the event of a role.
 impl Role<'_> {
     pub(crate) fn step(&self) -> Option<u32>

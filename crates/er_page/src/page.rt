@@ -19,7 +19,6 @@ use crate::starts::start_of;
 use crate::within::{Within, job_dispatch};
 use er_history::firsts::Now;
 use er_latest::latest::Latest;
-use er_latest::role::Now as Told;
 use er_names::names::Names;
 use er_outside::NoMemory;
 use er_tasks::forms::is_of_task;
@@ -158,7 +157,7 @@ impl Page {
         self.latest.make_room(&role)?;
         let dispatch = job_dispatch(&self.stack, rec);
         self.within.make_room(dispatch)?;
-        self.latest.take(&role, Told { action, event });
+        self.latest.take(&role, Now { action, event });
         self.names.take(rec, Now { action, event });
         self.tasks.take(rec, Now { action, event });
         self.stack.take(rec, action);

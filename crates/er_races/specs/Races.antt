@@ -3,6 +3,7 @@ use Rattle.std.specs.Prelude.{◌≡◌, ◌<◌, ℕ, Bool, not, ◌&&◌, List
 use Rattle.er_access.specs.Kept.{Kept, is_candidate, candidates_of, pairs_of}
 use Rattle.er_access.specs.Numbers.{numbered}
 use Rattle.er_races.specs.declared.race.Race.{Race}
+pub use Rattle.er_trace.specs.Limits.{most_races}
 
 -- the candidates whose first action does not join the second
 abbrev pub races_by : (ℕ → ℕ → Bool) → List Kept → List (Kept × Kept)
@@ -34,9 +35,6 @@ IsWithin accesses r = (r.first < r.second) × (r.second < length accesses)
 -- the most candidate pairs among which races are listed, and the most races
 abbrev pub most_pairs : ℕ
 most_pairs = 16777216
-
-abbrev pub most_races : ℕ
-most_races = 262144
 
 abbrev pub AreTooMany : (ℕ → ℕ → Bool) → List Kept → Type 0
 AreTooMany joined accesses = most_races < length (races_by joined accesses)

@@ -11,4 +11,5 @@ pub mod sharing;
 
 pub use fault::ListFault;
 pub use lister::{list, list_part};
+pub use location::MOST_RACES;
 pub use race::Race;

@@ -14,7 +14,7 @@ use er_access::Table;
 use er_clocks::{Meter, Paths};
 
 /// The most races that are listed.
-const MOST_RACES: usize = 262_144;
+pub const MOST_RACES: usize = 262_144;
 
 /// Lists the races at one location: of each access with the earlier ones.
 pub(crate) fn list_location<P: Paths>(

@@ -6,7 +6,8 @@ use Rattle.er_words.specs.declared.commands.Command.{Command}
 use Rattle.er_words.specs.declared.commands.Command.TheVariants.{Check, Gen, Schedule, Explain}
 use Rattle.er_words.specs.declared.commands.WordsFault.{WordsFault}
 use Rattle.er_words.specs.declared.commands.WordsFault.TheVariants.{NoMemory}
-use Rattle.er_words.specs.Words.{Asks, Has, HasShards, IsNumberGiven, IsRaceGiven, most_shards}
+use Rattle.er_words.specs.Words.{Asks, Has, HasShards, IsNumberGiven, IsRaceGiven}
+use Rattle.er_trace.specs.Limits.{most_shards}
 use Rattle.er_lines.specs.Format.{Format}
 use Rattle.er_outside.specs.Ends.{Gives, Rose}
 use Rattle.er_run.specs.Accepted.{IsAskable}

@@ -19,7 +19,7 @@ use Rattle.er_words.specs.declared.commands.Input.{Input}
 use Rattle.er_words.specs.declared.commands.Command.{Command}
 use Rattle.er_words.specs.declared.commands.Command.TheVariants.{Check, Gen, Schedule, Explain}
 use Rattle.er_words.specs.declared.commands.Asked.{Asked}
-use Rattle.er_words.specs.Words.{most_shards}
+use Rattle.er_trace.specs.Limits.{most_shards}
 use Rattle.er_run.specs.Report.{refusal_for}
 use Rattle.er_run.specs.Answer.{IsLegalTrace, FirstIllegal, outcome_for}
 use Rattle.er_run.specs.Promise.{compared_for, tested_for}

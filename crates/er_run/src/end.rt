@@ -3,7 +3,7 @@
 ghost use Rattle.std.specs.Prelude.{◌≡◌, ◌<◌, ◌≤◌, ◌^◌, List, OnOk, IfOk, IfErr, length};
 ghost use Rattle.er_trace.specs.declared.record.Record.{Record};
 ghost use Rattle.er_trace.specs.declared.version.Version.{Version};
-ghost use Rattle.er_words.specs.Words.{most_shards};
+ghost use Rattle.er_trace.specs.Limits.{most_shards};
 ghost use Rattle.er_words.specs.declared.commands.Input.{Input};
 ghost use Rattle.er_run.specs.Legal.{end_cause_for, end_cause, schedule_cause, explain_cause};
 ghost use Rattle.er_run.specs.Session.{IsSessionOf};

@@ -5,7 +5,7 @@ ghost use Rattle.er_outside.specs.Ends.{Rose, one_more};
 ghost use Rattle.er_trace.specs.Trace.{text};
 ghost use Rattle.er_trace.specs.declared.version.Version.TheVariants.{One};
 ghost use Rattle.er_gen.specs.Generated.{generated, most_rounds};
-ghost use Rattle.er_words.specs.Words.{most_shards};
+ghost use Rattle.er_trace.specs.Limits.{most_shards};
 ghost use Rattle.er_lines.specs.Text.{text as text_lines};
 ghost use Rattle.er_run.specs.Answer.{Answers, format_of, lines_asked};
 ghost use Rattle.er_run.specs.Promise.{IsAnswer, IsAnswered, IsCutShort, IsGiven, IsPartGiven, IsSilent, Compares, CountsWrites, Tests, seen};

@@ -3,6 +3,7 @@
 ghost use Rattle.std.specs.Prelude.{◌≡◌, ℕ, ◌+◌, ◌<◌, ◌≤◌, ◌^◌, All, length, OnOk, IfOk, Err};
 ghost use Rattle.std.specs.Thread.{IsSync};
 ghost use Rattle.er_paths.specs.Paths.{joins};
+ghost use Rattle.er_trace.specs.Limits.{most_shards};
 ghost use Rattle.er_races.specs.Races.{races_of, most_races};
 ghost use Rattle.er_cover.specs.Classes.{classes_of};
 ghost use Rattle.er_cover.specs.Groups.{grouping_of, most_classes, most_tests};
@@ -33,7 +34,7 @@ pub fn group_shards<R: Threads + Sync, G: Gate + Sync>(
     tests: &mut Meter,
 ) -> Result<Groups, CoverFault>
     requires some { 1 ≤ shards }
-    requires most { shards ≤ 64 }
+    requires most { shards ≤ most_shards }
     requires known { All (λ x. x.action < length clocks.now) table.now }
     requires races { races.now ≡ races_of (joins clocks.now) table.now }
     requires few { length races.now ≤ most_races }

@@ -6,10 +6,7 @@ ghost use Rattle.er_races.specs.Races.{most_races};
 ghost use Rattle.er_shard.specs.Parts.{AreBoth, IsPart};
 
 use er_clocks::Meter;
-use er_races::{ListFault, Race};
-
-/// The most races that are listed.
-const MOST_RACES: usize = 262_144;
+use er_races::{ListFault, MOST_RACES, Race};
 
 /// The races of some of the shards, or why they were not listed, and how many comparisons were made.
 #[derive(Drop)]

@@ -3,6 +3,7 @@
 ghost use Rattle.std.specs.Prelude.{◌≡◌, ℕ, ◌+◌, ◌<◌, ◌≤◌, ◌^◌, All, length, OnOk, IfOk, Err};
 ghost use Rattle.std.specs.Thread.{IsSync};
 ghost use Rattle.er_access.specs.Kept.{candidates_of};
+ghost use Rattle.er_trace.specs.Limits.{most_shards};
 ghost use Rattle.er_races.specs.Races.{races_of, races_by, most_pairs, most_races, AreTooMany};
 ghost use Rattle.er_shard.specs.Parts.{IsPart};
 
@@ -28,7 +29,7 @@ pub fn list_shards<R: Threads + Sync, P: Paths + Sync, G: Gate + Sync>(
     meter: &mut Meter,
 ) -> Result<Vec<Race>, ListFault>
     requires some { 1 ≤ shards }
-    requires most { shards ≤ 64 }
+    requires most { shards ≤ most_shards }
     requires few { length (candidates_of table.now) ≤ most_pairs }
     requires known { All (λ x. x.action < P.actions paths.now) table.now }
     requires room { meter.old < 2 ^ 61 }

@@ -1,6 +1,7 @@
 pub mod Items
 pub mod Spelling
 pub mod Kinds
+pub mod Limits
 pub mod Versions
 pub mod Trace
 pub mod Held

@@ -13,6 +13,7 @@ use Rattle.er_words.specs.declared.commands.Input.TheVariants as inputs
 use Rattle.er_words.specs.declared.commands.Command.{Command}
 use Rattle.er_words.specs.declared.commands.Command.TheVariants.{Check, Gen, Schedule, Explain}
 use Rattle.er_words.specs.declared.modes.Options.{Options}
+use Rattle.er_trace.specs.Limits.{most_races, most_shards}
 
 -- ---- the words, as clap reads them
 
@@ -93,17 +94,11 @@ given_of o = record {
 abbrev pub IsNumberGiven : Text → ℕ → Type 0
 IsNumberGiven word n = IsNumber word n × (1 ≤ n) × (n ≤ most_rounds)
 
--- the greatest number that a race can have
-abbrev pub last_race : ℕ
-last_race = 262144
-
+-- the word is a number that a race can have
 abbrev pub IsRaceGiven : Text → ℕ → Type 0
-IsRaceGiven word n = IsNumber word n × (1 ≤ n) × (n ≤ last_race)
+IsRaceGiven word n = IsNumber word n × (1 ≤ n) × (n ≤ most_races)
 
--- the most shards
-abbrev pub most_shards : ℕ
-most_shards = 64
-
+-- the word is a number of shards
 abbrev pub IsShardsGiven : Text → ℕ → Type 0
 IsShardsGiven word n = IsNumber word n × (1 ≤ n) × (n ≤ most_shards)
 
