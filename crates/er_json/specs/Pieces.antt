@@ -1,4 +1,5 @@
--- The pieces in which a line is written, for private clauses. That they make the line is proved (`proofs/LineLemmas.antt`).
+-- The pieces in which a line is written, for private clauses. That they make the line is proved
+-- (`proofs/LineLemmas.antt`).
 use Rattle.std.specs.Prelude.{ℕ, List, ◌++◌, nat_lt, decimal, codes}
 use Rattle.std.specs.List.{zip}
 use Rattle.serde_json.specs.Data.{Data}

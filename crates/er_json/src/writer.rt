@@ -27,8 +27,8 @@ use er_report::{Counts, count_all};
 use er_syntax::{Buffer, flush, put_text};
 use er_text::Cause;
 
-/// Writes the line of the report of a table, with its races by these clocks and their groups. It takes no
-/// memory.
+/// Writes the line of the report of a table, with its races by these clocks and their groups. It
+/// takes no memory.
 pub fn write_json_report<K: Sink>(
     sink: &mut K,
     table: &Table,

@@ -1,4 +1,5 @@
--- What the format of JSON lines keeps: one version of a first line, one record of a line, and none of the last line.
+-- What the format of JSON lines keeps: one version of a first line, one record of a line, and none
+-- of the last line.
 use Rattle.er_lines.specs.Format.{IsFormat}
 use Rattle.er_jsonl.specs.Trace.{json}
 use Rattle.er_lines.proofs.json_line.HeaderLemmas.{one_version}

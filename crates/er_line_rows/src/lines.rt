@@ -4,8 +4,10 @@ use crate::feeds::{
     Due, Mark, Row, is_long_line_refused, is_read_in_bytes, joined, of_row, stays_refused,
     tells_marks, version_of, wrong_cut,
 };
+use er_lines::format::Lines;
 use er_lines::text::TextLines;
 use er_text::Cause;
+use er_trace::record::Record;
 use er_trace::version::Version;
 use std::alloc::{AllocError, Global};
 
@@ -180,5 +182,52 @@ fn versions(rt: HostRuntime) {
     for (bytes, version) in &VERSIONS {
         let told = version_of::<TextLines>(rt.alloc(), bytes);
         assert!(rt; told == *version, "{bytes}");
+    }
+}
+
+/// Bytes, and how many of them stand behind the record that is read at their front.
+static FRONTS: [(&str, Option<usize>); 20] = [
+    ("parse 0 1 plain\nrest", Some(4)),
+    ("parse 4294967295 10 plain\n", Some(0)),
+    ("set 7 4294967295\n", Some(0)),
+    ("timer 0\ntimer 1\n", Some(8)),
+    (
+        "w slot 12 onclick\nr var 0 a name of enough bytes",
+        Some(30),
+    ),
+    ("parse 0 1 plain", None),
+    ("parse 0 1 plainer\n", None),
+    ("parse 0 1 plain \n", None),
+    ("parse 0 1 inline\n", None),
+    ("parse 0 4294967296 plain\n", None),
+    ("parse 00 1 plain\n", None),
+    ("parser 0 1 plain\n", None),
+    ("parse  0 1 plain\n", None),
+    ("set 7\n", None),
+    ("set 7 \n", None),
+    ("set 7 01\n", None),
+    ("set 7 1 \n", None),
+    ("timer 10000000000\n", None),
+    ("timer 1", None),
+    ("", None),
+];
+
+fn let_go(_: Record) {}
+
+/// How many bytes stand behind the record that is read at the front.
+fn left_of(alloc: Global, bytes: &str) -> Option<usize> {
+    match TextLines::front(alloc, Version::One, bytes.as_bytes()) {
+        Some((rec, left)) => {
+            let_go(rec);
+            Some(left.len())
+        }
+        None => None,
+    }
+}
+
+#[test]
+fn fronts(rt: HostRuntime) {
+    for (bytes, left) in &FRONTS {
+        assert_eq!(rt; left_of(rt.alloc(), bytes), *left, "{bytes}");
     }
 }

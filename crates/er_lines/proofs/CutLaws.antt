@@ -39,3 +39,5 @@ too_long n most kept piece few is none long =
     let same : n ≡ most + 1 - kept = omega arith in
     let clear : has_no_lf (take n piece) ≡ true = first_line_some (take n piece) (sym none) in
     (ap (λ k. has_no_lf (take k piece)) (sym same) ∙ clear, omega arith)
+
+pub ruleset cuts = (within, ends, goes_on, too_long)

@@ -309,3 +309,5 @@ leads_part f mark next kept piece later left old mid new h same = record {
         t.records_are,
       );
 }
+
+pub ruleset takes = (took_none, took_more, leads_more, leads_all, leads_part)

@@ -1,4 +1,5 @@
--- A whole trace of a format, and the causes for which a line is no line of one. Records stand oldest first.
+-- A whole trace of a format, and the causes for which a line is no line of one. Records stand
+-- oldest first.
 use Rattle.std.specs.Prelude.{◌≡◌, ◌≢◌, ℕ, ◌+◌, ◌≤◌, Bool, true, ◌&&◌, nat_lt, List, [], ◌∷◌, ◌++◌, length, take, if◌then◌else◌, Option, Some, None, Result, Err, MatchResult, MatchBool}
 use Rattle.std.specs.Option.{ok_or}
 use Rattle.er_text.specs.Bytes.{has_no_lf}
@@ -10,7 +11,8 @@ use Rattle.er_trace.specs.declared.version.Version.{Version}
 use Rattle.er_trace.specs.Trace.{most_lines, line}
 use Rattle.er_lines.specs.Format.{Format}
 
--- Where a line begins: at the start, behind a first line of that version and lines of these records, or behind the last line.
+-- Where a line begins: at the start, behind a first line of that version and lines of these
+-- records, or behind the last line.
 pub data Place : Type 0 where
   Start : Place
   After : (version : Version) → (records : List Record) → Place
@@ -92,7 +94,8 @@ abbrev pub StartCause : Format → List ℕ → Cause → Type 0
 StartCause f rest c =
     MatchResult (whole_line f.most rest) (λ l. IsNoHeader f l.0 × (c ≡ BadHeader)) (λ why. c ≡ why)
 
--- Why the line of that number, with these bytes from it on, is neither a record of the version nor the end: the first cause that applies.
+-- Why the line of that number, with these bytes from it on, is neither a record of the version nor
+-- the end: the first cause that applies.
 abbrev pub RecordCause : Format → Version → ℕ → List ℕ → Cause → Type 0
 RecordCause f v number rest c =
     MatchBool (nat_lt most_lines number && nat_lt 0 (length rest))
@@ -101,13 +104,12 @@ RecordCause f v number rest c =
     (λ l. ¬ f.IsEnd l.0 × SpellsNone f v l.0 × (c ≡ BadRecord))
     (λ why. c ≡ why))
 
--- Why the line that begins there, with these bytes from it on, is no line of a trace: the first of these that applies.
--- after-end: there are bytes after the last line
--- too-many-lines: there are bytes, and the number of the line is above the most
--- long-line: more bytes than a line may have came without an LF
--- no-end: no LF comes, also where there are no bytes
--- bad-header: the first line is the header of no version
--- bad-record: a later line is neither a last one nor spells a record of the version
+-- Why the line that begins there, with these bytes from it on, is no line of a trace: the first of
+-- these that applies. after-end: there are bytes after the last line too-many-lines: there are
+-- bytes, and the number of the line is above the most long-line: more bytes than a line may have
+-- came without an LF no-end: no LF comes, also where there are no bytes bad-header: the first line
+-- is the header of no version bad-record: a later line is neither a last one nor spells a record of
+-- the version
 abbrev pub LineCause : Format → Place → List ℕ → Cause → Type 0
 LineCause f Start rest c = StartCause f rest c
 LineCause f (After v records) rest c = RecordCause f v (length records + 2) rest c
@@ -157,7 +159,8 @@ IsWithin v records Start = Unit {0}
 IsWithin v records (After w front) = (w ≡ v) × ((back : List Record) × (records ≡ front ++ back))
 IsWithin v records (Ended w front) = ⊥
 
--- a trace of these records was cut: its bytes end within the first line, or within the one behind some of the records
+-- a trace of these records was cut: its bytes end within the first line, or within the one behind
+-- some of the records
 abbrev pub IsCutTrace : Format → Version → List Record → List ℕ → Type 0
 IsCutTrace f v records bytes =
     (place : Place) × Refuses f bytes place NoEnd × IsWithin v records place

@@ -15,7 +15,12 @@ abbrev pub IsSpelled : Version → List ℕ → Record → Type 0
 IsSpelled v l x = IsRecordOf v x × (l ≡ spelling x)
 
 abbrev pub text : Format
-text = record { most = most_line_bytes; IsHeader = λ v l. l ≡ header v; IsEnd = λ l. l ≡ end_word; Spells = IsSpelled }
+text = record {
+  most = most_line_bytes;
+  IsHeader = λ v l. l ≡ header v;
+  IsEnd = λ l. l ≡ end_word;
+  Spells = IsSpelled;
+}
 
 pub text_is_format : IsFormat text
 text_is_format = record {

@@ -16,9 +16,9 @@ pub enum Next<'a> {
     TooLong,
 }
 
-/// How the line goes on, of which so many bytes have come before, where it may have so many. It looks no
-/// further than a line may go.
-#[tactic(auto, using(crate::proofs::CutLaws::within, crate::proofs::CutLaws::ends, crate::proofs::CutLaws::goes_on, crate::proofs::CutLaws::too_long))]
+/// How the line goes on, of which so many bytes have come before, where it may have so many. It
+/// looks no further than a line may go.
+#[tactic(auto, using(crate::proofs::CutLaws::cuts))]
 pub fn next_of(most: usize, kept: usize, piece: &[u8]) -> Next<'_>
     requires small { most < 2 ^ 32 }
     requires few { kept ≤ most }

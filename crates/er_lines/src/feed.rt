@@ -53,9 +53,9 @@ impl<L: Lines> LineFeed<L> {
         }
     }
 
-    /// Reads the next bytes, and appends the records of the lines that came to their ends. A refusal
-    /// is the first cause of a line, other than `no-end`, of all bytes so far. What was refused once,
-    /// or found no memory, stays so.
+    /// Reads the next bytes, and appends the records of the lines that came to their ends. A
+    /// refusal is the first cause of a line, other than `no-end`, of all bytes so far. What was
+    /// refused once, or found no memory, stays so.
     pub fn feed(&mut self, piece: &[u8], out: &mut Vec<Record>) -> Result<(), FeedFault>
         ensures fed { result ≢ Err FeedFault.NoMemory → (bytes : List ℕ) (earlier : List Record)
             → Stands L.format self.old.mark self.old.line.items self.old.fault bytes earlier
@@ -70,7 +70,8 @@ impl<L: Lines> LineFeed<L> {
             → Refuses L.format (bytes ++ piece.now) place c → c ≢ NoEnd
             → (result ≡ Err (FeedFault.Refused (line_number place) c))
             ⊎ (result ≡ Err FeedFault.NoMemory) }
-        ensures no_memory { result ≡ Err FeedFault.NoMemory → (bytes : List ℕ) (earlier : List Record)
+        ensures no_memory { result ≡ Err FeedFault.NoMemory
+            → (bytes : List ℕ) (earlier : List Record)
             → Stands L.format self.old.mark self.old.line.items self.old.fault bytes earlier
             → IsFedPart L.format (bytes ++ piece.now) earlier out.old.items out.new.items }
         ensures answered { self.new.fault ≡ result_err result }
@@ -86,13 +87,14 @@ impl<L: Lines> LineFeed<L> {
     }
 
     /// Reads the next bytes.
-    #[tactic(auto, using(crate::proofs::FeedLaws::took_none, crate::proofs::FeedLaws::took_more, crate::proofs::FeedLaws::leads_more, crate::proofs::FeedLaws::leads_all, crate::proofs::FeedLaws::leads_part))]
+    #[tactic(auto, using(crate::proofs::FeedLaws::takes))]
     fn take_piece(&mut self, piece: &[u8], out: &mut Vec<Record>) -> Result<(), FeedFault>
-        ensures read { OnOk result (Leads L.format self.old.mark self.old.line.items piece.now self.new.mark
-            self.new.line.items None out.old.items out.new.items) }
+        ensures read { OnOk result (Leads L.format self.old.mark self.old.line.items piece.now
+            self.new.mark self.new.line.items None out.old.items out.new.items) }
         ensures refused { (n : ℕ) (c : Cause) → result ≡ Err (FeedFault.Refused n c)
-            → Leads L.format self.old.mark self.old.line.items piece.now self.new.mark self.new.line.items
-            (Some (FeedFault.Refused n c)) out.old.items out.new.items }
+            → Leads L.format self.old.mark self.old.line.items piece.now
+            self.new.mark self.new.line.items (Some (FeedFault.Refused n c))
+            out.old.items out.new.items }
         ensures no_memory { result ≡ Err FeedFault.NoMemory → LeadsPart L.format self.old.mark
             self.old.line.items piece.now out.old.items out.new.items }
         ensures fault { self.new.fault ≡ self.old.fault }
@@ -107,20 +109,21 @@ impl<L: Lines> LineFeed<L> {
         Ok(())
     }
 
-    /// Takes the next bytes of one line, and answers those after it. Most lines stand whole in their piece,
-    /// and the format may read them without their ends being looked for first.
+    /// Takes the next bytes of one line, and answers those after it. Most lines stand whole in
+    /// their piece, and the format may read them without their ends being looked for first.
     fn take_next<'a>(
         &mut self,
         piece: &'a [u8],
         out: &mut Vec<Record>,
     ) -> Result<&'a [u8], FeedFault>
         requires { 0 < length piece.now }
-        ensures read { IfOk result (λ left. Took L.format self.old.mark self.old.line.items piece.now
-            self.new.mark self.new.line.items left.now out.old.items out.new.items) }
+        ensures read { IfOk result (λ left. Took L.format self.old.mark self.old.line.items
+            piece.now self.new.mark self.new.line.items left.now out.old.items out.new.items) }
         ensures less { IfOk result (λ left. length left.now < length piece.now) }
         ensures refused { (n : ℕ) (c : Cause) → result ≡ Err (FeedFault.Refused n c)
-            → Leads L.format self.old.mark self.old.line.items piece.now self.new.mark self.new.line.items
-            (Some (FeedFault.Refused n c)) out.old.items out.new.items }
+            → Leads L.format self.old.mark self.old.line.items piece.now
+            self.new.mark self.new.line.items (Some (FeedFault.Refused n c))
+            out.old.items out.new.items }
         ensures no_memory { result ≡ Err FeedFault.NoMemory → out.new.items ≡ out.old.items }
         ensures fault { self.new.fault ≡ self.old.fault }
     {
@@ -134,11 +137,11 @@ impl<L: Lines> LineFeed<L> {
         Ok(left)
     }
 
-    /// What the format reads at the front, where nothing of the line came before: the mark behind it, the
-    /// record, and the bytes that are left. `None` says nothing.
+    /// What the format reads at the front, where nothing of the line came before: the mark behind
+    /// it, the record, and the bytes that are left. `None` says nothing.
     fn front_record<'a>(&self, piece: &'a [u8]) -> Option<(Mark, Record, &'a [u8])>
-        ensures { IfSome result (λ all. IsFrontAt L.format self.now.mark self.now.line.items piece.now
-            all.0 all.1 all.2.now) }
+        ensures { IfSome result (λ all. IsFrontAt L.format self.now.mark self.now.line.items
+            piece.now all.0 all.1 all.2.now) }
     {
         if !self.line.is_empty() {
             return None;
@@ -160,12 +163,13 @@ impl<L: Lines> LineFeed<L> {
         out: &mut Vec<Record>,
     ) -> Result<&'a [u8], FeedFault>
         requires { 0 < length piece.now }
-        ensures read { IfOk result (λ left. Took L.format self.old.mark self.old.line.items piece.now
-            self.new.mark self.new.line.items left.now out.old.items out.new.items) }
+        ensures read { IfOk result (λ left. Took L.format self.old.mark self.old.line.items
+            piece.now self.new.mark self.new.line.items left.now out.old.items out.new.items) }
         ensures less { IfOk result (λ left. length left.now < length piece.now) }
         ensures refused { (n : ℕ) (c : Cause) → result ≡ Err (FeedFault.Refused n c)
-            → Leads L.format self.old.mark self.old.line.items piece.now self.new.mark self.new.line.items
-            (Some (FeedFault.Refused n c)) out.old.items out.new.items }
+            → Leads L.format self.old.mark self.old.line.items piece.now
+            self.new.mark self.new.line.items (Some (FeedFault.Refused n c))
+            out.old.items out.new.items }
         ensures no_memory { result ≡ Err FeedFault.NoMemory → out.new.items ≡ out.old.items }
         ensures fault { self.new.fault ≡ self.old.fault }
     {
@@ -276,7 +280,8 @@ impl<L: Lines> LineFeed<L> {
 
     /// The version that the first line gave, where it was read and is a header.
     pub fn version(&self) -> Option<Version>
-        ensures given { (version : Version) → result ≡ Some version → (bytes : List ℕ) (records : List Record)
+        ensures given { (version : Version) → result ≡ Some version
+            → (bytes : List ℕ) (records : List Record)
             → Stands L.format self.now.mark self.now.line.items self.now.fault bytes records
             → BeginsWith L.format version bytes }
         ensures none { result ≡ None → (bytes : List ℕ) (records : List Record)

@@ -39,8 +39,9 @@ pub trait Lines {
         ensures bad { result ≡ Err LineFault.BadRecord
             → ¬ format.IsEnd line.now × ((x : Record) → ¬ format.Spells version line.now x) };
 
-    /// A record whose whole line stands at the front, in a trace of that version, and what stands behind its
-    /// LF: for lines that can be read without their ends being looked for first. `None` says nothing.
+    /// A record whose whole line stands at the front, in a trace of that version, and what stands
+    /// behind its LF: for lines that can be read without their ends being looked for first. `None`
+    /// says nothing.
     fn front<'a>(_alloc: Global, _version: Version, _piece: &'a [u8]) -> Option<(Record, &'a [u8])>
         ensures { IfSome result (λ pair. IsFront format.most (format.Spells _version) _piece.now
             pair.0 pair.1.now) }

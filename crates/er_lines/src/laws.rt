@@ -1,5 +1,5 @@
-//! Laws of the definitions that the contracts cite, for every format. Each is a function that does nothing,
-//! whose contract is the law.
+//! Laws of the definitions that the contracts cite, for every format. Each is a function that does
+//! nothing, whose contract is the law.
 
 ghost use Rattle.std.specs.Prelude.{◌≡◌, ◌≢◌, true, ℕ, ◌+◌, ◌<◌, List, ◌++◌, length, Option, None};
 ghost use Rattle.std.specs.List.{list_all};
@@ -36,7 +36,8 @@ pub fn one_cause<L: Lines>()
 
 /// The whole traces of lines of text are the texts of er_trace.
 pub fn text_traces()
-    ensures to { (v : Version) (bytes : List ℕ) (records : List Record) → IsTrace text v bytes records
+    ensures to { (v : Version) (bytes : List ℕ) (records : List Record)
+        → IsTrace text v bytes records
         → texts.IsTrace v records × (bytes ≡ texts.text v records) }
     ensures from { (v : Version) (records : List Record) → texts.IsTrace v records
         → IsTrace text v (texts.text v records) records }
@@ -50,7 +51,8 @@ pub fn one_version<L: Lines>()
 
 /// The records of a trace are of the version that its first line gives.
 pub fn records_of_version<L: Lines>()
-    ensures { (v : Version) (bytes : List ℕ) (records : List Record) → IsTrace L.format v bytes records
+    ensures { (v : Version) (bytes : List ℕ) (records : List Record)
+        → IsTrace L.format v bytes records
         → list_all (has_record v) records ≡ true }
 {}
 
@@ -62,12 +64,13 @@ pub fn line_of_a_place<L: Lines>()
 
 /// A refusal for another cause than `no-end` is that of every longer input.
 pub fn longer_input<L: Lines>()
-    ensures { (bytes more : List ℕ) (place : Place) (c : Cause) → Refuses L.format bytes place c → c ≢ NoEnd
+    ensures { (bytes more : List ℕ) (place : Place) (c : Cause)
+        → Refuses L.format bytes place c → c ≢ NoEnd
         → Refuses L.format (bytes ++ more) place c }
 {}
 
-/// A trace without some of its last bytes is refused for `no-end`, at its first line or behind the lines of
-/// some of its records.
+/// A trace without some of its last bytes is refused for `no-end`, at its first line or behind the
+/// lines of some of its records.
 pub fn cut_trace<L: Lines>()
     ensures { (v : Version) (records : List Record) (bytes more : List ℕ)
         → IsTrace L.format v (bytes ++ more) records → 0 < length more

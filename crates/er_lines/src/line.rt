@@ -22,7 +22,8 @@ pub fn read_line<L: Lines>(
     out: &mut Vec<Record>,
 ) -> Result<Mark, FeedFault>
     requires { IsOpen mark }
-    ensures read { IfOk result (λ next. (came : List Record) × IsLine L.format mark line.now next came
+    ensures read { IfOk result (λ next. (came : List Record)
+        × IsLine L.format mark line.now next came
         × (out.new.items ≡ out.old.items ++ came)) }
     ensures refused { (n : ℕ) (c : Cause) → result ≡ Err (FeedFault.Refused n c)
         → (n ≡ number_at mark) × IsBadLine L.format mark line.now c

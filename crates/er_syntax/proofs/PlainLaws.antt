@@ -1,13 +1,17 @@
--- How an access with a plain name is spelled.
-use Rattle.std.proofs.Common.{◌≡◌, ℕ, zero, suc, ◌+◌, ◌-◌, ◌<◌, ◌≤◌, List, [], ◌∷◌, ◌++◌, length, take, drop, get_or, Bool, true, false, not, ◌&&◌, cond, Some, refl, sym, ap, ◌∙◌, arith}
-use Rattle.std.specs.Prelude.{decimal, ◌==◌, position}
+-- How the records that are read at the front are spelled.
+use Rattle.std.proofs.Common.{◌≡◌, ℕ, zero, suc, ◌+◌, ◌<◌, ◌≤◌, ◌^◌, List, [], ◌∷◌, ◌++◌, length, take, drop, get_or, Bool, true, false, not, ◌&&◌, cond, Some, refl, sym, ap, ◌∙◌, append_assoc, arith}
+use Rattle.std.specs.Prelude.{codes, decimal, position}
 use Rattle.std.specs.List.{AllByRecursion, list_all, position_or_len}
-use Rattle.std.proofs.lemmas.List.{take_rest}
+use Rattle.std.specs.Str.Parse.{AllDigits, digits_value}
+use Rattle.std.proofs.lemmas.List.{take-append-drop}
 use Rattle.std.proofs.lemmas.List.Elements.{All-from_recursion}
 use Rattle.std.proofs.lemmas.Grind.{common_steps}
-use Rattle.er_text.specs.Bytes.{space}
+use Rattle.er_text.specs.Bytes.{space, line_end}
+use Rattle.er_text.specs.Number.{IsNumber}
+use Rattle.er_text.proofs.NumberLaws.{number_from_form}
 use Rattle.er_text.specs.Name.{most_name, IsName, name_spelling, stands_for_itself}
-use Rattle.er_trace.specs.declared.record.Record.TheVariants.{Access}
+use Rattle.er_trace.specs.declared.record.Record.TheVariants.{Parse, Timer, Set, Access}
+use Rattle.er_trace.specs.declared.record.Kind.TheVariants as kinds
 use Rattle.er_trace.specs.declared.record.Mode.{Mode}
 use Rattle.er_trace.specs.declared.record.Mode.TheVariants as modes
 use Rattle.er_syntax.specs.declared.plain.Form.{Form}
@@ -29,15 +33,6 @@ plain_is_name name some few h = record { some = some; few = few; bytes = All-fro
 
 -- the bytes, by the place of the first that passes a test
 
-cut_within : (test : ℕ → Bool) (bytes : List ℕ) (d : ℕ) → position_or_len test bytes < length bytes
-    → bytes ≡ take (position_or_len test bytes) bytes ++ get_or bytes (position_or_len test bytes) d ∷ drop (position_or_len test bytes + 1) bytes
-cut_within test [] d h = grind arith
-cut_within test (b ∷ bytes) d h = grind (arith, common_steps, cut_within test bytes d)
-
-passes_within : (test : ℕ → Bool) (bytes : List ℕ) (d : ℕ) → position_or_len test bytes < length bytes → test (get_or bytes (position_or_len test bytes) d) ≡ true
-passes_within test [] d h = grind arith
-passes_within test (b ∷ bytes) d h = grind (arith, common_steps, passes_within test bytes d)
-
 none_before : (test : ℕ → Bool) (bytes : List ℕ) → list_all (λ b. not (test b)) (take (position_or_len test bytes) bytes) ≡ true
 none_before test [] = refl
 none_before test (b ∷ bytes) = by (test b) refl (none_before test bytes)
@@ -48,13 +43,6 @@ none_before test (b ∷ bytes) = by (test b) refl (none_before test bytes)
         let more : 1 + position_or_len test bytes ≡ suc (position_or_len test bytes) = omega arith in
         ap (λ k. list_all (λ b. not (test b)) (take k (b ∷ bytes))) more
         ∙ (ap (λ t. not t && list_all (λ b. not (test b)) (take (position_or_len test bytes) bytes)) e ∙ before)
-
--- the bytes, by the place of their first space
-pub cut_at_space : (bytes : List ℕ) (k : ℕ) → Some k ≡ position (λ b. b == space) bytes
-    → bytes ≡ take k bytes ++ space ∷ take (length bytes - (k + 1)) (drop (k + 1) bytes)
-cut_at_space bytes k h =
-    let within : (k ≡ position_or_len (λ b. b == space) bytes) × (k < length bytes) = grind (arith, common_steps) in
-    grind (arith, common_steps, cut_within (λ b. b == space) bytes 0, passes_within (λ b. b == space) bytes 0, take_rest bytes (k + 1))
 
 all_like : (p q : ℕ → Bool) (bytes : List ℕ) → ((b : ℕ) → p b ≡ q b) → list_all p bytes ≡ list_all q bytes
 all_like p q [] same = refl
@@ -99,3 +87,45 @@ spelling_of_access modes.R forms.Slot n name = refl
 spelling_of_access modes.W forms.Var n name = refl
 spelling_of_access modes.W forms.Elem n name = refl
 spelling_of_access modes.W forms.Slot n name = refl
+
+first_of_taken : (bytes : List ℕ) (end : ℕ) → 0 < end → get_or (take end bytes) 0 0 ≡ get_or bytes 0 0
+first_of_taken [] zero h = refl
+first_of_taken [] (suc end) h = refl
+first_of_taken (b ∷ bytes) zero h = absurd (omega (arith, h))
+first_of_taken (b ∷ bytes) (suc end) h = refl
+
+-- the number that some digits at the front are, and the rest behind it
+pub number_at : (bytes rest : List ℕ) (end value : ℕ) → AllDigits 10 (take end bytes)
+    → digits_value 10 (take end bytes) ≡ value → 0 < end → end ≤ length bytes
+    → (get_or bytes 0 0 ≡ 48 → end ≤ 1) → value < 2 ^ 32 → drop end bytes ≡ rest
+    → bytes ≡ decimal value ++ rest
+number_at bytes rest end value digits spelt some within zero_first small behind =
+    let count : length (take end bytes) ≡ end = grind (arith, common_steps) in
+    let is : IsNumber (take end bytes) (digits_value 10 (take end bytes)) = number_from_form (take end bytes) digits (omega (arith, count, some))
+    (λ z. omega (arith, count, some, zero_first (sym (first_of_taken bytes end some) ∙ z))) (omega (arith, spelt, small)) in
+    sym (take-append-drop end bytes)
+    ∙ (ap (λ word. word ++ drop end bytes) (is.1 ∙ ap decimal spelt) ∙ ap (λ l. decimal value ++ l) behind)
+
+-- a text, and a number with one byte behind it, one after the other
+
+pub parse_at : (bytes after_word after_doc left : List ℕ) (d e : ℕ)
+    → bytes ≡ codes "parse " ++ after_word → after_word ≡ decimal d ++ space ∷ after_doc
+    → after_doc ≡ decimal e ++ space ∷ (codes "plain" ++ line_end ∷ left)
+    → bytes ≡ spelling (Parse d e kinds.Plain) ++ line_end ∷ left
+parse_at bytes after_word after_doc left d e word doc element =
+    let tail : decimal e ++ space ∷ (codes "plain" ++ line_end ∷ left) ≡ (decimal e ++ space ∷ codes "plain") ++ line_end ∷ left = sym (append_assoc (decimal e) (space ∷ codes "plain") (line_end ∷ left)) in
+    word ∙ ap (λ l. codes "parse " ++ l) ((doc ∙ ap (λ l. decimal d ++ space ∷ l) (element ∙ tail))
+    ∙ sym (append_assoc (decimal d) (space ∷ (decimal e ++ space ∷ codes "plain")) (line_end ∷ left)))
+
+pub set_at : (bytes after_word after_timeout left : List ℕ) (t n : ℕ)
+    → bytes ≡ codes "set " ++ after_word → after_word ≡ decimal t ++ space ∷ after_timeout
+    → after_timeout ≡ decimal n ++ line_end ∷ left
+    → bytes ≡ spelling (Set t n) ++ line_end ∷ left
+set_at bytes after_word after_timeout left t n word timeout delay =
+    word ∙ ap (λ l. codes "set " ++ l) ((timeout ∙ ap (λ l. decimal t ++ space ∷ l) delay)
+    ∙ sym (append_assoc (decimal t) (space ∷ decimal n) (line_end ∷ left)))
+
+pub timer_at : (bytes after_word left : List ℕ) (t : ℕ)
+    → bytes ≡ codes "timer " ++ after_word → after_word ≡ decimal t ++ line_end ∷ left
+    → bytes ≡ spelling (Timer t) ++ line_end ∷ left
+timer_at bytes after_word left t word timeout = word ∙ ap (λ l. codes "timer " ++ l) timeout

@@ -84,4 +84,4 @@ tokens_part_later old mid new word later i t within is first h =
     ∙ (sym (append_assoc word (later_spelling (take (i + 1) later)) (later_spelling (drop (i + 1) later))) ∙ ap (λ l. l ++ later_spelling (drop (i + 1) later)) (sym front)) in
     rw all more
 
-pub ruleset tokens_writes = (tokens_none, tokens_more, tokens_all, tokens_part_first, tokens_part_later)
+pub ruleset tokens_writes = (tokens_none, tokens_more, tokens_all, tokens_part_first, tokens_part_later, token_fits)

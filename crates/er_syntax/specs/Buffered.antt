@@ -7,7 +7,8 @@ use Rattle.er_outside.specs.declared.ends.Failed.{Failed}
 unfoldable pub HoldsRest : Option (List ℕ) → List ℕ → Option (List ℕ) → List ℕ → Type 0
 HoldsRest old due new held = (sent : List ℕ) × Gets old sent new × (due ≡ sent ++ held)
 
--- the count of faults, from before to after: one more where the call failed, and as it was where it did not
+-- the count of faults, from before to after: one more where the call failed, and as it was where it
+-- did not
 pub record CountsFaults {S : Type 0} (faults : S → ℕ) (old new : S)
     (result : Result Unit Failed) : Type 0 where
   pub stands : OnOk result (faults new ≡ faults old)

@@ -6,8 +6,8 @@ ghost use Rattle.er_outside.specs.Ends.{Gets, Rose, last_count};
 use er_outside::{Failed, Sink};
 use std::marker::Model;
 
-/// How many bytes the buffer holds at most. No line is half as long, so that each write but the last has
-/// more than 4,096 bytes.
+/// How many bytes the buffer holds at most. No line is half as long, so that each write but the
+/// last has more than 4,096 bytes.
 const ROOM: usize = 8192;
 
 /// Holds bytes in place, and takes no memory. As a sink it fails where it is full.

@@ -31,8 +31,8 @@ fn hold<T: Text>(buffer: &mut Buffer, text: &T) -> Result<(), Failed>
     Err(Failed)
 }
 
-/// Puts the text behind what the buffer holds. Where there is no room, what it holds is written first.
-/// A text for which no buffer is long enough goes straight to the sink.
+/// Puts the text behind what the buffer holds. Where there is no room, what it holds is written
+/// first. A text for which no buffer is long enough goes straight to the sink.
 #[tactic(auto, using(er_outside::proofs::Puts::composes, crate::proofs::BufferedLemmas::holds))]
 pub fn put_text<K: Sink, T: Text>(sink: &mut K, buffer: &mut Buffer, text: &T) -> Result<(), Failed>
     ensures whole { OnOk result (HoldsRest (K.got sink.old) (buffer.old ++ T.text text.now)

@@ -1,4 +1,5 @@
-//! Reading lines of the trace format `webtrace`, and writing records and other lines: the parts of a line, and a buffer in front of the sink.
+//! Reading lines of the trace format `webtrace`, and writing records and other lines: the parts of
+//! a line, and a buffer in front of the sink.
 #![tactic(auto)]
 
 mod buffer;

@@ -36,14 +36,15 @@ fn put_token<K: Sink>(sink: &mut K, token: &Token) -> Result<(), Failed>
 #[tactic(auto, using(crate::proofs::PrintLaws::after_byte, er_outside::proofs::Puts::composes))]
 fn put_next<K: Sink>(sink: &mut K, token: &Token) -> Result<(), Failed>
     requires { IsItem (token_item token.now) }
-    ensures { Puts K.got K.faults sink.old (32 ∷ item_spelling (token_item token.now)) sink.new result }
+    ensures { Puts K.got K.faults sink.old
+        (32 ∷ item_spelling (token_item token.now)) sink.new result }
 {
     put_all(sink, b" ")?;
     put_token(sink, token)
 }
 
 /// Writes the word and the items, with single spaces between.
-#[tactic(auto, using(crate::proofs::PrintLaws::tokens_writes, crate::proofs::PrintLaws::token_fits, er_outside::proofs::Puts::composes))]
+#[tactic(auto, using(crate::proofs::PrintLaws::tokens_writes, er_outside::proofs::Puts::composes))]
 fn put_tokens<K: Sink>(sink: &mut K, word: &str, later: &[Token]) -> Result<(), Failed>
     requires { AllByRecursion IsItem (map token_item later.now) }
     ensures { Puts K.got K.faults sink.old (tokens_spelling word.now later.now) sink.new result }
@@ -56,19 +57,22 @@ fn put_tokens<K: Sink>(sink: &mut K, word: &str, later: &[Token]) -> Result<(), 
 }
 
 fn put_one<K: Sink>(sink: &mut K, word: &str, a: u32) -> Result<(), Failed>
-    ensures { Puts K.got K.faults sink.old (items_spelling (Word word.now ∷ Number a ∷ [])) sink.new result }
+    ensures { Puts K.got K.faults sink.old
+        (items_spelling (Word word.now ∷ Number a ∷ [])) sink.new result }
 {
     put_tokens(sink, word, &[Token::Number(a)])
 }
 
 fn put_two<K: Sink>(sink: &mut K, word: &str, a: u32, b: u32) -> Result<(), Failed>
-    ensures { Puts K.got K.faults sink.old (items_spelling (Word word.now ∷ Number a ∷ Number b ∷ [])) sink.new result }
+    ensures { Puts K.got K.faults sink.old
+        (items_spelling (Word word.now ∷ Number a ∷ Number b ∷ [])) sink.new result }
 {
     put_tokens(sink, word, &[Token::Number(a), Token::Number(b)])
 }
 
 fn put_three<K: Sink>(sink: &mut K, word: &str, a: u32, b: u32, c: u32) -> Result<(), Failed>
-    ensures { Puts K.got K.faults sink.old (items_spelling (Word word.now ∷ Number a ∷ Number b ∷ Number c ∷ [])) sink.new result }
+    ensures { Puts K.got K.faults sink.old
+        (items_spelling (Word word.now ∷ Number a ∷ Number b ∷ Number c ∷ [])) sink.new result }
 {
     put_tokens(
         sink,
@@ -85,7 +89,9 @@ fn put_two_and_name<K: Sink>(
     name: &Name,
 ) -> Result<(), Failed>
     ensures name { IsName name.now }
-    ensures puts { Puts K.got K.faults sink.old (items_spelling (Word word.now ∷ Number a ∷ Number b ∷ Named name.now ∷ [])) sink.new result }
+    ensures puts { Puts K.got K.faults sink.old
+        (items_spelling (Word word.now ∷ Number a ∷ Number b ∷ Named name.now
+        ∷ [])) sink.new result }
 {
     put_tokens(
         sink,
@@ -105,7 +111,9 @@ fn put_made<K: Sink>(
     element: u32,
     kind: &str,
 ) -> Result<(), Failed>
-    ensures { Puts K.got K.faults sink.old (items_spelling (Word word.now ∷ Number doc ∷ Number element ∷ Word kind.now ∷ [])) sink.new result }
+    ensures { Puts K.got K.faults sink.old
+        (items_spelling (Word word.now ∷ Number doc ∷ Number element ∷ Word kind.now
+        ∷ [])) sink.new result }
 {
     put_tokens(
         sink,
@@ -125,7 +133,9 @@ fn put_frame<K: Sink>(
     element: u32,
     inner: u32,
 ) -> Result<(), Failed>
-    ensures { Puts K.got K.faults sink.old (items_spelling (Word word.now ∷ Number doc ∷ Number element ∷ Word (codes "frame") ∷ Number inner ∷ [])) sink.new result }
+    ensures { Puts K.got K.faults sink.old
+        (items_spelling (Word word.now ∷ Number doc ∷ Number element ∷ Word (codes "frame")
+        ∷ Number inner ∷ [])) sink.new result }
 {
     put_tokens(
         sink,
@@ -141,7 +151,8 @@ fn put_frame<K: Sink>(
 
 fn put_located<K: Sink>(sink: &mut K, word: &str, number: u32, name: &Name) -> Result<(), Failed>
     ensures name { IsName name.now }
-    ensures puts { Puts K.got K.faults sink.old (items_spelling (Word word.now ∷ Number number ∷ Named name.now ∷ [])) sink.new result }
+    ensures puts { Puts K.got K.faults sink.old
+        (items_spelling (Word word.now ∷ Number number ∷ Named name.now ∷ [])) sink.new result }
 {
     put_tokens(
         sink,
@@ -170,7 +181,9 @@ fn put_access<'a, K: Sink>(
     name: &'a Name,
 ) -> Result<(), Failed>
     ensures name { IsName name.now }
-    ensures puts { Puts K.got K.faults sink.old (items_spelling (Word word.now ∷ Word place.now ∷ Number number ∷ Named name.now ∷ [])) sink.new result }
+    ensures puts { Puts K.got K.faults sink.old
+        (items_spelling (Word word.now ∷ Word place.now ∷ Number number ∷ Named name.now
+        ∷ [])) sink.new result }
 {
     put_tokens(
         sink,
@@ -185,7 +198,8 @@ fn put_access<'a, K: Sink>(
 
 fn print_access<K: Sink>(mode: Mode, loc: &Loc, sink: &mut K) -> Result<(), Failed>
     ensures fits { IsLoc loc.now }
-    ensures puts { Puts K.got K.faults sink.old (items_spelling (Word (mode_word mode) ∷ loc_items loc.now)) sink.new result }
+    ensures puts { Puts K.got K.faults sink.old
+        (items_spelling (Word (mode_word mode) ∷ loc_items loc.now)) sink.new result }
 {
     let word = mode.word();
     match loc {
@@ -268,7 +282,8 @@ fn line_of<'a>(rec: &'a Record) -> Line<'a>
 
 fn put_line<K: Sink>(sink: &mut K, line: &Line) -> Result<(), Failed>
     ensures fits { AllByRecursion IsItem (line_items line.now) }
-    ensures puts { Puts K.got K.faults sink.old (items_spelling (line_items line.now)) sink.new result }
+    ensures puts { Puts K.got K.faults sink.old
+        (items_spelling (line_items line.now)) sink.new result }
 {
     match line {
         Line::One(word, a) => put_one(sink, word, *a),

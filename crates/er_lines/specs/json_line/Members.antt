@@ -11,7 +11,8 @@ use Rattle.er_trace.specs.declared.version.Version.TheVariants.{One, Two, Three}
 use Rattle.er_trace.specs.Spelling.{record_items}
 use Rattle.er_trace.specs.Versions.{has_tasks, IsRecordOf}
 
--- The member is the item: a word is a string; of a number, `serde_json`'s accessor for unsigned whole numbers answers it; a name is a string with these bytes.
+-- The member is the item: a word is a string; of a number, `serde_json`'s accessor for unsigned
+-- whole numbers answers it; a name is a string with these bytes.
 abbrev pub IsMember : Item → Data → Type 0
 IsMember (Word word) member = as_str member ≡ Some word
 IsMember (Number n) member = option_and_then as_u64 (as_number member) ≡ Some n

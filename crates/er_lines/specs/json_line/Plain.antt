@@ -1,4 +1,5 @@
--- The text of items whose strings need no escape, where the gap behind each comma is nothing or one space.
+-- The text of items whose strings need no escape, where the gap behind each comma is nothing or one
+-- space.
 use Rattle.std.specs.Prelude.{◌≡◌, ℕ, ◌<◌, ◌^◌, List, [], ◌∷◌, ◌++◌, decimal, Bool, true, false, not, ◌&&◌, ◌==◌, nat_le}
 use Rattle.std.specs.List.{AllByRecursion, list_all}
 use Rattle.json.specs.Ascii.{quote, comma, backslash, open_bracket, close_bracket}
@@ -43,7 +44,8 @@ is_plain_item (Named name) = list_all needs_no_escape name
 abbrev pub ArePlain : List Item → Type 0
 ArePlain items = AllByRecursion IsItem items × (list_all is_plain_item items ≡ true)
 
--- the bytes are a number and a name that needs no escape, as the last items of a line, and what stands behind the line
+-- the bytes are a number and a name that needs no escape, as the last items of a line, and what
+-- stands behind the line
 pub record AreLast (spaced : Bool) (bytes : List ℕ) (n : ℕ) (name behind : List ℕ) : Type 0 where
   pub small : n < 2 ^ 32
   pub named : IsName name

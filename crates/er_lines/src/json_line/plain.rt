@@ -1,5 +1,5 @@
-//! Accesses whose names are short and need no escape, with nothing or one space behind each comma: most
-//! lines of a trace.
+//! Accesses whose names are short and need no escape, with nothing or one space behind each comma:
+//! most lines of a trace.
 
 ghost use Rattle.std.specs.Prelude.{◌≡◌, ◌↔◌, ◌<◌, ◌≤◌, ◌^◌, ◌∷◌, ◌++◌, ◌==◌, true, not, length, take, position, IfSome, IsTrue, decimal};
 ghost use Rattle.std.specs.List.{list_all};
@@ -129,7 +129,8 @@ fn front_name(alloc: Global, bytes: &[u8]) -> Option<(Name, &[u8])>
     Some((name, later))
 }
 
-/// The number and the name at the front, as the last members of a line, and what stands behind the LF.
+/// The number and the name at the front, as the last members of a line, and what stands behind the
+/// LF.
 fn front_last(alloc: Global, bytes: &[u8], spaced: bool) -> Option<(u32, Name, &[u8])>
     ensures { IfSome result (λ all. AreLast spaced bytes.now all.0 all.1 all.2.now) }
 {
@@ -139,7 +140,8 @@ fn front_last(alloc: Global, bytes: &[u8], spaced: bool) -> Option<(u32, Name, &
     Some((number, name, left))
 }
 
-/// The location at the front, behind a comma, as the last members of a line, and what stands behind the LF.
+/// The location at the front, behind a comma, as the last members of a line, and what stands behind
+/// the LF.
 fn front_loc(alloc: Global, bytes: &[u8], spaced: bool) -> Option<(Loc, &[u8])>
     ensures { IfSome result (λ pair. ArePlain (loc_items pair.0)
         × (bytes.now ≡ later_text spaced (loc_items pair.0) ++ line_end ∷ pair.1.now)) }
@@ -160,8 +162,9 @@ fn front_loc(alloc: Global, bytes: &[u8], spaced: bool) -> Option<(Loc, &[u8])>
     None
 }
 
-/// The access whose line stands at the front, and what stands behind the LF, where its name is short and
-/// needs no escape, and each comma has the same gap behind it, nothing or one space. `None` says nothing.
+/// The access whose line stands at the front, and what stands behind the LF, where its name is
+/// short and needs no escape, and each comma has the same gap behind it, nothing or one space.
+/// `None` says nothing.
 #[tactic(auto, using(crate::proofs::json_line::PlainLemmas::access_at))]
 pub fn plain_json_line(alloc: Global, bytes: &[u8]) -> Option<(Record, &[u8])>
     ensures { IfSome result (λ pair. IsFront most_plain_bytes Spells bytes.now pair.0 pair.1.now) }
