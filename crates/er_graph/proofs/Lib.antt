@@ -1,3 +1,6 @@
+pub mod LinkLemmas
+pub mod AgainLemmas
+pub mod RunLemmas
 pub mod GroupLemmas
 pub mod PartLemmas
 pub mod GraphLemmas

@@ -22,7 +22,7 @@ use Rattle.er_pieces.specs.PiecesHanded.{ArePiecesHanded, HasHandedPieces}
 use Rattle.er_pieces.proofs.TogetherLemmas.{handed_stay_enough, handed_are_below}
 use Rattle.er_history.specs.Sound.{out_of_order, IsSound}
 use Rattle.er_history.proofs.HistoryLemmas.{edges_length, actions_are_numbered, among_from, among_below}
-use Rattle.er_history.proofs.NamedLemmas.{no_cause}
+use Rattle.er_history.proofs.NamedLemmas.{no_cause, sound_lists_are_named}
 use Rattle.er_clocks.specs.Clock.{StandsFor}
 use Rattle.er_clocks.proofs.Pushes.{clocks_of_paths, clocks_tell_paths}
 use Rattle.er_page.specs.declared.page.Page.{Page}
@@ -31,7 +31,11 @@ use Rattle.er_page.specs.Page as pages
 use Rattle.er_page.specs.Page.{IsPage, IsSomePage}
 use Rattle.er_path_rules.specs.timer.Timed.{IsTimed, IsSomeTimed}
 use Rattle.er_history.specs.Rules.{Rule, rules}
-use Rattle.er_graph.specs.Accepted.{Accepted, AreOf, records, lines_of, cause_now, edges_of, IsTold, AreTimed, IsNext, IsSomeGraph}
+use Rattle.er_graph.specs.Again.{runs_again}
+use Rattle.er_graph.specs.Next.{ComesAfter, ComesNow, TimedMore, StandForSome, StandsForAgain}
+use Rattle.er_graph.proofs.AgainLemmas.{runs_again_is, some_runs}
+use Rattle.er_graph.proofs.RunLemmas.{runs_have_one_list}
+use Rattle.er_graph.specs.Accepted.{Accepted, AreOf, records, lines_of, cause_now, IsTold, AreTimed, IsNext, IsSomeGraph}
 
 -- causes
 
@@ -70,31 +74,39 @@ lines_counted (x ∷ older) = step (begins x.read) (lines_counted older)
     step true e = omega (arith, length_push (lines_of older) x.line, e)
     step false e = e
 
-pub clocks_counted : (v : Version) (links : List (List ℕ)) (accepted : List Accepted) → AreTimed v links accepted → length (told (records accepted)).actions ≡ length links
-clocks_counted v links accepted timed = sym (edges_length (rules v) (told (records accepted)).actions) ∙ sym (clocks_tell_paths links (edges_of v accepted) timed).0
-
 -- what the page, the lines and the clocks are asked for
 
-pub some_page : (v : Version) (page : Page) (links : List (List ℕ)) (kept : List ℕ) (x : Record) → ∥ IsNext v page links kept x ∥₁ → ∥ IsSomePage page ∥₁
-some_page v page links kept x some = ∥∥₁_map some (λ next. record { list = records next.accepted; stands = next.told.page })
+pub some_page : (v : Version) (page : Page) (links : List (List ℕ)) (x : Record) → ∥ ComesNow v page links x ∥₁ → ∥ IsSomePage page ∥₁
+some_page v page links x some = ∥∥₁_map some (λ now. record { list = now.list; stands = now.comes.timed.page })
 
-pub some_timed : (v : Version) (page : Page) (links : List (List ℕ)) (kept : List ℕ) (x : Record) → ∥ IsNext v page links kept x ∥₁ → ∥ IsSomeTimed v page links ∥₁
-some_timed v page links kept x some = ∥∥₁_map some (λ next. record { list = records next.accepted; stands = record { page = next.told.page; clocks = next.timed } })
+pub some_timed : (v : Version) (page : Page) (links : List (List ℕ)) (x : Record) → ∥ ComesNow v page links x ∥₁ → ∥ IsSomeTimed v page links ∥₁
+some_timed v page links x some = ∥∥₁_map some (λ now. record { list = now.list; stands = now.comes.timed })
+
+pub comes_after : (v : Version) (page : Page) (links : List (List ℕ)) (kept : List ℕ) (x : Record) (accepted : List Accepted) → IsTold v page kept accepted → AreTimed v links accepted → has_record v x ≡ true → cause_now v accepted x ≡ None → ComesAfter v page links x (records accepted)
+comes_after v page links kept x accepted told timed of_version legal = record { timed = record { page = told.page; clocks = timed }; of_version = (of_version, told.of_version); sound = told.sound; legal = legal }
+
+pub comes_now : (v : Version) (page : Page) (links : List (List ℕ)) (kept : List ℕ) (x : Record) → has_record v x ≡ true → ∥ IsNext v page links kept x ∥₁ → ∥ ComesNow v page links x ∥₁
+comes_now v page links kept x of_version some = ∥∥₁_map some (λ next. record { list = records next.accepted; comes = comes_after v page links kept x next.accepted next.told next.timed of_version next.legal })
 
 pub next_page : (v : Version) (page : Page) (links : List (List ℕ)) (kept : List ℕ) (x : Record) → ∥ IsNext v page links kept x ∥₁ → ∥ pages.IsNext page x ∥₁
 next_page v page links kept x some = ∥∥₁_map some (λ next. let p = no_cause (rules v) (records next.accepted) x next.legal in record { list = records next.accepted; stands = next.told.page; named = p.named; fits = p.fits })
 
-pub known_sources : (v : Version) (page : Page) (links : List (List ℕ)) (kept : List ℕ) (x : Record) (found passed : List ℕ) → has_record v x ≡ true → ∥ IsNext v page links kept x ∥₁ → passed ≡ found
-    → ((h : List Record) → IsTimed v page links h → AreOf v (x ∷ h) → IsSound (rules v) h → naming h x ≡ None → out_of_order (rules v) h x ≡ false → ArePiecesHanded (rules v) (path (rules v) h) (told h) x found)
-    → All (λ k. k < length links) passed
-known_sources v page links kept x found passed of_version some same handed = ∥∥₁_elim some (hlevel props) (λ next. known next)
+pub clocks_long : (v : Version) (page : Page) (links : List (List ℕ)) (x : Record) (h : List Record) → ComesAfter v page links x h → length (told h).actions ≡ length links
+clocks_long v page links x h is = sym (edges_length (rules v) (told h).actions) ∙ sym (clocks_tell_paths links (edges (rules v) (told h).actions) is.timed.clocks).0
+
+-- what is handed for a record that comes next
+abbrev pub IsHanded : Version → Page → List (List ℕ) → Record → List ℕ → Type 0
+IsHanded v page links x found = (h : List Record) → IsTimed v page links h → AreOf v (x ∷ h) → IsSound (rules v) h → naming h x ≡ None → out_of_order (rules v) h x ≡ false → ArePiecesHanded (rules v) (path (rules v) h) (told h) x found
+
+handed_after : (v : Version) (page : Page) (links : List (List ℕ)) (x : Record) (found : List ℕ) (h : List Record) → ComesAfter v page links x h → IsHanded v page links x found → ArePiecesHanded (rules v) (path (rules v) h) (told h) x found
+handed_after v page links x found h is handed = let p = no_cause (rules v) h x is.legal in handed h is.timed is.of_version is.sound p.named p.ordered
+
+pub known_sources : (v : Version) (page : Page) (links : List (List ℕ)) (x : Record) (found passed : List ℕ) → ∥ ComesNow v page links x ∥₁ → passed ≡ found → IsHanded v page links x found → All (λ k. k < length links) passed
+known_sources v page links x found passed some same handed = ∥∥₁_elim some (hlevel props) (λ now. known now.list now.comes)
   where
-    known : IsNext v page links kept x → All (λ k. k < length links) passed
-    known next =
-        let h = records next.accepted in
-        let p = no_cause (rules v) h x next.legal in
-        let are = handed h (record { page = next.told.page; clocks = next.timed }) (of_version, next.told.of_version) next.told.sound p.named p.ordered in
-        subst (All (λ k. k < length links)) (sym same) (subst (λ n. All (λ k. k < n) found) (clocks_counted v links next.accepted next.timed) (handed_are_below (rules v) h x found are))
+    known : (h : List Record) → ComesAfter v page links x h → All (λ k. k < length links) passed
+    known h is =
+        subst (All (λ k. k < length links)) (sym same) (subst (λ n. All (λ k. k < n) found) (clocks_long v page links x h is) (handed_are_below (rules v) h x found (handed_after v page links x found h is handed)))
 
 -- an action that may begin has room in the clocks
 room_left : (h : List Record) (x : Record) → room h x ≡ None → begins x ≡ true → length (told h).actions < most_actions
@@ -105,13 +117,21 @@ room_left h x fits begin = step (begins x) (nat_lt (length (told h).actions) mos
     step true false d e f g = absurd (cc)
     step false c d e f g = absurd (cc)
 
-pub clocks_room : (v : Version) (page : Page) (links : List (List ℕ)) (kept : List ℕ) (x : Record) → ∥ IsNext v page links kept x ∥₁ → begins x ≡ true → length links < most_actions
-clocks_room v page links kept x some begin = ∥∥₁_elim some (hlevel props) (λ next. room_of next)
+pub clocks_room : (v : Version) (page : Page) (links : List (List ℕ)) (x : Record) → ∥ ComesNow v page links x ∥₁ → begins x ≡ true → length links < most_actions
+clocks_room v page links x some begin = ∥∥₁_elim some (hlevel props) (λ now. room_of now.list now.comes)
   where
-    room_of : IsNext v page links kept x → length links < most_actions
-    room_of next =
-        let h = records next.accepted in
-        omega (arith, clocks_counted v links next.accepted next.timed, room_left h x (no_cause (rules v) h x next.legal).fits begin)
+    room_of : (h : List Record) → ComesAfter v page links x h → length links < most_actions
+    room_of h is = omega (arith, clocks_long v page links x h is, room_left h x (no_cause (rules v) h x is.legal).fits begin)
+
+pub some_clocks : (v : Version) (page : Page) (links : List (List ℕ)) (x : Record) → ∥ ComesNow v page links x ∥₁ → ∥ StandForSome links ∥₁
+some_clocks v page links x some = ∥∥₁_map some (λ now. record { lists = edges (rules v) (told now.list).actions; stand = now.comes.timed.clocks })
+
+-- where a handler runs like the newest, there is a newest action
+pub clocks_begun : (v : Version) (page : Page) (links : List (List ℕ)) (x : Record) → ∥ ComesNow v page links x ∥₁ → ((h : List Record) → IsPage page h → runs_again h x ≡ true) → 0 < length links
+clocks_begun v page links x some again = ∥∥₁_elim some (hlevel props) (λ now. begun now.list now.comes)
+  where
+    begun : (h : List Record) → ComesAfter v page links x h → 0 < length links
+    begun h is = omega (arith, clocks_long v page links x h is, some_runs h x (runs_again_is h x (again h is.timed.page)))
 
 -- handed from the start
 pub from_nothing : (table : List (ℕ × Rule)) (joined : ℕ → ℕ → Bool) (h : History) (x : Record) (new : List ℕ) → HasHandedPieces table joined h x [] new → ArePiecesHanded table joined h x new
@@ -153,16 +173,20 @@ pub told_still : (v : Version) (old new : Page) (kept same : List ℕ) (accepted
 told_still v old new kept same accepted stays e told = record { page = stays (records accepted) told.page; of_version = told.of_version; sound = told.sound; lines = e ∙ told.lines }
 
 -- a record that begins an action is pushed, with enough of the sources of edges to it
-pub timed_more : (v : Version) (page : Page) (links more : List (List ℕ)) (kept : List ℕ) (line : ℕ) (x : Record) (accepted : List Accepted) (found passed : List ℕ) → IsTold v page kept accepted → AreTimed v links accepted → has_record v x ≡ true → cause_now v accepted x ≡ None → begins x ≡ true
-    → ((h : List Record) → IsTimed v page links h → AreOf v (x ∷ h) → IsSound (rules v) h → naming h x ≡ None → out_of_order (rules v) h x ≡ false → ArePiecesHanded (rules v) (path (rules v) h) (told h) x found)
-    → passed ≡ found → ((lists : List (List ℕ)) → StandsFor links lists → StandsFor more (passed ∷ lists)) → AreTimed v more (record { line = line; read = x } ∷ accepted)
-timed_more v page links more kept line x accepted found passed told_ timed of_version legal begin handed same pushed =
-    let h = records accepted in
-    let p = no_cause (rules v) h x legal in
-    let now = edges_of v (record { line = line; read = x } ∷ accepted) in
-    let enough = handed_stay_enough (rules v) h x found (edges_of v accepted) begin (handed h (record { page = told_.page; clocks = timed }) (of_version, told_.of_version) told_.sound p.named p.ordered) (enough_itself (rules v) (told h).actions (actions_are_numbered h)) in
-    clocks_of_paths more (found ∷ edges_of v accepted) now (enough_long (found ∷ edges_of v accepted) now enough) (λ i j. handed_paths (found ∷ edges_of v accepted) now i j enough)
-    (subst (λ (l : List ℕ). StandsFor more (l ∷ edges_of v accepted)) same (pushed (edges_of v accepted) timed))
+pub timed_more : (v : Version) (page : Page) (links more : List (List ℕ)) (x : Record) (found passed : List ℕ) → begins x ≡ true → IsHanded v page links x found → passed ≡ found → ((lists : List (List ℕ)) → StandsFor links lists → StandsFor more (passed ∷ lists))
+    → TimedMore v page links x more
+timed_more v page links more x found passed begin handed same pushed h is =
+    let old = edges (rules v) (told h).actions in
+    let now = edges (rules v) (told (x ∷ h)).actions in
+    let enough = handed_stay_enough (rules v) h x found old begin (handed_after v page links x found h is handed) (enough_itself (rules v) (told h).actions (actions_are_numbered h)) in
+    clocks_of_paths more (found ∷ old) now (enough_long (found ∷ old) now enough) (λ i j. handed_paths (found ∷ old) now i j enough)
+    (subst (λ (l : List ℕ). StandsFor more (l ∷ old)) same (pushed old is.timed.clocks))
+
+-- and so is one before which the same actions come as before the newest
+pub timed_again : (v : Version) (page : Page) (links more : List (List ℕ)) (x : Record) → ((h : List Record) → IsPage page h → runs_again h x ≡ true) → StandsForAgain links more → TimedMore v page links x more
+timed_again v page links more x again pushed h is =
+    let one = runs_have_one_list v h x (sound_lists_are_named (rules v) h is.sound) (no_cause (rules v) h x is.legal).named (runs_again_is h x (again h is.timed.page)) in
+    subst (StandsFor more) (sym one.next) (pushed one.list one.older one.below (subst (StandsFor links) one.newest is.timed.clocks))
 
 -- another record changes no edge
 pub timed_still : (v : Version) (links : List (List ℕ)) (line : ℕ) (x : Record) (accepted : List Accepted) → begins x ≡ false → AreTimed v links accepted → AreTimed v links (record { line = line; read = x } ∷ accepted)

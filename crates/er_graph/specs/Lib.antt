@@ -1,2 +1,4 @@
 pub mod Accepted
+pub mod Again
 pub mod Graph
+pub mod Next

@@ -4,7 +4,9 @@ ghost use Rattle.std.specs.Prelude.{◌≡◌, ◌∷◌, List, true, false, Non
 ghost use Rattle.er_trace.specs.Versions.{has_record};
 ghost use Rattle.er_history.specs.History as history;
 ghost use Rattle.er_graph.specs.Accepted.{Accepted, cause_now, IsTold, AreTimed, IsNext};
+ghost use Rattle.er_graph.specs.Next.{ComesNow, TimedMore};
 
+use crate::again::{push_again, runs_again};
 use crate::order::sources;
 use er_clocks::Clocks;
 use er_outside::NoMemory;
@@ -12,6 +14,7 @@ use er_page::page::Page;
 use er_page::piece::begins;
 use er_trace::record::Record;
 use er_trace::version::Version;
+use std::alloc::Global;
 
 /// Takes a record against which there is no cause. After `NoMemory` the clocks may have one action more.
 pub(crate) fn grow(
@@ -69,14 +72,32 @@ fn begin(
         → IsTold version page.new lines.new.items accepted) }
 {
     let alloc = *lines.allocator();
-    let sources = sources(alloc, page, clocks, version, rec)?;
     let Ok(()) = lines.reserve(1) else {
         return Err(NoMemory);
     };
-    let _number = clocks.push(sources.as_slice())?;
+    let _number = push(alloc, version, page, clocks, rec)?;
     page.apply(rec)?;
     let Ok(()) = lines.push(line) else {
         unreachable!()
     };
     Ok(())
+}
+
+/// Adds the action that the record begins to the clocks. Where the same actions come before it as before the newest, they are not gone through.
+fn push(
+    alloc: Global,
+    version: Version,
+    page: &Page,
+    clocks: &mut Clocks,
+    rec: &Record,
+) -> Result<u32, NoMemory>
+    requires now { ∥ ComesNow version page.now clocks.old rec.now ∥₁ }
+    requires begins { history.begins rec.now ≡ true }
+    ensures { OnOk result (TimedMore version page.now clocks.old rec.now clocks.new) }
+{
+    if runs_again(page, rec) {
+        return push_again(alloc, clocks);
+    }
+    let sources = sources(alloc, page, clocks, version, rec)?;
+    clocks.push(sources.as_slice())
 }

@@ -2,6 +2,7 @@
 #![tactic(auto)]
 
 mod accept;
+mod again;
 pub mod graph;
 mod grow;
 mod order;

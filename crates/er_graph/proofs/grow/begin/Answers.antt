@@ -1,17 +1,12 @@
 use Rattle.std.proofs.Common.{ap, ◌∙◌, ◌++◌, ◌∷◌, [], List, ℕ}
-use Rattle.er_graph.proofs.PartLemmas.{some_page, some_timed, next_page, known_sources, clocks_room, told_more, begun_lines, timed_more}
+use Rattle.er_graph.specs.Accepted.{records}
+use Rattle.er_graph.proofs.PartLemmas.{comes_after, comes_now, next_page, told_more, begun_lines}
 use Rattle.er_graph.proofs.grow.begin.Goals as goal
-
-pub sources-requires : goal.sources-requires
-sources-requires c = record {
-  some = some_page c.args.version c.args.page.now c.args.clocks.now c.args.lines.now.items c.args.rec.now c.requires.next;
-  timed = some_timed c.args.version c.args.page.now c.args.clocks.now c.args.lines.now.items c.args.rec.now c.requires.next;
-}
 
 pub push-requires : goal.push-requires
 push-requires c = record {
-  known = known_sources c.args.version c.args.page.now c.args.clocks.now c.args.lines.now.items c.args.rec.now c.in_ok-sources.sources.items c.as_slice.result.now c.requires.of_version c.requires.next c.as_slice.ensures c.in_ok-sources.ensures;
-  room = clocks_room c.args.version c.args.page.now c.args.clocks.now c.args.lines.now.items c.args.rec.now c.requires.next c.requires.begins;
+  now = comes_now c.args.version c.args.page.now c.args.clocks.now c.args.lines.now.items c.args.rec.now c.requires.of_version c.requires.next;
+  begins = c.requires.begins;
 }
 
 pub apply-requires : goal.apply-requires
@@ -25,5 +20,4 @@ returns-clause-told c = λ accepted told legal.
 
 pub returns-clause-timed : goal.returns-clause-timed
 returns-clause-timed c = λ accepted told timed legal.
-    timed_more c.args.version c.args.page.now c.args.clocks.now c.push.new.self c.args.lines.now.items c.args.line c.args.rec.now accepted c.in_ok-sources.sources.items c.as_slice.result.now told timed c.requires.of_version legal c.requires.begins
-    c.in_ok-sources.ensures c.as_slice.ensures c.in_ok-_number.ensures.pushed
+    c.in_ok-_number.ensures (records accepted) (comes_after c.args.version c.args.page.now c.args.clocks.now c.args.lines.now.items c.args.rec.now accepted told timed c.requires.of_version legal)

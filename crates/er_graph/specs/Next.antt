@@ -1,0 +1,43 @@
+-- A record that comes next, by the page and the clocks. Lists stand newest first.
+use Rattle.std.specs.Prelude.{◌≡◌, ℕ, ◌<◌, true, List, ◌∷◌, length, None}
+use Rattle.er_trace.specs.declared.record.Record.{Record}
+use Rattle.er_trace.specs.declared.version.Version.{Version}
+use Rattle.er_paths.specs.Paths.{is_among}
+use Rattle.er_history.specs.History.{told}
+use Rattle.er_history.specs.Edges.{edges}
+use Rattle.er_history.specs.Rules.{rules}
+use Rattle.er_history.specs.Sound.{cause, IsSound}
+use Rattle.er_clocks.specs.Clock.{StandsFor}
+use Rattle.er_page.specs.declared.page.Page.{Page}
+use Rattle.er_path_rules.specs.timer.Timed.{IsTimed}
+use Rattle.er_graph.specs.Accepted.{AreOf}
+
+-- They stand for the list, which is sound, and nothing is against the record after it.
+pub record ComesAfter (v : Version) (shown : Page) (links : List (List ℕ)) (x : Record)
+    (h : List Record) : Type 0 where
+  pub timed : IsTimed v shown links h
+  pub of_version : AreOf v (x ∷ h)
+  pub sound : IsSound (rules v) h
+  pub legal : cause (rules v) h x ≡ None
+
+-- they do so for some list
+pub record ComesNow (v : Version) (shown : Page) (links : List (List ℕ))
+    (x : Record) : Type 0 where
+  pub list : List Record
+  pub comes : ComesAfter v shown links x list
+
+-- For whatever list they did, the clocks stand now for it with the record.
+abbrev pub TimedMore : Version → Page → List (List ℕ) → Record → List (List ℕ) → Type 0
+TimedMore v shown old x new = (h : List Record) → ComesAfter v shown old x h
+    → StandsFor new (edges (rules v) (told (x ∷ h)).actions)
+
+-- clocks stand for some list
+pub record StandForSome (links : List (List ℕ)) : Type 0 where
+  pub lists : List (List ℕ)
+  pub stand : StandsFor links lists
+
+-- Where the newest action has these earlier predecessors, they stand now for one action more with the same ones.
+abbrev pub StandsForAgain : List (List ℕ) → List (List ℕ) → Type 0
+StandsForAgain old new = (p : List ℕ) (older : List (List ℕ))
+    → ((k : ℕ) → is_among k p ≡ true → k < length older)
+    → StandsFor old (p ∷ older) → StandsFor new (p ∷ p ∷ older)
