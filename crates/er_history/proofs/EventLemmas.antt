@@ -3,8 +3,8 @@ use Rattle.std.proofs.Common.{◌≡◌, ℕ, ◌<◌, Bool, true, false, List, 
 use Rattle.std.specs.Prelude.{◌-◌, if◌then◌else◌}
 use Rattle.std.proofs.lemmas.Bool.Decides.{eqb_tells}
 use Rattle.er_trace.specs.declared.record.Record.{Record}
-use Rattle.er_trace.specs.declared.record.Record.TheVariants.{Parse, ParseFrame, Exec, Timer, Tick, Run, Close, Back, Message, Anim, Job}
-use Rattle.er_history.specs.History.{Element, Dispatch, What, ParseStep, ScriptRun, BeginOf, HandlerOf, CloseOf, Unnamed, Event, Action, Entry, History, told, begins, first_to, makes_element, maker_by, declares_document, declares_handler, find_open, action_at, dispatch_begun, what_begun, event_resumed, event_begun, action_begun}
+use Rattle.er_trace.specs.declared.record.Record.TheVariants.{Parse, ParseFrame, Exec, Run, Close, Back}
+use Rattle.er_history.specs.History.{Element, Dispatch, What, ParseStep, ScriptRun, HandlerOf, CloseOf, Unnamed, Event, Action, Entry, History, told, begins, first_to, makes_element, maker_by, declares_document, declares_handler, find_open, action_at, what_begun, event_resumed, event_begun, action_begun}
 use Rattle.er_history.specs.Laws.{Among, IsNumbered}
 use Rattle.er_history.specs.Facts.{WhatIs}
 use Rattle.er_history.specs.Naming.{IsNamed}
@@ -40,11 +40,6 @@ pub form_begun : (t : History) (x : Record) → HasForm x (what_begun t x)
 form_begun t (Parse d e k) = (maker_by (declares_document d) t.entries, refl)
 form_begun t (ParseFrame d e f) = (maker_by (declares_document d) t.entries, refl)
 form_begun t (Exec e) = (first_to (makes_element e) t.entries, refl)
-form_begun t (Timer i) = tt
-form_begun t (Tick i) = tt
-form_begun t (Message m) = tt
-form_begun t (Anim a) = tt
-form_begun t (Job j) = tt
 form_begun t (Run p g x) = of_run (find_open p t.stack)
   where
     handler : ℕ → ℕ → Option Dispatch → Option ℕ → What
@@ -63,15 +58,7 @@ form_begun t (Close p) = of_close (find_open p t.stack)
     of_close : (found : Option Dispatch) → IsOther (close found)
     of_close None = tt
     of_close (Some d) = tt
-form_begun t x = of_begin (dispatch_begun t.entries (length t.actions) x)
-  where
-    begin : Option Dispatch → What
-    begin None = Unnamed
-    begin (Some d) = BeginOf d
-
-    of_begin : (found : Option Dispatch) → IsOther (begin found)
-    of_begin None = tt
-    of_begin (Some d) = tt
+form_begun t _ = tt
 
 -- `back` begins a piece of an event that has begun, or one that naming refuses
 abbrev pub GoesOn : List Action → Event → Type 0

@@ -5,10 +5,12 @@ use Rattle.std.proofs.lemmas.Bool.Decides.{nat_tests}
 use Rattle.er_text.specs.declared.causes.Cause.{Cause}
 use Rattle.er_text.specs.declared.causes.Cause.TheVariants.{Unknown, Again, NotScript, Misplaced, OutOfOrder, TooManyActions, TooDeep}
 use Rattle.er_trace.specs.declared.record.Record.{Record}
-use Rattle.er_trace.specs.declared.record.Record.TheVariants.{New, NewFrame, On, Set, Every, Send, Access, Post, Ask, Queue}
-use Rattle.er_history.specs.History.{told, begins, running, action_begun, actions_after, find_open, or_else, Action, Open, Dispatch}
+use Rattle.er_trace.specs.declared.nesting.Nesting.{Nesting}
+use Rattle.er_trace.specs.declared.nesting.Nesting.TheVariants.{Note, Alone}
+use Rattle.er_trace.specs.Signature.{nesting}
+use Rattle.er_history.specs.History.{told, begins, begins_at, running, action_begun, actions_after, find_open, or_else, Action, Open, Dispatch}
 use Rattle.er_history.specs.Rules.{Rule}
-use Rattle.er_history.specs.Naming.{naming, unknown, again, not_script, misplaced, first_cause, is_top, one_runs, room, too_deep}
+use Rattle.er_history.specs.Naming.{naming, unknown, again, not_script, misplaced, misplaced_at, first_cause, has_open, is_top, one_runs, room, too_deep}
 use Rattle.er_paths.specs.Limits.{most_actions}
 use Rattle.er_history.specs.Sound.{cause, out_of_order, SoundListsAreNamed}
 
@@ -63,19 +65,28 @@ top_found p (o ∷ below) e = step (o.dispatch.number == p) (not o.closing) e
     step true b e = (o.dispatch, refl)
     step false b e = cc
 
+-- it may stand where dispatches are open
+abbrev pub is_nested : Nesting → Bool
+is_nested Note = false
+is_nested Alone = false
+is_nested _ = true
+
 -- a record that begins no action stands in one
 pub note_runs : (h : List Record) (x : Record) → misplaced (told h) x ≡ false → begins x ≡ false → not (one_runs (running (told h).actions)) ≡ false
-note_runs h (New d y k) placed b = placed
-note_runs h (NewFrame d y f) placed b = placed
-note_runs h (On z) placed b = placed
-note_runs h (Set t m) placed b = placed
-note_runs h (Every i m) placed b = placed
-note_runs h (Send r) placed b = placed
-note_runs h (Post m) placed b = placed
-note_runs h (Ask a) placed b = placed
-note_runs h (Queue j) placed b = placed
-note_runs h (Access m l) placed b = placed
-note_runs h _ placed b = cc
+note_runs h x placed b = by (nesting x) placed b
+  where
+    by : (n : Nesting) → misplaced_at (told h) n ≡ false → begins_at n ≡ false → not (one_runs (running (told h).actions)) ≡ false
+    by Note placed b = placed
+    by _ placed b = absurd (cc)
+
+-- a record that begins an action finds no dispatch open, where its place is not among open ones
+pub begun_on_none : (h : List Record) (x : Record) → misplaced (told h) x ≡ false → begins x ≡ true → is_nested (nesting x) ≡ false → has_open (told h).stack ≡ false
+begun_on_none h x placed b plain = by (nesting x) placed b plain
+  where
+    by : (n : Nesting) → misplaced_at (told h) n ≡ false → begins_at n ≡ true → is_nested n ≡ false → has_open (told h).stack ≡ false
+    by Alone placed b plain = placed
+    by Note placed b plain = absurd (cc)
+    by _ placed b plain = absurd (cc)
 
 -- some action runs when a record has been read that is not misplaced
 pub runs_after : (h : List Record) (x : Record) → misplaced (told h) x ≡ false → (a : Action) × (running (actions_after (told h) x) ≡ Some a)

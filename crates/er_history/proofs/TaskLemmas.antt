@@ -3,7 +3,7 @@ use Rattle.std.proofs.Common.{◌≡◌, ℕ, Bool, true, false, List, [], ◌�
 use Rattle.std.specs.Prelude.{◌-◌, ◌==◌, ◌||◌, ◌&&◌, not, if◌then◌else◌}
 use Rattle.std.specs.List.{list_any}
 use Rattle.er_trace.specs.declared.record.Record.{Record}
-use Rattle.er_trace.specs.declared.record.Record.TheVariants.{Run, Close, Back, Message, Anim, Job}
+use Rattle.er_trace.specs.declared.record.Record.TheVariants.{Run, Close, Back}
 use Rattle.er_history.specs.History.{Dispatch, What, HandlerOf, CloseOf, MessageRun, AnimRun, JobRun, Unnamed, Event, Action, History, told, begins, find_open, maker_by, declares_handler, action_at, what_begun, event_resumed, event_begun, action_begun}
 use Rattle.er_history.specs.Rules.{any_holds, recorded, task_rules}
 use Rattle.er_history.specs.Laws.{Among}
@@ -12,35 +12,43 @@ use Rattle.er_history.specs.Records.{TasksAreOfVersionThree}
 use Rattle.er_history.proofs.HistoryLemmas.{action_at_among}
 use Rattle.er_history.proofs.DeclaredLemmas.{or_none}
 
-abbrev IsNoTask : What → Type 0
-IsNoTask (MessageRun m made) = ⊥
-IsNoTask (AnimRun a made) = ⊥
-IsNoTask (JobRun j made within) = ⊥
-IsNoTask _ = Unit {0}
+abbrev is_task : What → Bool
+is_task (MessageRun m made) = true
+is_task (AnimRun a made) = true
+is_task (JobRun j made within) = true
+is_task _ = false
 
-begun_no_task : (t : History) (x : Record) → is_of_task x ≡ false → IsNoTask (what_begun t x)
-begun_no_task t (Message m) e = absurd (cc)
-begun_no_task t (Anim a) e = absurd (cc)
-begun_no_task t (Job j) e = absurd (cc)
-begun_no_task t (Run p g x) e = of (find_open p t.stack)
+abbrev IsNoTask : What → Type 0
+IsNoTask w = is_task w ≡ false
+
+-- only a record of tasks begins one
+task_begun : (t : History) (x : Record) → (is_task (what_begun t x) && not (is_of_task x)) ≡ false
+task_begun t (Run p g x) = of (find_open p t.stack)
   where
     handler : ℕ → ℕ → Option Dispatch → Option ℕ → What
     handler g x (Some d) m = HandlerOf d g x m
     handler g x None m = Unnamed
 
-    of : (o : Option Dispatch) → IsNoTask (handler g x o (maker_by (declares_handler x) t.entries))
-    of None = tt
-    of (Some d) = tt
-begun_no_task t (Close p) e = of (find_open p t.stack)
+    of : (o : Option Dispatch) → (is_task (handler g x o (maker_by (declares_handler x) t.entries)) && true) ≡ false
+    of None = refl
+    of (Some d) = refl
+task_begun t (Close p) = of (find_open p t.stack)
   where
     close : Option Dispatch → What
     close None = Unnamed
     close (Some d) = CloseOf d
 
-    of : (o : Option Dispatch) → IsNoTask (close o)
-    of None = tt
-    of (Some d) = tt
-begun_no_task t _ e = tt
+    of : (o : Option Dispatch) → (is_task (close o) && true) ≡ false
+    of None = refl
+    of (Some d) = refl
+task_begun t _ = refl
+
+begun_no_task : (t : History) (x : Record) → is_of_task x ≡ false → IsNoTask (what_begun t x)
+begun_no_task t x e = by (is_task (what_begun t x)) (is_of_task x) e (task_begun t x)
+  where
+    by : (b c : Bool) → c ≡ false → (b && not c) ≡ false → b ≡ false
+    by false c e f = refl
+    by true c e f = absurd (cc)
 
 resumed_no_task : (t : History) (p : ℕ) → ((a : Action) → Among a t.actions → IsNoTask a.event.what) → IsNoTask (event_resumed t p).what
 resumed_no_task t p older = of_found (find_open p t.stack)
@@ -54,11 +62,11 @@ resumed_no_task t p older = of_found (find_open p t.stack)
     of (Some d) = event_of (action_at (d.begin - 1) t.actions)
 
     at : (k : ℕ) (found : Option Action) → action_at k t.actions ≡ found → IsNoTask (event_of found).what
-    at k None e = tt
+    at k None e = refl
     at k (Some a) e = older a (action_at_among k t.actions a e).0
 
     of_found : (found : Option Dispatch) → IsNoTask (of found).what
-    of_found None = tt
+    of_found None = refl
     of_found (Some d) = at (d.begin - 1) (action_at (d.begin - 1) t.actions) refl
 
 event_no_task : (h : List Record) (x : Record) → is_of_task x ≡ false → ((a : Action) → Among a (told h).actions → IsNoTask a.event.what) → IsNoTask (event_begun (told h) x).what
@@ -88,10 +96,10 @@ tasks_are_of_version_three h joined a b e first last = by a.event.what b.event.w
     with n w = record { number = n; what = w }
 
     by : (w z : What) → IsNoTask w → IsNoTask z → any_holds task_rules joined (with a.event.number w) (with b.event.number z) ≡ false
-    by (MessageRun m made) z is other = absurd is
-    by (AnimRun k made) z is other = absurd is
-    by (JobRun j made within) z is other = absurd is
-    by w (MessageRun m made) is other = absurd other
-    by w (AnimRun k made) is other = absurd other
-    by w (JobRun j made within) is other = absurd other
+    by (MessageRun m made) z is other = absurd (cc)
+    by (AnimRun k made) z is other = absurd (cc)
+    by (JobRun j made within) z is other = absurd (cc)
+    by w (MessageRun m made) is other = absurd (cc)
+    by w (AnimRun k made) is other = absurd (cc)
+    by w (JobRun j made within) is other = absurd (cc)
     by _ _ is other = all_false (not (a.event.number == b.event.number)) (recorded a.event b.event)

@@ -1,5 +1,8 @@
 -- What a list of records says: which actions have begun, of which events they are pieces, and which dispatches are not finished. Lists stand newest first.
 use Rattle.std.specs.Prelude.{ℕ, ◌-◌, Bool, true, false, ◌==◌, if◌then◌else◌, List, [], ◌∷◌, length, map, Option, Some, None}
+use Rattle.er_trace.specs.Signature.{nesting}
+use Rattle.er_trace.specs.declared.nesting.Nesting.{Nesting}
+use Rattle.er_trace.specs.declared.nesting.Nesting.TheVariants.{Note, Alone, OutsideInline, Called, Under, Behind}
 use Rattle.er_trace.specs.declared.record.Record.{Record}
 use Rattle.er_trace.specs.declared.record.Record.TheVariants.{Parse, ParseFrame, Exec, Timer, Tick, Dcl, Load, Eload, Fire, Wfire, Reply, Inline, Run, Close, Back, New, NewFrame, On, Set, Every, Send, Access, Post, Ask, Queue, Message, Anim, Job}
 use Rattle.er_trace.specs.declared.record.Kind.{Kind}
@@ -96,36 +99,17 @@ pub record History : Type 0 where
   pub actions : List Action
   pub stack : List Open
 
--- a record that begins an action
+-- a record that begins an action stands where no note does
+abbrev pub begins_at : Nesting → Bool
+begins_at Note = false
+begins_at Alone = true
+begins_at OutsideInline = true
+begins_at Called = true
+begins_at (Under p) = true
+begins_at (Behind p) = true
+
 abbrev pub begins : Record → Bool
-begins (New d e k) = false
-begins (NewFrame d e f) = false
-begins (On h) = false
-begins (Set t n) = false
-begins (Every i n) = false
-begins (Send r) = false
-begins (Post m) = false
-begins (Ask a) = false
-begins (Queue j) = false
-begins (Access m l) = false
-begins (Parse d e k) = true
-begins (ParseFrame d e f) = true
-begins (Exec e) = true
-begins (Timer t) = true
-begins (Tick i) = true
-begins (Dcl p d) = true
-begins (Load p d) = true
-begins (Eload p e) = true
-begins (Fire p e n) = true
-begins (Wfire p d n) = true
-begins (Reply p r) = true
-begins (Inline p e n) = true
-begins (Run p g h) = true
-begins (Close p) = true
-begins (Back p) = true
-begins (Message m) = true
-begins (Anim a) = true
-begins (Job j) = true
+begins x = begins_at (nesting x)
 
 abbrev pub or_else : {B : Type 0} → Option B → Option B → Option B
 or_else None o = o

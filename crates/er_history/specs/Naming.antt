@@ -4,7 +4,10 @@ use Rattle.std.specs.List.{list_any}
 use Rattle.er_text.specs.declared.causes.Cause.{Cause}
 use Rattle.er_text.specs.declared.causes.Cause.TheVariants.{Unknown, Again, NotScript, Misplaced, TooManyActions, TooDeep}
 use Rattle.er_trace.specs.declared.record.Record.{Record}
-use Rattle.er_trace.specs.declared.record.Record.TheVariants.{Parse, ParseFrame, Exec, Timer, Tick, Dcl, Load, Eload, Fire, Wfire, Reply, Inline, Run, Close, Back, New, NewFrame, On, Set, Every, Send, Access, Post, Ask, Queue, Message, Anim, Job}
+use Rattle.er_trace.specs.declared.record.Record.TheVariants.{Parse, ParseFrame, Exec, Timer, Dcl, Load, Eload, Fire, Wfire, Reply, Inline, New, NewFrame, Set}
+use Rattle.er_trace.specs.declared.nesting.Nesting.{Nesting}
+use Rattle.er_trace.specs.declared.nesting.Nesting.TheVariants.{Note, Alone, OutsideInline, Called, Under, Behind}
+use Rattle.er_trace.specs.Signature.{Uses, UsesNone, UsesDocument, UsesElement, UsesTimeout, UsesInterval, UsesRequest, UsesDispatch, UsesHandler, UsesMessage, UsesAnim, UsesJob, Names, NamesNone, MakesElement, MakesFrame, MakesHandler, MakesTimeout, MakesInterval, MakesRequest, MakesMessage, MakesAnim, MakesJob, StartsScript, StartsTimeout, StartsMessage, StartsAnim, StartsJob, StartsDispatch, StartsDcl, StartsLoad, StartsEload, nesting, uses, names}
 use Rattle.er_trace.specs.declared.record.Kind.{Kind}
 use Rattle.er_trace.specs.declared.record.Kind.TheVariants as kinds
 use Rattle.er_paths.specs.Limits.{most_actions}
@@ -40,16 +43,25 @@ fires_timeout number (Timer t) = t == number
 fires_timeout number _ = false
 
 abbrev pub begins_message : ℕ → Record → Bool
-begins_message number (Message m) = m == number
-begins_message number _ = false
+begins_message number x = by (names x)
+  where
+    by : Names → Bool
+    by (StartsMessage m) = m == number
+    by _ = false
 
 abbrev pub begins_anim : ℕ → Record → Bool
-begins_anim number (Anim a) = a == number
-begins_anim number _ = false
+begins_anim number x = by (names x)
+  where
+    by : Names → Bool
+    by (StartsAnim a) = a == number
+    by _ = false
 
 abbrev pub begins_job : ℕ → Record → Bool
-begins_job number (Job j) = j == number
-begins_job number _ = false
+begins_job number x = by (names x)
+  where
+    by : Names → Bool
+    by (StartsJob j) = j == number
+    by _ = false
 
 abbrev pub is_dcl : ℕ → Record → Bool
 is_dcl number (Dcl p d) = d == number
@@ -69,66 +81,46 @@ knows_document h d = (d == 0) || list_any (declares_document d) h
 
 -- the record uses a number that no earlier record declared
 abbrev pub unknown : List Record → Record → Bool
-unknown h (Parse d e k) = not (knows_document h d)
-unknown h (ParseFrame d e f) = not (knows_document h d)
-unknown h (New d e k) = not (knows_document h d)
-unknown h (NewFrame d e f) = not (knows_document h d)
-unknown h (Dcl p d) = not (knows_document h d)
-unknown h (Load p d) = not (knows_document h d)
-unknown h (Wfire p d n) = not (knows_document h d)
-unknown h (Exec e) = not (list_any (declares_element e) h)
-unknown h (Eload p e) = not (list_any (declares_element e) h)
-unknown h (Fire p e n) = not (list_any (declares_element e) h)
-unknown h (Inline p e n) = not (list_any (declares_element e) h)
-unknown h (Timer t) = not (list_any (sets_timeout t) h)
-unknown h (Tick i) = not (list_any (declares_interval i) h)
-unknown h (Message m) = not (list_any (posts_message m) h)
-unknown h (Anim a) = not (list_any (asks_for_anim a) h)
-unknown h (Job j) = not (list_any (queues_job j) h)
-unknown h (Reply p r) = not (list_any (declares_request r) h)
-unknown h (Run p g x) =
-    not (list_any (begins_dispatch p) h) || not (list_any (declares_handler x) h)
-unknown h (Close p) = not (list_any (begins_dispatch p) h)
-unknown h (Back p) = not (list_any (begins_dispatch p) h)
-unknown h (On x) = false
-unknown h (Set t n) = false
-unknown h (Every i n) = false
-unknown h (Send r) = false
-unknown h (Post m) = false
-unknown h (Ask a) = false
-unknown h (Queue j) = false
-unknown h (Access m l) = false
+unknown h x = by (uses x)
+  where
+    by : Uses → Bool
+    by UsesNone = false
+    by (UsesDocument d) = not (knows_document h d)
+    by (UsesElement e) = not (list_any (declares_element e) h)
+    by (UsesTimeout t) = not (list_any (sets_timeout t) h)
+    by (UsesInterval i) = not (list_any (declares_interval i) h)
+    by (UsesRequest r) = not (list_any (declares_request r) h)
+    by (UsesMessage m) = not (list_any (posts_message m) h)
+    by (UsesAnim a) = not (list_any (asks_for_anim a) h)
+    by (UsesJob j) = not (list_any (queues_job j) h)
+    by (UsesDispatch p) = not (list_any (begins_dispatch p) h)
+    by (UsesHandler p x) =
+        not (list_any (begins_dispatch p) h) || not (list_any (declares_handler x) h)
 
 -- it declares or starts what was declared or started before
 abbrev pub again : List Record → Record → Bool
-again h (Parse d e k) = list_any (declares_element e) h
-again h (ParseFrame d e f) = list_any (declares_element e) h || knows_document h f
-again h (New d e k) = list_any (declares_element e) h
-again h (NewFrame d e f) = list_any (declares_element e) h || knows_document h f
-again h (Exec e) = list_any (runs_script e) h
-again h (Timer t) = list_any (fires_timeout t) h
-again h (Dcl p d) = list_any (begins_dispatch p) h || list_any (is_dcl d) h
-again h (Load p d) = list_any (begins_dispatch p) h || list_any (is_load d) h
-again h (Eload p e) = list_any (begins_dispatch p) h || list_any (is_eload e) h
-again h (Fire p e n) = list_any (begins_dispatch p) h
-again h (Wfire p d n) = list_any (begins_dispatch p) h
-again h (Reply p r) = list_any (begins_dispatch p) h
-again h (Inline p e n) = list_any (begins_dispatch p) h
-again h (On x) = list_any (declares_handler x) h
-again h (Set t n) = list_any (sets_timeout t) h
-again h (Every i n) = list_any (declares_interval i) h
-again h (Send r) = list_any (declares_request r) h
-again h (Post m) = list_any (posts_message m) h
-again h (Ask a) = list_any (asks_for_anim a) h
-again h (Queue j) = list_any (queues_job j) h
-again h (Message m) = list_any (begins_message m) h
-again h (Anim a) = list_any (begins_anim a) h
-again h (Job j) = list_any (begins_job j) h
-again h (Tick i) = false
-again h (Run p g x) = false
-again h (Close p) = false
-again h (Back p) = false
-again h (Access m l) = false
+again h x = by (names x)
+  where
+    by : Names → Bool
+    by NamesNone = false
+    by (MakesElement e) = list_any (declares_element e) h
+    by (MakesFrame e f) = list_any (declares_element e) h || knows_document h f
+    by (MakesHandler x) = list_any (declares_handler x) h
+    by (MakesTimeout t) = list_any (sets_timeout t) h
+    by (MakesInterval i) = list_any (declares_interval i) h
+    by (MakesRequest r) = list_any (declares_request r) h
+    by (MakesMessage m) = list_any (posts_message m) h
+    by (MakesAnim a) = list_any (asks_for_anim a) h
+    by (MakesJob j) = list_any (queues_job j) h
+    by (StartsScript e) = list_any (runs_script e) h
+    by (StartsTimeout t) = list_any (fires_timeout t) h
+    by (StartsMessage m) = list_any (begins_message m) h
+    by (StartsAnim a) = list_any (begins_anim a) h
+    by (StartsJob j) = list_any (begins_job j) h
+    by (StartsDispatch p) = list_any (begins_dispatch p) h
+    by (StartsDcl p d) = list_any (begins_dispatch p) h || list_any (is_dcl d) h
+    by (StartsLoad p d) = list_any (begins_dispatch p) h || list_any (is_load d) h
+    by (StartsEload p e) = list_any (begins_dispatch p) h || list_any (is_eload e) h
 
 abbrev pub is_script_kind : Kind → Bool
 is_script_kind kinds.Plain = false
@@ -148,34 +140,28 @@ is_script (Some e) = of e.form
 
 -- it runs an element that is no script
 abbrev pub not_script : History → Record → Bool
-not_script h (Exec e) = not (is_script (first_to (makes_element e) h.entries))
-not_script h (Parse d e k) = false
-not_script h (ParseFrame d e f) = false
-not_script h (Timer t) = false
-not_script h (Tick i) = false
-not_script h (Dcl p d) = false
-not_script h (Load p d) = false
-not_script h (Eload p e) = false
-not_script h (Fire p e n) = false
-not_script h (Wfire p d n) = false
-not_script h (Reply p r) = false
-not_script h (Inline p e n) = false
-not_script h (Run p g x) = false
-not_script h (Close p) = false
-not_script h (Back p) = false
-not_script h (Message m) = false
-not_script h (Anim a) = false
-not_script h (Job j) = false
-not_script h (New d e k) = false
-not_script h (NewFrame d e f) = false
-not_script h (On x) = false
-not_script h (Set t n) = false
-not_script h (Every i n) = false
-not_script h (Send r) = false
-not_script h (Post m) = false
-not_script h (Ask a) = false
-not_script h (Queue j) = false
-not_script h (Access m l) = false
+not_script h x = by (names x)
+  where
+    by : Names → Bool
+    by (StartsScript e) = not (is_script (first_to (makes_element e) h.entries))
+    by (StartsTimeout t) = false
+    by (StartsMessage m) = false
+    by (StartsAnim a) = false
+    by (StartsJob j) = false
+    by (StartsDispatch p) = false
+    by (StartsDcl p d) = false
+    by (StartsLoad p d) = false
+    by (StartsEload p e) = false
+    by NamesNone = false
+    by (MakesElement e) = false
+    by (MakesFrame e f) = false
+    by (MakesHandler x) = false
+    by (MakesTimeout t) = false
+    by (MakesInterval i) = false
+    by (MakesRequest r) = false
+    by (MakesMessage m) = false
+    by (MakesAnim a) = false
+    by (MakesJob j) = false
 
 abbrev pub has_open : List Open → Bool
 has_open [] = false
@@ -210,36 +196,18 @@ abbrev pub one_runs : Option Action → Bool
 one_runs None = false
 one_runs (Some a) = true
 
--- It is not allowed at this point of the nesting. Most records that begin an action want an empty stack, and a record that begins none wants a running action.
+-- No record may stand so at this point of the nesting. Most records that begin an action want an empty stack, and a record that begins none wants a running action.
+abbrev pub misplaced_at : History → Nesting → Bool
+misplaced_at h Note = not (one_runs (running h.actions))
+misplaced_at h Alone = has_open h.stack
+misplaced_at h OutsideInline = list_any (λ (o : Open). is_inline o.dispatch) h.stack
+misplaced_at h Called = not (may_call (running h.actions))
+misplaced_at h (Under p) = not (is_top false p h.stack)
+misplaced_at h (Behind p) = not (is_top true p h.stack)
+
+-- it is not allowed there
 abbrev pub misplaced : History → Record → Bool
-misplaced h (Inline p e n) = not (may_call (running h.actions))
-misplaced h (Run p g x) = not (is_top false p h.stack)
-misplaced h (Close p) = not (is_top false p h.stack)
-misplaced h (Back p) = not (is_top true p h.stack)
-misplaced h (Job j) = list_any (λ (o : Open). is_inline o.dispatch) h.stack
-misplaced h (Parse d e k) = has_open h.stack
-misplaced h (ParseFrame d e f) = has_open h.stack
-misplaced h (Exec e) = has_open h.stack
-misplaced h (Timer t) = has_open h.stack
-misplaced h (Tick i) = has_open h.stack
-misplaced h (Dcl p d) = has_open h.stack
-misplaced h (Load p d) = has_open h.stack
-misplaced h (Eload p e) = has_open h.stack
-misplaced h (Fire p e n) = has_open h.stack
-misplaced h (Wfire p d n) = has_open h.stack
-misplaced h (Reply p r) = has_open h.stack
-misplaced h (Message m) = has_open h.stack
-misplaced h (Anim a) = has_open h.stack
-misplaced h (New d e k) = not (one_runs (running h.actions))
-misplaced h (NewFrame d e f) = not (one_runs (running h.actions))
-misplaced h (On x) = not (one_runs (running h.actions))
-misplaced h (Set t n) = not (one_runs (running h.actions))
-misplaced h (Every i n) = not (one_runs (running h.actions))
-misplaced h (Send r) = not (one_runs (running h.actions))
-misplaced h (Post m) = not (one_runs (running h.actions))
-misplaced h (Ask a) = not (one_runs (running h.actions))
-misplaced h (Queue j) = not (one_runs (running h.actions))
-misplaced h (Access m l) = not (one_runs (running h.actions))
+misplaced h x = misplaced_at h (nesting x)
 
 abbrev pub first_cause : List (Bool × Cause) → Option Cause
 first_cause [] = None
@@ -272,34 +240,15 @@ inline_open stack = filter (λ o. is_inline o.dispatch) stack
 
 -- it begins an inline dispatch that is one too many on the stack
 abbrev pub too_deep : History → Record → Bool
-too_deep h (Inline p e n) = not (nat_lt (length (inline_open h.stack)) most_inline)
-too_deep h (Parse d e k) = false
-too_deep h (ParseFrame d e f) = false
-too_deep h (Exec e) = false
-too_deep h (Timer t) = false
-too_deep h (Tick i) = false
-too_deep h (Dcl p d) = false
-too_deep h (Load p d) = false
-too_deep h (Eload p e) = false
-too_deep h (Fire p e n) = false
-too_deep h (Wfire p d n) = false
-too_deep h (Reply p r) = false
-too_deep h (Run p g x) = false
-too_deep h (Close p) = false
-too_deep h (Back p) = false
-too_deep h (Message m) = false
-too_deep h (Anim a) = false
-too_deep h (Job j) = false
-too_deep h (New d e k) = false
-too_deep h (NewFrame d e f) = false
-too_deep h (On x) = false
-too_deep h (Set t n) = false
-too_deep h (Every i n) = false
-too_deep h (Send r) = false
-too_deep h (Post m) = false
-too_deep h (Ask a) = false
-too_deep h (Queue j) = false
-too_deep h (Access m l) = false
+too_deep h x = by (nesting x)
+  where
+    by : Nesting → Bool
+    by Called = not (nat_lt (length (inline_open h.stack)) most_inline)
+    by Note = false
+    by Alone = false
+    by OutsideInline = false
+    by (Under p) = false
+    by (Behind p) = false
 
 -- the first limit that the record would pass
 abbrev pub room : List Record → Record → Option Cause

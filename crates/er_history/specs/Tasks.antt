@@ -1,7 +1,7 @@
 -- Messages, animation callbacks and jobs: tasks of three kinds. Lists of records stand newest first; a list of tasks that have begun stands oldest first.
 use Rattle.std.specs.Prelude.{ℕ, Bool, ◌==◌, if◌then◌else◌, List, [], ◌∷◌, ◌++◌, option_map, Option, Some, None}
 use Rattle.er_trace.specs.declared.record.Record.{Record}
-use Rattle.er_trace.specs.declared.record.Record.TheVariants.{Message, Anim, Job}
+use Rattle.er_trace.specs.Signature.{Names, StartsMessage, StartsAnim, StartsJob, names}
 use Rattle.er_history.specs.History.{Task, told, first_to, maker_by, makes_task, posts_message, asks_for_anim, queues_job}
 use Rattle.er_history.specs.Naming.{begins_message, begins_anim, begins_job}
 
@@ -24,12 +24,15 @@ starts_task OfJob = begins_job
 
 -- the number of the task whose event the record begins
 abbrev pub task_started : TaskKind → Record → Option ℕ
-task_started OfMessage (Message m) = Some m
-task_started OfMessage _ = None
-task_started OfAnim (Anim a) = Some a
-task_started OfAnim _ = None
-task_started OfJob (Job j) = Some j
-task_started OfJob _ = None
+task_started kind x = by kind (names x)
+  where
+    by : TaskKind → Names → Option ℕ
+    by OfMessage (StartsMessage m) = Some m
+    by OfMessage _ = None
+    by OfAnim (StartsAnim a) = Some a
+    by OfAnim _ = None
+    by OfJob (StartsJob j) = Some j
+    by OfJob _ = None
 
 -- the task of this number
 abbrev pub task_made : TaskKind → List Record → ℕ → Option Task

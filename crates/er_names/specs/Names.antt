@@ -1,9 +1,9 @@
 -- What the tables of names stand for. Lists of records stand newest first.
-use Rattle.std.specs.Prelude.{◌≡◌, ℕ, ◌<◌, ◌||◌, Bool, false, List, length, Option, Some, None, is_some, option_map, nat_eq}
+use Rattle.std.specs.Prelude.{◌≡◌, ℕ, ◌<◌, ◌||◌, if◌then◌else◌, Bool, false, List, length, Option, Some, None, is_some, option_map, nat_eq}
 use Rattle.std.specs.List.{list_any}
 use Rattle.indexmap.specs.IndexMap.{get, spare, index_map_len}
 use Rattle.er_trace.specs.declared.record.Record.{Record}
-use Rattle.er_trace.specs.declared.record.Record.TheVariants.{Post, Ask, Queue, Message, Anim, Job}
+use Rattle.er_trace.specs.Versions.{is_of_task}
 use Rattle.er_history.specs.History as history
 use Rattle.er_history.specs.History.{told, first_to, makes_element, makes_timeout, declares_document, declares_handler, declares_interval, declares_request, Action}
 use Rattle.er_history.specs.Naming as naming
@@ -145,19 +145,10 @@ declares_either element inner h = list_any (declares_element element) h || knows
 -- What naming asks of records that neither declare nor begin a message, an animation callback or a job; of those it is asked elsewhere.
 
 abbrev pub unknown_name : List Record → Record → Bool
-unknown_name h (Message m) = false
-unknown_name h (Anim a) = false
-unknown_name h (Job j) = false
-unknown_name h x = naming.unknown h x
+unknown_name h x = if is_of_task x then false else naming.unknown h x
 
 abbrev pub name_again : List Record → Record → Bool
-name_again h (Post m) = false
-name_again h (Ask a) = false
-name_again h (Queue j) = false
-name_again h (Message m) = false
-name_again h (Anim a) = false
-name_again h (Job j) = false
-name_again h x = naming.again h x
+name_again h x = if is_of_task x then false else naming.again h x
 
 -- for every list that the names stand for, the result is what is said of the list
 abbrev pub Answers : {A : Type 0} → Names → (List Record → A) → A → Type 0

@@ -3,12 +3,12 @@ use Rattle.std.proofs.Common.{◌≡◌, ℕ, ◌+◌, ◌≤◌, Bool, true, fa
 use Rattle.std.specs.Prelude.{if◌then◌else◌}
 use Rattle.std.specs.List.{list_any}
 use Rattle.er_trace.specs.declared.record.Record.{Record}
-use Rattle.er_trace.specs.declared.record.Record.TheVariants.{Parse, ParseFrame, Exec, Timer, Tick, Dcl, Load, Eload, Fire, Wfire, Reply, Inline, Run, Close, Back, Message, Anim, Job}
-use Rattle.er_history.specs.History.{Dispatch, is_inline, What, CloseOf, Unnamed, Event, Action, Open, told, dispatch_begun, event_begun, action_begun, stack_after, running}
+use Rattle.er_trace.specs.declared.record.Record.TheVariants.{Dcl, Load, Eload, Fire, Wfire, Reply, Inline, Run, Close, Back, Job}
+use Rattle.er_history.specs.History.{Dispatch, is_inline, What, CloseOf, Unnamed, Event, Action, Open, told, begins, dispatch_begun, event_begun, action_begun, actions_after, stack_after, running}
 use Rattle.er_history.specs.Laws.{Among, IsNumbered}
 use Rattle.er_history.specs.Naming.{IsNamed, misplaced, has_open}
 use Rattle.er_history.proofs.HistoryLemmas.{actions_are_numbered, among_below, same_action}
-use Rattle.er_history.proofs.NamedLemmas.{none_holds}
+use Rattle.er_history.proofs.NamedLemmas.{none_holds, begun_on_none}
 use Rattle.er_history.proofs.DeclaredLemmas.{or_none}
 use Rattle.er_history.proofs.UnfinishedLemmas.{StackBegun, stack_begun}
 use Rattle.er_pieces.proofs.StackLemmas.{On, Top, top_is, stack_from, dispatch_at}
@@ -99,14 +99,17 @@ just_before (a ∷ older) b c numbered number (inr deeper) before =
 level_emptied : (h : List Record) (x : Record) → has_open (told h).stack ≡ false → Level (action_begun (told h) x ∷ (told h).actions) (event_begun (told h) x).what (told h).stack
 level_emptied h x none = subst (Level (action_begun (told h) x ∷ (told h).actions) (event_begun (told h) x).what) (sym (no_open (told h).stack none)) tt
 
+-- a record that puts no dispatch on the stack: a note, or one for which none may be open
+level_kept : (h : List Record) (x : Record) → (begins x ≡ true → has_open (told h).stack ≡ false) → Levels h
+    → Level (actions_after (told h) x) (what_of (running (actions_after (told h) x))) (told h).stack
+level_kept h x none level = by (begins x) none
+  where
+    by : (b : Bool) → (b ≡ true → has_open (told h).stack ≡ false)
+        → Level (if b then action_begun (told h) x ∷ (told h).actions else (told h).actions) (what_of (running (if b then action_begun (told h) x ∷ (told h).actions else (told h).actions))) (told h).stack
+    by true none = level_emptied h x (none refl)
+    by false none = level
+
 level_next : (h : List Record) (x : Record) → misplaced (told h) x ≡ false → IsNamed h → Levels h → Levels (x ∷ h)
-level_next h (Parse d y k) placed named level = level_emptied h (Parse d y k) placed
-level_next h (ParseFrame d y f) placed named level = level_emptied h (ParseFrame d y f) placed
-level_next h (Exec y) placed named level = level_emptied h (Exec y) placed
-level_next h (Timer t) placed named level = level_emptied h (Timer t) placed
-level_next h (Tick i) placed named level = level_emptied h (Tick i) placed
-level_next h (Message m) placed named level = level_emptied h (Message m) placed
-level_next h (Anim a) placed named level = level_emptied h (Anim a) placed
 level_next h (Job j) placed named level =
     on_stack (told h).stack refl (level_more b (told h).actions (what_of (running (told h).actions)) (told h).stack refl (λ o on. let lt = opens_below h o on in omega arith) level)
   where
@@ -171,7 +174,7 @@ level_next h (Back p) placed named level =
     (level_more b (told h).actions (what_of (running (told h).actions)) (told h).stack refl (λ o on. let lt = opens_below h o on in omega arith) level) in
     subst (λ s. Level (b ∷ (told h).actions) b.event.what (stack_after s None (Back p))) (sym back.on_top.is)
     (subst (λ (e : Event). Level (b ∷ (told h).actions) e.what back.on_top.below) (sym back.event) (grown.2 back.caller.piece (inr back.caller.among) back.caller.before))
-level_next h _ placed named level = level
+level_next h x placed named level = level_kept h x (λ b. begun_on_none h x placed b refl) level
 
 pub levels : (h : List Record) → IsNamed h → Levels h
 levels [] named = tt

@@ -1,16 +1,17 @@
 -- Each event is clear of the earlier ones, but for those under its dispatch. Lists of records stand newest first.
-use Rattle.std.proofs.Common.{◌≡◌, ℕ, ◌+◌, ◌<◌, ◌≤◌, true, false, List, [], ◌∷◌, length, Some, None, refl, sym, ap, subst, ◌∙◌, arith, inl, inr, ◌⊎◌}
-use Rattle.std.specs.Prelude.{if◌then◌else◌}
+use Rattle.std.proofs.Common.{◌≡◌, ℕ, ◌+◌, ◌<◌, ◌≤◌, Bool, true, false, List, [], ◌∷◌, length, Some, None, refl, sym, ap, subst, ◌∙◌, arith, inl, inr, ◌⊎◌}
+use Rattle.std.specs.Prelude.{◌&&◌, not, if◌then◌else◌}
 use Rattle.std.proofs.lemmas.Bool.{eq-eqb}
+use Rattle.er_trace.specs.Signature.{nesting}
 use Rattle.er_trace.specs.declared.record.Record.{Record}
-use Rattle.er_trace.specs.declared.record.Record.TheVariants.{Parse, ParseFrame, Exec, Timer, Tick, Dcl, Load, Eload, Fire, Wfire, Reply, Inline, Run, Close, Back, Message, Anim, Job}
+use Rattle.er_trace.specs.declared.record.Record.TheVariants.{Dcl, Load, Eload, Fire, Wfire, Reply, Inline, Run, Close, Back, Job}
 use Rattle.er_paths.proofs.Paths.{place_cases}
 use Rattle.er_history.specs.History.{Dispatch, is_inline, What, BeginOf, HandlerOf, CloseOf, JobRun, Unnamed, Event, Action, Open, told, begins, dispatch_begun, what_begun, event_begun}
 use Rattle.er_history.specs.Laws.{Among}
 use Rattle.er_history.specs.Naming.{IsNamed, misplaced, has_open}
 use Rattle.er_history.specs.Unfinished.{begins_inline}
 use Rattle.er_history.proofs.HistoryLemmas.{told_before, event_below, actions_are_numbered, among_below, goes_on}
-use Rattle.er_history.proofs.NamedLemmas.{none_holds}
+use Rattle.er_history.proofs.NamedLemmas.{none_holds, is_nested, begun_on_none}
 use Rattle.er_pieces.proofs.StackLemmas.{On, Serves, top_is, stack_from, dispatch_at, some_is}
 use Rattle.er_pieces.proofs.CallerLemmas.{among_cases, event_is}
 use Rattle.er_pieces.proofs.ClearLemmas.{IsSorted, sorted, Clear, clear_more}
@@ -129,22 +130,22 @@ starts_serving h x o below begin number top serves none = starts (o.dispatch.beg
           | inr begun ↦ absurd (cc)
         ]
 
+-- it is clear of all that began before
+bare : (h : List Record) (x : Record) → (if begins x && not (is_nested (nesting x)) then bound (event_begun (told h) x) else 0) ≡ 0
+bare h (Back p) = refl
+bare h _ = refl
+
+bare_bound : (h : List Record) (x : Record) → begins x ≡ true → is_nested (nesting x) ≡ false → bound (event_begun (told h) x) ≡ 0
+bare_bound h x begin plain = by (begins x) (is_nested (nesting x)) begin plain (bare h x)
+  where
+    by : (b c : Bool) → b ≡ true → c ≡ false → (if b && not c then bound (event_begun (told h) x) else 0) ≡ 0 → bound (event_begun (told h) x) ≡ 0
+    by true false begin plain is = is
+    by true true begin plain is = absurd (cc)
+    by false c begin plain is = absurd (cc)
+
 pub clear_now : (h : List Record) (x : Record) → misplaced (told h) x ≡ false → begins x ≡ true → goes_on x ≡ false
     → Clear (bound (event_begun (told h) x)) (length (told h).actions) (told (x ∷ h)).actions (told (x ∷ h)).stack
-clear_now h (Parse d y k) placed begin new = starts_top h (Parse d y k) refl refl placed (λ d is. is) (λ q. refl)
-clear_now h (ParseFrame d y f) placed begin new = starts_top h (ParseFrame d y f) refl refl placed (λ d is. is) (λ q. refl)
-clear_now h (Exec y) placed begin new = starts_top h (Exec y) refl refl placed (λ d is. is) (λ q. refl)
-clear_now h (Timer t) placed begin new = starts_top h (Timer t) refl refl placed (λ d is. is) (λ q. refl)
-clear_now h (Tick i) placed begin new = starts_top h (Tick i) refl refl placed (λ d is. is) (λ q. refl)
-clear_now h (Message m) placed begin new = starts_top h (Message m) refl refl placed (λ d is. is) (λ q. refl)
-clear_now h (Anim a) placed begin new = starts_top h (Anim a) refl refl placed (λ d is. is) (λ q. refl)
 clear_now h (Job j) placed begin new = clear_trivially (length (told h).actions) _ _
-clear_now h (Dcl p c) placed begin new = starts_top h (Dcl p c) refl refl placed (λ d is. is) (λ q. refl)
-clear_now h (Load p c) placed begin new = starts_top h (Load p c) refl refl placed (λ d is. is) (λ q. refl)
-clear_now h (Eload p y) placed begin new = starts_top h (Eload p y) refl refl placed (λ d is. is) (λ q. refl)
-clear_now h (Fire p y n) placed begin new = starts_top h (Fire p y n) refl refl placed (λ d is. is) (λ q. refl)
-clear_now h (Wfire p c n) placed begin new = starts_top h (Wfire p c n) refl refl placed (λ d is. is) (λ q. refl)
-clear_now h (Reply p r) placed begin new = starts_top h (Reply p r) refl refl placed (λ d is. is) (λ q. refl)
 clear_now h (Inline p y n) placed begin new = clear_trivially (length (told h).actions) _ _
 clear_now h (Run p g y) placed begin new =
     let is = top_is false p (told h).stack placed in
@@ -157,7 +158,9 @@ clear_now h (Close p) placed begin new =
     subst (λ b. Clear b (length (told h).actions) (told (Close p ∷ h)).actions (told (Close p ∷ h)).stack) (sym at)
     (starts_serving h (Close p) is.top is.below refl refl is.is (λ d serves. rw is.found at serves) refl)
 clear_now h (Back p) placed begin new = absurd (cc)
-clear_now h _ placed begin new = absurd (cc)
+clear_now h x placed begin new =
+    subst (λ b. Clear b (length (told h).actions) (told (x ∷ h)).actions (told (x ∷ h)).stack) (sym (bare_bound h x begin refl))
+    (starts_top h x begin refl (begun_on_none h x placed begin refl) (λ d is. is) (λ q. refl))
 
 -- Each event is clear.
 pub is_clear : (h : List Record) → IsNamed h → (v : Action) → Among v (told h).actions → Clear (bound v.event) v.event.number (told h).actions (told h).stack

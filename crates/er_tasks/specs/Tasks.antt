@@ -3,7 +3,6 @@ use Rattle.std.specs.Prelude.{◌≡◌, ℕ, ◌<◌, ◌==◌, Bool, true, fal
 use Rattle.std.specs.List.{list_any}
 use Rattle.indexmap.specs.IndexMap.{get, spare, index_map_len}
 use Rattle.er_trace.specs.declared.record.Record.{Record}
-use Rattle.er_trace.specs.declared.record.Record.TheVariants.{Post, Ask, Queue, Message, Anim, Job}
 use Rattle.er_trace.specs.Versions.{is_of_task}
 use Rattle.er_history.specs.History as history
 use Rattle.er_history.specs.History.{told, makes_task, Action}
@@ -157,19 +156,10 @@ HaveBegun kind tasks begun =
 -- What naming asks of records that declare or begin a task, and of no other.
 
 abbrev pub unknown_task : List Record → Record → Bool
-unknown_task h (Message m) = naming.unknown h (Message m)
-unknown_task h (Anim a) = naming.unknown h (Anim a)
-unknown_task h (Job j) = naming.unknown h (Job j)
-unknown_task h _ = false
+unknown_task h x = if is_of_task x then naming.unknown h x else false
 
 abbrev pub task_again : List Record → Record → Bool
-task_again h (Post m) = naming.again h (Post m)
-task_again h (Ask a) = naming.again h (Ask a)
-task_again h (Queue j) = naming.again h (Queue j)
-task_again h (Message m) = naming.again h (Message m)
-task_again h (Anim a) = naming.again h (Anim a)
-task_again h (Job j) = naming.again h (Job j)
-task_again h _ = false
+task_again h x = if is_of_task x then naming.again h x else false
 
 -- for every list that the tasks stand for, the result is what is said of the list
 abbrev pub Answers : {A : Type 0} → Tasks → (List Record → A) → A → Type 0

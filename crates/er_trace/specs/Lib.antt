@@ -1,5 +1,6 @@
 pub mod Items
 pub mod Spelling
+pub mod Signature
 pub mod Kinds
 pub mod Limits
 pub mod Versions

@@ -3,6 +3,7 @@
 
 pub mod fault;
 pub mod name;
+pub mod nesting;
 pub mod record;
 pub mod sharing;
 pub mod trace;
