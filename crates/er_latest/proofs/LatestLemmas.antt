@@ -3,6 +3,7 @@ use Rattle.std.proofs.Common.{◌≡◌, ℕ, Bool, true, false, List, [], ◌�
 use Rattle.std.specs.Prelude.{◌==◌, ◌&&◌, if◌then◌else◌}
 use Rattle.std.proofs.lemmas.List.{reverse-append}
 use Rattle.indexmap.specs.IndexMap.{get}
+use Rattle.er_numbers.specs.Numbers.{found}
 use Rattle.er_history.specs.History.{Action, Event, FireAt, WindowFire}
 use Rattle.er_history.specs.Rules.{is_blocking, is_deferred, same_target}
 use Rattle.er_history.specs.Latest.{newest_by, events_of_each, greater, greatest_group}
@@ -18,12 +19,12 @@ use Rattle.er_latest.proofs.RoleLemmas.{is_number, is_pair, is_named, steps_told
 
 -- other tables that answer the same
 pub kept : (old new : Latest) (actions : List Action) → LatestAre old actions
-    → ((k : ℕ) → get nat_eq new.steps k ≡ get nat_eq old.steps k)
-    → ((k : ℕ) → get nat_eq new.blocking k ≡ get nat_eq old.blocking k)
-    → ((k : ℕ) → get nat_eq new.deferred k ≡ get nat_eq old.deferred k)
-    → ((k : ℕ) → get nat_eq new.scripts k ≡ get nat_eq old.scripts k)
-    → ((k : ℕ) → get nat_eq new.ticks k ≡ get nat_eq old.ticks k)
-    → ((k : ℕ) → get nat_eq new.replies k ≡ get nat_eq old.replies k)
+    → ((k : ℕ) → found new.steps k ≡ found old.steps k)
+    → ((k : ℕ) → found new.blocking k ≡ found old.blocking k)
+    → ((k : ℕ) → found new.deferred k ≡ found old.deferred k)
+    → ((k : ℕ) → found new.scripts k ≡ found old.scripts k)
+    → ((k : ℕ) → found new.ticks k ≡ found old.ticks k)
+    → ((k : ℕ) → found new.replies k ≡ found old.replies k)
     → ((k : ℕ) → items_of (get nat_eq new.asyncs k) ≡ items_of (get nat_eq old.asyncs k))
     → ((k : ℕ) → items_of (get nat_eq new.statics k) ≡ items_of (get nat_eq old.statics k))
     → ((p : ℕ × ℕ) → items_of (get pair_eq new.runs p) ≡ items_of (get pair_eq old.runs p))
@@ -89,12 +90,12 @@ run_put (Some h) now p old = refl
 
 -- an action is taken
 pub taken : (old new : Latest) (role : Role) (now : Now) (a : Action) (actions : List Action) → LatestAre old actions → IsTold role now a
-    → ((k : ℕ) → get nat_eq new.steps k ≡ put_last (step_of (said_by role)) now.event k (get nat_eq old.steps k))
-    → ((k : ℕ) → get nat_eq new.blocking k ≡ put_last (blocking_of (said_by role)) now.event k (get nat_eq old.blocking k))
-    → ((k : ℕ) → get nat_eq new.deferred k ≡ put_last (deferred_of (said_by role)) now.event k (get nat_eq old.deferred k))
-    → ((k : ℕ) → get nat_eq new.scripts k ≡ put_last (deferred_of (said_by role)) (script_of (said_by role)) k (get nat_eq old.scripts k))
-    → ((k : ℕ) → get nat_eq new.ticks k ≡ put_last (tick_of (said_by role)) now.event k (get nat_eq old.ticks k))
-    → ((k : ℕ) → get nat_eq new.replies k ≡ put_last (reply_of (said_by role)) now.event k (get nat_eq old.replies k))
+    → ((k : ℕ) → found new.steps k ≡ put_last (step_of (said_by role)) now.event k (found old.steps k))
+    → ((k : ℕ) → found new.blocking k ≡ put_last (blocking_of (said_by role)) now.event k (found old.blocking k))
+    → ((k : ℕ) → found new.deferred k ≡ put_last (deferred_of (said_by role)) now.event k (found old.deferred k))
+    → ((k : ℕ) → found new.scripts k ≡ put_last (deferred_of (said_by role)) (script_of (said_by role)) k (found old.scripts k))
+    → ((k : ℕ) → found new.ticks k ≡ put_last (tick_of (said_by role)) now.event k (found old.ticks k))
+    → ((k : ℕ) → found new.replies k ≡ put_last (reply_of (said_by role)) now.event k (found old.replies k))
     → ((k : ℕ) → items_of (get nat_eq new.asyncs k) ≡ put_first nat_eq (async_of (said_by role)) now k (items_of (get nat_eq old.asyncs k)))
     → ((k : ℕ) → items_of (get nat_eq new.statics k) ≡ put_first nat_eq (static_of (said_by role)) now k (items_of (get nat_eq old.statics k)))
     → ((p : ℕ × ℕ) → items_of (get pair_eq new.runs p) ≡ put_first pair_eq (handler_of (said_by role)) now p (items_of (get pair_eq old.runs p)))

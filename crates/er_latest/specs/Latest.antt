@@ -1,6 +1,7 @@
 -- What the tables stand for: what came last among a list of actions. Lists of actions stand newest first.
 use Rattle.std.specs.Prelude.{◌≡◌, ℕ, ◌==◌, Bool, List, Option, None, nat_eq, reverse}
 use Rattle.indexmap.specs.IndexMap.{get}
+use Rattle.er_numbers.specs.Numbers.{found}
 use Rattle.er_history.specs.History.{Event, Action, FireAt, WindowFire}
 use Rattle.er_history.specs.Rules.{is_blocking, is_deferred}
 use Rattle.er_history.specs.Latest.{newest_by, events_of_each, greatest_group}
@@ -34,16 +35,16 @@ closes_at_window d n actions = last_close_at (WindowFire d n None) actions
 
 -- each table has what the list of actions says
 pub record LatestAre (latest : Latest) (actions : List Action) : Type 0 where
-  pub steps : (d : ℕ) → get nat_eq latest.steps d ≡ event_in (newest_by (is_step_of d) actions)
+  pub steps : (d : ℕ) → found latest.steps d ≡ event_in (newest_by (is_step_of d) actions)
   pub blocking : (d : ℕ)
-      → get nat_eq latest.blocking d ≡ event_in (newest_by (is_run_of is_blocking d) actions)
+      → found latest.blocking d ≡ event_in (newest_by (is_run_of is_blocking d) actions)
   pub deferred : (d : ℕ)
-      → get nat_eq latest.deferred d ≡ event_in (newest_by (is_run_of is_deferred d) actions)
+      → found latest.deferred d ≡ event_in (newest_by (is_run_of is_deferred d) actions)
   pub scripts : (d : ℕ)
-      → get nat_eq latest.scripts d ≡ script_in (newest_by (is_run_of is_deferred d) actions)
-  pub ticks : (i : ℕ) → get nat_eq latest.ticks i ≡ event_in (newest_by (is_tick_of i) actions)
+      → found latest.scripts d ≡ script_in (newest_by (is_run_of is_deferred d) actions)
+  pub ticks : (i : ℕ) → found latest.ticks i ≡ event_in (newest_by (is_tick_of i) actions)
   pub replies : (r : ℕ)
-      → get nat_eq latest.replies r ≡ event_in (newest_by (closes (is_reply_of r)) actions)
+      → found latest.replies r ≡ event_in (newest_by (closes (is_reply_of r)) actions)
   pub asyncs : (d : ℕ)
       → items_of (get nat_eq latest.asyncs d)
       ≡ reverse (events_of_each (is_run_of is_static_async d) actions)

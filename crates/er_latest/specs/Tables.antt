@@ -6,6 +6,8 @@ use Rattle.std.specs.Cmp.Lexicographic.{pointwise}
 use Rattle.indexmap.specs.IndexMap.{IndexMap, get, spare}
 use Rattle.er_history.specs.Latest.{greater}
 use Rattle.er_history.specs.declared.firsts.Now.{Now}
+use Rattle.er_numbers.specs.declared.Numbers.{Numbers}
+use Rattle.er_numbers.specs.Numbers.{HasRoomUnder}
 
 abbrev pub Table : Type 0 → Type 0 → Type 0
 Table K V = IndexMap K V (BuildHasherDefault FoldHasher)
@@ -17,10 +19,10 @@ abbrev pub put_last : Option ℕ → ℕ → ℕ → Option ℕ → Option ℕ
 put_last None value k old = old
 put_last (Some n) value k old = if n == k then Some value else old
 
--- there is room for a number more, if there is one
-abbrev pub HasPlace : {K V : Type 0} → Table K V → Option K → Type 0
+-- there is room for a value under the number, if there is one
+abbrev pub HasPlace : Numbers ℕ → Option ℕ → Type 0
 HasPlace table None = Unit {0}
-HasPlace table (Some k) = 0 < spare table
+HasPlace table (Some k) = HasRoomUnder table k
 
 -- Numbers by names and numbers.
 

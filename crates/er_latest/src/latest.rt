@@ -8,6 +8,7 @@ ghost use Rattle.er_latest.specs.Latest.{LatestAre, HasRoomOf, IsTold};
 use crate::role::Role;
 use crate::{groups, lists, named, newest};
 use er_history::firsts::Now;
+use er_numbers::Numbers;
 use er_outside::NoMemory;
 use er_trace::name::Name;
 use indexmap::IndexMap;
@@ -17,17 +18,17 @@ use std::hash::Hash;
 /// What came last among the actions, by document, interval, request, dispatch and target.
 pub struct Latest {
     /// The last parse step, by document.
-    pub(crate) steps: IndexMap<u32, u32>,
+    pub(crate) steps: Numbers<u32>,
     /// The last run of a blocking script, by document.
-    pub(crate) blocking: IndexMap<u32, u32>,
+    pub(crate) blocking: Numbers<u32>,
     /// The last run of a deferred script, by document.
-    pub(crate) deferred: IndexMap<u32, u32>,
+    pub(crate) deferred: Numbers<u32>,
     /// That script, by document.
-    pub(crate) scripts: IndexMap<u32, u32>,
+    pub(crate) scripts: Numbers<u32>,
     /// The last tick, by interval.
-    pub(crate) ticks: IndexMap<u32, u32>,
+    pub(crate) ticks: Numbers<u32>,
     /// The last close of a reply, by request.
-    pub(crate) replies: IndexMap<u32, u32>,
+    pub(crate) replies: Numbers<u32>,
     /// The runs of static async scripts, by document.
     pub(crate) asyncs: IndexMap<u32, Vec<u32>>,
     /// The closes of first load events of static elements that are not plain, by document.
@@ -60,12 +61,12 @@ impl Drop for Latest {
             windows,
             alloc: _,
         } = self;
-        let_go(steps);
-        let_go(blocking);
-        let_go(deferred);
-        let_go(scripts);
-        let_go(ticks);
-        let_go(replies);
+        numbers_go(steps);
+        numbers_go(blocking);
+        numbers_go(deferred);
+        numbers_go(scripts);
+        numbers_go(ticks);
+        numbers_go(replies);
         let_go(asyncs);
         let_go(statics);
         let_go(runs);
@@ -78,18 +79,21 @@ impl Drop for Latest {
 /// Lets a table go, by a call: the ends of twelve tables written out in a row take long to prove.
 fn let_go<K: Eq + Hash + Drop, V: Drop>(_: IndexMap<K, V>) {}
 
+/// The same of numbers by numbers.
+fn numbers_go(_: Numbers<u32>) {}
+
 impl Latest {
     /// No action yet. It takes no memory.
     pub fn new(alloc: Global) -> Self
         ensures { LatestAre result [] }
     {
         Latest {
-            steps: IndexMap::new(alloc),
-            blocking: IndexMap::new(alloc),
-            deferred: IndexMap::new(alloc),
-            scripts: IndexMap::new(alloc),
-            ticks: IndexMap::new(alloc),
-            replies: IndexMap::new(alloc),
+            steps: Numbers::new(alloc),
+            blocking: Numbers::new(alloc),
+            deferred: Numbers::new(alloc),
+            scripts: Numbers::new(alloc),
+            ticks: Numbers::new(alloc),
+            replies: Numbers::new(alloc),
             asyncs: IndexMap::new(alloc),
             statics: IndexMap::new(alloc),
             runs: IndexMap::new(alloc),

@@ -16,28 +16,28 @@ impl Latest {
     pub fn last_parse(&self, doc: u32) -> Option<u32>
         ensures { Answers self.now (last_event (is_step_of doc)) result }
     {
-        self.steps.get(&doc).copied()
+        self.steps.find(doc)
     }
 
     /// The event of the latest run of a blocking script.
     pub fn last_blocking_run(&self, doc: u32) -> Option<u32>
         ensures { Answers self.now (last_event (is_run_of is_blocking doc)) result }
     {
-        self.blocking.get(&doc).copied()
+        self.blocking.find(doc)
     }
 
     /// The event of the latest run of a deferred script.
     pub fn last_deferred_run(&self, doc: u32) -> Option<u32>
         ensures { Answers self.now (last_event (is_run_of is_deferred doc)) result }
     {
-        self.deferred.get(&doc).copied()
+        self.deferred.find(doc)
     }
 
     /// That script.
     pub fn last_deferred_element(&self, doc: u32) -> Option<u32>
         ensures { Answers self.now (last_script (is_run_of is_deferred doc)) result }
     {
-        self.scripts.get(&doc).copied()
+        self.scripts.find(doc)
     }
 
     /// The events of the runs of static async scripts, oldest first.
@@ -61,14 +61,14 @@ impl Latest {
     pub fn last_tick(&self, interval: u32) -> Option<u32>
         ensures { Answers self.now (last_event (is_tick_of interval)) result }
     {
-        self.ticks.get(&interval).copied()
+        self.ticks.find(interval)
     }
 
     /// The event of the close of the latest closed reply.
     pub fn last_reply_close(&self, request: u32) -> Option<u32>
         ensures { Answers self.now (last_event (closes (is_reply_of request))) result }
     {
-        self.replies.get(&request).copied()
+        self.replies.find(request)
     }
 }
 

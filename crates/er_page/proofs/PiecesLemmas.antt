@@ -1,11 +1,11 @@
 -- What the pieces tell of an action.
 use Rattle.std.proofs.Common.{◌≡◌, ℕ, ◌<◌, Bool, true, false, List, [], ◌∷◌, ◌++◌, length, map, reverse, get_or, option_map, Option, Some, None, inl, inr, refl, sym, ap, subst, ◌∙◌, arith}
-use Rattle.std.specs.Prelude.{◌==◌, if◌then◌else◌, slice_get, nat_eq}
+use Rattle.std.specs.Prelude.{◌==◌, if◌then◌else◌, slice_get}
 use Rattle.std.proofs.lemmas.Bool.{eqb-true, eqb-false}
 use Rattle.std.proofs.lemmas.List.{reverse-append, reverse-reverse, length-reverse, length-map, get_or_append_left}
 use Rattle.std.proofs.Math.Seq.{get_or-append_seam}
 use Rattle.std.proofs.lemmas.Option.{slice_get_within, slice_get_cases, get_or_from_slice_get}
-use Rattle.indexmap.specs.IndexMap.{get}
+use Rattle.er_numbers.specs.Numbers.{found}
 use Rattle.er_trace.specs.declared.record.Record.{Record}
 use Rattle.er_history.specs.History.{told, begins, action_at, action_begun, event_begun, Action}
 use Rattle.er_history.specs.Latest.{newest_by, is_event}
@@ -86,7 +86,7 @@ latest_put a older u n m o e f g = rw f (rw g (step (a.event.number == u)))
 
 pub piece_taken : (old new : Pieces) (h : List Record) (x : Record) (start : Start) → PiecesAre old h → option_map about_start (Some start) ≡ about_begun h x
     → new.list.items ≡ old.list.items ++ record { begin = x; start = start } ∷ []
-    → ((u : ℕ) → get nat_eq new.latest u ≡ (if start.event == u then Some (length old.list.items) else get nat_eq old.latest u))
+    → ((u : ℕ) → found new.latest u ≡ (if start.event == u then Some (length old.list.items) else found old.latest u))
     → PiecesAre new (x ∷ h)
 piece_taken old new h x start are is items latest = by (begins x) refl is
   where
@@ -100,12 +100,12 @@ piece_taken old new h x start are is items latest = by (begins x) refl is
         = piece_put old.list.items _ (told h).actions (action_begun (told h) x) are.all (ap (λ (m : About). record { begin = x; about = m }) about_is) in
         record {
           all = ap (λ ps. map kept (reverse ps)) items ∙ (all ∙ ap (map seen) (sym actions));
-          latest = λ u. latest u ∙ (latest_put (action_begun (told h) x) (told h).actions u (length old.list.items) start.event (get nat_eq old.latest u) (are.latest u) event long ∙ ap (λ acts. piece_in (newest_by (is_event u) acts)) (sym actions));
+          latest = λ u. latest u ∙ (latest_put (action_begun (told h) x) (told h).actions u (length old.list.items) start.event (found old.latest u) (are.latest u) event long ∙ ap (λ acts. piece_in (newest_by (is_event u) acts)) (sym actions));
         }
     by false begin same = absurd (cc)
 
 -- a note is no piece
-pub pieces_kept : (old new : Pieces) (h : List Record) (x : Record) → PiecesAre old h → None ≡ about_begun h x → new.list.items ≡ old.list.items → ((u : ℕ) → get nat_eq new.latest u ≡ get nat_eq old.latest u) → PiecesAre new (x ∷ h)
+pub pieces_kept : (old new : Pieces) (h : List Record) (x : Record) → PiecesAre old h → None ≡ about_begun h x → new.list.items ≡ old.list.items → ((u : ℕ) → found new.latest u ≡ found old.latest u) → PiecesAre new (x ∷ h)
 pieces_kept old new h x are is items latest = by (begins x) refl is
   where
     by : (b : Bool) → begins x ≡ b → None ≡ (if b then Some (about (event_begun (told h) x)) else None) → PiecesAre new (x ∷ h)
@@ -117,5 +117,5 @@ pieces_kept old new h x are is items latest = by (begins x) refl is
           latest = λ u. latest u ∙ (are.latest u ∙ ap (λ acts. piece_in (newest_by (is_event u) acts)) (sym actions));
         }
 
-pub pieces_same : (old new : Pieces) (h : List Record) → PiecesAre old h → new.list.items ≡ old.list.items → ((u : ℕ) → get nat_eq new.latest u ≡ get nat_eq old.latest u) → PiecesAre new h
+pub pieces_same : (old new : Pieces) (h : List Record) → PiecesAre old h → new.list.items ≡ old.list.items → ((u : ℕ) → found new.latest u ≡ found old.latest u) → PiecesAre new h
 pieces_same old new h are items latest = record { all = ap (λ ps. map kept (reverse ps)) items ∙ are.all; latest = λ u. latest u ∙ are.latest u }

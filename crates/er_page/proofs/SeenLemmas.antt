@@ -2,9 +2,9 @@
 use Rattle.std.proofs.Common.{◌≡◌, ℕ, ◌<◌, Bool, true, false, List, [], ◌∷◌, length, map, reverse, option_map, Option, Some, None, inl, inr, refl, sym, ap, ◌∙◌, arith}
 use Rattle.std.proofs.Math.Logic.{∥∥₁_elim}
 use Rattle.std.proofs.Props.{props}
-use Rattle.std.specs.Prelude.{◌==◌, if◌then◌else◌, slice_get, nat_eq}
+use Rattle.std.specs.Prelude.{◌==◌, if◌then◌else◌, slice_get}
 use Rattle.std.proofs.lemmas.Bool.{eq-eqb}
-use Rattle.indexmap.specs.IndexMap.{get}
+use Rattle.er_numbers.specs.Numbers.{found}
 use Rattle.er_trace.specs.declared.record.Record.{Record}
 use Rattle.er_history.specs.History.{told, running, action_at, Action}
 use Rattle.er_history.specs.Latest.{newest_by, is_event}
@@ -80,16 +80,16 @@ some_newest u (b ∷ older) a among own none = by (b.event.number == u) refl amo
         cc
     by false e (inr deeper) none rest = rest deeper none
 
-pub latest_there : (page : Page) (event : ℕ) → ∥ HasEvent page event ∥₁ → get nat_eq page.pieces.latest event ≡ None → ⊥
+pub latest_there : (page : Page) (event : ℕ) → ∥ HasEvent page event ∥₁ → found page.pieces.latest event ≡ None → ⊥
 latest_there page event some none = ∥∥₁_elim some (hlevel props) (λ has. refused has)
   where
     of : (o : Option Action) → piece_in o ≡ None → o ≡ None
     of None e = refl
     of (Some a) e = cc
 
-    found : (h : List Record) (o : Option Action) → action_at event (told h).actions ≡ o → option_map (λ (a : Action). a.event.number) o ≡ Some event → newest_by (is_event event) (told h).actions ≡ None → ⊥
-    found h None at first none = cc
-    found h (Some a) at first none = some_newest event (told h).actions a (action_at_among event (told h).actions a at).0 (cc) none
+    begun : (h : List Record) (o : Option Action) → action_at event (told h).actions ≡ o → option_map (λ (a : Action). a.event.number) o ≡ Some event → newest_by (is_event event) (told h).actions ≡ None → ⊥
+    begun h None at first none = cc
+    begun h (Some a) at first none = some_newest event (told h).actions a (action_at_among event (told h).actions a at).0 (cc) none
 
     refused : HasEvent page event → ⊥
-    refused is = found is.list (action_at event (told is.list).actions) refl is.first (of (newest_by (is_event event) (told is.list).actions) (sym (is.stands.pieces.latest event) ∙ none))
+    refused is = begun is.list (action_at event (told is.list).actions) refl is.first (of (newest_by (is_event event) (told is.list).actions) (sym (is.stands.pieces.latest event) ∙ none))

@@ -2,9 +2,9 @@
 use Rattle.std.proofs.Common.{◌≡◌, ℕ, ◌≤◌, Bool, true, false, List, [], ◌∷◌, ◌++◌, length, map, reverse, Option, Some, None, refl, sym, ap, ◌∙◌, arith}
 use Rattle.std.proofs.Math.Logic.{∥∥₁_elim, ∥∥₁_map}
 use Rattle.std.proofs.Props.{props}
-use Rattle.std.specs.Prelude.{◌==◌, if◌then◌else◌, nat_eq}
+use Rattle.std.specs.Prelude.{◌==◌, if◌then◌else◌}
 use Rattle.std.proofs.lemmas.List.{length-map}
-use Rattle.indexmap.specs.IndexMap.{get}
+use Rattle.er_numbers.specs.Numbers.{found}
 use Rattle.er_trace.specs.declared.record.Record.{Record}
 use Rattle.er_trace.specs.declared.record.Record.TheVariants.{Inline, New, NewFrame, On, Set, Every, Send, Access, Post, Ask, Queue}
 use Rattle.er_trace.specs.declared.record.Loc.{Loc}
@@ -72,7 +72,7 @@ pub page_begun : (new : Page) (stack : Stack) (pieces : Pieces) (latest : Latest
     → (IsNow h x (record { action = action; event = start.event }) → TasksAre new.tasks (x ∷ h))
     → reverse new.stack.levels.items ≡ levels_after (reverse stack.levels.items) action x
     → new.pieces.list.items ≡ pieces.list.items ++ record { begin = x; start = start } ∷ []
-    → ((u : ℕ) → get nat_eq new.pieces.latest u ≡ (if start.event == u then Some (length pieces.list.items) else get nat_eq pieces.latest u))
+    → ((u : ℕ) → found new.pieces.latest u ≡ (if start.event == u then Some (length pieces.list.items) else found pieces.latest u))
     → said_by role ≡ role_by h (first_in pieces.list.items x start) (begin_in pieces.list.items start.serves)
     → ((actions : List Action) (a : Action) → LatestAre latest actions → IsTold role (record { action = action; event = start.event }) a → LatestAre new.latest (a ∷ actions))
     → ((p : ℕ) → jobs_at new.within p ≡ jobs_at within p ++ job_under p dispatch action)
@@ -135,7 +135,7 @@ page_noted_with old new h x is next note names tasks stack pieces latest within 
   names = names;
   tasks = tasks;
   stack = record { levels = ap (λ (s : Stack). reverse s.levels.items) stack ∙ (is.stack.levels ∙ ap levels_of (sym (note_stack x h note))) };
-  pieces = pieces_kept old.pieces new.pieces h x is.pieces (rw note refl) (ap (λ (p : Pieces). p.list.items) pieces) (λ u. ap (λ (p : Pieces). get nat_eq p.latest u) pieces);
+  pieces = pieces_kept old.pieces new.pieces h x is.pieces (rw note refl) (ap (λ (p : Pieces). p.list.items) pieces) (λ u. ap (λ (p : Pieces). found p.latest u) pieces);
   latest = rw (note, latest) is.latest;
   within = within_noted old.within new.within h x note within is.within;
   accepted = (next.0, next.1, is.accepted);

@@ -1,6 +1,6 @@
 -- What the pieces of a page stand for.
-use Rattle.std.specs.Prelude.{◌≡◌, ℕ, Bool, true, false, if◌then◌else◌, List, [], ◌∷◌, map, length, reverse, Option, Some, None, nat_eq}
-use Rattle.indexmap.specs.IndexMap.{get}
+use Rattle.std.specs.Prelude.{◌≡◌, ℕ, Bool, true, false, if◌then◌else◌, List, [], ◌∷◌, map, length, reverse, Option, Some, None}
+use Rattle.er_numbers.specs.Numbers.{found}
 use Rattle.er_trace.specs.declared.record.Record.{Record}
 use Rattle.er_trace.specs.declared.record.Record.TheVariants.{Parse, ParseFrame, Exec, Timer, Tick, Dcl, Load, Eload, Fire, Wfire, Reply, Inline, Run, Close, Back, New, NewFrame, On, Set, Every, Send, Access, Post, Ask, Queue, Message, Anim, Job}
 use Rattle.er_history.specs.History.{told, begins, event_begun, Action, Event, What, ParseStep, ScriptRun, TimeoutRun, TickRun, BeginOf, HandlerOf, CloseOf, MessageRun, AnimRun, JobRun, Unnamed}
@@ -103,7 +103,7 @@ kept p = record { begin = p.begin; about = about_start p.start }
 -- they are the actions, and the latest of each event is known
 pub record PiecesAre (pieces : Pieces) (h : List Record) : Type 0 where
   pub all : map kept (reverse pieces.list.items) ≡ map seen (told h).actions
-  pub latest : (u : ℕ) → get nat_eq pieces.latest u ≡ latest_piece h u
+  pub latest : (u : ℕ) → found pieces.latest u ≡ latest_piece h u
 
 abbrev pub start_in : Piece → Start
 start_in p = p.start

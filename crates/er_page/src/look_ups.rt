@@ -73,10 +73,10 @@ impl Page {
         requires is_event { ∥ HasEvent self.now event ∥₁ }
         ensures { Answers self.now (λ h. says.latest_piece h event) (Some result) }
     {
-        let Some(piece) = self.pieces.latest.get(&event) else {
+        let Some(piece) = self.pieces.latest.find(event) else {
             unreachable!()
         };
-        *piece
+        piece
     }
 
     /// What the event is.

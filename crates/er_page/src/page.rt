@@ -150,7 +150,7 @@ impl Page {
         let begin = rec.copy()?;
         let action = self.pieces.count();
         let event = start.event;
-        self.pieces.make_room()?;
+        self.pieces.make_room(event)?;
         self.stack.make_room()?;
         let first = first_of(&self.pieces, rec, start);
         let role = role_by(&self.names, first, served_of(&self.pieces, start));

@@ -3,8 +3,8 @@
 ghost use Rattle.std.specs.Prelude.{◌≡◌, ◌<◌, ◌^◌, length};
 ghost use Rattle.er_history.specs.History.{begins};
 
+use er_numbers::Numbers;
 use er_trace::record::Record;
-use indexmap::IndexMap;
 
 /// What an event is.
 #[derive(Clone, Copy, Debug, PartialEq, Eq)]
@@ -46,10 +46,10 @@ pub(crate) struct Piece {
     pub(crate) start: Start,
 }
 
-/// All pieces, oldest first, and the latest piece of each event.
+/// All pieces, oldest first, and under each event its latest piece.
 pub(crate) struct Pieces {
     pub(crate) list: Vec<Piece>,
-    pub(crate) latest: IndexMap<u32, u32>,
+    pub(crate) latest: Numbers<u32>,
     ghost few: { length list.items < 2 ^ 32 },
 }
 

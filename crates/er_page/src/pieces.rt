@@ -1,7 +1,7 @@
 //! All pieces, how one is put to them, and the latest of each event.
 
 ghost use Rattle.std.specs.Prelude.{◌≡◌, ℕ, ◌+◌, ◌<◌, ◌^◌, ◌==◌, if◌then◌else◌, List, [], ◌∷◌, ◌++◌, Some, None, reverse, length, slice_get, option_map, nat_eq, OnOk, vec_len, vec_capacity};
-ghost use Rattle.indexmap.specs.IndexMap.{get, spare};
+ghost use Rattle.er_numbers.specs.Numbers.{found, HasRoomUnder};
 ghost use Rattle.er_history.specs.History.{told, running};
 ghost use Rattle.er_history.specs.Naming.{may_call};
 ghost use Rattle.er_trace.specs.declared.record.Record.{Record};
@@ -10,9 +10,9 @@ ghost use Rattle.er_page.specs.Pieces.{PiecesAre, newest_of, now_of, start_in, c
 
 use crate::piece::{Begun, Piece, Pieces, Start};
 use er_history::firsts::Now;
+use er_numbers::Numbers;
 use er_outside::NoMemory;
 use er_trace::record::Record;
-use indexmap::IndexMap;
 use std::alloc::Global;
 
 impl Pieces {
@@ -22,42 +22,37 @@ impl Pieces {
     {
         Pieces {
             list: Vec::new(alloc),
-            latest: IndexMap::new(alloc),
+            latest: Numbers::new(alloc),
         }
     }
 
-    /// Makes room for one piece more.
-    pub(crate) fn make_room(&mut self) -> Result<(), NoMemory>
+    /// Makes room for one piece more, which is of this event.
+    pub(crate) fn make_room(&mut self, event: u32) -> Result<(), NoMemory>
         ensures list { self.new.list.items ≡ self.old.list.items }
-        ensures latest { (u : ℕ) → get nat_eq self.new.latest u ≡ get nat_eq self.old.latest u }
+        ensures latest { (u : ℕ) → found self.new.latest u ≡ found self.old.latest u }
         ensures room { OnOk result (vec_len self.new.list < vec_capacity self.new.list) }
-        ensures place { OnOk result (0 < spare self.new.latest) }
+        ensures place { OnOk result (HasRoomUnder self.new.latest event) }
     {
         let Ok(()) = self.list.reserve(1) else {
             return Err(NoMemory);
         };
-        let Ok(()) = self.latest.reserve(1) else {
-            return Err(NoMemory);
-        };
-        Ok(())
+        self.latest.make_room(event)
     }
 
     /// Takes the piece that a record begins.
     pub(crate) fn take(&mut self, begin: Record, start: Start)
         requires few { length self.old.list.items + 1 < 2 ^ 32 }
         requires room { vec_len self.old.list < vec_capacity self.old.list }
-        requires place { 0 < spare self.old.latest }
+        requires place { HasRoomUnder self.old.latest start.event }
         ensures list { self.new.list.items
             ≡ self.old.list.items ++ record { begin = begin; start = start } ∷ [] }
-        ensures latest { (u : ℕ) → get nat_eq self.new.latest u
+        ensures latest { (u : ℕ) → found self.new.latest u
             ≡ (if start.event == u
             then Some (length self.old.list.items)
-            else get nat_eq self.old.latest u) }
+            else found self.old.latest u) }
     {
         let action = self.list.len() as u32;
-        let Ok(_) = self.latest.insert(start.event, action) else {
-            unreachable!()
-        };
+        self.latest.put(start.event, action);
         self.list.push_reserved(Piece { begin, start });
     }
 

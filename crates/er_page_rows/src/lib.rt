@@ -4,6 +4,8 @@
 #[cfg(test)]
 mod answers;
 #[cfg(test)]
+mod by_number;
+#[cfg(test)]
 mod letting_go;
 #[cfg(test)]
 mod limits;
