@@ -6,4 +6,5 @@ use Rattle.er_text.specs.Bytes.{line_end}
 abbrev pub first_line : List ℕ → Option (List ℕ × List ℕ)
 first_line [] = None
 first_line (b ∷ bytes) =
-    if b == line_end then Some ([], bytes) else option_map (λ parts. (b ∷ parts.0, parts.1)) (first_line bytes)
+    if b == line_end then Some ([], bytes)
+    else option_map (λ parts. (b ∷ parts.0, parts.1)) (first_line bytes)

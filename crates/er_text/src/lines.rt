@@ -48,7 +48,8 @@ impl<'a> Words<'a> {
     /// an end of the line.
     #[tactic(auto, using(crate::proofs::WordLaws::words_found, crate::proofs::WordLaws::words_one))]
     pub fn next(&mut self) -> Option<&'a [u8]>
-        ensures { MatchOption result ((self.old ≡ []) × (self.new ≡ [])) (λ word. self.old ≡ word.now ∷ self.new) }
+        ensures { MatchOption result ((self.old ≡ []) × (self.new ≡ []))
+            (λ word. self.old ≡ word.now ∷ self.new) }
     {
         let rest = self.rest?;
         let Some(end) = first_place(rest, b' ') else {

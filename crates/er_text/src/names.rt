@@ -33,7 +33,8 @@ fn value_of_digit(digit: u8) -> Option<u8>
 
 /// The byte that stands first in a spelling, and the spelling of the others.
 fn take_byte(spelling: &[u8]) -> Option<(u8, &[u8])>
-    ensures { MatchOption result ((b : ℕ) (rest : List ℕ) → b < 256 → spelling.now ≢ byte_spelling b ++ rest)
+    ensures { MatchOption result
+        ((b : ℕ) (rest : List ℕ) → b < 256 → spelling.now ≢ byte_spelling b ++ rest)
         (λ parts. (parts.0 < 256) × (spelling.now ≡ byte_spelling parts.0 ++ parts.1.now)) }
 {
     let (first, rest) = spelling.split_first()?;
