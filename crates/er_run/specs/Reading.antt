@@ -31,7 +31,8 @@ HasVersion f v bytes = (w : Version) → BeginsWith f w bytes → v ≡ w
 abbrev pub IsReading : Format → Version → List ℕ → List Record → Option LineRefusal → Type 0
 IsReading f v bytes records None = IsTrace f v bytes records
 IsReading f v bytes records (Some refused) = (place : Place) × Refuses f bytes place refused.cause
-    × (refused.line ≡ line_number place) × (records ≡ records_before place) × HasVersion f v bytes
+    × (refused.line ≡ line_number place) × (records ≡ records_before place)
+    × HasVersion f v bytes
 
 -- what a feed keeps and the session stand for these bytes and for the records of their whole lines
 pub record IsAt (f : Format) (mark : Mark) (kept : List ℕ) (fault : Option FeedFault)

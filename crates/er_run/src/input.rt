@@ -143,7 +143,8 @@ fn line_at_end<L: Lines>(feed: &LineFeed<L>) -> Option<LineRefusal>
     requires { feed.now.fault ≡ None }
     ensures { (bytes : List ℕ) (records : List Record)
         → Stands L.format feed.now.mark feed.now.line.items feed.now.fault bytes records
-        → (v : Version) → HasVersion L.format v bytes → IsReading L.format v bytes records result }
+        → (v : Version) → HasVersion L.format v bytes
+        → IsReading L.format v bytes records result }
 {
     match feed.finish() {
         Ok(()) => None,
