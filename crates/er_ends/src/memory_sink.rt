@@ -48,7 +48,12 @@ impl MemorySink {
     ) -> Result<MemorySink, NoMemory>
         requires { 0 < most }
         ensures { IfOk result (λ s. s ≡ record {
-            got = []; room = room; most = most; failing = failing.items; calls = 0; faults = 0
+          got = [];
+          room = room;
+          most = most;
+          failing = failing.items;
+          calls = 0;
+          faults = 0;
         }) }
     {
         Ok(MemorySink {
@@ -109,14 +114,16 @@ impl Sink for MemorySink {
         ensures stands { OnOk result (self.new.faults ≡ self.old.faults) }
         ensures fails { IsErr result ↔ ((0 < length piece.now)
             × (Contains self.old.failing (next_call self.old.calls)
-                ⊎ (self.old.room ≤ length self.old.got))) }
+            ⊎ (self.old.room ≤ length self.old.got))) }
         ensures amount { IfOk result (λ n. n
             ≡ min self.old.most (min (length piece.now) (self.old.room - length self.old.got))) }
         ensures after { IfOk result (λ n. self.new ≡ record self.old {
-            got = self.old.got ++ take n piece.now; calls = next_call self.old.calls
+          got = self.old.got ++ take n piece.now;
+          calls = next_call self.old.calls;
         }) }
         ensures after_fault { OnErr result (self.new ≡ record self.old {
-            calls = next_call self.old.calls; faults = one_more self.old.faults
+          calls = next_call self.old.calls;
+          faults = one_more self.old.faults;
         }) }
     {
         let fails = self.calls.begin();

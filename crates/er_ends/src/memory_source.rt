@@ -40,7 +40,11 @@ impl MemorySource {
     pub fn new(bytes: Vec<u8>, most: u32, failing: Vec<u32>) -> MemorySource
         requires { 0 < most }
         ensures { result ≡ record {
-            left = bytes.items; most = most; failing = failing.items; calls = 0; faults = 0
+          left = bytes.items;
+          most = most;
+          failing = failing.items;
+          calls = 0;
+          faults = 0;
         } }
     {
         MemorySource {
@@ -98,7 +102,8 @@ impl Source for MemorySource {
             ≡ record self.old { left = drop n self.old.left; calls = next_call self.old.calls }) }
         ensures untouched { OnErr result (buf.new ≡ buf.old) }
         ensures after_fault { OnErr result (self.new ≡ record self.old {
-            calls = next_call self.old.calls; faults = one_more self.old.faults
+          calls = next_call self.old.calls;
+          faults = one_more self.old.faults;
         }) }
     {
         if self.calls.begin() {

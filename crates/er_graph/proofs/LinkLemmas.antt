@@ -69,9 +69,9 @@ again_by_links old new n links handed passed last are same e more p older below 
     let kept : links_of all n ≡ kept_of older p = ap (links_of all) newest ∙ links_newest p older in
     let among = newest_among all n links handed passed (are all stands) same e in
     let low : (k : ℕ) → is_among k (kept_of older p) ≡ true → k < length older = λ k f.
-        let first = link_before all n k (ap (is_among k) kept ∙ f) in omega (arith, first.0, newest) in
+    let first = link_before all n k (ap (is_among k) kept ∙ f) in omega (arith, first.0, newest) in
     let reach : (i : ℕ) → list_any (λ k. joins all i k) passed ≡ list_any (λ k. joins all i k) p = λ i.
-        any_members (λ k. joins all i k) passed (links_of all n) among
-        ∙ ap (list_any (λ k. joins all i k)) kept
-        ∙ reach_still p older i (kept_of older p) low ∙ any_kept older p i ∙ sym (reach_still p older i p below) in
+    any_members (λ k. joins all i k) passed (links_of all n) among
+    ∙ ap (list_any (λ k. joins all i k)) kept
+    ∙ reach_still p older i (kept_of older p) low ∙ any_kept older p i ∙ sym (reach_still p older i p below) in
     clocks_of_paths new (passed ∷ all) (p ∷ all) refl (λ i j. ap (λ (b : Bool). if j == length all then (i == j) || b else joins all i j) (reach i)) (more all stands)

@@ -155,9 +155,9 @@ all_lead v joined u k d g x m =
     ∙ left_alone (parse_rules ++ script_rules ++ load_rules ++ dispatch_rules ++ timer_rules v) request_rules joined u z (none_request joined u k d g x m)
     ∙ left_alone (parse_rules ++ script_rules ++ load_rules ++ dispatch_rules) (timer_rules v) joined u z (none_timer v joined u k d g x m)
     ∙ right_alone (parse_rules ++ script_rules ++ load_rules) dispatch_rules joined u z
-      (left_alone (parse_rules ++ script_rules) load_rules joined u z (none_load joined u k d g x m)
-      ∙ left_alone parse_rules script_rules joined u z (none_script joined u k d g x m)
-      ∙ none_parse joined u k d g x m)
+    (left_alone (parse_rules ++ script_rules) load_rules joined u z (none_load joined u k d g x m)
+    ∙ left_alone parse_rules script_rules joined u z (none_script joined u k d g x m)
+    ∙ none_parse joined u k d g x m)
     ∙ dispatch_leads joined u k d g x m
 
 -- an action that runs a handler
@@ -173,16 +173,18 @@ pub record IsRun (a : Action) (p g x : ℕ) : Type 0 where
 
 run_now : (h : List Record) (p g x : ℕ) → misplaced (told h) (Run p g x) ≡ false → (is : IsRun (action_begun (told h) (Run p g x)) p g x) × (is.maker ≡ maker_by (declares_handler x) (told h).entries)
 run_now h p g x placed =
-    let top = top_is false p (told h).stack placed in
-    (record {
-      first = refl;
-      begun = refl;
-      dispatch = top.top.dispatch;
-      maker = maker_by (declares_handler x) (told h).entries;
-      what = ap (λ o. handler g x o (maker_by (declares_handler x) (told h).entries)) top.found;
-      number = top.number;
-      before = λ k e. maker_below h (declares_handler x) k e;
-    }, refl)
+    let top = top_is false p (told h).stack placed in (
+      record {
+        first = refl;
+        begun = refl;
+        dispatch = top.top.dispatch;
+        maker = maker_by (declares_handler x) (told h).entries;
+        what = ap (λ o. handler g x o (maker_by (declares_handler x) (told h).entries)) top.found;
+        number = top.number;
+        before = λ k e. maker_below h (declares_handler x) k e;
+      },
+      refl,
+    )
   where
     handler : ℕ → ℕ → Option Dispatch → Option ℕ → What
     handler g x (Some d) m = HandlerOf d g x m
@@ -216,9 +218,9 @@ edge_to_run : (v : Version) (joined : ℕ → ℕ → Bool) (i j : Action) (p g 
 edge_to_run v joined i j p g x is before own =
     let first = is.first in
     let ruled : is_ruled (rules v) joined i j ≡ (not (i.event.number == j.event.number) && leads_to_run i.event p g is.maker) =
-        ap (λ (w : What). any_holds (rules v) (up_to j.event.number joined) i.event (event_with j.event.number w)) is.what
-        ∙ all_lead v (up_to j.event.number joined) i.event j.event.number is.dispatch g x is.maker
-        ∙ ap (λ (n : ℕ). not (i.event.number == j.event.number) && leads_to_run i.event n g is.maker) is.number in
+    ap (λ (w : What). any_holds (rules v) (up_to j.event.number joined) i.event (event_with j.event.number w)) is.what
+    ∙ all_lead v (up_to j.event.number joined) i.event j.event.number is.dispatch g x is.maker
+    ∙ ap (λ (n : ℕ). not (i.event.number == j.event.number) && leads_to_run i.event n g is.maker) is.number in
     let around : around_inline i j ≡ false = ap (λ (y : Record). around_inline i (record { number = j.number; begin = y; event = j.event })) is.begun in
     closes (nat_lt i.number j.number) (is_ruled (rules v) joined i j) (around_inline i j) (of_one_event i j) (leads_to_run i.event p g is.maker)
     (grind (arith, nat_tests)) ruled around (ne_eqb i.event.number j.event.number (λ e. omega (arith, first, before, own)))
@@ -239,14 +241,14 @@ same_edges : (v : Version) (f k : ℕ → ℕ → Bool) (older : List Action) (a
     → BeginsBefore (b ∷ a ∷ older) → sources (rules v) f (a ∷ older) b ≡ sources (rules v) k older a
 same_edges v f k older a b p g x y first second maker begun =
     let itself : edge (rules v) f a b ≡ false =
-        edge_to_run v f a b p g y second (omega (arith, begun.0, begun.2.0)) (omega (arith, first.first))
-        ∙ ap (leads_to_run a.event p g) maker
-        ∙ none_registers first.maker a.event first.dispatch p g x first.what (λ n e. let less = first.before n e in omega (arith, less, first.first)) in
+    edge_to_run v f a b p g y second (omega (arith, begun.0, begun.2.0)) (omega (arith, first.first))
+    ∙ ap (leads_to_run a.event p g) maker
+    ∙ none_registers first.maker a.event first.dispatch p g x first.what (λ n e. let less = first.before n e in omega (arith, less, first.first)) in
     let each : (i : Action) → Among i older → edge (rules v) f i b ≡ edge (rules v) k i a = λ i among.
-        let low = event_before older i begun.2.2 among in
-        edge_to_run v f i b p g y second (omega (arith, low.0, begun.0, begun.2.0)) low.1
-        ∙ ap (leads_to_run i.event p g) maker
-        ∙ sym (edge_to_run v k i a p g x first (omega (arith, low.0, begun.2.0)) low.1) in
+    let low = event_before older i begun.2.2 among in
+    edge_to_run v f i b p g y second (omega (arith, low.0, begun.0, begun.2.0)) low.1
+    ∙ ap (leads_to_run i.event p g) maker
+    ∙ sym (edge_to_run v k i a p g x first (omega (arith, low.0, begun.2.0)) low.1) in
     ap (λ (c : Bool). map (λ (i : Action). i.number) (if c then a ∷ filter (λ i. edge (rules v) f i b) older else filter (λ i. edge (rules v) f i b) older)) itself
     ∙ ap (λ (is : List Action). map (λ (i : Action). i.number) is) (filter_same (λ i. edge (rules v) f i b) (λ i. edge (rules v) k i a) older each)
 
@@ -292,8 +294,8 @@ runs_have_one_list v h x named legal is =
       newest = ap (edges (rules v)) at.1;
       below = first_listed v a older (subst IsNumbered at.1 (actions_are_numbered h));
       next =
-        ap (λ (z : Record). edges (rules v) (told (z ∷ h)).actions) is.next
-        ∙ ap (λ (actions : List Action). edges (rules v) (b ∷ actions)) at.1
-        ∙ ap (λ (list : List ℕ). list ∷ edges (rules v) (a ∷ older))
+          ap (λ (z : Record). edges (rules v) (told (z ∷ h)).actions) is.next
+          ∙ ap (λ (actions : List Action). edges (rules v) (b ∷ actions)) at.1
+          ∙ ap (λ (list : List ℕ). list ∷ edges (rules v) (a ∷ older))
           (same_edges v (joins (edges (rules v) (a ∷ older))) (joins rest) older a b p g is.other y first second.0 maker begun);
     }

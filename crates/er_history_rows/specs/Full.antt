@@ -79,7 +79,7 @@ pub record FullEload : Type 0 where
 abbrev pub LegalEload : Type 0
 LegalEload =
     (length (load_handed (told (reverse (ParseFrame 0 1 1 ∷ Load 1 1 ∷ Close 1 ∷ []))) (Eload 2 1))
-        ≡ 2)
+    ≡ 2)
     × (length (load_handed (told (reverse (Parse 0 1 kinds.Async ∷ Exec 1 ∷ []))) (Eload 1 1)) ≡ 2)
 
 abbrev pub AllFullTimers : Version → List Next → Type 0

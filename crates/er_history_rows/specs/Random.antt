@@ -18,7 +18,7 @@ pub record IsRowBefore (lines : List Line) (nexts : List (Record × Option Cause
   pub row : IsRow lines
   pub next :
       map (λ (n : Record × Option Cause).
-          sound.cause (tables.rules One) (records_in lines) n.0) nexts
+      sound.cause (tables.rules One) (records_in lines) n.0) nexts
       ≡ map (λ (n : Record × Option Cause). n.1) nexts
 
 abbrev pub FirstPage : Type 0

@@ -105,7 +105,7 @@ fn blocks(made: Option<Element>, doc: u32, step: u32) -> bool
 fn is_deferred_in(made: Option<Element>, doc: u32) -> bool
     ensures { result
         ≡ rules.is_some_and
-            (λ x. rules.is_deferred x && (x.doc == doc)) (option_map element_of made) }
+        (λ x. rules.is_deferred x && (x.doc == doc)) (option_map element_of made) }
 {
     match made {
         Some(x) => is_deferred(&x) & (x.doc == doc),

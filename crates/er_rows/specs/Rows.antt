@@ -43,40 +43,40 @@ step e = Parse 0 e kinds.Plain
 abbrev pub TimeoutsThatRace : List ℕ → List ℕ → Type 0
 TimeoutsThatRace spelled reported =
     Reports One (step 1 ∷ Set 1 10 ∷ Set 2 0 ∷ Timer 2 ∷ writes (codes "x") ∷ Timer 1
-        ∷ reads (codes "x") ∷ [])
+    ∷ reads (codes "x") ∷ [])
     spelled reported (None ∷ None ∷ None ∷ None ∷ None ∷ None ∷ None ∷ [])
 
 abbrev pub TimeoutsInOrder : List ℕ → List ℕ → Type 0
 TimeoutsInOrder spelled reported =
     Reports One (step 1 ∷ Set 1 0 ∷ Set 2 10 ∷ Timer 1 ∷ writes (codes "x") ∷ Timer 2
-        ∷ reads (codes "x") ∷ [])
+    ∷ reads (codes "x") ∷ [])
     spelled reported (None ∷ None ∷ None ∷ None ∷ None ∷ None ∷ None ∷ [])
 
 abbrev pub EqualDelays : List ℕ → List ℕ → Type 0
 EqualDelays spelled reported =
     Reports One (step 1 ∷ Set 1 5 ∷ Set 2 5 ∷ Timer 1 ∷ writes (codes "x") ∷ Timer 2
-        ∷ reads (codes "x") ∷ [])
+    ∷ reads (codes "x") ∷ [])
     spelled reported (None ∷ None ∷ None ∷ None ∷ None ∷ None ∷ None ∷ [])
 
 -- recorded against the delays
 abbrev pub DelaysThatDisagree : List ℕ → List ℕ → Type 0
 DelaysThatDisagree spelled reported =
     Reports One (step 1 ∷ Set 1 0 ∷ Set 2 10 ∷ Timer 2 ∷ writes (codes "x") ∷ Timer 1
-        ∷ reads (codes "x") ∷ [])
+    ∷ reads (codes "x") ∷ [])
     spelled reported (None ∷ None ∷ None ∷ None ∷ None ∷ None ∷ None ∷ [])
 
 -- set by two events
 abbrev pub TwoSetters : List ℕ → List ℕ → Type 0
 TwoSetters spelled reported =
     Reports One (step 1 ∷ Set 1 5 ∷ step 2 ∷ Set 2 5 ∷ Timer 1 ∷ writes (codes "x") ∷ Timer 2
-        ∷ writes (codes "x") ∷ [])
+    ∷ writes (codes "x") ∷ [])
     spelled reported (None ∷ None ∷ None ∷ None ∷ None ∷ None ∷ None ∷ None ∷ [])
 
 -- a repeat is not kept; a read and a write of one action are two accesses
 abbrev pub Repeats : List ℕ → List ℕ → Type 0
 Repeats spelled reported =
     Reports One (step 1 ∷ Set 1 9 ∷ Set 2 0 ∷ Timer 2 ∷ reads (codes "x") ∷ reads (codes "x")
-        ∷ writes (codes "x") ∷ Timer 1 ∷ writes (codes "x") ∷ [])
+    ∷ writes (codes "x") ∷ Timer 1 ∷ writes (codes "x") ∷ [])
     spelled reported (None ∷ None ∷ None ∷ None ∷ None ∷ None ∷ None ∷ None ∷ None ∷ [])
 
 abbrev pub OneAction : List ℕ → List ℕ → Type 0
@@ -86,14 +86,14 @@ OneAction spelled reported = Reports One (step 1 ∷ writes (codes "x") ∷ read
 abbrev pub TwoReads : List ℕ → List ℕ → Type 0
 TwoReads spelled reported =
     Reports One (step 1 ∷ Set 1 9 ∷ Set 2 0 ∷ Timer 2 ∷ reads (codes "x") ∷ Timer 1
-        ∷ reads (codes "x") ∷ [])
+    ∷ reads (codes "x") ∷ [])
     spelled reported (None ∷ None ∷ None ∷ None ∷ None ∷ None ∷ None ∷ [])
 
 -- parse steps are in order, and before a timeout that a later one set
 abbrev pub ParseSteps : List ℕ → List ℕ → Type 0
 ParseSteps spelled reported =
     Reports One (step 1 ∷ writes (codes "a b") ∷ step 2 ∷ reads (codes "a b") ∷ Set 1 0 ∷ Timer 1
-        ∷ writes (codes "a b") ∷ [])
+    ∷ writes (codes "a b") ∷ [])
     spelled reported (None ∷ None ∷ None ∷ None ∷ None ∷ None ∷ None ∷ [])
 
 abbrev pub NothingAtAll : List ℕ → List ℕ → Type 0
@@ -104,60 +104,60 @@ NothingAtAll spelled reported = Reports One ([])
 abbrev pub BlockingScripts : List ℕ → List ℕ → Type 0
 BlockingScripts spelled reported =
     Reports One (Parse 0 1 kinds.Sync ∷ Exec 1 ∷ writes (codes "x") ∷ step 2 ∷ reads (codes "x")
-        ∷ [])
+    ∷ [])
     spelled reported (None ∷ None ∷ None ∷ None ∷ None ∷ [])
 
 -- an async one does not
 abbrev pub AsyncScripts : List ℕ → List ℕ → Type 0
 AsyncScripts spelled reported =
     Reports One (Parse 0 1 kinds.Async ∷ Exec 1 ∷ writes (codes "x") ∷ step 2 ∷ reads (codes "x")
-        ∷ [])
+    ∷ [])
     spelled reported (None ∷ None ∷ None ∷ None ∷ None ∷ [])
 
 -- deferred scripts run as they were parsed, after each blocking one
 abbrev pub DeferredScripts : List ℕ → List ℕ → Type 0
 DeferredScripts spelled reported =
     Reports One (Parse 0 1 kinds.Defer ∷ Parse 0 2 kinds.Inline ∷ Exec 2 ∷ writes (codes "x")
-        ∷ Parse 0 3 kinds.Defer ∷ Exec 1 ∷ writes (codes "x") ∷ Exec 3 ∷ reads (codes "x") ∷ [])
+    ∷ Parse 0 3 kinds.Defer ∷ Exec 1 ∷ writes (codes "x") ∷ Exec 3 ∷ reads (codes "x") ∷ [])
     spelled reported (None ∷ None ∷ None ∷ None ∷ None ∷ None ∷ None ∷ None ∷ None ∷ [])
 
 -- the step that declared a document is before its parse steps, which are in no order with others of the first
 abbrev pub OtherDocuments : List ℕ → List ℕ → Type 0
 OtherDocuments spelled reported =
     Reports One (ParseFrame 0 1 1 ∷ writes (codes "x") ∷ Parse 1 2 kinds.Plain ∷ writes (codes "x")
-        ∷ step 3 ∷ reads (codes "x") ∷ [])
+    ∷ step 3 ∷ reads (codes "x") ∷ [])
     spelled reported (None ∷ None ∷ None ∷ None ∷ None ∷ None ∷ [])
 
 -- two races of one pair of actions are one class
 abbrev pub OneClass : List ℕ → List ℕ → Type 0
 OneClass spelled reported =
     Reports One (Parse 0 1 kinds.Inline ∷ Exec 1 ∷ Set 1 10 ∷ Set 2 0 ∷ Timer 2 ∷ writes (codes "x")
-        ∷ writes (codes "y") ∷ Timer 1 ∷ writes (codes "x") ∷ reads (codes "y") ∷ [])
+    ∷ writes (codes "y") ∷ Timer 1 ∷ writes (codes "x") ∷ reads (codes "y") ∷ [])
     spelled reported (None ∷ None ∷ None ∷ None ∷ None ∷ None ∷ None ∷ None ∷ None ∷ None ∷ [])
 
 -- a later race covers the first
 abbrev pub LaterRepresentative : List ℕ → List ℕ → Type 0
 LaterRepresentative spelled reported =
     Reports One (Parse 0 1 kinds.Inline ∷ Exec 1 ∷ Set 1 10 ∷ Set 2 0 ∷ Timer 2 ∷ writes (codes "x")
-        ∷ Set 3 0 ∷ Timer 3 ∷ writes (codes "f") ∷ Timer 1 ∷ reads (codes "f") ∷ Set 4 0 ∷ Timer 4
-        ∷ reads (codes "x") ∷ [])
+    ∷ Set 3 0 ∷ Timer 3 ∷ writes (codes "f") ∷ Timer 1 ∷ reads (codes "f") ∷ Set 4 0 ∷ Timer 4
+    ∷ reads (codes "x") ∷ [])
     spelled reported (None ∷ None ∷ None ∷ None ∷ None ∷ None ∷ None ∷ None ∷ None ∷ None ∷ None
-        ∷ None ∷ None ∷ None ∷ [])
+    ∷ None ∷ None ∷ None ∷ [])
 
 -- the first set in one parse step with this delay, the second in a later one
 abbrev pub JoinedSetters : Version → ℕ → List ℕ → List ℕ → Type 0
 JoinedSetters v delay spelled reported =
     Reports v (step 1 ∷ Set 1 delay ∷ step 2 ∷ Set 2 5 ∷ Timer 1 ∷ writes (codes "x") ∷ Timer 2
-        ∷ reads (codes "x") ∷ [])
+    ∷ reads (codes "x") ∷ [])
     spelled reported (None ∷ None ∷ None ∷ None ∷ None ∷ None ∷ None ∷ None ∷ [])
 
 -- set by two callbacks, which are themselves in order
 abbrev pub CallbacksThatSet : Version → List ℕ → List ℕ → Type 0
 CallbacksThatSet v spelled reported =
     Reports v (step 1 ∷ Set 1 0 ∷ Set 2 0 ∷ Timer 1 ∷ Set 3 4 ∷ Timer 2 ∷ Set 4 4 ∷ Timer 3
-        ∷ writes (codes "x") ∷ Timer 4 ∷ writes (codes "x") ∷ [])
+    ∷ writes (codes "x") ∷ Timer 4 ∷ writes (codes "x") ∷ [])
     spelled reported (None ∷ None ∷ None ∷ None ∷ None ∷ None ∷ None ∷ None ∷ None ∷ None ∷ None
-        ∷ [])
+    ∷ [])
 
 -- the causes of single records
 pub record Causes : Type 0 where
@@ -214,4 +214,4 @@ NotAScript = (asked : Command)
 abbrev pub RunTooLate : Type 0
 RunTooLate =
     (asked : Command) → FirstIllegal text_lines asked
-        (codes "webtrace 1\nparse 0 1 sync\nparse 0 2 plain\nexec 1\nend\n") 4 OutOfOrder
+    (codes "webtrace 1\nparse 0 1 sync\nparse 0 2 plain\nexec 1\nend\n") 4 OutOfOrder

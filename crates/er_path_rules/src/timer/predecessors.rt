@@ -139,7 +139,7 @@ fn hand_for_tick(page: &Page, interval: u32, out: &mut SmallVec<u32, 8>) -> Resu
         (GrewForEach (IsPage page.now) (λ h. tick_handed h interval) out.old.items out.new.items) }
     ensures part { OnErr result
         (GrewInPartForEach (IsPage page.now)
-            (λ h. tick_handed h interval) out.old.items out.new.items) }
+        (λ h. tick_handed h interval) out.old.items out.new.items) }
 {
     hand_latest(page, page.maker_of_interval(interval), out)?;
     hand_latest(page, page.last_tick(interval), out)
