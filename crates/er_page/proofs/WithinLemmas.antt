@@ -5,7 +5,7 @@ use Rattle.std.specs.List.{list_any}
 use Rattle.std.proofs.lemmas.Bool.{eq-eqb, ne_eqb}
 use Rattle.std.proofs.lemmas.List.{append-nil, reverse-append}
 use Rattle.er_trace.specs.declared.record.Record.{Record}
-use Rattle.er_trace.specs.declared.record.Record.TheVariants.{Parse, ParseFrame, Exec, Timer, Tick, Dcl, Load, Eload, Fire, Wfire, Reply, Inline, Run, Close, Back, New, NewFrame, On, Set, Every, Send, Access, Post, Ask, Queue, Message, Anim, Job}
+use Rattle.er_trace.specs.declared.record.Record.TheVariants.{Run, Close, Back, Job}
 use Rattle.er_history.specs.History.{told, begins, running, is_inline, action_begun, event_begun, what_begun, What, Event, Open}
 use Rattle.er_history.specs.Kinds.{is_job_within}
 use Rattle.er_history.specs.Latest.{events_of_each}
@@ -16,9 +16,9 @@ use Rattle.er_history.proofs.HistoryLemmas.{told_before, event_below}
 use Rattle.er_history.proofs.NamedLemmas.{none_holds}
 use Rattle.er_pieces.proofs.CallerLemmas.{resumed}
 use Rattle.er_pieces.proofs.LevelLemmas.{Level, levels, what_of}
+use Rattle.er_pieces.proofs.StackLemmas.{top_is}
 use Rattle.er_page.specs.declared.within.Within.{Within}
 use Rattle.er_page.specs.Within.{WithinIs, job_dispatch, job_under, jobs_at}
-use Rattle.er_page.proofs.RoleLemmas.{Form, form_now}
 
 abbrev test : ℕ → ℕ → What → Bool
 test p n w = is_job_within p (record { number = n; what = w })
@@ -27,25 +27,12 @@ abbrev is_job : Record → Bool
 is_job (Job j) = true
 is_job _ = false
 
-not_job : (p n : ℕ) (x : Record) (w : What) → is_job x ≡ false → Form x w → test p n w ≡ false
-not_job p n (Parse d e k) w apart form = ap (test p n) form.1
-not_job p n (ParseFrame d e f) w apart form = ap (test p n) form.1
-not_job p n (Exec e) w apart form = ap (test p n) form.1
-not_job p n (Timer t) w apart form = ap (test p n) form.1
-not_job p n (Tick i) w apart form = ap (test p n) form.1
-not_job p n (Message m) w apart form = ap (test p n) form.1
-not_job p n (Anim a) w apart form = ap (test p n) form.1
-not_job p n (Dcl q c) w apart form = ap (test p n) form.1.1
-not_job p n (Load q c) w apart form = ap (test p n) form.1.1
-not_job p n (Eload q e) w apart form = ap (test p n) form.1.1
-not_job p n (Fire q e m) w apart form = ap (test p n) form.1.1
-not_job p n (Inline q e m) w apart form = ap (test p n) form.1.1
-not_job p n (Wfire q c m) w apart form = ap (test p n) form.1.1
-not_job p n (Reply q r) w apart form = ap (test p n) form.1.1
-not_job p n (Run q g y) w apart form = ap (test p n) form.2
-not_job p n (Close q) w apart form = ap (test p n) form.1
-not_job p n (Job j) w apart form = absurd (cc)
-not_job p n _ w apart form = absurd form
+-- no other record begins a job
+not_job : (h : List Record) (x : Record) (p n : ℕ) → is_job x ≡ false → misplaced (told h) x ≡ false → test p n (what_begun (told h) x) ≡ false
+not_job h (Job j) p n apart placed = absurd (cc)
+not_job h (Run q g y) p n apart placed = let top = top_is false q (told h).stack placed in rw top.found refl
+not_job h (Close q) p n apart placed = let top = top_is false q (told h).stack placed in rw top.found refl
+not_job h _ p n apart placed = refl
 
 -- an action that is no first piece, or whose event is no such job
 
@@ -111,17 +98,11 @@ jobs_more h (Back q) p named =
     let back = resumed h q named.1 (none_holds h (Back q) named.0).placed in
     let below = event_below (told h).actions back.caller.piece (told_before h) back.caller.among in
     none_more h (Back q) p refl (left_false _ _ (ne_eqb (length (told h).actions) (event_begun (told h) (Back q)).number (λ same. absurd (omega (arith, same, ap (λ (e : Event). e.number) back.event, below)))))
-jobs_more h (New d e k) p named = sym (append-nil (jobs_in h p))
-jobs_more h (NewFrame d e f) p named = sym (append-nil (jobs_in h p))
-jobs_more h (On y) p named = sym (append-nil (jobs_in h p))
-jobs_more h (Set t m) p named = sym (append-nil (jobs_in h p))
-jobs_more h (Every i m) p named = sym (append-nil (jobs_in h p))
-jobs_more h (Send r) p named = sym (append-nil (jobs_in h p))
-jobs_more h (Post m) p named = sym (append-nil (jobs_in h p))
-jobs_more h (Ask a) p named = sym (append-nil (jobs_in h p))
-jobs_more h (Queue j) p named = sym (append-nil (jobs_in h p))
-jobs_more h (Access m l) p named = sym (append-nil (jobs_in h p))
-jobs_more h x p named = other h x p refl (not_job p (length (told h).actions) x (what_begun (told h) x) refl (form_now h x refl refl (none_holds h x named.0).placed))
+jobs_more h x p named = by (begins x) refl
+  where
+    by : (b : Bool) → begins x ≡ b → jobs_in (x ∷ h) p ≡ jobs_in h p ++ []
+    by true e = other h x p e (not_job h x p (length (told h).actions) refl (none_holds h x named.0).placed)
+    by false e = ap (λ b. reverse (events_of_each (is_job_within p) (if b then action_begun (told h) x ∷ (told h).actions else (told h).actions))) e ∙ sym (append-nil (jobs_in h p))
 
 -- a page that takes a record with its job, if it begins one
 pub within_taken : (old new : Within) (h : List Record) (x : Record) (dispatch : Option ℕ) (action : ℕ) → WithinIs old h → IsNamed (x ∷ h) → dispatch ≡ job_dispatch h x → action ≡ length (told h).actions

@@ -24,6 +24,7 @@ use er_outside::NoMemory;
 use er_tasks::forms::is_of_task;
 use er_tasks::tasks::Tasks;
 use er_text::Cause;
+use er_trace::nesting::Nesting;
 use er_trace::record::Record;
 use std::alloc::Global;
 
@@ -204,9 +205,13 @@ impl Page {
     fn is_too_deep(&self, rec: &Record) -> bool
         ensures { Answers self.now (λ h. too_deep (told h) rec.now) result }
     {
-        match rec {
-            Record::Inline { .. } => self.stack.depth() >= MOST_INLINE,
-            _ => false,
+        match rec.nesting() {
+            Nesting::Called => self.stack.depth() >= MOST_INLINE,
+            Nesting::Note => false,
+            Nesting::Alone => false,
+            Nesting::OutsideInline => false,
+            Nesting::Under(_) => false,
+            Nesting::Behind(_) => false,
         }
     }
 
@@ -214,19 +219,13 @@ impl Page {
     fn is_misplaced(&self, rec: &Record) -> bool
         ensures { Answers self.now (λ h. misplaced (told h) rec.now) result }
     {
-        match rec {
-            Record::Inline { .. } => !self.pieces.may_call(),
-            Record::Job { .. } => self.stack.has_inline(),
-            Record::Run { dispatch, .. } => !self.stack.is_top(false, *dispatch),
-            Record::Close { dispatch } => !self.stack.is_top(false, *dispatch),
-            Record::Back { dispatch } => !self.stack.is_top(true, *dispatch),
-            _ => {
-                if begins(rec) {
-                    !self.stack.is_empty()
-                } else {
-                    self.pieces.list.is_empty()
-                }
-            }
+        match rec.nesting() {
+            Nesting::Note => self.pieces.list.is_empty(),
+            Nesting::Alone => !self.stack.is_empty(),
+            Nesting::OutsideInline => self.stack.has_inline(),
+            Nesting::Called => !self.pieces.may_call(),
+            Nesting::Under(dispatch) => !self.stack.is_top(false, dispatch),
+            Nesting::Behind(dispatch) => !self.stack.is_top(true, dispatch),
         }
     }
 }

@@ -4,6 +4,7 @@ ghost use Rattle.std.specs.Prelude.{◌≡◌, ◌<◌, ◌^◌, length};
 ghost use Rattle.er_history.specs.History.{begins};
 
 use er_numbers::Numbers;
+use er_trace::nesting::Nesting;
 use er_trace::record::Record;
 
 /// What an event is.
@@ -63,34 +64,12 @@ impl Drop for Pieces {
 pub fn begins(rec: &Record) -> bool
     ensures { result ≡ begins rec.now }
 {
-    match rec {
-        Record::New { .. } => false,
-        Record::NewFrame { .. } => false,
-        Record::On { .. } => false,
-        Record::Set { .. } => false,
-        Record::Every { .. } => false,
-        Record::Send { .. } => false,
-        Record::Post { .. } => false,
-        Record::Ask { .. } => false,
-        Record::Queue { .. } => false,
-        Record::Access { .. } => false,
-        Record::Parse { .. } => true,
-        Record::ParseFrame { .. } => true,
-        Record::Exec { .. } => true,
-        Record::Timer { .. } => true,
-        Record::Tick { .. } => true,
-        Record::Message { .. } => true,
-        Record::Anim { .. } => true,
-        Record::Job { .. } => true,
-        Record::Dcl { .. } => true,
-        Record::Load { .. } => true,
-        Record::Eload { .. } => true,
-        Record::Fire { .. } => true,
-        Record::Wfire { .. } => true,
-        Record::Reply { .. } => true,
-        Record::Inline { .. } => true,
-        Record::Run { .. } => true,
-        Record::Close { .. } => true,
-        Record::Back { .. } => true,
+    match rec.nesting() {
+        Nesting::Note => false,
+        Nesting::Alone => true,
+        Nesting::OutsideInline => true,
+        Nesting::Called => true,
+        Nesting::Under(_) => true,
+        Nesting::Behind(_) => true,
     }
 }
