@@ -15,7 +15,7 @@ use Rattle.er_text.specs.Name.{most_name}
 use Rattle.er_trace.specs.Trace.{most_line_bytes, end_word}
 use Rattle.er_syntax.specs.declared.head.Head.{Head}
 use Rattle.er_trace.specs.declared.record.Record.{Record}
-use Rattle.er_trace.specs.declared.record.Record.TheVariants.{Parse, ParseFrame, Exec, Timer, Tick, Dcl, Load, Eload, Fire, Wfire, Reply, Inline, Run, Close, Back, New, NewFrame, On, Set, Every, Send, Post, Ask, Queue, Message, Anim, Job, Access}
+use Rattle.er_trace.specs.declared.record.Record.TheVariants.{Parse, New, Access}
 use Rattle.er_trace.specs.declared.record.Kind.TheVariants as kinds
 use Rattle.er_trace.specs.declared.record.NewKind.TheVariants as new_kinds
 use Rattle.er_trace.specs.declared.record.Mode.TheVariants as modes
@@ -71,40 +71,16 @@ record_fits (Parse d e kinds.Sync) = refl
 record_fits (Parse d e kinds.Defer) = refl
 record_fits (Parse d e kinds.Async) = refl
 record_fits (Parse d e kinds.Image) = refl
-record_fits (ParseFrame d e f) = refl
-record_fits (Exec e) = refl
-record_fits (Timer t) = refl
-record_fits (Tick i) = refl
-record_fits (Dcl p d) = refl
-record_fits (Load p d) = refl
-record_fits (Eload p e) = refl
-record_fits (Fire p e n) = refl
-record_fits (Wfire p d n) = refl
-record_fits (Reply p r) = refl
-record_fits (Inline p e n) = refl
-record_fits (Run p g h) = refl
-record_fits (Close p) = refl
-record_fits (Back p) = refl
 record_fits (New d e new_kinds.Plain) = refl
 record_fits (New d e new_kinds.Async) = refl
 record_fits (New d e new_kinds.Image) = refl
-record_fits (NewFrame d e f) = refl
-record_fits (On h) = refl
-record_fits (Set t n) = refl
-record_fits (Every i n) = refl
-record_fits (Send r) = refl
-record_fits (Post n) = refl
-record_fits (Ask n) = refl
-record_fits (Queue n) = refl
-record_fits (Message n) = refl
-record_fits (Anim n) = refl
-record_fits (Job n) = refl
 record_fits (Access modes.R (Var o n)) = refl
 record_fits (Access modes.R (Elem o n)) = refl
 record_fits (Access modes.R (Slot o n)) = refl
 record_fits (Access modes.W (Var o n)) = refl
 record_fits (Access modes.W (Elem o n)) = refl
 record_fits (Access modes.W (Slot o n)) = refl
+record_fits _ = refl
 
 record_is_clear : (x : Record) → list_all is_clear (record_items x) ≡ true
 record_is_clear x = let h : fits_a_line (record_items x) ≡ true = record_fits x in grind (arith, common_steps)
@@ -117,35 +93,9 @@ record_is_short x = let h : fits_a_line (record_items x) ≡ true = record_fits 
 
 -- a record begins with its first word
 pub record_begins : (x : Record) → map item_spelling (record_items x) ≡ head_word (record_head x) ∷ later_words x
-record_begins (Parse d e k) = refl
-record_begins (ParseFrame d e f) = refl
-record_begins (Exec e) = refl
-record_begins (Timer t) = refl
-record_begins (Tick i) = refl
-record_begins (Dcl p d) = refl
-record_begins (Load p d) = refl
-record_begins (Eload p e) = refl
-record_begins (Fire p e n) = refl
-record_begins (Wfire p d n) = refl
-record_begins (Reply p r) = refl
-record_begins (Inline p e n) = refl
-record_begins (Run p g h) = refl
-record_begins (Close p) = refl
-record_begins (Back p) = refl
-record_begins (New d e k) = refl
-record_begins (NewFrame d e f) = refl
-record_begins (On h) = refl
-record_begins (Set t n) = refl
-record_begins (Every i n) = refl
-record_begins (Send r) = refl
-record_begins (Post n) = refl
-record_begins (Ask n) = refl
-record_begins (Queue n) = refl
-record_begins (Message n) = refl
-record_begins (Anim n) = refl
-record_begins (Job n) = refl
 record_begins (Access modes.R l) = refl
 record_begins (Access modes.W l) = refl
+record_begins _ = refl
 
 -- the first word tells whether it is of a task
 pub task_begins : (x : Record) → is_of_task x ≡ begins_task (record_head x)

@@ -6,7 +6,7 @@ use Rattle.serde_json.specs.Data.{Data, array}
 use Rattle.serde_json.specs.View.{items_of}
 use Rattle.er_text.specs.Words.{words, joined}
 use Rattle.er_trace.specs.declared.record.Record.{Record}
-use Rattle.er_trace.specs.declared.record.Record.TheVariants.{Parse, ParseFrame, Exec, Timer, Tick, Dcl, Load, Eload, Fire, Wfire, Reply, Inline, Run, Close, Back, New, NewFrame, On, Set, Every, Send, Post, Ask, Queue, Message, Anim, Job, Access}
+use Rattle.er_trace.specs.declared.record.Record.TheVariants.{Parse, New, Access}
 use Rattle.er_trace.specs.declared.record.Kind.TheVariants as kinds
 use Rattle.er_trace.specs.declared.record.NewKind.TheVariants as new_kinds
 use Rattle.er_trace.specs.declared.record.Mode.TheVariants as modes
@@ -30,40 +30,16 @@ record_is_plain (Parse d e kinds.Sync) = refl
 record_is_plain (Parse d e kinds.Defer) = refl
 record_is_plain (Parse d e kinds.Async) = refl
 record_is_plain (Parse d e kinds.Image) = refl
-record_is_plain (ParseFrame d e f) = refl
-record_is_plain (Exec e) = refl
-record_is_plain (Timer t) = refl
-record_is_plain (Tick i) = refl
-record_is_plain (Dcl p d) = refl
-record_is_plain (Load p d) = refl
-record_is_plain (Eload p e) = refl
-record_is_plain (Fire p e n) = refl
-record_is_plain (Wfire p d n) = refl
-record_is_plain (Reply p r) = refl
-record_is_plain (Inline p e n) = refl
-record_is_plain (Run p g h) = refl
-record_is_plain (Close p) = refl
-record_is_plain (Back p) = refl
 record_is_plain (New d e new_kinds.Plain) = refl
 record_is_plain (New d e new_kinds.Async) = refl
 record_is_plain (New d e new_kinds.Image) = refl
-record_is_plain (NewFrame d e f) = refl
-record_is_plain (On h) = refl
-record_is_plain (Set t n) = refl
-record_is_plain (Every i n) = refl
-record_is_plain (Send r) = refl
-record_is_plain (Post m) = refl
-record_is_plain (Ask a) = refl
-record_is_plain (Queue j) = refl
-record_is_plain (Message m) = refl
-record_is_plain (Anim a) = refl
-record_is_plain (Job j) = refl
 record_is_plain (Access modes.R (Var o n)) = refl
 record_is_plain (Access modes.R (Elem o n)) = refl
 record_is_plain (Access modes.R (Slot o n)) = refl
 record_is_plain (Access modes.W (Var o n)) = refl
 record_is_plain (Access modes.W (Elem o n)) = refl
 record_is_plain (Access modes.W (Slot o n)) = refl
+record_is_plain _ = refl
 
 -- the words of a record's spelling are those of its items
 spelled_words : (x : Record) → IsRecord x → words (spelling x) ≡ map item_spelling (record_items x)
@@ -136,36 +112,10 @@ as_many (i ∷ items) (d ∷ ds) are = let same : length items ≡ length ds = a
 
 -- of a record's items there are two
 has_two : (x : Record) → nat_lt 1 (length (record_items x)) ≡ true
-has_two (Parse d e k) = refl
-has_two (ParseFrame d e f) = refl
-has_two (Exec e) = refl
-has_two (Timer t) = refl
-has_two (Tick i) = refl
-has_two (Dcl p d) = refl
-has_two (Load p d) = refl
-has_two (Eload p e) = refl
-has_two (Fire p e n) = refl
-has_two (Wfire p d n) = refl
-has_two (Reply p r) = refl
-has_two (Inline p e n) = refl
-has_two (Run p g h) = refl
-has_two (Close p) = refl
-has_two (Back p) = refl
-has_two (New d e k) = refl
-has_two (NewFrame d e f) = refl
-has_two (On h) = refl
-has_two (Set t n) = refl
-has_two (Every i n) = refl
-has_two (Send r) = refl
-has_two (Post m) = refl
-has_two (Ask a) = refl
-has_two (Queue j) = refl
-has_two (Message m) = refl
-has_two (Anim a) = refl
-has_two (Job j) = refl
 has_two (Access m (Var o n)) = refl
 has_two (Access m (Elem o n)) = refl
 has_two (Access m (Slot o n)) = refl
+has_two _ = refl
 
 pub end_is_none : (line : List ℕ) (x : Record) → Spells line x → IsEnd line → ⊥
 end_is_none line x spells end =
