@@ -15,6 +15,7 @@ pub mod TellLemmas
 pub mod FormatLemmas
 pub mod IllegalLines
 pub mod GeneratedLemmas
+pub mod GivenLemmas
 pub mod RunLemmas
 pub mod ReadingLemmas
 pub mod VersionLemmas

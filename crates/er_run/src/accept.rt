@@ -20,11 +20,10 @@ use crate::session::{Session, judge};
 use er_clocks::Meter;
 use er_gen::Generator;
 use er_lines::format::Lines;
-use er_outside::{Failed, NoMemory, Source};
+use er_outside::{Failed, Source};
 use er_shard::Gate;
 use er_text::Cause;
 use er_trace::fault::FeedFault;
-use er_trace::record::Record;
 use er_words::Asked;
 use std::alloc::Global;
 use std::thread::Threads;
@@ -191,27 +190,11 @@ pub(crate) fn accept_generated<R: Threads + Sync, G: Gate + Sync>(
     ensures compares_rise { compares.old ≤ compares.new }
     ensures tests_rise { tests.old ≤ tests.new }
 {
-    let Ok(records) = generated_records(alloc, number) else {
-        return Err(FeedFault::NoMemory);
-    };
-    match judge(alloc, records.as_slice()) {
+    let mut generator = Generator::new(alloc, number);
+    match judge(alloc, &mut generator) {
         Ok(session) => judge_end(rt, alloc, asked, session, compares, tests, gate),
         Err(fault) => Err(fault),
     }
-}
-
-/// The records of a generated trace.
-fn generated_records(alloc: Global, number: u32) -> Result<Vec<Record>, NoMemory>
-    requires least { 1 ≤ number }
-    requires most { number ≤ most_rounds }
-    ensures { IfOk result (λ records. records.items ≡ generated number) }
-{
-    let mut generator = Generator::new(alloc, number);
-    let mut records = Vec::new(alloc);
-    while let Some(next) = generator.next()? {
-        records.push(next)?;
-    }
-    Ok(records)
 }
 
 /// Judges the `end` line behind the records for which the session stands.

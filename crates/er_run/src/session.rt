@@ -9,6 +9,7 @@ ghost use Rattle.er_page.specs.Page.{IsPage};
 ghost use Rattle.er_run.specs.Session.{IsSessionOf, IsSession, IsFaultAfter, IsFaultOf, IsBegun, begun, AreEarlier, AreKept, IsPastRoom, kept_with};
 
 use er_access::{AddFault, Table};
+use er_gen::Generator;
 use er_graph::Graph;
 use er_outside::NoMemory;
 use er_page::page::Page;
@@ -35,18 +36,19 @@ impl Drop for Session {
     }
 }
 
-/// What the records of a trace in version 1 come to, or the first that is refused.
-pub(crate) fn judge(alloc: Global, records: &[Record]) -> Result<Session, FeedFault>
-    requires room { length records.now ≤ most_lines }
-    requires of_version { list_all (has_record Version.One) records.now ≡ true }
-    ensures stands { IfOk result (λ session. IsSessionOf session (reverse records.now)) }
+/// What the records of a generated trace come to, in version 1, or the first that is refused. Each is
+/// judged before the next is made.
+pub(crate) fn judge(alloc: Global, generator: &mut Generator) -> Result<Session, FeedFault>
+    requires room { length generator.old ≤ most_lines }
+    requires of_version { list_all (has_record Version.One) generator.old ≡ true }
+    ensures stands { IfOk result (λ session. IsSessionOf session (reverse generator.old)) }
     ensures version { IfOk result (λ session. session.graph.version ≡ Version.One) }
-    ensures refused { IfErr result (λ fault. IsFaultOf Version.One records.now fault) }
+    ensures refused { IfErr result (λ fault. IsFaultOf Version.One generator.old fault) }
 {
     let Ok(mut session) = Session::new(alloc, Version::One) else {
         return Err(FeedFault::NoMemory);
     };
-    match session.take_all(records) {
+    match session.take_generated(generator) {
         Ok(()) => Ok(session),
         Err(fault) => Err(fault),
     }
@@ -111,6 +113,47 @@ impl Session {
             }
         }
         Ok(())
+    }
+
+    /// Takes the records that the generator gives, one after the other, to the first that is refused. They
+    /// are of its version. After an error it stands for no list.
+    fn take_generated(&mut self, generator: &mut Generator) -> Result<(), FeedFault>
+        requires some { IsSession self.old }
+        requires room { self.old.records + length generator.old ≤ most_lines }
+        requires of_version { list_all (has_record self.old.graph.version) generator.old ≡ true }
+        ensures taken { OnOk result ((earlier : List Record)
+            → IsSessionOf self.old (reverse earlier)
+            → IsSessionOf self.new (reverse (earlier ++ generator.old))) }
+        ensures refused { IfErr result (λ fault. (earlier : List Record)
+            → IsSessionOf self.old (reverse earlier)
+            → IsFaultOf self.old.graph.version (earlier ++ generator.old) fault) }
+        ensures version { self.new.graph.version ≡ self.old.graph.version }
+    {
+        loop {
+            match generator.next() {
+                Ok(Some(rec)) => {
+                    if let Err(fault) = self.take_given(rec) {
+                        return Err(fault);
+                    }
+                }
+                Ok(None) => return Ok(()),
+                Err(NoMemory) => return Err(FeedFault::NoMemory),
+            }
+        }
+    }
+
+    /// Takes a record that ends here, as `take` does.
+    fn take_given(&mut self, rec: Record) -> Result<(), FeedFault>
+        requires some { IsSession self.old }
+        requires room { self.old.records < most_lines }
+        requires of_version { has_record self.old.graph.version rec ≡ true }
+        ensures taken { OnOk result ((h : List Record) → IsSessionOf self.old h
+            → IsSessionOf self.new (rec ∷ h)) }
+        ensures refused { IfErr result (λ fault. (h : List Record) → IsSessionOf self.old h
+            → IsFaultAfter self.old.graph.version h rec fault) }
+        ensures version { self.new.graph.version ≡ self.old.graph.version }
+    {
+        self.take(&rec)
     }
 
     /// Takes the next record, or answers why it is not accepted. The limit on accesses is asked last. After

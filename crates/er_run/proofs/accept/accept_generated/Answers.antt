@@ -12,24 +12,24 @@ use Rattle.er_run.proofs.VersionLemmas.{generated_of_version}
 use Rattle.er_run.proofs.accept.accept_generated.Goals as goal
 
 pub judge-requires-clause-room : goal.judge-requires-clause-room
-judge-requires-clause-room g c = rw (c.as_slice.ensures.value, c.in-Ok.ensures) (few_generated c.args.number c.requires.most)
+judge-requires-clause-room g c = rw c.new-generator.ensures (few_generated c.args.number c.requires.most)
 
 pub judge-requires-clause-of_version : goal.judge-requires-clause-of_version
-judge-requires-clause-of_version g c = rw (c.as_slice.ensures.value, c.in-Ok.ensures) (generated_of_version c.args.number c.requires.most)
+judge-requires-clause-of_version g c = rw c.new-generator.ensures (generated_of_version c.args.number c.requires.most)
 
-pub returns-in-Ok-judge-clause-verdict : goal.returns-in-Ok-judge-clause-verdict
-returns-in-Ok-judge-clause-verdict g c =
-    let stands : IsSessionOf c.in-Ok-judge.session (reverse (generated c.args.number)) = rw (c.as_slice.ensures.value, c.in-Ok.ensures) at c.in-Ok-judge.ensures.stands in
-    let read : IsReading text_lines c.in-Ok-judge.session.graph.version (text One (generated c.args.number)) (generated c.args.number) None = rw c.in-Ok-judge.ensures.version (generated_read c.args.number c.requires.most) in
-    verdict_by text_lines c.args.asked.command (text One (generated c.args.number)) (generated c.args.number) c.in-Ok-judge.session c.judge_end.result stands read c.judge_end.ensures.version c.judge_end.ensures.accepted c.judge_end.ensures.refused
+pub returns-in-Ok-clause-verdict : goal.returns-in-Ok-clause-verdict
+returns-in-Ok-clause-verdict g c =
+    let stands : IsSessionOf c.in-Ok.session (reverse (generated c.args.number)) = rw c.new-generator.ensures at c.in-Ok.ensures.stands in
+    let read : IsReading text_lines c.in-Ok.session.graph.version (text One (generated c.args.number)) (generated c.args.number) None = rw c.in-Ok.ensures.version (generated_read c.args.number c.requires.most) in
+    verdict_by text_lines c.args.asked.command (text One (generated c.args.number)) (generated c.args.number) c.in-Ok.session c.judge_end.result stands read c.judge_end.ensures.version c.judge_end.ensures.accepted c.judge_end.ensures.refused
 
-pub returns-clause-verdict : goal.returns-clause-verdict
-returns-clause-verdict g c =
-    let judged = rw (c.as_slice.ensures.value, c.in-Ok.ensures) at c.in-Err.ensures.refused in
+pub returns-in-Err-clause-verdict : goal.returns-in-Err-clause-verdict
+returns-in-Err-clause-verdict g c =
+    let judged = rw c.new-generator.ensures at c.in-Err.ensures.refused in
     refusal_judged text_lines c.args.asked.command One (text One (generated c.args.number)) (generated c.args.number) None c.in-Err.fault (generated_read c.args.number c.requires.most) judged
 
 pub judge_end-requires-clause-some : goal.judge_end-requires-clause-some
 judge_end-requires-clause-some g c κs within =
-    let stands : IsSessionOf c.in-Ok-judge.session (reverse (generated c.args.number)) = rw (c.as_slice.ensures.value, c.in-Ok.ensures) at c.in-Ok-judge.ensures.stands in
-    let read : IsReading text_lines c.in-Ok-judge.session.graph.version (text One (generated c.args.number)) (generated c.args.number) None = rw c.in-Ok-judge.ensures.version (generated_read c.args.number c.requires.most) in
-    reportable text_lines (text One (generated c.args.number)) (generated c.args.number) c.in-Ok-judge.session None stands read
+    let stands : IsSessionOf c.in-Ok.session (reverse (generated c.args.number)) = rw c.new-generator.ensures at c.in-Ok.ensures.stands in
+    let read : IsReading text_lines c.in-Ok.session.graph.version (text One (generated c.args.number)) (generated c.args.number) None = rw c.in-Ok.ensures.version (generated_read c.args.number c.requires.most) in
+    reportable text_lines (text One (generated c.args.number)) (generated c.args.number) c.in-Ok.session None stands read
