@@ -239,5 +239,6 @@ test('a judgement has a reason, and an impossible race the order that is lost', 
   assert.deepStrictEqual(faultsOf(judged('impossible', 'no such', ''), 'lost: ..'), ['p, n: why is not said', 'p, n: it names no lost order that stands in docs/recording.md']);
   assert.deepStrictEqual(faultsOf(judged('bad', '', 'so'), ''), ['p, n: no judgement: bad']);
   assert.match(judgementsText(judged('harmless', '', 'a | b')), /\| real and harmless \| 1 \| 100 % \|[^]*\| a &#124; b \|/);
-  assert.match(judgementsText({ problems: [], seed: 7 }), /none is judged yet/);
+  assert.match(judgementsText(judged('', '', '')), /1 problems are drawn by the seed 7; none is judged yet/);
+  assert.strictEqual(judgementsText({ problems: [], seed: 7 }), 'None is drawn yet.');
 });

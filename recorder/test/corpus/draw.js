@@ -67,6 +67,7 @@ const percent = (part, all) => `${all ? Math.round((100 * part) / all) : 0} %`;
 
 /** The judgements in sum, and each with its sentence. */
 function judgementsText({ problems, seed }) {
+  if (!problems.length) return 'None is drawn yet.';
   const judged = problems.filter(({ judgement }) => judgement);
   if (!judged.length) return `${problems.length} problems are drawn by the seed ${seed}; none is judged yet.`;
   const rows = Object.entries(JUDGEMENTS).map(([key, words]) => [words, judged.filter(({ judgement }) => judgement === key).length]);

@@ -1,5 +1,5 @@
 'use strict';
-// The line of one page: what its recordings had and how often it fared how, put together of the calls (calls.js) and of what they wrote (measure.js).
+// The line of one page, put together of what the calls said (calls.js) and of what they wrote (measure.js).
 
 /** What a run with the recorder threw, and no run without it. */
 function errorsAlone({ errors }, runs) {

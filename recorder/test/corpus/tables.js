@@ -110,11 +110,11 @@ function listed(troubles) {
 
 function troublesText(lines) {
   const { failed, nothing, alone, limits, replays } = troublesOf(lines);
-  const part = (words, some) => [`${words}: ${some.length || 'none'}.`, ...some.length ? ['', ...listed(some), ''] : []];
+  const part = (words, some) => [`${words}: ${some.length || 'none'}.`, ...some.length ? [listed(some).join('\n')] : []];
   return [
     ...part('Pages at which the evaluation failed', failed), ...part('Recordings that end with nothing', nothing),
     ...part('Errors of a page that come with the recorder alone', alone), ...part('Limits reached', limits), ...part('Replays that ended early', replays),
-  ].join('\n').replace(/\n$/, '');
+  ].join('\n\n');
 }
 
 /** How and when it was recorded; whether the machine was quiet decides what its times are worth. */
