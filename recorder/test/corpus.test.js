@@ -219,6 +219,8 @@ test('a draw depends on its seed alone, and tells what came of each problem in t
   assert.deepStrictEqual(draw([...others].reverse(), 10, 7), drawn);
   assert.deepStrictEqual(draw(others, 5, 7), drawn.slice(0, 5));
   assert.notDeepStrictEqual(draw(others, 10, 8), drawn);
+  const acts = { ...LINE, problems: PROBLEMS.map((one) => ({ ...one, look: 'act against act' })) };
+  assert.deepStrictEqual(draw([acts], 50, 1), []);
   assert.deepStrictEqual(draw([LINE, FAILED], 50, 1).map(({ name, replay }) => [name, replay]).sort(), [['n1', 'differs: a lost act'], ['n2', 'same']]);
 });
 

@@ -2,6 +2,7 @@
 // Problems drawn at random, to be judged by hand (judgements.json), and what the judgements come to.
 
 const { createHash } = require('node:crypto');
+const { LOOKS } = require('../../list/looks.js');
 const { tableOf, told } = require('./tables.js');
 
 /** What a drawn problem may be judged as. */
@@ -21,9 +22,12 @@ function verdictOf({ replay }, name) {
   return found ? [found.verdict, found.effect].filter(Boolean).join(': ') : '';
 }
 
-/** All problems of the first recordings, as they are to be judged. */
+/** Two acts of a user against each other take another input, not another order: they fail no build, and are not drawn. */
+const counts = ({ look }) => look !== LOOKS.acts.name;
+
+/** The problems of the first recordings that count, as they are to be judged. */
 function problemsOf(lines) {
-  return lines.filter(({ problems }) => problems).flatMap((line) => line.problems.map(({ name, look, words, race, isAgain }) => ({
+  return lines.filter(({ problems }) => problems).flatMap((line) => line.problems.filter(counts).map(({ name, look, words, race, isAgain }) => ({
     page: line.page, name, look, words, race, isAgain, replay: verdictOf(line, name),
   })));
 }
