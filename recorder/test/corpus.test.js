@@ -8,7 +8,7 @@ const { test } = require('node:test');
 const { temporaryFolder } = require('./cleanup.js');
 const { readSaid } = require('./corpus/calls.js');
 const { draw, withJudgements, faultsOf, judgementsText } = require('./corpus/draw.js');
-const { figuresOf, replaysOf, sumOf, troublesOf, loadsOf, whyOf, median } = require('./corpus/figures.js');
+const { figuresOf, replaysOf, sumOf, troublesOf, worstOf, loadsOf, whyOf, median } = require('./corpus/figures.js');
 const { readLines, appendLine } = require('./corpus/lines.js');
 const { parsePackages, needsOf } = require('./corpus/packages.js');
 const { kindOf: kindOfLocation, replaysOf: readReplays } = require('./corpus/measure.js');
@@ -175,6 +175,12 @@ test('sums, medians and reasons', () => {
   assert.strictEqual(loadsOf({ without: [], with: [] }), null);
   assert.deepStrictEqual(['x: it was not met again', 'something else'].map(whyOf), ['what was kept back was not met again', 'other']);
   assert.strictEqual(replaysOf({ races: [] }).tried, 0);
+});
+
+test('the worst come first', () => {
+  const worse = { ...LINE, page: '/b.html', replay: { races: [{ name: 'n9', verdict: 'differs', effect: 'an uncaught error', words: '' }] } };
+  assert.deepStrictEqual(worstOf([LINE, FAILED, worse], 5).map(({ page: name, effect }) => [name, effect]), [['/b.html', 'an uncaught error'], [LINE.page, 'a lost act']]);
+  assert.strictEqual(worstOf([LINE, worse], 1).length, 1);
 });
 
 test('troubles are told with their pages', () => {

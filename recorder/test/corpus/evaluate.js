@@ -1,13 +1,15 @@
 #!/usr/bin/env node
 'use strict';
-// evaluate.js [--draw N --seed S] [--into DOCUMENT] FOLDER: what the lines of an evaluation come to (corpus.js): prints the tables of docs/evaluation.md, or puts
-// them between their marks in a document. With --draw as many problems are drawn by the seed, and written into judgements.json, where each is judged by hand;
-// what was judged before stays.
+// evaluate.js [--draw N --seed S] [--into DOCUMENT] [--worst N] FOLDER: what the lines of an evaluation come to (corpus.js): prints the tables of
+// docs/evaluation.md, or puts them between their marks in a document. With --draw as many problems are drawn by the seed, and written into judgements.json,
+// where each is judged by hand; what was judged before stays. With --worst the problems that do most harm in the other order are printed alone.
 
 const fs = require('node:fs');
 const path = require('node:path');
 const { writeWhole } = require('../../list/whole-file.js');
+const { withoutCommands } = require('../../view/shown.js');
 const { draw, withJudgements, faultsOf, judgementsText } = require('./draw.js');
+const { worstOf } = require('./figures.js');
 const { readLines } = require('./lines.js');
 const { tablesOf, withTexts } = require('./tables.js');
 
@@ -20,11 +22,11 @@ function optionsOf(words) {
   const left = [...words];
   while (left[0]?.startsWith('--')) {
     const name = left.shift().slice(2);
-    if (!['draw', 'seed', 'into'].includes(name) || !left.length) return null;
+    if (!['draw', 'seed', 'into', 'worst'].includes(name) || !left.length) return null;
     options[name] = left.shift();
   }
   const isNumber = (text) => text === undefined || /^\d{1,9}$/.test(text);
-  const isWhole = left.length === 1 && isNumber(options.draw) && isNumber(options.seed) && (options.draw === undefined) === (options.seed === undefined);
+  const isWhole = left.length === 1 && [options.draw, options.seed, options.worst].every(isNumber) && (options.draw === undefined) === (options.seed === undefined);
   return isWhole ? { ...options, folder: left[0] } : null;
 }
 
@@ -38,10 +40,14 @@ function drawInto(lines, { draw: count, seed }) {
 function main(words) {
   const options = optionsOf(words);
   if (!options) {
-    console.error('usage: evaluate.js [--draw N --seed S] [--into DOCUMENT] FOLDER');
+    console.error('usage: evaluate.js [--draw N --seed S] [--into DOCUMENT] [--worst N] FOLDER');
     return 2;
   }
   const lines = readLines(path.join(options.folder, 'pages.jsonl'));
+  if (options.worst !== undefined) {
+    worstOf(lines, Number(options.worst)).forEach(({ page, name, effect, words }) => console.log(withoutCommands(`${page}, ${name}: ${effect}: ${words}`)));
+    return 0;
+  }
   if (options.draw !== undefined) drawInto(lines, options);
   const judged = readJudgements();
   const faults = faultsOf(judged, fs.readFileSync(RECORDING, 'utf8'));

@@ -3,6 +3,8 @@
 
 /** At what a race is that is found with objects and closures alone (measure.js). */
 const OF_OBJECTS = ['object', 'closure', 'module'];
+/** What a difference does, the worst first, as a replay tells it (replay/verdict.js). */
+const EFFECTS = ['an uncaught error', 'a lost act', 'a lost input', 'a lost event', 'another content', 'another state'];
 /** Why a race could not be turned, by what the replay says last of it. */
 const WHYS = [
   ['both come from one act of the user', /both come from one act of the user/g],
@@ -97,6 +99,12 @@ function together(figures, what) {
   return counts;
 }
 
+/** The problems that do most harm in the other order, the worst first: to be looked at by hand. */
+function worstOf(lines, count) {
+  const all = lines.filter(({ failure }) => !failure).flatMap(({ page, replay }) => replay.races.filter(({ verdict }) => verdict === 'differs').map((race) => ({ page, ...race })));
+  return all.sort((a, b) => EFFECTS.indexOf(a.effect) - EFFECTS.indexOf(b.effect)).slice(0, count);
+}
+
 /** What went wrong or was too much, as a list with the pages. */
 function troublesOf(lines) {
   const done = lines.filter(({ failure }) => !failure);
@@ -110,4 +118,4 @@ function troublesOf(lines) {
   };
 }
 
-module.exports = { figuresOf, replaysOf, sumOf, together, troublesOf, loadsOf, whyOf, median };
+module.exports = { figuresOf, replaysOf, sumOf, together, worstOf, troublesOf, loadsOf, whyOf, median, EFFECTS };

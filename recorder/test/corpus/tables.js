@@ -3,13 +3,12 @@
 
 const { LOOKS } = require('../../list/looks.js');
 const { withoutCommands } = require('../../view/shown.js');
-const { figuresOf, sumOf, together, troublesOf } = require('./figures.js');
+const { figuresOf, sumOf, together, troublesOf, EFFECTS } = require('./figures.js');
 
 const KINDS = {
   element: 'an element, by its id', handler: 'a handler', global: 'a global variable', field: 'what a user puts into a field', tree: "the page's tree",
   module: 'a variable of a module', object: 'a property of an object', closure: 'a variable of a closure',
 };
-const EFFECTS = ['an uncaught error', 'a lost act', 'a lost input', 'a lost event', 'another content', 'another state'];
 const MOST_TOLD = 20;
 const LONGEST_TOLD = 160;
 
