@@ -24,7 +24,11 @@ function readSaid(said) {
   return { load: load ? Number(load[1]) : null, errors: behind('  error: '), notRecorded: behind('  not recorded: '), notDone: behind('  not done') };
 }
 
-const lastLine = (text) => text.trim().split('\n').pop().slice(0, 300);
+/** The line that says what went wrong: of Node's own the one with the error, else the last one. */
+function faultOf(text) {
+  const lines = text.trim().split('\n');
+  return (lines.find((line) => /^\w*Error\b/.test(line)) || lines.pop()).slice(0, 300);
+}
 
 /** The calls of one page. Its files stand in a folder of its own. */
 class PageCalls {
@@ -46,7 +50,7 @@ class PageCalls {
 
   async record(file, words) {
     const { status, stderr, seconds } = await this.call(path.join(TOP, 'er_record'), [this.page, file, '--root', this.root, ...words], LONGEST_RECORDING);
-    return { status, seconds, ...readSaid(stderr), ...status === 0 ? {} : { failure: lastLine(stderr) } };
+    return { status, seconds, ...readSaid(stderr), ...status === 0 ? {} : { failure: faultOf(stderr) } };
   }
 
   /** Both recordings, each behind a run without the recorder. */
@@ -76,13 +80,13 @@ class PageCalls {
     const words = [this.page, '--root', this.root, ...RUNS[0], '--replay', '--most', String(most), '--json'];
     const { status, stdout, stderr, seconds } = await this.call(path.join(TOP, 'er_page'), words, LONGEST_REPLAY, own);
     fs.writeFileSync(path.join(own, 'listing.json'), stdout);
-    return { status, seconds, ...status === 0 || status === 1 ? {} : { failure: lastLine(stderr) } };
+    return { status, seconds, ...status === 0 || status === 1 ? {} : { failure: faultOf(stderr) } };
   }
 
   /** What the recordings have (measure.js), read in a process of its own. */
   async measure() {
     const { status, stdout, stderr } = await this.call(process.execPath, ['--max-old-space-size=4096', path.join(__dirname, 'measure.js'), this.folder], LONGEST_MEASURE);
-    if (status !== 0) throw new Error(`measure.js: status ${status}: ${lastLine(stderr)}`);
+    if (status !== 0) throw new Error(`measure.js: status ${status}: ${faultOf(stderr)}`);
     return JSON.parse(stdout);
   }
 
