@@ -24,10 +24,10 @@ function readSaid(said) {
   return { load: load ? Number(load[1]) : null, errors: behind('  error: '), notRecorded: behind('  not recorded: '), notDone: behind('  not done') };
 }
 
-/** The line that says what went wrong: of Node's own the one with the error, else the last one. */
+/** The line that says what went wrong: the first one of a command, or the one with the error that Node tells; else the last one. */
 function faultOf(text) {
   const lines = text.trim().split('\n');
-  return (lines.find((line) => /^\w*Error\b/.test(line)) || lines.pop()).slice(0, 300);
+  return (lines.find((line) => /^(\w*Error\b|er_\w+: )/.test(line)) || lines.pop()).slice(0, 300);
 }
 
 /** The calls of one page. Its files stand in a folder of its own. */
