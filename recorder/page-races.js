@@ -4,6 +4,7 @@
 const fs = require('node:fs');
 const path = require('node:path');
 const { resolveAddress } = require('./browser/folder.js');
+const { endWith } = require('./ending.js');
 const { Known, KnownFault } = require('./list/known.js');
 const { Listing } = require('./list/listing.js');
 const { writeOutputs, tellLines } = require('./list/outputs.js');
@@ -125,4 +126,4 @@ async function main(words) {
   }
 }
 
-main(process.argv.slice(2)).then((status) => process.exit(status));
+main(process.argv.slice(2)).then(endWith);

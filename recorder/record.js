@@ -2,6 +2,7 @@
 // er_record URL OUT.trace: records a page. Writes OUT.trace and OUT.names.json.
 
 const { AttachedRecorder } = require('./attached-recorder.js');
+const { endWith } = require('./ending.js');
 const { parseOptions, UsageFault, USAGE } = require('./options.js');
 const { writeWhole, mustTake, WriteFault } = require('./list/whole-file.js');
 const { Progress } = require('./progress.js');
@@ -123,5 +124,5 @@ async function main(words) {
 module.exports = { recordInto, readRun, writeFiles, namesFile };
 
 if (require.main === module) {
-  main(process.argv.slice(2)).then((status) => process.exit(status));
+  main(process.argv.slice(2)).then(endWith);
 }

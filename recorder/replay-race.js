@@ -3,6 +3,7 @@
 
 const fs = require('node:fs');
 const path = require('node:path');
+const { endWith } = require('./ending.js');
 const { HELP } = require('./help.js');
 const { LastingNames } = require('./list/lasting.js');
 const { Listing } = require('./list/listing.js');
@@ -139,4 +140,4 @@ async function main(words) {
   }
 }
 
-main(process.argv.slice(2)).then((status) => process.exit(status));
+main(process.argv.slice(2)).then(endWith);

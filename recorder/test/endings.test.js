@@ -2,6 +2,7 @@
 // How the commands end: what they write, what they say, their statuses, and that no browser and no folder is left behind.
 
 const assert = require('node:assert');
+const { spawn } = require('node:child_process');
 const fs = require('node:fs');
 const path = require('node:path');
 const { test } = require('node:test');
@@ -45,6 +46,28 @@ async function assertNothingLeft(own) {
   assert.deepStrictEqual(fs.readdirSync(own).filter((name) => name.startsWith('er-record-')), []);
   assert.deepStrictEqual(processesOf(own), []);
 }
+
+/** Starts a piece of code in a process of its own, of whose output nothing is read at first. */
+function startUnread(code) {
+  const command = spawn(process.execPath, ['-e', code], { cwd: path.join(__dirname, '..'), stdio: ['ignore', 'pipe', 'inherit'] });
+  command.ended = new Promise((resolve) => command.on('close', resolve));
+  return command;
+}
+
+test('a command ends when all that it wrote is read', { timeout: 60000 }, async () => {
+  const size = 4 << 20;
+  const command = startUnread(`process.stdout.write('x'.repeat(${size})); require('./ending.js').endWith(3)`);
+  await new Promise((resolve) => setTimeout(resolve, 1000));
+  let read = 0;
+  command.stdout.on('data', (piece) => { read += piece.length; });
+  assert.deepStrictEqual([await command.ended, read], [3, size]);
+});
+
+test('a command ends where nobody reads what it writes', { timeout: 60000 }, async () => {
+  const command = startUnread(`process.stdout.write('x'.repeat(${4 << 20})); require('./ending.js').endWith(3)`);
+  command.stdout.destroy();
+  assert.strictEqual(await command.ended, 3);
+});
 
 test('a recording writes the trace and its names', { timeout: 150000 }, async () => {
   const own = temporary('plain');

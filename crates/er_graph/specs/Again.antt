@@ -1,4 +1,4 @@
--- Which records begin an action before which the same actions come as before the newest. Lists stand newest first.
+-- A handler behind another of its group, which one event registered both: the same actions come before it as before the newest action. Lists stand newest first.
 use Rattle.std.specs.Prelude.{ℕ, Bool, false, ◌==◌, ◌&&◌, List, Option}
 use Rattle.er_trace.specs.declared.record.Record.{Record}
 use Rattle.er_trace.specs.declared.record.Record.TheVariants.{Run}
@@ -6,7 +6,7 @@ use Rattle.er_history.specs.History.{Action, told, running}
 use Rattle.er_history.specs.LookUps.{maker_of_handler}
 use Rattle.er_history.specs.Rules.{is_some_and, are_some_and}
 
--- both are there, and the same event
+-- both are there, and the same number
 abbrev pub is_one : Option ℕ → Option ℕ → Bool
 is_one first second = are_some_and (λ (m k : ℕ). m == k) first second
 

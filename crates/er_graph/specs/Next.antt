@@ -12,7 +12,7 @@ use Rattle.er_page.specs.declared.page.Page.{Page}
 use Rattle.er_path_rules.specs.timer.Timed.{IsTimed}
 use Rattle.er_graph.specs.Accepted.{AreOf}
 
--- They stand for the list, which is sound, and nothing is against the record after it.
+-- They stand for the list, which is sound; nothing is against the record after it, and both are of the version.
 pub record ComesAfter (v : Version) (shown : Page) (links : List (List ℕ)) (x : Record)
     (h : List Record) : Type 0 where
   pub timed : IsTimed v shown links h

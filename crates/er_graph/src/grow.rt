@@ -83,7 +83,7 @@ fn begin(
     Ok(())
 }
 
-/// Adds the action that the record begins to the clocks. Where the same actions come before it as before the newest, they are not gone through.
+/// Adds the action that the record begins to the clocks. Where a handler runs behind another of its group and one event registered both, the same actions come before it, and are not gone through.
 fn push(
     alloc: Global,
     version: Version,

@@ -105,11 +105,13 @@ RecordCause f v number rest c =
     (λ why. c ≡ why))
 
 -- Why the line that begins there, with these bytes from it on, is no line of a trace: the first of
--- these that applies. after-end: there are bytes after the last line too-many-lines: there are
--- bytes, and the number of the line is above the most long-line: more bytes than a line may have
--- came without an LF no-end: no LF comes, also where there are no bytes bad-header: the first line
--- is the header of no version bad-record: a later line is neither a last one nor spells a record of
--- the version
+-- these that applies.
+-- after-end: there are bytes after the last line
+-- too-many-lines: there are bytes, and the number of the line is above the most
+-- long-line: more bytes than a line may have came without an LF
+-- no-end: no LF comes, also where there are no bytes
+-- bad-header: the first line is the header of no version
+-- bad-record: a later line is neither a last one nor spells a record of the version
 abbrev pub LineCause : Format → Place → List ℕ → Cause → Type 0
 LineCause f Start rest c = StartCause f rest c
 LineCause f (After v records) rest c = RecordCause f v (length records + 2) rest c

@@ -79,7 +79,7 @@ pub record Advances (f : Format) (left_old left_new : Option (List ℕ)) (mark :
   pub gave : Gives left_old piece left_new
   pub on : GoesOn f mark kept fault session (bytes ++ piece) records
 
--- the bytes are not the trace of these records: its `end` line is still to come
+-- the bytes are not the trace of these records, as where its `end` line is still to come
 abbrev pub IsOpen : Format → List ℕ → List Record → Type 0
 IsOpen f bytes records = ¬ IsTraceOf f bytes records
 

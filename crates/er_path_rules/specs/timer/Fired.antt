@@ -27,7 +27,7 @@ asks_for_path One = false
 asks_for_path Two = true
 asks_for_path Three = true
 
--- in versions 2 and 3 a path must lead to it besides; in version 1 one event set both
+-- in versions 2 and 3 a path must lead to it besides; of version 1 it is asked of timeouts of one event alone (fired_before)
 abbrev pub goes_before : Version → List Record → ℕ → ℕ → Bool
 goes_before One h s t = goes_off_first h s t
 goes_before Two h s t =
@@ -60,6 +60,7 @@ abbrev pub set_by : Version → List Record → ℕ → Option ℕ → List ℕ
 set_by v h t None = []
 set_by v h t (Some u) = latest_of_event u (told h).actions ++ fired_handed v h t u
 
+-- what comes before a callback of a timeout
 abbrev pub handed_before : Version → List Record → ℕ → List ℕ
 handed_before v h t = set_by v h t (maker_of_timeout h t)
 

@@ -1,0 +1,16 @@
+'use strict';
+// The end of a command: a pipe that is read slowly takes what was written later than it was written.
+
+/** Ends this process with a status, once standard output and standard error have taken all, or take no more. */
+function endWith(status) {
+  const left = new Set([process.stdout, process.stderr]);
+  for (const stream of [...left]) {
+    stream.on('error', () => {}); // nobody reads it any more
+    stream.write('', () => {
+      left.delete(stream);
+      if (!left.size) process.exit(status);
+    });
+  }
+}
+
+module.exports = { endWith };

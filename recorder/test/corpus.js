@@ -1,0 +1,131 @@
+#!/usr/bin/env node
+'use strict';
+// corpus.js [--install] [--side-by-side N] [--most N] [--loads N] [--again] FOLDER [PACKAGE..]: the evaluation (docs/evaluation.md). Records the pages of
+// corpus.json, or of the packages that are named, each with five clicks and a slow network in two seeds, judges them, and runs the first problems of each
+// page again in the other order. Appends a line of JSON for each page to FOLDER/pages.jsonl when it is done, so it can be stopped, and goes on where it was.
+
+const { createHash } = require('node:crypto');
+const fs = require('node:fs');
+const os = require('node:os');
+const path = require('node:path');
+const { withoutCommands } = require('../view/shown.js');
+const { programState } = require('../view/program.js');
+const { run } = require('./cleanup.js');
+const { PageCalls } = require('./corpus/calls.js');
+const { readLines, appendLine } = require('./corpus/lines.js');
+const { Unpacked } = require('./corpus/packages.js');
+const { lineOf, failedLine } = require('./corpus/page-line.js');
+
+const USAGE = `usage: corpus.js [options] FOLDER [PACKAGE..]
+  --install         fetches the packages that are missing, with apt-get, and unpacks them in FOLDER; else it is said which are missing, and nothing is done
+  --side-by-side N  so many pages at once (1)
+  --most N          so many problems of each page are run again in the other order (5)
+  --loads N         so many loads of each page with and without the recorder, for their times (3)
+  --again           records the pages anew that failed before`;
+const USAGE_STATUS = 2;
+const NUMBERS = { '--side-by-side': 'lanes', '--most': 'most', '--loads': 'loads' };
+const FLAGS = { '--install': 'installs', '--again': 'recordsAgain' };
+
+function optionsOf(words) {
+  const options = { lanes: 1, most: 5, loads: 3, installs: false, recordsAgain: false };
+  const left = [...words];
+  while (left[0]?.startsWith('--')) {
+    const name = left.shift();
+    if (FLAGS[name]) options[FLAGS[name]] = true;
+    else if (NUMBERS[name] && /^[1-9]\d{0,3}$/.test(left[0] || '')) options[NUMBERS[name]] = Number(left.shift());
+    else return null;
+  }
+  return left.length ? { ...options, folder: path.resolve(left[0]), only: left.slice(1) } : null;
+}
+
+const rankOf = ({ page }) => createHash('sha256').update(page).digest('hex');
+
+/** The pages to be recorded, each with what is known of its package. Their order is no kind's, so that those of a run that is stopped are a sample of all. */
+function readCorpus(only) {
+  const { packages, pages } = JSON.parse(fs.readFileSync(path.join(__dirname, 'corpus.json'), 'utf8'));
+  const byName = new Map(packages.map((one) => [one.package, one]));
+  const entries = pages.map((one) => ({ ...byName.get(one.package), page: one.page })).filter(({ package: name }) => !only.length || only.includes(name));
+  return entries.sort((a, b) => (rankOf(a) < rankOf(b) ? -1 : 1));
+}
+
+/** Fetches what is missing, or says it. */
+async function install(entries, unpacked, { installs, folder }) {
+  const names = [...new Set(entries.flatMap(({ package: name, needs }) => [name, ...needs]))];
+  const missing = names.filter((name) => !unpacked.has(name));
+  if (!missing.length) return true;
+  console.error(`corpus.js: ${missing.length} packages are missing in ${folder}: ${missing.join(' ')}`);
+  if (!installs) {
+    console.error(`corpus.js: nothing done. With --install they are fetched with apt-get (of a new machine, apt-get update before), and unpacked in ${folder}; nothing is installed`);
+    return false;
+  }
+  await unpacked.add(missing);
+  return true;
+}
+
+const fileName = (page) => page.replace(/^\/usr\/share\//, '').replace(/[^\w.-]+/g, '-');
+
+/** What decides what times are worth. */
+function machineFacts(before, chromium, { lanes }) {
+  return { chromium, processors: os.cpus().length, sideBySide: lanes, loads: [before, os.loadavg()[0]] };
+}
+
+/** Records one page, and answers its line. */
+async function recordPage(entry, unpacked, chromium, options) {
+  const { needs, ...known } = entry;
+  const folder = path.join(options.folder, 'pages', fileName(entry.page));
+  const [begin, before] = [Date.now(), os.loadavg()[0]];
+  const facts = () => ({ began: new Date(begin).toISOString(), seconds: (Date.now() - begin) / 1000, machine: machineFacts(before, chromium, options) });
+  try {
+    known.version = await unpacked.versionOf(entry.package);
+    fs.rmSync(folder, { recursive: true, force: true });
+    fs.mkdirSync(folder, { recursive: true });
+    const calls = new PageCalls(path.join(unpacked.root, entry.page), unpacked.root, folder);
+    const [runs, loads, replay] = [await calls.runs(), await calls.loads(options.loads), await calls.replay(options.most)];
+    const measured = await calls.measure();
+    return lineOf(known, { runs, loads, replay, measured, costs: await calls.costs() }, facts());
+  } catch (fault) {
+    return failedLine(known, fault, facts());
+  }
+}
+
+function told({ page, failure, seconds, runs, problems, replay }) {
+  if (failure) return `${page}: failed: ${failure}`;
+  const [{ nothing, actions, races }] = runs;
+  const what = nothing || `${actions} actions, ${races} races, ${problems.length} problems`;
+  return `${page}: ${what}; run again: ${replay.races.map(({ verdict }) => verdict).join(', ') || 'none'}; ${Math.round(seconds)} s`;
+}
+
+/** Records pages one after another, until none is left. */
+async function recordLane(left, done, unpacked, chromium, options) {
+  while (left.length) {
+    const line = await recordPage(left.shift(), unpacked, chromium, options);
+    appendLine(done.file, line);
+    done.count++;
+    console.log(withoutCommands(`${done.count} of ${done.of}: ${told(line)}`));
+  }
+}
+
+async function main(words) {
+  const options = optionsOf(words);
+  if (!options) {
+    console.error(USAGE);
+    return USAGE_STATUS;
+  }
+  if (programState() !== 'built') {
+    console.error('corpus.js: nothing done: it takes the built program: ./er_cli --build, or ER_CLI names one');
+    return USAGE_STATUS;
+  }
+  const unpacked = new Unpacked(options.folder);
+  const entries = readCorpus(options.only);
+  if (!await install(entries, unpacked, options)) return USAGE_STATUS;
+  const file = path.join(options.folder, 'pages.jsonl');
+  const before = new Set(readLines(file).filter(({ failure }) => !failure || !options.recordsAgain).map(({ page }) => page));
+  const left = entries.filter(({ page }) => !before.has(page));
+  const { stdout } = await run(process.env.CHROMIUM || '/usr/bin/chromium', ['--version'], { longest: 60000 });
+  const chromium = stdout.trim().split(' ').slice(0, 2).join(' ');
+  const done = { file, count: entries.length - left.length, of: entries.length };
+  await Promise.all(Array.from({ length: options.lanes }, () => recordLane(left, done, unpacked, chromium, options)));
+  return 0;
+}
+
+main(process.argv.slice(2)).then((status) => { process.exitCode = status; });

@@ -1,0 +1,101 @@
+'use strict';
+// The calls that the evaluation makes for one page: er_record with and without a recording, er_page with its replays, and the program with its costs.
+
+const fs = require('node:fs');
+const path = require('node:path');
+const { PROGRAM } = require('../../view/program.js');
+const { run } = require('../cleanup.js');
+
+const TOP = path.join(__dirname, '..', '..', '..');
+const LONGEST_RECORDING = 900000;
+const LONGEST_REPLAY = 3600000;
+const LONGEST_MEASURE = 3600000;
+const LONGEST_ANSWER = 600000;
+/** Five clicks on a slow network, in two seeds: of each file the second one's delay is another too. */
+const RUNS = [['--clicks', '5', '--seed', '1', '--slow', '400'], ['--clicks', '5', '--seed', '2', '--slow', '401']];
+
+let isStopped = false;
+['SIGINT', 'SIGTERM', 'SIGHUP'].forEach((signal) => process.on(signal, () => { isStopped = true; }));
+
+/** What er_record and er_page say of a recording on standard error. */
+function readSaid(said) {
+  const behind = (begin) => said.split('\n').filter((line) => line.startsWith(begin)).map((line) => line.slice(begin.length));
+  const load = /^ {2}load of the page: ([\d.]+) s$/m.exec(said);
+  return { load: load ? Number(load[1]) : null, errors: behind('  error: '), notRecorded: behind('  not recorded: '), notDone: behind('  not done') };
+}
+
+/** The line that says what went wrong: the first one of a command, or the one with the error that Node tells; else the last one. */
+function faultOf(text) {
+  const lines = text.trim().split('\n');
+  return (lines.find((line) => /^(\w*Error\b|er_\w+: )/.test(line)) || lines.pop()).slice(0, 300);
+}
+
+/** The calls of one page. Its files stand in a folder of its own. */
+class PageCalls {
+  /** @param {string} page its file  @param {string} root the folder that is served */
+  constructor(page, root, folder) {
+    Object.assign(this, { page, root, folder });
+    this.said = path.join(folder, 'said');
+  }
+
+  /** Once a signal came nothing follows: what runs is ended then, and this process behind it (cleanup.js). */
+  async call(program, words, longest, cwd = this.folder) {
+    const begin = Date.now();
+    const { status, stdout, stderr } = await run(program, words, { longest, cwd });
+    if (isStopped) await new Promise(() => {});
+    const seconds = (Date.now() - begin) / 1000;
+    fs.appendFileSync(this.said, `== ${[path.basename(program), ...words].join(' ')}: status ${status}, ${seconds.toFixed(1)} s\n${stderr}`);
+    return { status, stdout, stderr, seconds };
+  }
+
+  async record(file, words) {
+    const { status, stderr, seconds } = await this.call(path.join(TOP, 'er_record'), [this.page, file, '--root', this.root, ...words], LONGEST_RECORDING);
+    return { status, seconds, ...readSaid(stderr), ...status === 0 ? {} : { failure: faultOf(stderr) } };
+  }
+
+  /** Both recordings, each behind a run without the recorder. */
+  async runs() {
+    const runs = [];
+    for (const [k, words] of RUNS.entries()) {
+      const plain = await this.record(`${k + 1}.trace`, [...words, '--raw']);
+      runs.push({ plain, ...await this.record(`${k + 1}.trace`, words) });
+    }
+    return runs;
+  }
+
+  /** Loads on a quick network without acts of a user, with and without the recorder in turns. */
+  async loads(times) {
+    const loads = { without: [], with: [] };
+    for (let k = 0; k < times; k++) {
+      loads.without.push((await this.record('load.trace', ['--raw'])).load);
+      loads.with.push((await this.record('load.trace', [])).load);
+    }
+    return loads;
+  }
+
+  /** er_page with its replays, in a folder of its own. */
+  async replay(most) {
+    const own = path.join(this.folder, 'replay');
+    fs.mkdirSync(own, { recursive: true });
+    const words = [this.page, '--root', this.root, ...RUNS[0], '--replay', '--most', String(most), '--json'];
+    const { status, stdout, stderr, seconds } = await this.call(path.join(TOP, 'er_page'), words, LONGEST_REPLAY, own);
+    fs.writeFileSync(path.join(own, 'listing.json'), stdout);
+    return { status, seconds, ...status === 0 || status === 1 ? {} : { failure: faultOf(stderr) } };
+  }
+
+  /** What the recordings have (measure.js), read in a process of its own. */
+  async measure() {
+    const { status, stdout, stderr } = await this.call(process.execPath, ['--max-old-space-size=4096', path.join(__dirname, 'measure.js'), this.folder], LONGEST_MEASURE);
+    if (status !== 0) throw new Error(`measure.js: status ${status}: ${faultOf(stderr)}`);
+    return JSON.parse(stdout);
+  }
+
+  /** What the program takes for the first recording's report; null where it was not to be had. */
+  async costs() {
+    const { status, stdout } = await this.call(path.join(__dirname, 'costs.py'), [PROGRAM, '1.trace'], LONGEST_ANSWER);
+    const [seconds, kilobytes] = stdout.split(' ').map(Number);
+    return status === 0 ? { seconds, megabytes: kilobytes / 1024 } : null;
+  }
+}
+
+module.exports = { PageCalls, readSaid, RUNS };

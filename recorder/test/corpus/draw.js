@@ -1,0 +1,84 @@
+'use strict';
+// Problems drawn at random, to be judged by hand (judgements.json), and what the judgements come to.
+
+const { createHash } = require('node:crypto');
+const { LOOKS } = require('../../list/looks.js');
+const { tableOf, told } = require('./tables.js');
+
+/** What a drawn problem may be judged as. */
+const JUDGEMENTS = {
+  harmful: 'real and harmful',
+  harmless: 'real and harmless',
+  impossible: "can't happen in a browser",
+};
+const NOT_JUDGED = 'not yet judged';
+
+const rankOf = (seed, { page, name }) => createHash('sha256').update(`${seed}\n${page}\n${name}`).digest('hex');
+const isSame = (one, other) => one.page === other.page && one.name === other.name;
+
+/** The replay's verdict of a problem, where it was run again. */
+function verdictOf({ replay }, name) {
+  const found = replay.races.find((race) => race.name === name);
+  return found ? [found.verdict, found.effect].filter(Boolean).join(': ') : '';
+}
+
+/** Two acts of a user against each other take another input, not another order: they fail no build, and are not drawn. */
+const counts = ({ look }) => look !== LOOKS.acts.name;
+
+/** The problems of the first recordings that count, as they are to be judged. */
+function problemsOf(lines) {
+  return lines.filter(({ problems }) => problems).flatMap((line) => line.problems.filter(counts).map(({ name, look, words, race, isAgain }) => ({
+    page: line.page, name, look, words, race, isAgain, replay: verdictOf(line, name),
+  })));
+}
+
+/** So many of them: those with the least SHA-256 of the seed, the page and the name, in whichever order the lines stand. */
+function draw(lines, count, seed) {
+  const all = problemsOf(lines).map((one) => ({ ...one, rank: rankOf(seed, one) }));
+  return all.sort((a, b) => (a.rank < b.rank ? -1 : 1)).slice(0, count).map(({ rank, ...one }) => one);
+}
+
+/**
+ * The file of judgements for a draw: what was judged before stays with its problem, and what is not drawn any more stands behind.
+ * @param {{problems: object[], earlier?: object[]}} old
+ */
+function withJudgements(drawn, { count, seed }, old) {
+  const known = [...old.problems, ...old.earlier || []].filter(({ judgement }) => judgement);
+  const problems = drawn.map((one) => {
+    const { judgement = '', lost = '', why = '' } = known.find((other) => isSame(one, other)) || {};
+    return { ...one, judgement, lost, why };
+  });
+  return { seed, count, problems, earlier: known.filter((one) => !problems.some((other) => isSame(one, other))) };
+}
+
+/**
+ * What is wrong with judgements, as lines.
+ * @param {{problems: object[]}} judged
+ * @param {string} document docs/recording.md: each lost order that is named stands there
+ */
+function faultsOf({ problems }, document) {
+  const faults = [];
+  for (const { page, name, judgement, lost, why } of problems.filter((one) => one.judgement)) {
+    const say = (text) => faults.push(`${page}, ${name}: ${text}`);
+    if (!JUDGEMENTS[judgement]) say(`no judgement: ${judgement}`);
+    if (!why) say('why is not said');
+    if (judgement === 'impossible' && !(lost && document.includes(lost))) say('it names no lost order that stands in docs/recording.md');
+  }
+  return faults;
+}
+
+const percent = (part, all) => `${all ? Math.round((100 * part) / all) : 0} %`;
+
+/** The judgements in sum, and each with its sentence. */
+function judgementsText({ problems, seed }) {
+  if (!problems.length) return 'None is drawn yet.';
+  const judged = problems.filter(({ judgement }) => judgement);
+  if (!judged.length) return `${problems.length} problems are drawn by the seed ${seed}; none is judged yet.`;
+  const rows = Object.entries(JUDGEMENTS).map(([key, words]) => [words, judged.filter(({ judgement }) => judgement === key).length]);
+  const rest = problems.length - judged.length;
+  const sums = tableOf(['Of the problems that were drawn', 'Problems', 'Share'], [...rows, ...rest ? [[NOT_JUDGED, rest]] : []].map(([words, count]) => [words, count, percent(count, problems.length)]));
+  const each = judged.map(({ page, words, judgement, lost, why }) => [told(page.split('/').slice(-2).join('/')), told(words), JUDGEMENTS[judgement], told([why, lost].filter(Boolean).join(': '))]);
+  return [sums, tableOf(['Page', 'Problem', 'Judged', 'Why'], each)].join('\n\n');
+}
+
+module.exports = { draw, withJudgements, faultsOf, judgementsText, JUDGEMENTS };
