@@ -1,6 +1,6 @@
 #!/usr/bin/env node
 'use strict';
-// corpus.js [--install] [--side-by-side N] [--most N] [--loads N] [--again] FOLDER [PACKAGE..]: the evaluation (docs/evaluation.md). Records the pages of
+// corpus.js [--install] [--side-by-side N] [--most N] [--loads N] [--again] [--quiet] FOLDER [PACKAGE..]: the evaluation (docs/evaluation.md). Records the pages of
 // corpus.json, or of the packages that are named, each with five clicks and a slow network in two seeds, judges them, and runs the first problems of each
 // page again in the other order. Appends a line of JSON for each page to FOLDER/pages.jsonl when it is done, so it can be stopped, and goes on where it was.
 
@@ -12,7 +12,7 @@ const { withoutCommands } = require('../view/shown.js');
 const { programState } = require('../view/program.js');
 const { run } = require('./cleanup.js');
 const { PageCalls } = require('./corpus/calls.js');
-const { readLines, appendLine } = require('./corpus/lines.js');
+const { readLines, appendLine, isQuiet } = require('./corpus/lines.js');
 const { Unpacked } = require('./corpus/packages.js');
 const { lineOf, failedLine } = require('./corpus/page-line.js');
 
@@ -21,13 +21,14 @@ const USAGE = `usage: corpus.js [options] FOLDER [PACKAGE..]
   --side-by-side N  so many pages at once (1)
   --most N          so many problems of each page are run again in the other order (5)
   --loads N         so many loads of each page with and without the recorder, for their times (3)
-  --again           records the pages anew that failed before`;
+  --again           records the pages anew that failed before
+  --quiet           records the pages anew that were recorded with other work on the machine`;
 const USAGE_STATUS = 2;
 const NUMBERS = { '--side-by-side': 'lanes', '--most': 'most', '--loads': 'loads' };
-const FLAGS = { '--install': 'installs', '--again': 'recordsAgain' };
+const FLAGS = { '--install': 'installs', '--again': 'recordsFailed', '--quiet': 'recordsBusy' };
 
 function optionsOf(words) {
-  const options = { lanes: 1, most: 5, loads: 3, installs: false, recordsAgain: false };
+  const options = { lanes: 1, most: 5, loads: 3, installs: false, recordsFailed: false, recordsBusy: false };
   const left = [...words];
   while (left[0]?.startsWith('--')) {
     const name = left.shift();
@@ -119,7 +120,8 @@ async function main(words) {
   const entries = readCorpus(options.only);
   if (!await install(entries, unpacked, options)) return USAGE_STATUS;
   const file = path.join(options.folder, 'pages.jsonl');
-  const before = new Set(readLines(file).filter(({ failure }) => !failure || !options.recordsAgain).map(({ page }) => page));
+  const stays = (line) => !(line.failure && options.recordsFailed) && !(!isQuiet(line) && options.recordsBusy);
+  const before = new Set(readLines(file).filter(stays).map(({ page }) => page));
   const left = entries.filter(({ page }) => !before.has(page));
   const { stdout } = await run(process.env.CHROMIUM || '/usr/bin/chromium', ['--version'], { longest: 60000 });
   const chromium = stdout.trim().split(' ').slice(0, 2).join(' ');

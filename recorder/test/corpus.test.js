@@ -199,7 +199,9 @@ test('the tables add up, and take nothing of a page for mark-up', () => {
   assert.match(texts.replays, /^\| by its worst effect: a lost act \| 1 \| 50 % \|$/m);
   assert.match(texts.pages, /^\| p-doc, p-doc\/a\.html \| 10 \| 20 \| 4 \| 3 \| 2 \| 1 \| 1 of 2 \| 2 of 3, 1 \| 0\.20, 0\.40 \| 0\.50, 12 \|$/m);
   assert.match(texts.recorded, /^1 pages of 1 packages, .* at a load of 1\.0 to 2\.0\. With/);
-  assert.match(tablesOf([{ ...LINE, machine: { ...FACTS.machine, loads: [5, 6] } }]).recorded, /not quiet/);
+  const busy = tablesOf([{ ...LINE, machine: { ...FACTS.machine, loads: [3, 6] } }]);
+  assert.match(busy.recorded, /\*\*With other work on the machine: 1 of 1;/);
+  assert.ok(!busy.sums.includes('load with') && busy.pages.includes('| 2 of 3, 1 |  | 0.50, 12 |'), busy.pages);
   assert.strictEqual(told('a|b`<i>*\n'), 'a&#124;b&#96;&#60;i&#62;&#42;&#92;u{a}');
   assert.throws(() => tablesOf([FAILED]), /no page was recorded/);
 });

@@ -27,4 +27,7 @@ function appendLine(file, line) {
   fs.appendFileSync(file, `${isCut ? '\n' : ''}${JSON.stringify(line)}\n`);
 }
 
-module.exports = { readLines, appendLine };
+/** Whether no more wanted to run, before a page and behind it, than there are processors. */
+const isQuiet = ({ machine: { loads, processors } }) => Math.max(...loads) <= processors;
+
+module.exports = { readLines, appendLine, isQuiet };

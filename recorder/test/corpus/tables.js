@@ -4,6 +4,7 @@
 const { LOOKS } = require('../../list/looks.js');
 const { withoutCommands } = require('../../view/shown.js');
 const { figuresOf, sumOf, together, troublesOf, EFFECTS } = require('./figures.js');
+const { isQuiet } = require('./lines.js');
 
 const KINDS = {
   element: 'an element, by its id', handler: 'a handler', global: 'a global variable', field: 'what a user puts into a field', tree: "the page's tree",
@@ -116,11 +117,12 @@ function troublesText(lines) {
   ].join('\n\n');
 }
 
-/** How and when it was recorded; whether the machine was quiet decides what its times are worth. */
+/** How and when it was recorded; whether the machine was quiet decides what it is worth. */
 function recordedText(lines, figures) {
   const loads = lines.flatMap(({ machine }) => machine.loads);
   const processors = Math.max(...lines.map(({ machine }) => machine.processors));
-  const quiet = Math.max(...loads) <= processors ? '' : ' **The machine was not quiet: times say little.**';
+  const busy = lines.filter((line) => !isQuiet(line)).length;
+  const quiet = busy ? ` **With other work on the machine: ${of(busy, lines.length)}; loads of these are not told, and fewer of their races could be turned.**` : '';
   const days = [...new Set(lines.map(({ began }) => began.slice(0, 10)))].sort();
   const browsers = [...new Set(lines.map(({ machine }) => machine.chromium))].join(', ');
   const lanes = Math.max(...lines.map(({ machine }) => machine.sideBySide));
