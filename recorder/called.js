@@ -5,7 +5,7 @@ const fs = require('node:fs');
 const path = require('node:path');
 
 /** A package has the program, and nothing that builds one. */
-const isPackage = !fs.existsSync(path.join(__dirname, '..', 'bench', 'build'));
+const isPackage = !fs.existsSync(path.join(__dirname, '..', 'tools', 'build'));
 
 const called = (name) => (isPackage ? name : `./${name}`);
 

@@ -22,10 +22,10 @@ function copy(name) {
   fs.cpSync(path.join(TOP, name), path.join(clone, name), { recursive: true, filter: (from) => !from.startsWith(__dirname) });
 }
 
-['er_cli', 'er_page', 'er_record', 'er_view', 'recorder', 'crates.txt', 'VERSION', 'crates/er_cli/src', 'bench/program', 'bench/unproved', 'bench/version', 'examples/shop'].forEach(copy);
+['er_cli', 'er_page', 'er_record', 'er_view', 'recorder', 'crates.txt', 'VERSION', 'crates/er_cli/src', 'tools/program', 'tools/unproved', 'tools/version', 'examples/shop'].forEach(copy);
 fs.mkdirSync(temporary);
 fs.mkdirSync(path.join(folder, 'bin'));
-fs.symlinkSync(path.join(TOP, 'bench', 'stand-in-rt'), path.join(folder, 'bin', 'rt'));
+fs.symlinkSync(path.join(TOP, 'tools', 'stand-in-rt'), path.join(folder, 'bin', 'rt'));
 fs.mkdirSync(path.join(folder, 'node'));
 fs.symlinkSync(process.execPath, path.join(folder, 'node', 'node'));
 const env = { ...process.env, ER_CLI: '', ANSWERS, TMPDIR: temporary, PATH: `${path.join(folder, 'bin')}:${process.env.PATH}` };

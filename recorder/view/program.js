@@ -17,7 +17,7 @@ let state = process.env.ER_CLI ? 'built' : '';
 /** `built`, or `older` or `unbuilt` where an answer takes a minute, or `missing`, which is said on standard error. */
 function programState() {
   if (state !== 'built') {
-    const { status, stdout } = spawnSync(path.join(TOP, 'bench', 'program'), { encoding: 'utf8', stdio: ['ignore', 'pipe', 'inherit'] });
+    const { status, stdout } = spawnSync(path.join(TOP, 'tools', 'program'), { encoding: 'utf8', stdio: ['ignore', 'pipe', 'inherit'] });
     state = status === 0 ? stdout.split(/\s/)[0] : 'missing';
   }
   return state;

@@ -1,12 +1,12 @@
 'use strict';
-// Answers of the program's source, compiled without its proof (bench/unproved): one takes a minute, and so do many that are asked in one go.
+// Answers of the program's source, compiled without its proof (tools/unproved): one takes a minute, and so do many that are asked in one go.
 
 const { spawn } = require('node:child_process');
 const { createHash } = require('node:crypto');
 const fs = require('node:fs');
 const path = require('node:path');
 
-const COMMAND = path.join(__dirname, '..', '..', 'bench', 'unproved');
+const COMMAND = path.join(__dirname, '..', '..', 'tools', 'unproved');
 /** What is asked of a trace for its report, as text and as JSON. */
 const REPORTS = [[], ['--json']];
 const NO_ANSWER = { status: 10, output: '', fault: 'the program is not built' };

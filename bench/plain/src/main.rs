@@ -1,5 +1,5 @@
 //! The plain program: docs/format.md and docs/rules.md read once more, without proofs, in Rust of the standard library.
-//! docs/performance.md measures the product against it, and `bench/check-plain` compares the answers of both.
+//! docs/performance.md measures the product against it, and `tools/check-plain` compares the answers of both.
 //! Usage: plain [check | gen --number N]
 
 use std::collections::HashMap;

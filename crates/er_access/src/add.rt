@@ -8,7 +8,7 @@ ghost use Rattle.er_access.specs.Table.{IsHeld, IsTable};
 
 use crate::place::Place;
 use crate::{Access, AddFault};
-use er_outside::NoMemory;
+use er_io::NoMemory;
 use er_trace::record::Loc;
 use indexmap::IndexSet;
 

@@ -5,7 +5,7 @@ ghost use Rattle.er_access.specs.Place as spec;
 
 use crate::access::is_write;
 use crate::row_list::RowList;
-use er_outside::NoMemory;
+use er_io::NoMemory;
 use er_trace::record::Mode;
 use std::alloc::Global;
 use std::marker::Model;

@@ -3,7 +3,7 @@
 ghost use Rattle.std.specs.Prelude.{◌≡◌, ◌≤◌, [], ◌∷◌, ◌++◌, take, OnOk, OnErr, IfOk};
 ghost use Rattle.er_access.specs.InPlace.{numbers_of, AreInPlace};
 
-use er_outside::NoMemory;
+use er_io::NoMemory;
 use std::alloc::Global;
 use std::marker::Model;
 

@@ -4,7 +4,7 @@ ghost use Rattle.std.specs.Prelude.{◌≡◌, ◌≤◌, ◌<◌, ◌-◌, ◌^
 ghost use Rattle.std.specs.List.{sum};
 ghost use Rattle.er_chains.specs.Lengths.{one_more};
 
-use er_outside::NoMemory;
+use er_io::NoMemory;
 use std::alloc::Global;
 use std::marker::Model;
 

@@ -1,6 +1,6 @@
 -- With which status the program ends, and with which line on standard error.
 use Rattle.std.specs.Prelude.{◌≡◌, ◌≢◌, ◌⊎◌, ℕ, List, Option, Some, option_map, codes}
-use Rattle.er_outside.specs.Ends.{Rose, one_more}
+use Rattle.er_io.specs.Ends.{Rose, one_more}
 use Rattle.er_words.specs.declared.commands.Asked.{Asked}
 use Rattle.er_words.specs.declared.commands.Command.TheVariants.{Gen}
 use Rattle.er_words.specs.Words.{Asks}

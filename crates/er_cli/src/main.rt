@@ -10,8 +10,8 @@ ghost use Rattle.er_cli.specs.Ended.{EndsWith, LacksWords, line_printed, outside
 mod printed;
 
 use er_clocks::Meter;
-use er_ends::{FromRead, ToWrite};
-use er_outside::{Sink, Source};
+use er_io::{Sink, Source};
+use er_io_system::{FromRead, ToWrite};
 use er_run::outcome::Outcome;
 use er_run::run;
 use er_shard::FreeGate;

@@ -4,7 +4,7 @@ ghost use Rattle.std.specs.Prelude.{◌≡◌, ◌≤◌, length, IfOk};
 ghost use Rattle.er_clocks.specs.InPlace.{numbers_of, AreInPlace};
 
 use crate::row::Number;
-use er_outside::NoMemory;
+use er_io::NoMemory;
 use std::alloc::Global;
 use std::marker::Model;
 

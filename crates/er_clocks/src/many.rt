@@ -11,7 +11,7 @@ ghost use Rattle.er_clocks.specs.Rows.{is_covered};
 
 use crate::row::{Number, copied_to, number_at};
 use crate::{Clocks, Meter};
-use er_outside::NoMemory;
+use er_io::NoMemory;
 
 /// So many are asked by the row of j, which most often answers: they cost what it costs to lay out the entries of some
 /// thousand chains.

@@ -13,7 +13,7 @@ use crate::row::{Row, number_at};
 use crate::shared::{Shared, Taken, put_number};
 use crate::sources::Reach;
 use er_chains::Chains;
-use er_outside::NoMemory;
+use er_io::NoMemory;
 use std::alloc::Global;
 
 impl Clocks {

@@ -4,7 +4,7 @@ ghost use Rattle.std.specs.Prelude.{◌≡◌, ◌≤◌, ◌<◌, ℕ, [], leng
 ghost use Rattle.er_paths.specs.Limits.{most_actions};
 ghost use Rattle.er_clocks.specs.Rows.{IsRaised, IsSet};
 
-use er_outside::NoMemory;
+use er_io::NoMemory;
 use std::alloc::Global;
 use std::marker::Model;
 

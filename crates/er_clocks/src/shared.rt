@@ -5,7 +5,7 @@ ghost use Rattle.std.specs.Vec.{vec_len, vec_capacity};
 ghost use Rattle.er_paths.specs.Limits.{most_actions};
 ghost use Rattle.er_clocks.specs.Shared.{shared, taken, AreShared, IsTakenFrom};
 
-use er_outside::NoMemory;
+use er_io::NoMemory;
 use std::alloc::Global;
 
 /// The lists, and for each action the number of its own.

@@ -16,7 +16,7 @@ use crate::Clocks;
 use crate::list::LinkList;
 use crate::row::{Number, Row};
 use crate::shared::Taken;
-use er_outside::NoMemory;
+use er_io::NoMemory;
 use std::alloc::Global;
 
 /// The entries of an action that is to come, before it stands in a chain itself.

@@ -7,7 +7,7 @@ ghost use Rattle.er_cover.specs.Passes as spec;
 ghost use Rattle.er_cover.specs.Passes.{classes_by_number};
 
 use er_access::Table;
-use er_outside::NoMemory;
+use er_io::NoMemory;
 use er_races::Race;
 use std::alloc::Global;
 

@@ -7,7 +7,7 @@ ghost use Rattle.er_cover.specs.Passes as spec;
 ghost use Rattle.er_cover.specs.Passes.{Adds};
 
 use crate::Class;
-use er_outside::NoMemory;
+use er_io::NoMemory;
 use indexmap::IndexSet;
 use std::alloc::Global;
 

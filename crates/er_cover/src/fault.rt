@@ -2,7 +2,7 @@
 
 ghost use Rattle.std.specs.Prelude.{◌≡◌};
 
-use er_outside::NoMemory;
+use er_io::NoMemory;
 use thiserror::Error;
 
 /// Why races were not grouped.

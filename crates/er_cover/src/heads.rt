@@ -7,7 +7,7 @@ ghost use Rattle.er_cover.specs.Passes.{AreHeads, IsKnown, ends_with, groups_at,
 
 use crate::Class;
 use er_clocks::{Clocks, Meter};
-use er_outside::NoMemory;
+use er_io::NoMemory;
 use std::alloc::Global;
 
 /// The first actions of the groups found so far, each once, and where the groups of each begin among them.

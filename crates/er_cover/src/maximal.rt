@@ -13,7 +13,7 @@ use crate::Class;
 use crate::classes::set_of;
 use crate::heads::{Heads, gather};
 use er_clocks::{Clocks, Meter, Paths};
-use er_outside::NoMemory;
+use er_io::NoMemory;
 use indexmap::IndexSet;
 use std::alloc::Global;
 

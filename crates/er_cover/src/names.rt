@@ -9,7 +9,7 @@ ghost use Rattle.er_cover.specs.Passes.{AreMaximal, AreSizes, IsKnown, names_of,
 use crate::Class;
 use crate::maximal::covers;
 use er_clocks::{Clocks, Meter};
-use er_outside::NoMemory;
+use er_io::NoMemory;
 use indexmap::IndexSet;
 use std::alloc::Global;
 

@@ -15,7 +15,7 @@ use crate::names::{name_all, sizes_of};
 use crate::{Class, CoverFault, Groups};
 use er_access::Table;
 use er_clocks::{Clocks, Meter};
-use er_outside::NoMemory;
+use er_io::NoMemory;
 use er_races::Race;
 use indexmap::IndexSet;
 use std::alloc::Global;

@@ -1,8 +1,7 @@
 //! Threads may share what the naming of classes reads, and take what it answers.
 
 use crate::{Classes, CoverFault};
-
-fn may_cross_threads<T: Send + Sync>() {}
+use er_io::may_cross_threads;
 
 /// Where a type could not cross threads, this would be refused.
 pub fn types_may_cross_threads() {

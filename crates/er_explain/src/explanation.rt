@@ -16,7 +16,7 @@ use crate::source::source_of;
 use crate::steps::{Step, Steps};
 use er_clocks::Clocks;
 use er_graph::Graph;
-use er_outside::NoMemory;
+use er_io::NoMemory;
 use er_page::page::Page;
 use er_reasons::reason;
 use er_trace::version::Version;

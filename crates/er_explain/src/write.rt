@@ -1,7 +1,7 @@
 //! Writes an explanation.
 
 ghost use Rattle.std.specs.Prelude.{◌≡◌, ◌++◌, length, codes, List, option_map, OnOk, OnErr};
-ghost use Rattle.er_outside.specs.Ends.{Gets, GetsPart, Puts};
+ghost use Rattle.er_io.specs.Ends.{Gets, GetsPart, Puts};
 ghost use Rattle.er_trace.specs.Trace.{line};
 ghost use Rattle.er_syntax.specs.Buffered.{CountsFaults, HoldsRest};
 ghost use Rattle.er_syntax.specs.Lines.{lines_from};
@@ -9,7 +9,7 @@ ghost use Rattle.er_explain.specs.Steps.{shown};
 ghost use Rattle.er_explain.specs.Text.{head_line, step_line, body_lines, end_line, explain_text};
 
 use crate::{Step, Steps};
-use er_outside::{Failed, Sink, WriteFault, put_all};
+use er_io::{Failed, Sink, WriteFault, put_all};
 use er_syntax::tokens::{end_with_number, put_field, put_word};
 use er_syntax::{Buffer, Text, flush, put_text};
 
@@ -27,7 +27,7 @@ pub fn write_steps<K: Sink>(
 }
 
 /// The same through a buffer.
-#[tactic(auto, using(er_outside::proofs::Puts::composes))]
+#[tactic(auto, using(er_io::proofs::Puts::composes))]
 fn put_explanation<K: Sink>(
     sink: &mut K,
     from: u32,
@@ -86,7 +86,7 @@ struct Head {
 impl Text for Head {
     ghost text = { λ head. head_line head.from head.to };
 
-    #[tactic(auto, using(er_outside::proofs::Puts::composes, crate::proofs::TextLemmas::head_pieces))]
+    #[tactic(auto, using(er_io::proofs::Puts::composes, crate::proofs::TextLemmas::head_parts))]
     fn put<K: Sink>(&self, sink: &mut K) -> Result<(), Failed> {
         put_word(sink, "explain")?;
         put_field(sink, self.from as u64)?;
@@ -103,7 +103,7 @@ struct StepLine {
 impl Text for StepLine {
     ghost text = { λ line. step_line 0 (shown line.step) };
 
-    #[tactic(auto, using(er_outside::proofs::Puts::composes, crate::proofs::TextLemmas::step_pieces))]
+    #[tactic(auto, using(er_io::proofs::Puts::composes, crate::proofs::TextLemmas::step_parts))]
     fn put<K: Sink>(&self, sink: &mut K) -> Result<(), Failed> {
         put_word(sink, "step")?;
         put_field(sink, self.step.from as u64)?;

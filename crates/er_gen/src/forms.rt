@@ -4,7 +4,7 @@ ghost use Rattle.std.specs.Prelude.{◌≡◌, ◌≤◌, IfOk, codes, length};
 ghost use Rattle.er_text.specs.Name.{most_name};
 ghost use Rattle.er_gen.specs.Generated as spec;
 
-use er_outside::NoMemory;
+use er_io::NoMemory;
 use er_trace::name::Name;
 use er_trace::record::{Kind, Loc, Mode, Record};
 use std::alloc::Global;

@@ -5,7 +5,7 @@ ghost use Rattle.std.specs.Bool.{Decides};
 ghost use Rattle.er_gen.specs.Generated.{generated, most_rounds};
 
 use crate::records::record_at;
-use er_outside::NoMemory;
+use er_io::NoMemory;
 use er_trace::record::Record;
 use std::alloc::Global;
 use std::marker::Model;

@@ -4,7 +4,7 @@ ghost use Rattle.std.specs.Prelude.{◌≡◌, ◌≤◌, IfOk, slice_get};
 ghost use Rattle.er_gen.specs.Generated as spec;
 
 use crate::forms::{click, focus, parse, read, run, write};
-use er_outside::NoMemory;
+use er_io::NoMemory;
 use er_trace::record::{Kind, Record};
 use std::alloc::Global;
 

@@ -1,7 +1,7 @@
 pub mod LinkLemmas
 pub mod AgainLemmas
 pub mod RunLemmas
-pub mod GroupLemmas
+pub mod FamilyLemmas
 pub mod PartLemmas
 pub mod GraphLemmas
 pub mod TaskLemmas

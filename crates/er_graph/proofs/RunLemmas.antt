@@ -42,8 +42,8 @@ leads_to_run u p g m = made_by m u || runs_before u.what p g
 -- no rule but those of dispatches leads to a handler
 
 abbrev NoneLead : List (ℕ × Rule) → Type 0
-NoneLead group = (joined : ℕ → ℕ → Bool) (u : Event) (k : ℕ) (d : Dispatch) (g x : ℕ) (m : Option ℕ)
-    → any_holds group joined u (event_with k (HandlerOf d g x m)) ≡ false
+NoneLead family = (joined : ℕ → ℕ → Bool) (u : Event) (k : ℕ) (d : Dispatch) (g x : ℕ) (m : Option ℕ)
+    → any_holds family joined u (event_with k (HandlerOf d g x m)) ≡ false
 
 none_of_one : (b c : Bool) → (b && (c && false || (false || false))) ≡ false
 none_of_one true true = refl

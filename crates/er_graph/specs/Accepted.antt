@@ -58,7 +58,7 @@ pub record IsNext (v : Version) (shown : Page) (links : List (List ℕ)) (kept :
   pub timed : AreTimed v links accepted
   pub legal : cause_now v accepted x ≡ None
 
--- the parts of a graph are those of some accepted records; after want of memory without the clocks
+-- the parts of a graph are those of some accepted records; after out of memory without the clocks
 pub record IsSomeGraph (v : Version) (shown : Page) (links : List (List ℕ)) (kept : List ℕ)
     (has_failed : Bool) : Type 0 where
   pub accepted : List Accepted

@@ -4,11 +4,11 @@ use Rattle.er_trace.specs.declared.record.Record.{Record}
 use Rattle.er_trace.specs.declared.record.Record.TheVariants.{Run}
 use Rattle.er_history.specs.History.{Action, told, running}
 use Rattle.er_history.specs.LookUps.{maker_of_handler}
-use Rattle.er_history.specs.Rules.{is_some_and, are_some_and}
+use Rattle.er_history.specs.Rules.{is_some_and, both_some_and}
 
 -- both are there, and the same number
 abbrev pub is_one : Option ℕ → Option ℕ → Bool
-is_one first second = are_some_and (λ (m k : ℕ). m == k) first second
+is_one first second = both_some_and (λ (m k : ℕ). m == k) first second
 
 -- both run a handler of one group of one dispatch, and one event registered these
 abbrev pub runs_alike : List Record → Record → Record → Bool

@@ -11,7 +11,7 @@ use crate::graph::Graph;
 use crate::grow::grow;
 use crate::order::is_late;
 use er_clocks::Clocks;
-use er_outside::NoMemory;
+use er_io::NoMemory;
 use er_page::page::Page;
 use er_text::Cause;
 use er_trace::fault::FeedFault;

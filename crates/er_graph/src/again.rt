@@ -9,7 +9,7 @@ ghost use Rattle.er_graph.specs.Again.{is_one, runs_alike, runs_again as says_ag
 ghost use Rattle.er_graph.specs.Next.{StandForSome, StandsForAgain};
 
 use er_clocks::{Clocks, Paths};
-use er_outside::NoMemory;
+use er_io::NoMemory;
 use er_page::page::Page;
 use er_trace::record::Record;
 use std::alloc::Global;

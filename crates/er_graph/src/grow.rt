@@ -9,7 +9,7 @@ ghost use Rattle.er_graph.specs.Next.{ComesNow, TimedMore};
 use crate::again::{push_again, runs_again};
 use crate::order::sources;
 use er_clocks::Clocks;
-use er_outside::NoMemory;
+use er_io::NoMemory;
 use er_page::page::Page;
 use er_page::piece::begins;
 use er_trace::record::Record;

@@ -1,4 +1,4 @@
-//! The rules of all groups together: whether a record comes too late, and what comes before it. A group is a line in each.
+//! The rules of all families together: whether a record comes too late, and what comes before it. A family is a line in each.
 
 ghost use Rattle.std.specs.Prelude.{◌≡◌, List, ◌∷◌, Bool, false, None, IfOk, OnOk};
 ghost use Rattle.std.specs.List.{list_any};
@@ -17,7 +17,7 @@ ghost use Rattle.er_trace.specs.declared.version.Version.{Version};
 ghost use Rattle.er_graph.specs.Accepted.{AreOf};
 
 use er_clocks::Clocks;
-use er_outside::NoMemory;
+use er_io::NoMemory;
 use er_page::page::Page;
 use er_path_rules::{task, timer};
 use er_rules::{dispatch, load, parse, request, script};

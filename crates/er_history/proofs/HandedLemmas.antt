@@ -1,4 +1,4 @@
--- What a scan of all actions hands: the source of every edge of a group of rules. Lists of records stand newest first.
+-- What a scan of all actions hands: the source of every edge of a family of rules. Lists of records stand newest first.
 use Rattle.std.proofs.Common.{◌≡◌, ℕ, ◌+◌, ◌≤◌, Bool, true, false, cond, List, [], ◌∷◌, ◌++◌, length, take, drop, filter, suc, zero, refl, sym, ap, ◌∙◌, arith, inl, inr, append-nil, append_assoc}
 use Rattle.std.proofs.Math.Seq.{take-append_seam}
 use Rattle.std.proofs.lemmas.List.{take-append-drop}
@@ -52,9 +52,9 @@ found_more test (a ∷ older) zero k numbered e = let same : a.number ≡ k = om
     step false = refl
 found_more test (a ∷ older) (suc n) k numbered e = found_next test n k a older (found_more test older n k numbered.1 (omega (arith, e)))
 
--- the test tells of each action whether a rule of the group leads from its event
+-- the test tells of each action whether a rule of the family leads from its event
 abbrev pub Tells : (ℕ → Bool) → List (ℕ × Rule) → (ℕ → ℕ → Bool) → History → Record → Type 0
-Tells test group joined h x = (a : Action) → Among a h.actions → test a.number ≡ is_ruled group joined a (action_begun h x)
+Tells test family joined h x = (a : Action) → Among a h.actions → test a.number ≡ is_ruled family joined a (action_begun h x)
 
 among_taken : (n : ℕ) (actions : List Action) (a : Action) → Among a (take n actions) → Among a actions
 among_taken zero actions a among = absurd among
@@ -63,9 +63,9 @@ among_taken (suc n) (x ∷ older) a (inl same) = inl same
 among_taken (suc n) (x ∷ older) a (inr deeper) = inr (among_taken n older a deeper)
 
 -- those that were found among the newest are sources
-pub some_are_sources : (test : ℕ → Bool) (group : List (ℕ × Rule)) (joined : ℕ → ℕ → Bool) (h : History) (x : Record) (n : ℕ)
-    → Tells test group joined h x → AreSources group joined h x (found_among test (take n h.actions))
-some_are_sources test group joined h x n tells = λ k among.
+pub some_are_sources : (test : ℕ → Bool) (family : List (ℕ × Rule)) (joined : ℕ → ℕ → Bool) (h : History) (x : Record) (n : ℕ)
+    → Tells test family joined h x → AreSources family joined h x (found_among test (take n h.actions))
+some_are_sources test family joined h x n tells = λ k among.
     let found = among_from (λ (a : Action). test a.number) (take n h.actions) k among in
     let within = among_taken n h.actions found.0 found.1 in (
       found.0,
@@ -80,19 +80,19 @@ take_whole (suc n) [] long = refl
 take_whole zero (a ∷ older) long = absurd (omega arith)
 take_whole (suc n) (a ∷ older) long = let rest : length older ≤ n = omega arith in ap (λ l. a ∷ l) (take_whole n older rest)
 
-each_enough : (group : List (ℕ × Rule)) (joined : ℕ → ℕ → Bool) (h : History) (x : Record) (handed : List ℕ) → goes_on x ≡ false
-    → ((i : Action) → Among i h.actions → is_ruled group joined i (action_begun h x) ≡ true → list_any (λ k. joined i.number k) handed ≡ true)
-    → AreEnough group joined h x handed
-each_enough group joined h (Back p) handed e each = absurd (cc)
-each_enough group joined h x handed e each = each
+each_enough : (family : List (ℕ × Rule)) (joined : ℕ → ℕ → Bool) (h : History) (x : Record) (handed : List ℕ) → goes_on x ≡ false
+    → ((i : Action) → Among i h.actions → is_ruled family joined i (action_begun h x) ≡ true → list_any (λ k. joined i.number k) handed ≡ true)
+    → AreEnough family joined h x handed
+each_enough family joined h (Back p) handed e each = absurd (cc)
+each_enough family joined h x handed e each = each
 
 -- all that were found are enough
-pub all_are_handed : (test : ℕ → Bool) (group : List (ℕ × Rule)) (joined : ℕ → ℕ → Bool) (h : History) (x : Record)
-    → Tells test group joined h x → ((a : Action) → Among a h.actions → joined a.number a.number ≡ true) → goes_on x ≡ false → (begins x ≡ false → found_among test h.actions ≡ [])
-    → AreHanded group joined h x (found_among test h.actions)
-all_are_handed test group joined h x tells stands new none = record {
-  sources = λ k among. some_are_sources test group joined h x (length h.actions) tells k (ap (λ l. is_among k (found_among test l)) (take_whole (length h.actions) h.actions (omega arith)) ∙ among);
-  enough = each_enough group joined h x (found_among test h.actions) new (λ i among ruled.
+pub all_are_handed : (test : ℕ → Bool) (family : List (ℕ × Rule)) (joined : ℕ → ℕ → Bool) (h : History) (x : Record)
+    → Tells test family joined h x → ((a : Action) → Among a h.actions → joined a.number a.number ≡ true) → goes_on x ≡ false → (begins x ≡ false → found_among test h.actions ≡ [])
+    → AreHanded family joined h x (found_among test h.actions)
+all_are_handed test family joined h x tells stands new none = record {
+  sources = λ k among. some_are_sources test family joined h x (length h.actions) tells k (ap (λ l. is_among k (found_among test l)) (take_whole (length h.actions) h.actions (omega arith)) ∙ among);
+  enough = each_enough family joined h x (found_among test h.actions) new (λ i among ruled.
       any_from (λ k. joined i.number k) i.number (found_among test h.actions) (among_to (λ (a : Action). test a.number) h.actions i among (tells i among ∙ ruled)) (stands i among));
   none = none;
 }
@@ -105,38 +105,38 @@ action_stands table h a among =
 
 -- what a scan hands
 
--- What a scan goes by: a test of numbers, which tells of each action whether a rule of the group leads from its event to the one that the record would begin, and whether a rule speaks of the record at all.
-pub record IsTestOf (group table : List (ℕ × Rule)) (h : List Record) (x : Record) (test : ℕ → Bool) (speaks : Bool) : Type 0 where
-  pub tells : Tells test group (path table h) (told h) x
+-- What a scan goes by: a test of numbers, which tells of each action whether a rule of the family leads from its event to the one that the record would begin, and whether a rule speaks of the record at all.
+pub record IsTestOf (family table : List (ℕ × Rule)) (h : List Record) (x : Record) (test : ℕ → Bool) (speaks : Bool) : Type 0 where
+  pub tells : Tells test family (path table h) (told h) x
   pub new : goes_on x ≡ false
   pub none : speaks ≡ false → (k : ℕ) → test k ≡ false
   pub note : begins x ≡ false → speaks ≡ false
 
-pub handed : {group table : List (ℕ × Rule)} {h : List Record} {x : Record} {test : ℕ → Bool} {speaks : Bool} (old new : List ℕ) → IsTestOf group table h x test speaks
-    → new ≡ old ++ found_among test (told h).actions → HasHanded group (path table h) (told h) x old new
-handed {group} {table} {h} {x} {test} old new is grown = record {
+pub handed : {family table : List (ℕ × Rule)} {h : List Record} {x : Record} {test : ℕ → Bool} {speaks : Bool} (old new : List ℕ) → IsTestOf family table h x test speaks
+    → new ≡ old ++ found_among test (told h).actions → HasHanded family (path table h) (told h) x old new
+handed {family} {table} {h} {x} {test} old new is grown = record {
   handed = found_among test (told h).actions;
   grown = grown;
-  are_handed = all_are_handed test group (path table h) (told h) x is.tells (action_stands table h) is.new (λ note. none_found test (told h).actions (is.none (is.note note)));
+  are_handed = all_are_handed test family (path table h) (told h) x is.tells (action_stands table h) is.new (λ note. none_found test (told h).actions (is.none (is.note note)));
 }
 
 -- when all actions have been gone through
-pub handed_all : {group table : List (ℕ × Rule)} {h : List Record} {x : Record} {test : ℕ → Bool} {speaks : Bool} (n : ℕ) (old new : List ℕ) → IsTestOf group table h x test speaks
-    → length (told h).actions ≤ n → new ≡ old ++ found_among test (take n (told h).actions) → HasHanded group (path table h) (told h) x old new
+pub handed_all : {family table : List (ℕ × Rule)} {h : List Record} {x : Record} {test : ℕ → Bool} {speaks : Bool} (n : ℕ) (old new : List ℕ) → IsTestOf family table h x test speaks
+    → length (told h).actions ≤ n → new ≡ old ++ found_among test (take n (told h).actions) → HasHanded family (path table h) (told h) x old new
 handed_all {h = h} {test = test} n old new is whole grown = handed old new is (grown ∙ ap (λ l. old ++ found_among test l) (take_whole n (told h).actions whole))
 
 -- when no rule speaks of the record
-pub handed_nothing : {group table : List (ℕ × Rule)} {h : List Record} {x : Record} {test : ℕ → Bool} {speaks : Bool} (old : List ℕ) → IsTestOf group table h x test speaks
-    → speaks ≡ false → HasHanded group (path table h) (told h) x old old
+pub handed_nothing : {family table : List (ℕ × Rule)} {h : List Record} {x : Record} {test : ℕ → Bool} {speaks : Bool} (old : List ℕ) → IsTestOf family table h x test speaks
+    → speaks ≡ false → HasHanded family (path table h) (told h) x old old
 handed_nothing {h = h} {test = test} old is without = handed old old is (sym (append-nil old) ∙ ap (λ l. old ++ l) (sym (none_found test (told h).actions (is.none without))))
 
 -- when memory ran out behind the newest
-pub handed_some : {group table : List (ℕ × Rule)} {h : List Record} {x : Record} {test : ℕ → Bool} {speaks : Bool} (n : ℕ) (old found new : List ℕ) → IsTestOf group table h x test speaks
-    → found ≡ old ++ found_among test (take n (told h).actions) → new ≡ found → HasHandedSome group (path table h) (told h) x old new
-handed_some {group} {table} {h} {x} {test} n old found new is e kept = record {
+pub handed_some : {family table : List (ℕ × Rule)} {h : List Record} {x : Record} {test : ℕ → Bool} {speaks : Bool} (n : ℕ) (old found new : List ℕ) → IsTestOf family table h x test speaks
+    → found ≡ old ++ found_among test (take n (told h).actions) → new ≡ found → HasHandedSome family (path table h) (told h) x old new
+handed_some {family} {table} {h} {x} {test} n old found new is e kept = record {
   handed = found_among test (take n (told h).actions);
   grown = kept ∙ e;
-  sources = some_are_sources test group (path table h) (told h) x n is.tells;
+  sources = some_are_sources test family (path table h) (told h) x n is.tells;
 }
 
 -- an action more

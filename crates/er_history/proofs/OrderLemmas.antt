@@ -13,7 +13,7 @@ use Rattle.er_history.specs.Rules.{Rule, any_holds, recorded, made_by, is_some_a
 use Rattle.er_history.specs.Laws.{Among}
 use Rattle.er_history.specs.Facts.{DeliveryStays, WhatStays}
 use Rattle.er_history.specs.Edges.{path}
-use Rattle.er_history.specs.Handed.{HasGroup}
+use Rattle.er_history.specs.Handed.{HasFamily}
 use Rattle.er_history.specs.Sound.{leads_back, out_of_order, NeverLeadBack}
 use Rattle.er_history.proofs.HistoryLemmas.{event_below, told_before, goes_on}
 use Rattle.er_history.proofs.DeclaredLemmas.{or_none}
@@ -285,21 +285,21 @@ request_rules_never_lead_back = none_lead_back request_rules (replies_never_back
 pub task_rules_never_lead_back : NeverLeadBack task_rules
 task_rules_never_lead_back = none_lead_back task_rules (post_never_back, (messages_never_back, (ask_never_back, (anims_never_back, (queue_never_back, (jobs_never_back, (callbacks_never_back, (close_never_back, tt))))))))
 
--- where the table does not hold, no rule of the group does
-pub group_fails : (table group : List (ℕ × Rule)) (joined : ℕ → ℕ → Bool) (u v : Event) → HasGroup table group → any_holds table joined u v ≡ false → any_holds group joined u v ≡ false
-group_fails table group joined u v has e = by (any_holds group joined u v) (any_holds table joined u v) (has joined u v) e
+-- where the table does not hold, no rule of the family does
+pub family_fails : (table family : List (ℕ × Rule)) (joined : ℕ → ℕ → Bool) (u v : Event) → HasFamily table family → any_holds table joined u v ≡ false → any_holds family joined u v ≡ false
+family_fails table family joined u v has e = by (any_holds family joined u v) (any_holds table joined u v) (has joined u v) e
   where
     by : (b c : Bool) → (b ≡ true → c ≡ true) → c ≡ false → b ≡ false
     by true c f e = absurd (let g = f refl in cc)
     by false c f e = refl
 
--- from what a record in order begins, the group leads to no event that has begun
-pub leads_nowhere : (table group : List (ℕ × Rule)) (h : List Record) (x : Record) → HasGroup table group → goes_on x ≡ false → out_of_order table h x ≡ false → begins x ≡ true
-    → (a : Action) → Among a (told h).actions → any_holds group (path table h) (event_begun (told h) x) a.event ≡ false
-leads_nowhere table group h (Back p) has new order begin a among = absurd (cc)
-leads_nowhere table group h x has new order begin a among =
+-- from what a record in order begins, the family leads to no event that has begun
+pub leads_nowhere : (table family : List (ℕ × Rule)) (h : List Record) (x : Record) → HasFamily table family → goes_on x ≡ false → out_of_order table h x ≡ false → begins x ≡ true
+    → (a : Action) → Among a (told h).actions → any_holds family (path table h) (event_begun (told h) x) a.event ≡ false
+leads_nowhere table family h (Back p) has new order begin a among = absurd (cc)
+leads_nowhere table family h x has new order begin a among =
     let event : Event = event_begun (told h) x in
-    group_fails table group (path table h) event a.event has (each_fails (λ (c : Action). any_holds table (path table h) event c.event) (told h).actions (under (begins x) _ begin order) a among)
+    family_fails table family (path table h) event a.event has (each_fails (λ (c : Action). any_holds table (path table h) event c.event) (told h).actions (under (begins x) _ begin order) a among)
   where
     under : (b c : Bool) → b ≡ true → (b && c) ≡ false → c ≡ false
     under true c e f = f

@@ -20,10 +20,10 @@ use Rattle.er_history.proofs.HistoryLemmas.{action_at_among}
 use Rattle.er_history.proofs.FactsLemmas.{all_keep, begun_keeps}
 use Rattle.er_history.proofs.OrderLemmas.{holds_append, leads_append, WhatBefore, TaskBefore, what_before, timer_rules_never_lead_back, request_rules_never_lead_back, task_rules_never_lead_back}
 
--- groups of rules that ask for no paths
+-- families of rules that ask for no paths
 
 abbrev pub AskNoPaths : List (ℕ × Rule) → Type 0
-AskNoPaths group = (f g : ℕ → ℕ → Bool) (u v : Event) → any_holds group f u v ≡ any_holds group g u v
+AskNoPaths family = (f g : ℕ → ℕ → Bool) (u v : Event) → any_holds family f u v ≡ any_holds family g u v
 
 pub parse_asks_none : AskNoPaths parse_rules
 parse_asks_none f g u v = refl
@@ -69,11 +69,11 @@ holds_by_parts v joined u w =
 
 -- order
 
-leads_same : (group : List (ℕ × Rule)) (f g : ℕ → ℕ → Bool) (h : History) (x : Record) → AskNoPaths group → leads_back group f h x ≡ leads_back group g h x
-leads_same group f g h (Back p) free = refl
-leads_same group f g h x free = ap (λ (test : Action → Bool). begins x && list_any test h.actions) (λ k i. free f g (event_begun h x) i.event k)
+leads_same : (family : List (ℕ × Rule)) (f g : ℕ → ℕ → Bool) (h : History) (x : Record) → AskNoPaths family → leads_back family f h x ≡ leads_back family g h x
+leads_same family f g h (Back p) free = refl
+leads_same family f g h x free = ap (λ (test : Action → Bool). begins x && list_any test h.actions) (λ k i. free f g (event_begun h x) i.event k)
 
--- the first groups alone decide
+-- the first families alone decide
 leads_by_first : (v : Version) (joined : ℕ → ℕ → Bool) (h : List Record) (x : Record) → leads_back (rules v) joined (told h) x ≡ leads_back first_rules joined (told h) x
 leads_by_first v joined h x =
     leads_append (first_rules ++ timer_rules v ++ request_rules) task_rules joined (told h) x

@@ -28,9 +28,9 @@ is_some_and test None = false
 is_some_and test (Some x) = test x
 
 -- both were made, and pass the test
-abbrev pub are_some_and : {A : Type 0} → (A → A → Bool) → Option A → Option A → Bool
-are_some_and test (Some x) (Some y) = test x y
-are_some_and test _ _ = false
+abbrev pub both_some_and : {A : Type 0} → (A → A → Bool) → Option A → Option A → Bool
+both_some_and test (Some x) (Some y) = test x y
+both_some_and test _ _ = false
 
 -- it is no frame, and its kind passes the test
 abbrev pub has_kind : (Kind → Bool) → Form → Bool
@@ -140,7 +140,7 @@ blocking_before_deferred_script joined u v = go u.what v.what
   where
     go : What → What → Bool
     go (ScriptRun e made) (ScriptRun f made2) =
-        are_some_and (λ x y. is_blocking x && (is_deferred y && (x.doc == y.doc))) made made2
+        both_some_and (λ x y. is_blocking x && (is_deferred y && (x.doc == y.doc))) made made2
     go _ _ = false
 
 -- 7. The run of a deferred script before the run of a deferred script of its document that was parsed later. HTML Standard, "The end".
@@ -149,7 +149,7 @@ deferred_scripts_as_parsed joined u v = go u.what v.what
   where
     go : What → What → Bool
     go (ScriptRun e made) (ScriptRun f made2) =
-        are_some_and (λ x y.
+        both_some_and (λ x y.
         is_deferred x && (is_deferred y && ((x.doc == y.doc) && nat_lt x.piece y.piece)))
         made made2
     go _ _ = false
@@ -294,7 +294,7 @@ timers_of_one_event_in_order joined u v = recorded u v && go u.what v.what
   where
     go : What → What → Bool
     go (TimeoutRun s made) (TimeoutRun t made2) =
-        are_some_and (λ x y.
+        both_some_and (λ x y.
         (x.maker == y.maker) && (nat_lt x.place y.place && nat_le x.delay y.delay))
         made made2
     go _ _ = false
@@ -305,7 +305,7 @@ timers_of_joined_pieces_in_order joined u v = recorded u v && go u.what v.what
   where
     go : What → What → Bool
     go (TimeoutRun s made) (TimeoutRun t made2) =
-        are_some_and (λ x y.
+        both_some_and (λ x y.
         nat_lt x.place y.place && (nat_le x.delay y.delay && joined x.piece y.piece))
         made made2
     go _ _ = false
@@ -351,7 +351,7 @@ replies_in_order joined u v = go v.what
 -- two tasks of one kind, the first declared in an earlier record, and in a piece from which a path leads to the other's
 abbrev pub declared_in_order : (ℕ → ℕ → Bool) → Option Task → Option Task → Bool
 declared_in_order joined made made2 =
-    are_some_and (λ (x : Task) (y : Task).
+    both_some_and (λ (x : Task) (y : Task).
     nat_lt x.place y.place && joined x.piece y.piece) made made2
 
 -- 24. The event that posted a message before the event of the message. This project's own.
@@ -425,7 +425,7 @@ jobs_before_close joined u v = recorded u v && go u.what v.what
     go (JobRun j made within) (CloseOf p) = list_any (λ q. q == p.number) within
     go _ _ = false
 
--- Each rule between events with its number, in the groups of the crates that ask it. Rule 19 alone differs by version. Rules 22 and 23 speak of pieces (Edges).
+-- Each rule between events with its number, in the families of the crates that ask it. Rule 19 alone differs by version. Rules 22 and 23 speak of pieces (Edges).
 abbrev pub parse_rules : List (ℕ × Rule)
 parse_rules =
     (1, parse_steps_in_order)

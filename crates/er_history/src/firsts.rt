@@ -13,7 +13,7 @@ ghost use Rattle.er_history.specs.History.{told, or_else, running, actions_after
 ghost use Rattle.er_history.specs.Noted.{noted, noted_in, is_number};
 ghost use Rattle.er_history.specs.Found.{MakersAre, FirstsAre};
 
-use er_outside::NoMemory;
+use er_io::NoMemory;
 use indexmap::IndexMap;
 
 /// The running action, and its event.

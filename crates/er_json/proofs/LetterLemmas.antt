@@ -12,8 +12,8 @@ use Rattle.std.proofs.lemmas.Fmt.{decimal_by_steps}
 use Rattle.std.proofs.lemmas.Slice.Eq.{bytes_eq-Decides}
 use Rattle.json.specs.Print.{escape, escape_byte}
 use Rattle.json.proofs.Printed.Strings.{escape_byte_plain}
-use Rattle.er_outside.specs.Ends.{Gets, GetsPart}
-use Rattle.er_outside.proofs.Puts.{gets_again, gets_part_first, gets_part_later, rose_later}
+use Rattle.er_io.specs.Ends.{Gets, GetsPart}
+use Rattle.er_io.proofs.Puts.{gets_again, gets_part_first, gets_part_later, rose_later}
 use Rattle.er_text.specs.Name.{byte_spelling, name_spelling}
 use Rattle.er_trace.specs.declared.record.Loc.TheVariants.{Var, Elem, Slot}
 use Rattle.er_json.specs.Parts.{is_escaped, name_letters, located, location_letters}

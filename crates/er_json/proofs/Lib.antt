@@ -1,3 +1,3 @@
 pub mod LetterLemmas
-pub mod PieceLemmas
+pub mod FragmentLemmas
 pub mod LineLemmas

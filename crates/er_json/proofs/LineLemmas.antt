@@ -1,4 +1,4 @@
--- The pieces make the line of the report.
+-- The fragments make the line of the report.
 use Rattle.std.proofs.Common.{◌≡◌, ℕ, zero, suc, ◌+◌, ◌≤◌, true, List, [], ◌∷◌, ◌++◌, map, length, refl, sym, ap, ◌∙◌, arith, append_assoc, codes, decimal, Some}
 use Rattle.std.specs.Prelude.{nat_lt}
 use Rattle.std.specs.Fmt.{digits}
@@ -20,7 +20,7 @@ use Rattle.er_report.specs.declared.counts.Counts.{Counts}
 use Rattle.er_report.specs.Report.{counts}
 use Rattle.er_report.proofs.CountLemmas.{paths_told}
 use Rattle.er_json.specs.Json.{json_line, values_of, race_value, group_value, value_of, report_value, report}
-use Rattle.er_json.specs.Pieces.{item_text, before_groups, group_item, group_items, before_races, race_item, race_items, after_races, pieces_of}
+use Rattle.er_json.specs.Fragments.{item_text, before_groups, group_item, group_items, before_races, race_item, race_items, after_races, fragments_of}
 
 -- the members of an array from number k on, and the bracket behind them
 items_from : {A : Type 0} (f : A → Data) (k : ℕ) (xs : List A) → 1 ≤ k → items_text (nat_lt 1 k) (items_of (map f xs)) ≡ lines_from (λ j x. item_text j (f x)) k xs ++ 93 ∷ []
@@ -46,16 +46,16 @@ unfolding array_text escape_byte digits
 line_as_value races groups c = refl
 
 -- the same, cut before and behind the two arrays
-in_pieces : (p1 a p2 b p3 c p4 groups p5 d p6 e p7 races p8 end start stop : List ℕ)
+in_fragments : (p1 a p2 b p3 c p4 groups p5 d p6 e p7 races p8 end start stop : List ℕ)
     → (p1 ++ (a ++ (p2 ++ (b ++ (p3 ++ (c ++ (p4 ++ ((start ++ (groups ++ stop)) ++ (p5 ++ (d ++ (p6 ++ (e ++ (p7 ++ ((start ++ (races ++ stop)) ++ p8)))))))))))))) ++ end
     ≡ (p1 ++ (a ++ (p2 ++ (b ++ (p3 ++ (c ++ (p4 ++ start))))))) ++ groups ++ (stop ++ (p5 ++ (d ++ (p6 ++ (e ++ (p7 ++ start)))))) ++ races ++ (stop ++ (p8 ++ end))
-in_pieces p1 a p2 b p3 c p4 groups p5 d p6 e p7 races p8 end start stop = simp append_assoc
+in_fragments p1 a p2 b p3 c p4 groups p5 d p6 e p7 races p8 end start stop = simp append_assoc
 
-report_pieces : (races : List (Kept × Kept)) (groups : Grouping) (c : Counts) → json_line (value_of races groups c) ≡ pieces_of races groups c
+report_fragments : (races : List (Kept × Kept)) (groups : Grouping) (c : Counts) → json_line (value_of races groups c) ≡ fragments_of races groups c
 unfolding before_groups group_item before_races race_item after_races
-report_pieces races groups c =
+report_fragments races groups c =
     rw (line_as_value races groups c, array_parts group_value (zip groups.representatives groups.sizes), array_parts race_value (zip races groups.names))
-    (in_pieces (codes "{\"accesses\":") (decimal c.accesses) (codes ",\"actions\":") (decimal c.actions) (codes ",\"chains\":") (decimal c.chains) (codes ",\"groups\":") (group_items groups)
+    (in_fragments (codes "{\"accesses\":") (decimal c.accesses) (codes ",\"actions\":") (decimal c.actions) (codes ",\"chains\":") (decimal c.chains) (codes ",\"groups\":") (group_items groups)
     (codes ",\"links\":") (decimal c.links) (codes ",\"pairs\":") (decimal c.pairs) (codes ",\"races\":") (race_items races groups) (codes ",\"version\":1}") (codes "\n") (codes "[") (codes "]"))
 
 -- the value of what is told, whatever list the clocks stand for, and its line
@@ -64,9 +64,9 @@ value_told : (kept lists : List (List ℕ)) (accesses : List Kept) (groups : Gro
 value_told kept lists accesses groups c stands is counted = rw (is, counted, paths_told kept lists stands) refl
 
 pub line_told : (kept lists : List (List ℕ)) (accesses : List Kept) (groups : Grouping) (c : Counts) → StandsFor kept lists → groups ≡ grouping_of (joins kept) accesses → c ≡ counts lists accesses
-    → pieces_of (races_by (joins kept) accesses) groups c ≡ report lists accesses
+    → fragments_of (races_by (joins kept) accesses) groups c ≡ report lists accesses
 unfolding report
-line_told kept lists accesses groups c stands is counted = sym (report_pieces (races_by (joins kept) accesses) groups c) ∙ ap json_line (value_told kept lists accesses groups c stands is counted)
+line_told kept lists accesses groups c stands is counted = sym (report_fragments (races_by (joins kept) accesses) groups c) ∙ ap json_line (value_told kept lists accesses groups c stands is counted)
 
 -- the members of two lists at a place
 pub zip_at : {A B : Type 0} (xs : List A) (ys : List B) (i : ℕ) (x : A) (y : B) → slice_get xs i ≡ Some x → slice_get ys i ≡ Some y → slice_get (zip xs ys) i ≡ Some (x, y)

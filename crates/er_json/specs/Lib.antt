@@ -1,4 +1,4 @@
 pub mod Json
 pub mod Parts
-pub mod Pieces
+pub mod Fragments
 pub mod Rows

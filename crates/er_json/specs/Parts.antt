@@ -1,4 +1,4 @@
--- The parts of a piece as they are written, for private clauses.
+-- The parts of a fragment as they are written, for private clauses.
 use Rattle.std.specs.Prelude.{ℕ, List, [], ◌∷◌, ◌++◌, Bool, ◌||◌, ◌==◌, decimal}
 use Rattle.json.specs.Print.{escape}
 use Rattle.er_text.specs.Name.{name_spelling}

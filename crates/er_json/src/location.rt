@@ -1,11 +1,11 @@
 //! A location as it stands in a string of JSON.
 
 ghost use Rattle.std.specs.Prelude.{◌≡◌, ℕ, ◌≤◌, ◌<◌, [], ◌∷◌, length, position, All};
-ghost use Rattle.er_outside.specs.Ends.{Puts};
+ghost use Rattle.er_io.specs.Ends.{Puts};
 ghost use Rattle.er_text.specs.Name.{most_name, name_spelling};
 ghost use Rattle.er_json.specs.Parts.{is_escaped, located, location_letters, name_letters};
 
-use er_outside::{Failed, Sink, put_all};
+use er_io::{Failed, Sink, put_all};
 use er_text::put_number;
 use er_trace::name::Name;
 use er_trace::record::Loc;
@@ -23,7 +23,7 @@ pub(crate) fn put_location<K: Sink>(sink: &mut K, loc: &Loc) -> Result<(), Faile
 }
 
 /// Writes a word, a number and a name.
-#[tactic(auto, using(er_outside::proofs::Puts::composes))]
+#[tactic(auto, using(er_io::proofs::Puts::composes))]
 fn put_located<K: Sink>(sink: &mut K, word: &str, number: u32, name: &Name) -> Result<(), Failed>
     ensures { Puts K.got K.faults sink.old (located word.now number name.now) sink.new result }
 {

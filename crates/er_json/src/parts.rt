@@ -1,16 +1,16 @@
-//! What a piece of a line is put together from.
+//! What a fragment of a line is put together from.
 
 ghost use Rattle.std.specs.List.{flat_map};
-ghost use Rattle.er_outside.specs.Ends.{Puts};
+ghost use Rattle.er_io.specs.Ends.{Puts};
 ghost use Rattle.er_json.specs.Parts.{part_text};
 
 use crate::location::put_location;
-use er_outside::{Failed, Sink, put_all};
+use er_io::{Failed, Sink, put_all};
 use er_syntax::Text;
 use er_text::put_number;
 use er_trace::record::Loc;
 
-/// A part of a piece.
+/// A part of a fragment.
 #[derive(Clone, Copy)]
 pub(crate) enum Part<'a> {
     /// A text as it stands.
@@ -22,19 +22,19 @@ pub(crate) enum Part<'a> {
 
 /// Some parts, one behind the other.
 #[derive(Drop)]
-pub(crate) struct Piece<'a> {
+pub(crate) struct Fragment<'a> {
     pub(crate) parts: &'a [Part<'a>],
 }
 
-impl<'a> Text for Piece<'a> {
-    ghost text = { λ piece. flat_map part_text piece.parts.now };
+impl<'a> Text for Fragment<'a> {
+    ghost text = { λ fragment. flat_map part_text fragment.parts.now };
 
     fn put<K: Sink>(&self, sink: &mut K) -> Result<(), Failed> {
         put_parts(sink, self.parts)
     }
 }
 
-#[tactic(auto, using(er_outside::proofs::Puts::composes))]
+#[tactic(auto, using(er_io::proofs::Puts::composes))]
 fn put_parts<K: Sink>(sink: &mut K, parts: &[Part]) -> Result<(), Failed>
     ensures { Puts K.got K.faults sink.old (flat_map part_text parts.now) sink.new result }
 {

@@ -1,4 +1,4 @@
-//! Reading a trace of JSON lines that comes in pieces.
+//! Reading a trace of JSON lines that comes in chunks.
 
 ghost use Rattle.std.specs.Prelude.{◌≡◌, Err, IfOk, IfSome};
 ghost use Rattle.std.proofs.Common.{refl, lit<};
@@ -9,10 +9,10 @@ ghost use Rattle.er_lines.specs.json_line.Members.{Spells, IsHeader, IsEnd};
 ghost use Rattle.er_jsonl.specs.Trace.{json, most_line_bytes};
 ghost use Rattle.er_jsonl.specs.Lawful.{json_is_format};
 
+use er_io::NoMemory;
 use er_lines::feed::LineFeed;
 use er_lines::format::{Later, Lines};
 use er_lines::json_line::plain_json_line;
-use er_outside::NoMemory;
 use er_trace::fault::LineFault;
 use er_trace::record::Record;
 use er_trace::version::Version;
@@ -24,7 +24,7 @@ pub const MOST_LINE_BYTES: usize = 4_096;
 /// Lines of JSON.
 pub struct JsonLines;
 
-/// Reads a trace of JSON lines that comes in pieces of any length.
+/// Reads a trace of JSON lines that comes in chunks of any length.
 pub type JsonFeed = LineFeed<JsonLines>;
 
 impl Lines for JsonLines {
@@ -49,11 +49,11 @@ impl Lines for JsonLines {
     }
 
     #[tactic(auto, using(crate::proofs::FrontLemmas::front_within))]
-    fn front<'a>(alloc: Global, _version: Version, piece: &'a [u8]) -> Option<(Record, &'a [u8])>
+    fn front<'a>(alloc: Global, _version: Version, chunk: &'a [u8]) -> Option<(Record, &'a [u8])>
         ensures { IfSome result
-            (λ pair. IsFront most_line_bytes Spells piece.now pair.0 pair.1.now) }
+            (λ pair. IsFront most_line_bytes Spells chunk.now pair.0 pair.1.now) }
     {
-        plain_json_line(alloc, piece)
+        plain_json_line(alloc, chunk)
     }
 
     ghost most = { refl };

@@ -5,7 +5,7 @@ ghost use Rattle.indexmap.specs.IndexMap.{get};
 ghost use Rattle.er_latest.specs.Tables.{items_of, HasRoom, HasRoomFor, put_first};
 
 use er_history::firsts::Now;
-use er_outside::NoMemory;
+use er_io::NoMemory;
 use indexmap::IndexMap;
 use std::alloc::Global;
 use std::hash::Hash;

@@ -6,7 +6,7 @@ ghost use Rattle.indexmap.specs.IndexMap.{get, spare};
 ghost use Rattle.er_latest.specs.Roles.{named};
 ghost use Rattle.er_latest.specs.Tables.{by_name, HasPlaceNamed, put_named};
 
-use er_outside::NoMemory;
+use er_io::NoMemory;
 use er_trace::name::Name;
 use indexmap::IndexMap;
 use std::alloc::Global;

@@ -4,8 +4,8 @@ ghost use Rattle.std.specs.Prelude.{◌≡◌, ℕ, OnOk};
 ghost use Rattle.er_numbers.specs.Numbers.{found};
 ghost use Rattle.er_latest.specs.Tables.{HasPlace, put_last};
 
+use er_io::NoMemory;
 use er_numbers::Numbers;
-use er_outside::NoMemory;
 
 /// Makes room for this number, if there is one.
 pub(crate) fn make_room(table: &mut Numbers<u32>, number: Option<u32>) -> Result<(), NoMemory>

@@ -106,8 +106,8 @@ clear_both a b first second = grind (arith, common_steps, lacks-append 10 a b)
 pub short_both : (most : ℕ) (a b : List ℕ) → IsShort most a → has_no_lf b ≡ true → length a + length b ≤ most → IsShort most (a ++ b)
 short_both most a b h clear few = record { clear = clear_both a b h.clear clear; few = omega (arith, length-append a b) }
 
-pub whole_both : (most : ℕ) (kept front later piece : List ℕ) → IsShort most (kept ++ front) → piece ≡ front ++ 10 ∷ later → whole_line most (kept ++ piece) ≡ Ok (kept ++ front, later)
-whole_both most kept front later piece h e =
+pub whole_both : (most : ℕ) (kept front later chunk : List ℕ) → IsShort most (kept ++ front) → chunk ≡ front ++ 10 ∷ later → whole_line most (kept ++ chunk) ≡ Ok (kept ++ front, later)
+whole_both most kept front later chunk h e =
     ap (whole_line most) (ap (λ p. kept ++ p) e ∙ sym (append_assoc kept front (10 ∷ later))) ∙ whole_line-at most (kept ++ front) later h
 
 long_whole : (most : ℕ) (bytes : List ℕ) → is_long most bytes ≡ true → whole_line most bytes ≡ Err LongLine
@@ -116,11 +116,11 @@ long_whole most bytes h = rw h refl
 is_long_by : (most : ℕ) (bytes front : List ℕ) → take (most + 1) bytes ≡ front → has_no_lf front ≡ true → most < length bytes → is_long most bytes ≡ true
 is_long_by most bytes front e clear many = grind (arith, nat_tests, common_steps)
 
-pub long_both : (most : ℕ) (kept piece : List ℕ) → IsShort most kept → has_no_lf (take (most + 1 - length kept) piece) ≡ true → most < length kept + length piece → whole_line most (kept ++ piece) ≡ Err LongLine
-long_both most kept piece h clear many =
+pub long_both : (most : ℕ) (kept chunk : List ℕ) → IsShort most kept → has_no_lf (take (most + 1 - length kept) chunk) ≡ true → most < length kept + length chunk → whole_line most (kept ++ chunk) ≡ Err LongLine
+long_both most kept chunk h clear many =
     let n : length kept + (most + 1 - length kept) ≡ most + 1 = omega (arith, h.few) in
-    let front : take (most + 1) (kept ++ piece) ≡ kept ++ take (most + 1 - length kept) piece = ap (λ k. take k (kept ++ piece)) (sym n) ∙ take-append-add kept piece (most + 1 - length kept) in
-    long_whole most (kept ++ piece) (is_long_by most (kept ++ piece) (kept ++ take (most + 1 - length kept) piece) front (clear_both kept (take (most + 1 - length kept) piece) h.clear clear) (omega (arith, length-append kept piece)))
+    let front : take (most + 1) (kept ++ chunk) ≡ kept ++ take (most + 1 - length kept) chunk = ap (λ k. take k (kept ++ chunk)) (sym n) ∙ take-append-add kept chunk (most + 1 - length kept) in
+    long_whole most (kept ++ chunk) (is_long_by most (kept ++ chunk) (kept ++ take (most + 1 - length kept) chunk) front (clear_both kept (take (most + 1 - length kept) chunk) h.clear clear) (omega (arith, length-append kept chunk)))
 
 -- what a line has, it has with more bytes behind it
 pub record IsMore (whole longer : Line) (more : List ℕ) : Type 0 where

@@ -116,9 +116,9 @@ stands_line f (After v records) (marks.Ended w m) before kept front bytes came e
 }
 
 -- a line came to its end
-pub took_line : (f : Format) (mark next : Mark) (kept piece front later : List ℕ) (came old new : List Record) → IsOpen mark → has_no_lf front ≡ true → length kept + length front ≤ f.most → IsLine f mark (kept ++ front) next came
-    → piece ≡ front ++ 10 ∷ later → new ≡ old ++ came → Took f mark kept piece next [] later old new
-took_line f mark next kept piece front later came old new free clear few is e grown = record {
+pub took_line : (f : Format) (mark next : Mark) (kept chunk front later : List ℕ) (came old new : List Record) → IsOpen mark → has_no_lf front ≡ true → length kept + length front ≤ f.most → IsLine f mark (kept ++ front) next came
+    → chunk ≡ front ++ 10 ∷ later → new ≡ old ++ came → Took f mark kept chunk next [] later old new
+took_line f mark next kept chunk front later came old new free clear few is e grown = record {
   front = with_end front;
   taken = e ∙ sym (append_assoc front (10 ∷ []) later);
   leads = record {
@@ -135,13 +135,13 @@ took_line f mark next kept piece front later came old new free clear few is e gr
   };
 }
 
-more_behind : (before kept rest piece bytes : List ℕ) → bytes ≡ before ++ rest → kept ≡ rest → bytes ++ piece ≡ before ++ (kept ++ piece)
-more_behind before kept rest piece bytes begins same = (ap (λ b. b ++ piece) begins ∙ append_assoc before rest piece) ∙ ap (λ r. before ++ (r ++ piece)) (sym same)
+more_behind : (before kept rest chunk bytes : List ℕ) → bytes ≡ before ++ rest → kept ≡ rest → bytes ++ chunk ≡ before ++ (kept ++ chunk)
+more_behind before kept rest chunk bytes begins same = (ap (λ b. b ++ chunk) begins ∙ append_assoc before rest chunk) ∙ ap (λ r. before ++ (r ++ chunk)) (sym same)
 
 -- the line of a record stands at the front
-pub front_at : (f : Format) (mark : Mark) (kept piece left : List ℕ) (x : Record) (v : Version) (n : ℕ) → mark ≡ marks.After v n → n + 2 ≤ most_lines → kept ≡ [] → IsFront f.most (f.Spells v) piece x left
-    → IsFrontAt f mark kept piece (marks.After v (n + 1)) x left
-front_at f mark kept piece left x v n at few none front = record {
+pub front_at : (f : Format) (mark : Mark) (kept chunk left : List ℕ) (x : Record) (v : Version) (n : ℕ) → mark ≡ marks.After v n → n + 2 ≤ most_lines → kept ≡ [] → IsFront f.most (f.Spells v) chunk x left
+    → IsFrontAt f mark kept chunk (marks.After v (n + 1)) x left
+front_at f mark kept chunk left x v n at few none front = record {
   free = subst IsOpen (sym at) few;
   none = none;
   version = v;
@@ -150,17 +150,17 @@ front_at f mark kept piece left x v n at few none front = record {
 }
 
 -- so it was taken, where nothing is kept
-pub took_front : (f : Format) (mark next : Mark) (kept piece left : List ℕ) (x : Record) (old new : List Record) → IsFrontAt f mark kept piece next x left → new ≡ old ++ x ∷ []
-    → Took f mark kept piece next kept left old new
-took_front f mark next kept piece left x old new is grown =
-    subst (λ (l : List ℕ). Took f mark l piece next l left old new) (sym is.none)
-    (took_line f mark next [] piece is.front.l left (x ∷ []) old new is.free is.front.short.clear (omega (arith, is.front.short.few)) is.line is.front.cut grown)
+pub took_front : (f : Format) (mark next : Mark) (kept chunk left : List ℕ) (x : Record) (old new : List Record) → IsFrontAt f mark kept chunk next x left → new ≡ old ++ x ∷ []
+    → Took f mark kept chunk next kept left old new
+took_front f mark next kept chunk left x old new is grown =
+    subst (λ (l : List ℕ). Took f mark l chunk next l left old new) (sym is.none)
+    (took_line f mark next [] chunk is.front.l left (x ∷ []) old new is.free is.front.short.clear (omega (arith, is.front.short.few)) is.line is.front.cut grown)
 
 -- all bytes are of the line
-pub took_all : (f : Format) (mark : Mark) (kept piece : List ℕ) (old : List Record) → IsOpen mark → has_no_lf piece ≡ true → length kept + length piece ≤ f.most → Took f mark kept piece mark (kept ++ piece) [] old old
-took_all f mark kept piece old free clear few = record {
-  front = piece;
-  taken = sym (append-nil piece);
+pub took_all : (f : Format) (mark : Mark) (kept chunk : List ℕ) (old : List Record) → IsOpen mark → has_no_lf chunk ≡ true → length kept + length chunk ≤ f.most → Took f mark kept chunk mark (kept ++ chunk) [] old old
+took_all f mark kept chunk old free clear few = record {
+  front = chunk;
+  taken = sym (append-nil chunk);
   leads = record {
     more = [];
     grown = sym (append-nil old);
@@ -169,23 +169,23 @@ took_all f mark kept piece old free clear few = record {
         record {
           place = h.place;
           before = h.before;
-          rest = kept ++ piece;
+          rest = kept ++ chunk;
           are = h.are;
           few = h.few;
-          begins = more_behind h.before kept h.rest piece bytes h.begins h.kept.1;
+          begins = more_behind h.before kept h.rest chunk bytes h.begins h.kept.1;
           marked = h.marked;
           records_are = append-nil earlier ∙ h.records_are;
-          kept = (short_unfinished f h.place (kept ++ piece) (subst IsOpen h.marked free) (short_both f.most kept piece short clear few), refl);
+          kept = (short_unfinished f h.place (kept ++ chunk) (subst IsOpen h.marked free) (short_both f.most kept chunk short clear few), refl);
         };
   };
 }
 
--- the line has the cause with the piece behind what is kept
+-- the line has the cause with the chunk behind what is kept
 abbrev pub RefusesWith : Format → Mark → List ℕ → List ℕ → Cause → Type 0
-RefusesWith f mark kept piece c = (place : Place) → mark ≡ mark_of place → IsShort f.most kept → LineCause f place (kept ++ piece) c
+RefusesWith f mark kept chunk c = (place : Place) → mark ≡ mark_of place → IsShort f.most kept → LineCause f place (kept ++ chunk) c
 
-refused : (f : Format) (mark : Mark) (kept piece later : List ℕ) (n : ℕ) (c : Cause) (old new : List Record) → RefusesWith f mark kept piece c → c ≢ NoEnd → n ≡ number_at mark → new ≡ old → Leads f mark kept piece mark later (Some (Refused n c)) old new
-refused f mark kept piece later n c old new why other numbered same = record {
+refused : (f : Format) (mark : Mark) (kept chunk later : List ℕ) (n : ℕ) (c : Cause) (old new : List Record) → RefusesWith f mark kept chunk c → c ≢ NoEnd → n ≡ number_at mark → new ≡ old → Leads f mark kept chunk mark later (Some (Refused n c)) old new
+refused f mark kept chunk later n c old new why other numbered same = record {
   more = [];
   grown = same ∙ sym (append-nil old);
   stands = λ bytes earlier h.
@@ -193,10 +193,10 @@ refused f mark kept piece later n c old new why other numbered same = record {
       record {
         place = h.place;
         before = h.before;
-        rest = kept ++ piece;
+        rest = kept ++ chunk;
         are = h.are;
         few = h.few;
-        begins = more_behind h.before kept h.rest piece bytes h.begins h.kept.1;
+        begins = more_behind h.before kept h.rest chunk bytes h.begins h.kept.1;
         marked = h.marked;
         records_are = append-nil earlier ∙ h.records_are;
         kept = ((numbered ∙ ap number_at h.marked) ∙ number_of_place h.place, why h.place h.marked short, other);
@@ -215,14 +215,14 @@ bad_is_no_end f (marks.After v n) l c is e = let same = is.2 in absurd (cc)
 bad_is_no_end f (marks.Ended v n) l c is e = elim is [ ]
 
 -- a whole line is refused
-pub refused_line : (f : Format) (mark next : Mark) (kept piece front later left : List ℕ) (n : ℕ) (c : Cause) (old new : List Record) → IsOpen mark → IsBadLine f mark (kept ++ front) c → piece ≡ front ++ 10 ∷ later → has_no_lf front ≡ true → length kept + length front ≤ f.most
-    → n ≡ number_at mark → next ≡ mark → new ≡ old → Leads f mark kept piece next left (Some (Refused n c)) old new
-refused_line f mark next kept piece front later left n c old new free is e clear few numbered stays same =
-    let why : RefusesWith f mark kept piece c = λ place marked short.
-    bad_cause f place (kept ++ front) later (kept ++ piece) c (subst IsOpen marked free) (subst (λ (m : Mark). IsBadLine f m (kept ++ front) c) marked is)
-    (whole_both f.most kept front later piece (short_both f.most kept front short clear few) e) in
-    subst (λ (m : Mark). Leads f mark kept piece m left (Some (Refused n c)) old new) (sym stays)
-    (refused f mark kept piece left n c old new why (bad_is_no_end f mark (kept ++ front) c is) numbered same)
+pub refused_line : (f : Format) (mark next : Mark) (kept chunk front later left : List ℕ) (n : ℕ) (c : Cause) (old new : List Record) → IsOpen mark → IsBadLine f mark (kept ++ front) c → chunk ≡ front ++ 10 ∷ later → has_no_lf front ≡ true → length kept + length front ≤ f.most
+    → n ≡ number_at mark → next ≡ mark → new ≡ old → Leads f mark kept chunk next left (Some (Refused n c)) old new
+refused_line f mark next kept chunk front later left n c old new free is e clear few numbered stays same =
+    let why : RefusesWith f mark kept chunk c = λ place marked short.
+    bad_cause f place (kept ++ front) later (kept ++ chunk) c (subst IsOpen marked free) (subst (λ (m : Mark). IsBadLine f m (kept ++ front) c) marked is)
+    (whole_both f.most kept front later chunk (short_both f.most kept front short clear few) e) in
+    subst (λ (m : Mark). Leads f mark kept chunk m left (Some (Refused n c)) old new) (sym stays)
+    (refused f mark kept chunk left n c old new why (bad_is_no_end f mark (kept ++ front) c is) numbered same)
 
 long_cause : (f : Format) (place : Place) (bytes : List ℕ) → IsOpen (mark_of place) → whole_line f.most bytes ≡ Err LongLine → LineCause f place bytes LongLine
 long_cause f Start bytes free long = start_err f (whole_line f.most bytes) LongLine long
@@ -231,19 +231,19 @@ long_cause f (After v records) bytes free long =
 long_cause f (Ended v records) bytes free long = elim free [ ]
 
 -- a line is too long
-pub refused_long : (f : Format) (mark : Mark) (kept piece left : List ℕ) (n : ℕ) (c : Cause) (old : List Record) → IsOpen mark → has_no_lf (take (f.most + 1 - length kept) piece) ≡ true → f.most < length kept + length piece
-    → n ≡ number_at mark → c ≡ LongLine → Leads f mark kept piece mark left (Some (Refused n c)) old old
-refused_long f mark kept piece left n c old free clear many numbered is =
-    let why : RefusesWith f mark kept piece LongLine = λ place marked short. long_cause f place (kept ++ piece) (subst IsOpen marked free) (long_both f.most kept piece short clear many) in
-    let why_c : RefusesWith f mark kept piece c = subst (RefusesWith f mark kept piece) (sym is) why in
-    refused f mark kept piece left n c old old why_c (λ e. absurd (cc)) numbered refl
+pub refused_long : (f : Format) (mark : Mark) (kept chunk left : List ℕ) (n : ℕ) (c : Cause) (old : List Record) → IsOpen mark → has_no_lf (take (f.most + 1 - length kept) chunk) ≡ true → f.most < length kept + length chunk
+    → n ≡ number_at mark → c ≡ LongLine → Leads f mark kept chunk mark left (Some (Refused n c)) old old
+refused_long f mark kept chunk left n c old free clear many numbered is =
+    let why : RefusesWith f mark kept chunk LongLine = λ place marked short. long_cause f place (kept ++ chunk) (subst IsOpen marked free) (long_both f.most kept chunk short clear many) in
+    let why_c : RefusesWith f mark kept chunk c = subst (RefusesWith f mark kept chunk) (sym is) why in
+    refused f mark kept chunk left n c old old why_c (λ e. absurd (cc)) numbered refl
 
-closed_cause : (f : Format) (place : Place) (kept piece : List ℕ) (c : Cause) → IsClosed (mark_of place) c → 0 < length piece → LineCause f place (kept ++ piece) c
-closed_cause f (After v records) kept piece c is some =
-    let many : (nat_lt most_lines (length records + 2) && nat_lt 0 (length (kept ++ piece))) ≡ true = some_many (length records + 2) (kept ++ piece) is.0 (omega (arith, length-append kept piece)) in
-    cause_many f v (nat_lt most_lines (length records + 2) && nat_lt 0 (length (kept ++ piece))) (whole_line f.most (kept ++ piece)) c many is.1
-closed_cause f (Ended v records) kept piece c is some = ((λ e. absurd (omega (arith, ap length e, length-append kept piece))), is)
-closed_cause f Start kept piece c is some = elim is [ ]
+closed_cause : (f : Format) (place : Place) (kept chunk : List ℕ) (c : Cause) → IsClosed (mark_of place) c → 0 < length chunk → LineCause f place (kept ++ chunk) c
+closed_cause f (After v records) kept chunk c is some =
+    let many : (nat_lt most_lines (length records + 2) && nat_lt 0 (length (kept ++ chunk))) ≡ true = some_many (length records + 2) (kept ++ chunk) is.0 (omega (arith, length-append kept chunk)) in
+    cause_many f v (nat_lt most_lines (length records + 2) && nat_lt 0 (length (kept ++ chunk))) (whole_line f.most (kept ++ chunk)) c many is.1
+closed_cause f (Ended v records) kept chunk c is some = ((λ e. absurd (omega (arith, ap length e, length-append kept chunk))), is)
+closed_cause f Start kept chunk c is some = elim is [ ]
 
 closed_is_no_end : (mark : Mark) (c : Cause) → IsClosed mark c → c ≢ NoEnd
 closed_is_no_end (marks.After v n) c is e = let same = is.1 in absurd (cc)
@@ -251,15 +251,15 @@ closed_is_no_end (marks.Ended v n) c is e = absurd (cc)
 closed_is_no_end marks.Start c is e = elim is [ ]
 
 -- no byte may stand there
-pub refused_closed : (f : Format) (mark : Mark) (kept piece left : List ℕ) (n : ℕ) (c : Cause) (old : List Record) → IsClosed mark c → 0 < length piece → n ≡ number_at mark → Leads f mark kept piece mark left (Some (Refused n c)) old old
-refused_closed f mark kept piece left n c old is some numbered =
-    let why : RefusesWith f mark kept piece c = λ place marked short. closed_cause f place kept piece c (subst (λ (m : Mark). IsClosed m c) marked is) some in
-    refused f mark kept piece left n c old old why (closed_is_no_end mark c is) numbered refl
+pub refused_closed : (f : Format) (mark : Mark) (kept chunk left : List ℕ) (n : ℕ) (c : Cause) (old : List Record) → IsClosed mark c → 0 < length chunk → n ≡ number_at mark → Leads f mark kept chunk mark left (Some (Refused n c)) old old
+refused_closed f mark kept chunk left n c old is some numbered =
+    let why : RefusesWith f mark kept chunk c = λ place marked short. closed_cause f place kept chunk c (subst (λ (m : Mark). IsClosed m c) marked is) some in
+    refused f mark kept chunk left n c old old why (closed_is_no_end mark c is) numbered refl
 
 -- from step to step
 
-pub took_none : (f : Format) (mark : Mark) (kept piece : List ℕ) (old : List Record) → Took f mark kept piece mark kept piece old old
-took_none f mark kept piece old = record {
+pub took_none : (f : Format) (mark : Mark) (kept chunk : List ℕ) (old : List Record) → Took f mark kept chunk mark kept chunk old old
+took_none f mark kept chunk old = record {
   front = [];
   taken = refl;
   leads = record {
@@ -269,37 +269,37 @@ took_none f mark kept piece old = record {
   };
 }
 
-pub leads_more : (f : Format) (mark next last : Mark) (kept piece later left end : List ℕ) (fault : Option FeedFault) (old mid new : List Record) → Took f mark kept piece next later left old mid → Leads f next later left last end fault mid new → Leads f mark kept piece last end fault old new
-leads_more f mark next last kept piece later left end fault old mid new h then = record {
+pub leads_more : (f : Format) (mark next last : Mark) (kept chunk later left end : List ℕ) (fault : Option FeedFault) (old mid new : List Record) → Took f mark kept chunk next later left old mid → Leads f next later left last end fault mid new → Leads f mark kept chunk last end fault old new
+leads_more f mark next last kept chunk later left end fault old mid new h then = record {
   more = h.leads.more ++ then.more;
   grown = (then.grown ∙ ap (λ l. l ++ then.more) h.leads.grown) ∙ append_assoc old h.leads.more then.more;
   stands = λ before earlier s.
       let t = then.stands (before ++ h.front) (earlier ++ h.leads.more) (h.leads.stands before earlier s) in
-      let bytes : (before ++ h.front) ++ left ≡ before ++ piece = append_assoc before h.front left ∙ ap (λ p. before ++ p) (sym h.taken) in
-      subst (λ (r : List Record). Stands f last end fault (before ++ piece) r) (append_assoc earlier h.leads.more then.more)
+      let bytes : (before ++ h.front) ++ left ≡ before ++ chunk = append_assoc before h.front left ∙ ap (λ p. before ++ p) (sym h.taken) in
+      subst (λ (r : List Record). Stands f last end fault (before ++ chunk) r) (append_assoc earlier h.leads.more then.more)
       (subst (λ (b : List ℕ). Stands f last end fault b ((earlier ++ h.leads.more) ++ then.more)) bytes t);
 }
 
-pub took_more : (f : Format) (mark next last : Mark) (kept piece later left end rest : List ℕ) (old mid new : List Record) → Took f mark kept piece next later left old mid → Took f next later left last end rest mid new → Took f mark kept piece last end rest old new
-took_more f mark next last kept piece later left end rest old mid new h then = record {
+pub took_more : (f : Format) (mark next last : Mark) (kept chunk later left end rest : List ℕ) (old mid new : List Record) → Took f mark kept chunk next later left old mid → Took f next later left last end rest mid new → Took f mark kept chunk last end rest old new
+took_more f mark next last kept chunk later left end rest old mid new h then = record {
   front = h.front ++ then.front;
   taken = (h.taken ∙ ap (λ l. h.front ++ l) then.taken) ∙ sym (append_assoc h.front then.front rest);
   leads = leads_more f mark next last kept (h.front ++ then.front) later then.front end None old mid new (record { front = h.front; taken = refl; leads = h.leads }) then.leads;
 }
 
-pub leads_all : (f : Format) (mark next : Mark) (kept piece later left : List ℕ) (old new : List Record) → Took f mark kept piece next later left old new → left ≡ [] → Leads f mark kept piece next later None old new
-leads_all f mark next kept piece later left old new h none =
-    let all : piece ≡ h.front = (h.taken ∙ ap (λ l. h.front ++ l) none) ∙ append-nil h.front in
+pub leads_all : (f : Format) (mark next : Mark) (kept chunk later left : List ℕ) (old new : List Record) → Took f mark kept chunk next later left old new → left ≡ [] → Leads f mark kept chunk next later None old new
+leads_all f mark next kept chunk later left old new h none =
+    let all : chunk ≡ h.front = (h.taken ∙ ap (λ l. h.front ++ l) none) ∙ append-nil h.front in
     let leads : Leads f mark kept h.front next later None old new = h.leads in
     subst (λ (p : List ℕ). Leads f mark kept p next later None old new) (sym all) leads
 
-pub leads_part : (f : Format) (mark next : Mark) (kept piece later left : List ℕ) (old mid new : List Record) → Took f mark kept piece next later left old mid → new ≡ mid → LeadsPart f mark kept piece old new
-leads_part f mark next kept piece later left old mid new h same = record {
+pub leads_part : (f : Format) (mark next : Mark) (kept chunk later left : List ℕ) (old mid new : List Record) → Took f mark kept chunk next later left old mid → new ≡ mid → LeadsPart f mark kept chunk old new
+leads_part f mark next kept chunk later left old mid new h same = record {
   more = h.leads.more;
   grown = same ∙ h.leads.grown;
   part = λ before earlier s.
       let t = h.leads.stands before earlier s in
-      let bytes : before ++ piece ≡ (before ++ h.front) ++ left = ap (λ p. before ++ p) h.taken ∙ sym (append_assoc before h.front left) in (
+      let bytes : before ++ chunk ≡ (before ++ h.front) ++ left = ap (λ p. before ++ p) h.taken ∙ sym (append_assoc before h.front left) in (
         t.place,
         t.before,
         t.rest ++ left,

@@ -53,19 +53,19 @@ refusal_of : (f : Format) (mark : Mark) (line bytes : List ℕ) (records : List 
 refusal_of f mark line bytes records n c h = refusal_at f h.place h.before h.rest bytes c h.are h.few h.begins h.kept.1
 
 -- what is refused answers the same for more bytes
-pub stays_refused : (f : Format) (mark : Mark) (line : List ℕ) (fault : FeedFault) (bytes piece : List ℕ) (records : List Record) → Stands f mark line (Some fault) bytes records → Stands f mark line (Some fault) (bytes ++ piece) records
-stays_refused f mark line (Refused n c) bytes piece records h = record {
+pub stays_refused : (f : Format) (mark : Mark) (line : List ℕ) (fault : FeedFault) (bytes chunk : List ℕ) (records : List Record) → Stands f mark line (Some fault) bytes records → Stands f mark line (Some fault) (bytes ++ chunk) records
+stays_refused f mark line (Refused n c) bytes chunk records h = record {
   place = h.place;
   before = h.before;
-  rest = h.rest ++ piece;
+  rest = h.rest ++ chunk;
   are = h.are;
   few = h.few;
-  begins = ap (λ b. b ++ piece) h.begins ∙ append_assoc h.before h.rest piece;
+  begins = ap (λ b. b ++ chunk) h.begins ∙ append_assoc h.before h.rest chunk;
   marked = h.marked;
   records_are = h.records_are;
-  kept = (h.kept.0, line_cause_more f h.place h.rest piece c h.kept.1 h.kept.2, h.kept.2);
+  kept = (h.kept.0, line_cause_more f h.place h.rest chunk c h.kept.1 h.kept.2, h.kept.2);
 }
-stays_refused f mark line NoMemory bytes piece records h = elim h.kept [ ]
+stays_refused f mark line NoMemory bytes chunk records h = elim h.kept [ ]
 
 pub longer : (f : Format) (bytes more : List ℕ) (place : Place) (c : Cause) → Refuses f bytes place c → c ≢ NoEnd → Refuses f (bytes ++ more) place c
 longer f bytes more place c h other = record {
@@ -101,24 +101,24 @@ abbrev Answer : Type 0
 Answer = Result (Unit {0}) FeedFault
 
 -- what a call of `feed` leads to, by its answer
-pub leads_by : (f : Format) (r : Answer) (mark next : Mark) (line later piece : List ℕ) (old new : List Record) → OnOk r (Leads f mark line piece next later None old new)
-    → ((n : ℕ) (c : Cause) → r ≡ Err (Refused n c) → Leads f mark line piece next later (Some (Refused n c)) old new)
-    → r ≢ Err NoMemory → Leads f mark line piece next later (result_err r) old new
-leads_by f (Ok u) mark next line later piece old new read refused some = read
-leads_by f (Err (Refused n c)) mark next line later piece old new read refused some = refused n c refl
-leads_by f (Err NoMemory) mark next line later piece old new read refused some = absurd (some refl)
+pub leads_by : (f : Format) (r : Answer) (mark next : Mark) (line later chunk : List ℕ) (old new : List Record) → OnOk r (Leads f mark line chunk next later None old new)
+    → ((n : ℕ) (c : Cause) → r ≡ Err (Refused n c) → Leads f mark line chunk next later (Some (Refused n c)) old new)
+    → r ≢ Err NoMemory → Leads f mark line chunk next later (result_err r) old new
+leads_by f (Ok u) mark next line later chunk old new read refused some = read
+leads_by f (Err (Refused n c)) mark next line later chunk old new read refused some = refused n c refl
+leads_by f (Err NoMemory) mark next line later chunk old new read refused some = absurd (some refl)
 
-pub refuses_by : (f : Format) → IsFormat f → (r : Answer) (mark next : Mark) (line later piece bytes : List ℕ) (old new earlier : List Record) (place : Place) (c : Cause) → (r ≢ Err NoMemory → Leads f mark line piece next later (result_err r) old new)
-    → Stands f mark line None bytes earlier → Refuses f (bytes ++ piece) place c → c ≢ NoEnd → (r ≡ Err (Refused (line_number place) c)) ⊎ (r ≡ Err NoMemory)
-refuses_by f good (Ok u) mark next line later piece bytes old new earlier place c leads h is other =
-    let l : Leads f mark line piece next later None old new = leads (λ e. absurd (cc)) in
-    let no : None ≡ Some (Refused (line_number place) c) = the_fault f good next later (bytes ++ piece) None (earlier ++ l.more) place c (l.stands bytes earlier h) is other in
+pub refuses_by : (f : Format) → IsFormat f → (r : Answer) (mark next : Mark) (line later chunk bytes : List ℕ) (old new earlier : List Record) (place : Place) (c : Cause) → (r ≢ Err NoMemory → Leads f mark line chunk next later (result_err r) old new)
+    → Stands f mark line None bytes earlier → Refuses f (bytes ++ chunk) place c → c ≢ NoEnd → (r ≡ Err (Refused (line_number place) c)) ⊎ (r ≡ Err NoMemory)
+refuses_by f good (Ok u) mark next line later chunk bytes old new earlier place c leads h is other =
+    let l : Leads f mark line chunk next later None old new = leads (λ e. absurd (cc)) in
+    let no : None ≡ Some (Refused (line_number place) c) = the_fault f good next later (bytes ++ chunk) None (earlier ++ l.more) place c (l.stands bytes earlier h) is other in
     absurd (cc)
-refuses_by f good (Err (Refused n d)) mark next line later piece bytes old new earlier place c leads h is other =
-    let l : Leads f mark line piece next later (Some (Refused n d)) old new = leads (λ e. absurd (cc)) in
-    let same : Some (Refused n d) ≡ Some (Refused (line_number place) c) = the_fault f good next later (bytes ++ piece) (Some (Refused n d)) (earlier ++ l.more) place c (l.stands bytes earlier h) is other in
+refuses_by f good (Err (Refused n d)) mark next line later chunk bytes old new earlier place c leads h is other =
+    let l : Leads f mark line chunk next later (Some (Refused n d)) old new = leads (λ e. absurd (cc)) in
+    let same : Some (Refused n d) ≡ Some (Refused (line_number place) c) = the_fault f good next later (bytes ++ chunk) (Some (Refused n d)) (earlier ++ l.more) place c (l.stands bytes earlier h) is other in
     inl cc
-refuses_by f good (Err NoMemory) mark next line later piece bytes old new earlier place c leads h is other = inr refl
+refuses_by f good (Err NoMemory) mark next line later chunk bytes old new earlier place c leads h is other = inr refl
 
 -- at the end of the input
 
@@ -166,37 +166,37 @@ refused_end f good mark line bytes records (Some fault) place c h is = Kept (ap 
 
 -- what was fed, and what came of it
 
-pub fed : (f : Format) (mark next : Mark) (line later piece bytes : List ℕ) (fault after : Option FeedFault) (old new earlier : List Record) → Leads f mark line piece next later after old new → fault ≡ None → Stands f mark line fault bytes earlier
-    → IsFed f next later after (bytes ++ piece) earlier old new
-fed f mark next line later piece bytes fault after old new earlier leads none h =
+pub fed : (f : Format) (mark next : Mark) (line later chunk bytes : List ℕ) (fault after : Option FeedFault) (old new earlier : List Record) → Leads f mark line chunk next later after old new → fault ≡ None → Stands f mark line fault bytes earlier
+    → IsFed f next later after (bytes ++ chunk) earlier old new
+fed f mark next line later chunk bytes fault after old new earlier leads none h =
     (leads.more, leads.stands bytes earlier (subst (λ (k : Option FeedFault). Stands f mark line k bytes earlier) none h), leads.grown)
 
-pub fed_until : (f : Format) (mark next : Mark) (line later piece bytes : List ℕ) (fault : Option FeedFault) (n : ℕ) (c : Cause) (old new earlier : List Record) → Leads f mark line piece next later (Some (Refused n c)) old new → fault ≡ None → Stands f mark line fault bytes earlier
-    → IsFedUntil f (bytes ++ piece) n c earlier old new
-fed_until f mark next line later piece bytes fault n c old new earlier leads none h =
-    let s : Stands f next later (Some (Refused n c)) (bytes ++ piece) (earlier ++ leads.more) = leads.stands bytes earlier (subst (λ (k : Option FeedFault). Stands f mark line k bytes earlier) none h) in
-    let u : (c ≢ NoEnd) × ReadsUntil f (bytes ++ piece) n c (earlier ++ leads.more) = until f next later (bytes ++ piece) (earlier ++ leads.more) n c s in
+pub fed_until : (f : Format) (mark next : Mark) (line later chunk bytes : List ℕ) (fault : Option FeedFault) (n : ℕ) (c : Cause) (old new earlier : List Record) → Leads f mark line chunk next later (Some (Refused n c)) old new → fault ≡ None → Stands f mark line fault bytes earlier
+    → IsFedUntil f (bytes ++ chunk) n c earlier old new
+fed_until f mark next line later chunk bytes fault n c old new earlier leads none h =
+    let s : Stands f next later (Some (Refused n c)) (bytes ++ chunk) (earlier ++ leads.more) = leads.stands bytes earlier (subst (λ (k : Option FeedFault). Stands f mark line k bytes earlier) none h) in
+    let u : (c ≢ NoEnd) × ReadsUntil f (bytes ++ chunk) n c (earlier ++ leads.more) = until f next later (bytes ++ chunk) (earlier ++ leads.more) n c s in
     (u.0, (leads.more, u.1, leads.grown))
 
 -- a call after a fault
-pub fed_again : (f : Format) (mark : Mark) (line piece bytes : List ℕ) (fault : FeedFault) (kept : Option FeedFault) (out earlier : List Record) → kept ≡ Some fault → Stands f mark line kept bytes earlier
-    → IsFed f mark line kept (bytes ++ piece) earlier out out
-fed_again f mark line piece bytes fault kept out earlier is h =
-    let s : Stands f mark line (Some fault) (bytes ++ piece) earlier = stays_refused f mark line fault bytes piece earlier (subst (λ (k : Option FeedFault). Stands f mark line k bytes earlier) is h) in
-    let t : Stands f mark line kept (bytes ++ piece) earlier = subst (λ (k : Option FeedFault). Stands f mark line k (bytes ++ piece) earlier) (sym is) s in
-    ([], subst (λ (r : List Record). Stands f mark line kept (bytes ++ piece) r) (sym (append-nil earlier)) t, sym (append-nil out))
+pub fed_again : (f : Format) (mark : Mark) (line chunk bytes : List ℕ) (fault : FeedFault) (kept : Option FeedFault) (out earlier : List Record) → kept ≡ Some fault → Stands f mark line kept bytes earlier
+    → IsFed f mark line kept (bytes ++ chunk) earlier out out
+fed_again f mark line chunk bytes fault kept out earlier is h =
+    let s : Stands f mark line (Some fault) (bytes ++ chunk) earlier = stays_refused f mark line fault bytes chunk earlier (subst (λ (k : Option FeedFault). Stands f mark line k bytes earlier) is h) in
+    let t : Stands f mark line kept (bytes ++ chunk) earlier = subst (λ (k : Option FeedFault). Stands f mark line k (bytes ++ chunk) earlier) (sym is) s in
+    ([], subst (λ (r : List Record). Stands f mark line kept (bytes ++ chunk) r) (sym (append-nil earlier)) t, sym (append-nil out))
 
-pub until_again : (f : Format) (mark : Mark) (line piece bytes : List ℕ) (n : ℕ) (c : Cause) (kept : Option FeedFault) (out earlier : List Record) → kept ≡ Some (Refused n c) → Stands f mark line kept bytes earlier → IsFedUntil f (bytes ++ piece) n c earlier out out
-until_again f mark line piece bytes n c kept out earlier is h =
-    let s : Stands f mark line (Some (Refused n c)) (bytes ++ piece) earlier = stays_refused f mark line (Refused n c) bytes piece earlier (subst (λ (k : Option FeedFault). Stands f mark line k bytes earlier) is h) in
-    let u : (c ≢ NoEnd) × ReadsUntil f (bytes ++ piece) n c earlier = until f mark line (bytes ++ piece) earlier n c s in
-    (u.0, ([], subst (λ (r : List Record). ReadsUntil f (bytes ++ piece) n c r) (sym (append-nil earlier)) u.1, sym (append-nil out)))
+pub until_again : (f : Format) (mark : Mark) (line chunk bytes : List ℕ) (n : ℕ) (c : Cause) (kept : Option FeedFault) (out earlier : List Record) → kept ≡ Some (Refused n c) → Stands f mark line kept bytes earlier → IsFedUntil f (bytes ++ chunk) n c earlier out out
+until_again f mark line chunk bytes n c kept out earlier is h =
+    let s : Stands f mark line (Some (Refused n c)) (bytes ++ chunk) earlier = stays_refused f mark line (Refused n c) bytes chunk earlier (subst (λ (k : Option FeedFault). Stands f mark line k bytes earlier) is h) in
+    let u : (c ≢ NoEnd) × ReadsUntil f (bytes ++ chunk) n c earlier = until f mark line (bytes ++ chunk) earlier n c s in
+    (u.0, ([], subst (λ (r : List Record). ReadsUntil f (bytes ++ chunk) n c r) (sym (append-nil earlier)) u.1, sym (append-nil out)))
 
-pub refuses_again : (f : Format) → IsFormat f → (mark : Mark) (line piece bytes : List ℕ) (fault : FeedFault) (kept : Option FeedFault) (earlier : List Record) (place : Place) (c : Cause) → kept ≡ Some fault → Stands f mark line kept bytes earlier → Refuses f (bytes ++ piece) place c
+pub refuses_again : (f : Format) → IsFormat f → (mark : Mark) (line chunk bytes : List ℕ) (fault : FeedFault) (kept : Option FeedFault) (earlier : List Record) (place : Place) (c : Cause) → kept ≡ Some fault → Stands f mark line kept bytes earlier → Refuses f (bytes ++ chunk) place c
     → fault ≡ Refused (line_number place) c
-refuses_again f good mark line piece bytes fault kept earlier place c is h refused =
-    refused_by_fault f good mark line (bytes ++ piece) earlier fault place c
-    (stays_refused f mark line fault bytes piece earlier (subst (λ (k : Option FeedFault). Stands f mark line k bytes earlier) is h)) refused
+refuses_again f good mark line chunk bytes fault kept earlier place c is h refused =
+    refused_by_fault f good mark line (bytes ++ chunk) earlier fault place c
+    (stays_refused f mark line fault bytes chunk earlier (subst (λ (k : Option FeedFault). Stands f mark line k bytes earlier) is h)) refused
 
 -- two feeds that stand for the same bytes
 

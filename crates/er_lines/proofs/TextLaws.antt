@@ -19,11 +19,11 @@ pub short_spelling : (x : Record) → IsRecord x → IsShort most_line_bytes (sp
 short_spelling x is = record { clear = spelling_has_no_lf x is; few = spelling_is_short x is }
 
 -- the line of an access at the front is one that spells it, in each version
-pub front_by : (v : Version) (piece : List ℕ) (found : Option (Record × Bor (List ℕ)))
-    → IfSome found (λ pair. ((w : Version) → IsRecordOf w pair.0) × (piece ≡ spelling pair.0 ++ line_end ∷ pair.1.now))
-    → IfSome found (λ pair. IsFront most_line_bytes (IsSpelled v) piece pair.0 pair.1.now)
-front_by v piece None h = h
-front_by v piece (Some pair) h =
+pub front_by : (v : Version) (chunk : List ℕ) (found : Option (Record × Bor (List ℕ)))
+    → IfSome found (λ pair. ((w : Version) → IsRecordOf w pair.0) × (chunk ≡ spelling pair.0 ++ line_end ∷ pair.1.now))
+    → IfSome found (λ pair. IsFront most_line_bytes (IsSpelled v) chunk pair.0 pair.1.now)
+front_by v chunk None h = h
+front_by v chunk (Some pair) h =
     let is : IsRecordOf v pair.0 = h.0 v in
     record { l = spelling pair.0; short = short_spelling pair.0 is.0; spells = (is, refl); cut = h.1 }
 

@@ -19,11 +19,11 @@ use Rattle.er_lines.specs.Feed.{Stands}
 
 -- how a line goes on, of which so many bytes are kept
 abbrev pub GoesOnAs : ℕ → ℕ → List ℕ → Next → Type 0
-GoesOnAs most kept piece (nexts.Ends front later) = (piece ≡ front.now ++ line_end ∷ later.now)
+GoesOnAs most kept chunk (nexts.Ends front later) = (chunk ≡ front.now ++ line_end ∷ later.now)
     × (has_no_lf front.now ≡ true) × (kept + length front.now ≤ most)
-GoesOnAs most kept piece nexts.GoesOn = (has_no_lf piece ≡ true) × (kept + length piece ≤ most)
-GoesOnAs most kept piece nexts.TooLong =
-    (has_no_lf (take (most + 1 - kept) piece) ≡ true) × (most < kept + length piece)
+GoesOnAs most kept chunk nexts.GoesOn = (has_no_lf chunk ≡ true) × (kept + length chunk ≤ most)
+GoesOnAs most kept chunk nexts.TooLong =
+    (has_no_lf (take (most + 1 - kept) chunk) ≡ true) × (most < kept + length chunk)
 
 -- what a line behind the first is
 abbrev pub IsLater : (List ℕ → Type 0) → (List ℕ → Record → Type 0) → List ℕ → Later → Type 0
@@ -46,20 +46,20 @@ IsBadLine f (marks.After v n) bytes c = ¬ f.IsEnd bytes × SpellsNone f v bytes
 IsBadLine f (marks.Ended v n) bytes c = ⊥
 
 -- the line of a record stands at the front, with what is left behind its LF
-pub record IsFront (most : ℕ) (Spells : List ℕ → Record → Type 0) (piece : List ℕ) (x : Record)
+pub record IsFront (most : ℕ) (Spells : List ℕ → Record → Type 0) (chunk : List ℕ) (x : Record)
     (left : List ℕ) : Type 0 where
   pub l : List ℕ
   pub short : IsShort most l
   pub spells : Spells l x
-  pub cut : piece ≡ l ++ line_end ∷ left
+  pub cut : chunk ≡ l ++ line_end ∷ left
 
 -- the same in a trace of some version, where a line may stand and nothing of it came before
-pub record IsFrontAt (f : Format) (mark : Mark) (kept piece : List ℕ) (next : Mark) (x : Record)
+pub record IsFrontAt (f : Format) (mark : Mark) (kept chunk : List ℕ) (next : Mark) (x : Record)
     (left : List ℕ) : Type 0 where
   pub free : IsOpen mark
   pub none : kept ≡ []
   pub version : Version
-  pub front : IsFront f.most (f.Spells version) piece x left
+  pub front : IsFront f.most (f.Spells version) chunk x left
   pub line : IsLine f mark front.l next (x ∷ [])
 
 -- What is kept leads, with more bytes, to what is kept then, and more records came to the list.
@@ -78,9 +78,9 @@ pub record LeadsPart (f : Format) (mark : Mark) (line : List ℕ) (bytes : List 
   pub part : (before : List ℕ) (earlier : List Record) → Stands f mark line None before earlier
       → ReadsPart f (before ++ bytes) (earlier ++ more)
 
--- a front of the piece was taken, and these bytes are left
-pub record Took (f : Format) (mark : Mark) (line : List ℕ) (piece : List ℕ) (next : Mark)
+-- a front of the chunk was taken, and these bytes are left
+pub record Took (f : Format) (mark : Mark) (line : List ℕ) (chunk : List ℕ) (next : Mark)
     (later : List ℕ) (left : List ℕ) (old new : List Record) : Type 0 where
   pub front : List ℕ
-  pub taken : piece ≡ front ++ left
+  pub taken : chunk ≡ front ++ left
   pub leads : Leads f mark line front next later None old new

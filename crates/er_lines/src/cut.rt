@@ -1,4 +1,4 @@
-//! How a line goes on in a piece.
+//! How a line goes on in a chunk.
 
 ghost use Rattle.std.specs.Prelude.{◌<◌, ◌≤◌, ◌^◌};
 ghost use Rattle.er_lines.specs.Steps.{GoesOnAs};
@@ -19,17 +19,17 @@ pub enum Next<'a> {
 /// How the line goes on, of which so many bytes have come before, where it may have so many. It
 /// looks no further than a line may go.
 #[tactic(auto, using(crate::proofs::CutLaws::cuts))]
-pub fn next_of(most: usize, kept: usize, piece: &[u8]) -> Next<'_>
+pub fn next_of(most: usize, kept: usize, chunk: &[u8]) -> Next<'_>
     requires small { most < 2 ^ 32 }
     requires few { kept ≤ most }
-    ensures { GoesOnAs most kept piece.now result }
+    ensures { GoesOnAs most kept chunk.now result }
 {
     let room = most - kept;
-    let near = piece.len().min(room + 1);
-    if let Some((front, _)) = take_line(&piece[..near]) {
-        return Next::Ends(front, &piece[front.len() + 1..]);
+    let near = chunk.len().min(room + 1);
+    if let Some((front, _)) = take_line(&chunk[..near]) {
+        return Next::Ends(front, &chunk[front.len() + 1..]);
     }
-    if piece.len() > room {
+    if chunk.len() > room {
         Next::TooLong
     } else {
         Next::GoesOn

@@ -1,4 +1,4 @@
-//! Reading a trace that comes in pieces.
+//! Reading a trace that comes in chunks.
 
 ghost use Rattle.std.specs.Prelude.{◌≤◌, ◌+◌, length};
 ghost use Rattle.er_trace.specs.Trace.{most_lines};
@@ -16,7 +16,7 @@ use er_trace::version::Version;
 use std::alloc::Global;
 use std::marker::PhantomData;
 
-/// Reads a trace that comes in pieces of any length. It keeps the bytes of the line that is not at
+/// Reads a trace that comes in chunks of any length. It keeps the bytes of the line that is not at
 /// its end yet, where that line begins, and the fault that it has answered.
 #[derive(Drop)]
 pub struct LineFeed<L: Lines> {
@@ -56,24 +56,24 @@ impl<L: Lines> LineFeed<L> {
     /// Reads the next bytes, and appends the records of the lines that came to their ends. A
     /// refusal is the first cause of a line, other than `no-end`, of all bytes so far. What was
     /// refused once, or found no memory, stays so.
-    pub fn feed(&mut self, piece: &[u8], out: &mut Vec<Record>) -> Result<(), FeedFault>
+    pub fn feed(&mut self, chunk: &[u8], out: &mut Vec<Record>) -> Result<(), FeedFault>
         ensures fed { result ≢ Err FeedFault.NoMemory → (bytes : List ℕ) (earlier : List Record)
             → Stands L.format self.old.mark self.old.line.items self.old.fault bytes earlier
             → IsFed L.format self.new.mark self.new.line.items self.new.fault
-            (bytes ++ piece.now) earlier out.old.items out.new.items }
+            (bytes ++ chunk.now) earlier out.old.items out.new.items }
         ensures refused { (n : ℕ) (c : Cause) → result ≡ Err (FeedFault.Refused n c)
             → (bytes : List ℕ) (earlier : List Record)
             → Stands L.format self.old.mark self.old.line.items self.old.fault bytes earlier
-            → IsFedUntil L.format (bytes ++ piece.now) n c earlier out.old.items out.new.items }
+            → IsFedUntil L.format (bytes ++ chunk.now) n c earlier out.old.items out.new.items }
         ensures refuses { (bytes : List ℕ) (earlier : List Record) (place : Place) (c : Cause)
             → Stands L.format self.old.mark self.old.line.items self.old.fault bytes earlier
-            → Refuses L.format (bytes ++ piece.now) place c → c ≢ NoEnd
+            → Refuses L.format (bytes ++ chunk.now) place c → c ≢ NoEnd
             → (result ≡ Err (FeedFault.Refused (line_number place) c))
             ⊎ (result ≡ Err FeedFault.NoMemory) }
         ensures no_memory { result ≡ Err FeedFault.NoMemory
             → (bytes : List ℕ) (earlier : List Record)
             → Stands L.format self.old.mark self.old.line.items self.old.fault bytes earlier
-            → IsFedPart L.format (bytes ++ piece.now) earlier out.old.items out.new.items }
+            → IsFedPart L.format (bytes ++ chunk.now) earlier out.old.items out.new.items }
         ensures answered { self.new.fault ≡ result_err result }
         ensures again { (fault : FeedFault) → self.old.fault ≡ Some fault
             → (result ≡ Err fault) × (self.new ≡ self.old) × (out.new.items ≡ out.old.items) }
@@ -81,25 +81,25 @@ impl<L: Lines> LineFeed<L> {
         if let Some(fault) = self.fault {
             return Err(fault);
         }
-        let result = self.take_piece(piece, out);
+        let result = self.take_chunk(chunk, out);
         self.fault = result.err();
         result
     }
 
     /// Reads the next bytes.
     #[tactic(auto, using(crate::proofs::FeedLaws::takes))]
-    fn take_piece(&mut self, piece: &[u8], out: &mut Vec<Record>) -> Result<(), FeedFault>
-        ensures read { OnOk result (Leads L.format self.old.mark self.old.line.items piece.now
+    fn take_chunk(&mut self, chunk: &[u8], out: &mut Vec<Record>) -> Result<(), FeedFault>
+        ensures read { OnOk result (Leads L.format self.old.mark self.old.line.items chunk.now
             self.new.mark self.new.line.items None out.old.items out.new.items) }
         ensures refused { (n : ℕ) (c : Cause) → result ≡ Err (FeedFault.Refused n c)
-            → Leads L.format self.old.mark self.old.line.items piece.now
+            → Leads L.format self.old.mark self.old.line.items chunk.now
             self.new.mark self.new.line.items (Some (FeedFault.Refused n c))
             out.old.items out.new.items }
         ensures no_memory { result ≡ Err FeedFault.NoMemory → LeadsPart L.format self.old.mark
-            self.old.line.items piece.now out.old.items out.new.items }
+            self.old.line.items chunk.now out.old.items out.new.items }
         ensures fault { self.new.fault ≡ self.old.fault }
     {
-        let mut rest = piece;
+        let mut rest = chunk;
         while !rest.is_empty() {
             match self.take_next(rest, out) {
                 Ok(left) => rest = left,
@@ -110,25 +110,25 @@ impl<L: Lines> LineFeed<L> {
     }
 
     /// Takes the next bytes of one line, and answers those after it. Most lines stand whole in
-    /// their piece, and the format may read them without their ends being looked for first.
+    /// their chunk, and the format may read them without their ends being looked for first.
     fn take_next<'a>(
         &mut self,
-        piece: &'a [u8],
+        chunk: &'a [u8],
         out: &mut Vec<Record>,
     ) -> Result<&'a [u8], FeedFault>
-        requires { 0 < length piece.now }
+        requires { 0 < length chunk.now }
         ensures read { IfOk result (λ left. Took L.format self.old.mark self.old.line.items
-            piece.now self.new.mark self.new.line.items left.now out.old.items out.new.items) }
-        ensures less { IfOk result (λ left. length left.now < length piece.now) }
+            chunk.now self.new.mark self.new.line.items left.now out.old.items out.new.items) }
+        ensures less { IfOk result (λ left. length left.now < length chunk.now) }
         ensures refused { (n : ℕ) (c : Cause) → result ≡ Err (FeedFault.Refused n c)
-            → Leads L.format self.old.mark self.old.line.items piece.now
+            → Leads L.format self.old.mark self.old.line.items chunk.now
             self.new.mark self.new.line.items (Some (FeedFault.Refused n c))
             out.old.items out.new.items }
         ensures no_memory { result ≡ Err FeedFault.NoMemory → out.new.items ≡ out.old.items }
         ensures fault { self.new.fault ≡ self.old.fault }
     {
-        let Some((next, found, left)) = self.front_record(piece) else {
-            return self.take_front(piece, out);
+        let Some((next, found, left)) = self.front_record(chunk) else {
+            return self.take_front(chunk, out);
         };
         let Ok(()) = out.push(found) else {
             return Err(FeedFault::NoMemory);
@@ -139,9 +139,9 @@ impl<L: Lines> LineFeed<L> {
 
     /// What the format reads at the front, where nothing of the line came before: the mark behind
     /// it, the record, and the bytes that are left. `None` says nothing.
-    fn front_record<'a>(&self, piece: &'a [u8]) -> Option<(Mark, Record, &'a [u8])>
+    fn front_record<'a>(&self, chunk: &'a [u8]) -> Option<(Mark, Record, &'a [u8])>
         ensures { IfSome result (λ all. IsFrontAt L.format self.now.mark self.now.line.items
-            piece.now all.0 all.1 all.2.now) }
+            chunk.now all.0 all.1 all.2.now) }
     {
         if !self.line.is_empty() {
             return None;
@@ -152,22 +152,22 @@ impl<L: Lines> LineFeed<L> {
         if records > MOST_LINES - 2 {
             return None;
         }
-        let (found, left) = L::front(*self.line.allocator(), version, piece)?;
+        let (found, left) = L::front(*self.line.allocator(), version, chunk)?;
         Some((Mark::After(version, records + 1), found, left))
     }
 
     /// Takes the next bytes of one line, of any kind.
     fn take_front<'a>(
         &mut self,
-        piece: &'a [u8],
+        chunk: &'a [u8],
         out: &mut Vec<Record>,
     ) -> Result<&'a [u8], FeedFault>
-        requires { 0 < length piece.now }
+        requires { 0 < length chunk.now }
         ensures read { IfOk result (λ left. Took L.format self.old.mark self.old.line.items
-            piece.now self.new.mark self.new.line.items left.now out.old.items out.new.items) }
-        ensures less { IfOk result (λ left. length left.now < length piece.now) }
+            chunk.now self.new.mark self.new.line.items left.now out.old.items out.new.items) }
+        ensures less { IfOk result (λ left. length left.now < length chunk.now) }
         ensures refused { (n : ℕ) (c : Cause) → result ≡ Err (FeedFault.Refused n c)
-            → Leads L.format self.old.mark self.old.line.items piece.now
+            → Leads L.format self.old.mark self.old.line.items chunk.now
             self.new.mark self.new.line.items (Some (FeedFault.Refused n c))
             out.old.items out.new.items }
         ensures no_memory { result ≡ Err FeedFault.NoMemory → out.new.items ≡ out.old.items }
@@ -176,7 +176,7 @@ impl<L: Lines> LineFeed<L> {
         if let Some(cause) = self.mark.closed() {
             return Err(self.refusal(cause));
         }
-        match next_of(L::MOST, self.line.len(), piece) {
+        match next_of(L::MOST, self.line.len(), chunk) {
             Next::Ends(front, later) => {
                 if let Err(fault) = self.end_line(front, out) {
                     return Err(fault);
@@ -184,7 +184,7 @@ impl<L: Lines> LineFeed<L> {
                 Ok(later)
             }
             Next::GoesOn => {
-                let Ok(()) = self.line.extend_from_slice(piece) else {
+                let Ok(()) = self.line.extend_from_slice(chunk) else {
                     return Err(FeedFault::NoMemory);
                 };
                 Ok(&[])

@@ -5,7 +5,7 @@ ghost use Rattle.er_trace.specs.declared.record.Record.{Record};
 ghost use Rattle.er_lines.specs.Format.{Format, IsFormat, IsVersionOf};
 ghost use Rattle.er_lines.specs.Steps.{IsLater, IsFront};
 
-use er_outside::NoMemory;
+use er_io::NoMemory;
 use er_trace::fault::LineFault;
 use er_trace::record::Record;
 use er_trace::version::Version;
@@ -42,8 +42,8 @@ pub trait Lines {
     /// A record whose whole line stands at the front, in a trace of that version, and what stands
     /// behind its LF: for lines that can be read without their ends being looked for first. `None`
     /// says nothing.
-    fn front<'a>(_alloc: Global, _version: Version, _piece: &'a [u8]) -> Option<(Record, &'a [u8])>
-        ensures { IfSome result (λ pair. IsFront format.most (format.Spells _version) _piece.now
+    fn front<'a>(_alloc: Global, _version: Version, _chunk: &'a [u8]) -> Option<(Record, &'a [u8])>
+        ensures { IfSome result (λ pair. IsFront format.most (format.Spells _version) _chunk.now
             pair.0 pair.1.now) }
     {
         None

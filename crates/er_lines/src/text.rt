@@ -10,7 +10,7 @@ ghost use Rattle.er_lines.specs.Text.{text, IsSpelled, text_is_format};
 
 use crate::feed::LineFeed;
 use crate::format::{Later, Lines};
-use er_outside::NoMemory;
+use er_io::NoMemory;
 use er_syntax::parse::parse_record;
 use er_syntax::plain::plain_line;
 use er_syntax::version::version_of;
@@ -25,7 +25,7 @@ const END: &str = "end";
 /// Lines of text.
 pub struct TextLines;
 
-/// Reads a trace of lines of text that comes in pieces of any length.
+/// Reads a trace of lines of text that comes in chunks of any length.
 pub type Feed = LineFeed<TextLines>;
 
 impl Lines for TextLines {
@@ -55,11 +55,11 @@ impl Lines for TextLines {
         }
     }
 
-    fn front<'a>(alloc: Global, version: Version, piece: &'a [u8]) -> Option<(Record, &'a [u8])>
-        ensures { IfSome result (λ pair. IsFront most_line_bytes (IsSpelled version) piece.now
+    fn front<'a>(alloc: Global, version: Version, chunk: &'a [u8]) -> Option<(Record, &'a [u8])>
+        ensures { IfSome result (λ pair. IsFront most_line_bytes (IsSpelled version) chunk.now
             pair.0 pair.1.now) }
     {
-        plain_line(alloc, piece)
+        plain_line(alloc, chunk)
     }
 
     ghost most = { refl };

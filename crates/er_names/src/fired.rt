@@ -10,7 +10,7 @@ ghost use Rattle.er_names.specs.Fired.{AreCounted, FiredAre, AreFound, HasPlace,
 
 use crate::counted::counted;
 use crate::names::{FiredTimeout, SetTimeout};
-use er_outside::NoMemory;
+use er_io::NoMemory;
 use indexmap::IndexMap;
 use std::alloc::Global;
 

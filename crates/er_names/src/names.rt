@@ -7,7 +7,7 @@ ghost use Rattle.er_names.specs.Names.{NamesAre, HasRoomFor};
 use crate::fired::Fired;
 use crate::tables::Tables;
 use er_history::firsts::Now;
-use er_outside::NoMemory;
+use er_io::NoMemory;
 use er_trace::record::{Kind, Record};
 use std::alloc::Global;
 

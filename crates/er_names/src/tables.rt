@@ -14,7 +14,7 @@ use crate::notes::{
     note_handler, note_interval, note_load, note_request, note_run,
 };
 use er_history::firsts::{Now, make_room};
-use er_outside::NoMemory;
+use er_io::NoMemory;
 use er_trace::record::Record;
 use indexmap::IndexMap;
 use std::alloc::Global;

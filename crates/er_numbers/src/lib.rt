@@ -7,7 +7,7 @@ ghost use Rattle.std.specs.Prelude.{◌≡◌, ℕ, ◌+◌, ◌<◌, ◌≤◌,
 ghost use Rattle.indexmap.specs.IndexMap.{get};
 ghost use Rattle.er_numbers.specs.Numbers.{found, HasRoomUnder};
 
-use er_outside::NoMemory;
+use er_io::NoMemory;
 use indexmap::IndexMap;
 use std::alloc::Global;
 

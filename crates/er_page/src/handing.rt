@@ -10,7 +10,7 @@ ghost use Rattle.er_page.specs.Page.{IsSomePage};
 ghost use Rattle.er_page.specs.Handing.{HasEvents, GrewFor, GrewInPartFor};
 
 use crate::page::Page;
-use er_outside::NoMemory;
+use er_io::NoMemory;
 use smallvec::SmallVec;
 
 /// Hands the number.

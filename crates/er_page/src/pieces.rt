@@ -10,8 +10,8 @@ ghost use Rattle.er_page.specs.Pieces.{PiecesAre, newest_of, now_of, start_in, c
 
 use crate::piece::{Begun, Piece, Pieces, Start};
 use er_history::firsts::Now;
+use er_io::NoMemory;
 use er_numbers::Numbers;
-use er_outside::NoMemory;
 use er_trace::record::Record;
 use std::alloc::Global;
 

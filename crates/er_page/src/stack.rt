@@ -8,7 +8,7 @@ ghost use Rattle.er_history.specs.Naming as naming;
 ghost use Rattle.er_history.specs.LookUps as says;
 ghost use Rattle.er_page.specs.Stack.{StackIs, HasDepth, put, closed, levels_after, top_of, depth_on};
 
-use er_outside::NoMemory;
+use er_io::NoMemory;
 use er_trace::record::Record;
 use std::alloc::Global;
 

@@ -9,7 +9,7 @@ ghost use Rattle.er_page.specs.Within as says;
 ghost use Rattle.er_page.specs.Within.{WithinIs, job_under, jobs_at};
 
 use crate::stack::Stack;
-use er_outside::NoMemory;
+use er_io::NoMemory;
 use er_trace::record::Record;
 use indexmap::IndexMap;
 use std::alloc::Global;

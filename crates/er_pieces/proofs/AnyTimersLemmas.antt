@@ -12,7 +12,7 @@ use Rattle.er_history.specs.Rules.{Rule, any_holds, made_by, set_before_timer, t
 use Rattle.er_history.specs.Edges.{path, up_to, is_ruled}
 use Rattle.er_history.specs.Laws.{Among}
 use Rattle.er_history.specs.Naming.{naming}
-use Rattle.er_history.specs.Handed.{HasGroup, AreSources, AreEnough}
+use Rattle.er_history.specs.Handed.{HasFamily, AreSources, AreEnough}
 use Rattle.er_history.specs.Latest.{newest, latest_of_event, latest_of, latest_of_each}
 use Rattle.er_history.specs.Kinds.{is_tick_of}
 use Rattle.er_pieces.specs.Enough.{IsSteady, NestedFacts}
@@ -109,7 +109,7 @@ only_timed rule only joined u n z e =
     tick_only (TickRun i m) e = tt
     tick_only _ e = absurd (never e)
 
-enough_by : (rule : Rule) → OnlyToTimeouts rule → (table : List (ℕ × Rule)) → HasGroup table (timers_by rule) → NestedFacts table
+enough_by : (rule : Rule) → OnlyToTimeouts rule → (table : List (ℕ × Rule)) → HasFamily table (timers_by rule) → NestedFacts table
     → (h : List Record) (x : Record) → IsSteady table h → naming h x ≡ None → AreEnough (timers_by rule) (path table h) (told h) x (timer_handed_by rule (path table h) (told h) x)
 enough_by rule only table has facts h (Timer t) steady named = λ i among ruled.
     reach_timeout_by rule only table h (length (told h).actions) t (first_to (makes_timeout t) (told h).entries) i among (and_right _ _ ruled)

@@ -10,7 +10,7 @@ use Rattle.er_history.specs.History.{Event, What, Action, told, running, action_
 use Rattle.er_history.specs.Rules.{Rule, any_holds, made_by}
 use Rattle.er_history.specs.Edges.{path, is_ruled, up_to}
 use Rattle.er_history.specs.Laws.{Among}
-use Rattle.er_history.specs.Handed.{HasGroup}
+use Rattle.er_history.specs.Handed.{HasFamily}
 use Rattle.er_history.specs.Naming.{naming}
 use Rattle.er_history.specs.Latest.{latest_of}
 use Rattle.er_pieces.specs.Enough.{IsSteady, NestedFacts}
@@ -22,9 +22,9 @@ use Rattle.er_pieces.proofs.PathLemmas.{both, piece_path, Reaches, reach_latest}
 abbrev pub event_with : ℕ → What → Event
 event_with n w = record { number = n; what = w }
 
--- a rule of the group holds between two events
-pub one_holds : (group : List (ℕ × Rule)) (joined : ℕ → ℕ → Bool) (u v : Event) → (u.number ≡ v.number → ⊥) → list_any (λ (r : ℕ × Rule). r.1 joined u v) group ≡ true → any_holds group joined u v ≡ true
-one_holds group joined u v apart e = both (not (u.number == v.number)) _ (ap not (ne_eqb u.number v.number apart)) e
+-- a rule of the family holds between two events
+pub one_holds : (family : List (ℕ × Rule)) (joined : ℕ → ℕ → Bool) (u v : Event) → (u.number ≡ v.number → ⊥) → list_any (λ (r : ℕ × Rule). r.1 joined u v) family ≡ true → any_holds family joined u v ≡ true
+one_holds family joined u v apart e = both (not (u.number == v.number)) _ (ap not (ne_eqb u.number v.number apart)) e
 
 -- An earlier piece of a kind joins a later one, where of two events of the kind that begin with no dispatch open the earlier leads to the later.
 pub chain : (table : List (ℕ × Rule)) (h : List Record) → IsSteady table h → (i a : Action) → Among i (told h).actions → Among a (told h).actions → bound i.event ≡ 0 → bound a.event ≡ 0 → i.number ≤ a.number
@@ -49,8 +49,8 @@ reach_maker table h i None among e = absurd (cc)
 reach_maker table h i (Some k) among e = reach_latest table h i k among (sym (eqb-true k i.event.number e))
 
 -- the piece that `back` begins
-pub back_enough : (table group : List (ℕ × Rule)) (h : List Record) (p : ℕ) → NestedFacts table → HasGroup table group → IsSteady table h → naming h (Back p) ≡ None
-    → (i c : Action) → Among i (told h).actions → running (told h).actions ≡ Some c → is_ruled group (path table h) i (action_begun (told h) (Back p)) ≡ true → path table h i.number c.number ≡ true
-back_enough table group h p facts has steady named i c among runs ruled =
+pub back_enough : (table family : List (ℕ × Rule)) (h : List Record) (p : ℕ) → NestedFacts table → HasFamily table family → IsSteady table h → naming h (Back p) ≡ None
+    → (i c : Action) → Among i (told h).actions → running (told h).actions ≡ Some c → is_ruled family (path table h) i (action_begun (told h) (Back p)) ≡ true → path table h i.number c.number ≡ true
+back_enough table family h p facts has steady named i c among runs ruled =
     let b : Action = action_begun (told h) (Back p) in
     facts.back h p i c steady named among runs (has (up_to b.event.number (path table h)) i.event b.event ruled)

@@ -63,11 +63,11 @@ in_order table (x ∷ h) sound = ((no_cause table h x sound.0).ordered, in_order
 pub steady_by : (table : List (ℕ × Rule)) (h : List Record) (x : Record) → ComesNext table h x → IsSteady table h
 steady_by table h x next = record { has = next.has; named = sound_lists_are_named table h next.sound; ordered = in_order table h next.sound }
 
--- Where the pieces of a group are sources and enough, so is what has grown by exactly these; and what has grown by a front of them is sources.
+-- Where the pieces of a family are sources and enough, so is what has grown by exactly these; and what has grown by a front of them is sources.
 
-pub has_handed : (table group : List (ℕ × Rule)) (handed : History → Record → List ℕ) → Hands table group handed → (h : List Record) (x : Record) (old new : List ℕ) → ComesNext table h x → GrewBy old (handed (told h) x) new
-    → HasHanded group (path table h) (told h) x old new
-has_handed table group handed hands h x old new next grew = record {
+pub has_handed : (table family : List (ℕ × Rule)) (handed : History → Record → List ℕ) → Hands table family handed → (h : List Record) (x : Record) (old new : List ℕ) → ComesNext table h x → GrewBy old (handed (told h) x) new
+    → HasHanded family (path table h) (told h) x old new
+has_handed table family handed hands h x old new next grew = record {
   handed = handed (told h) x;
   grown = grew;
   are_handed = hands h x (steady_by table h x next) next.named next.ordered;
@@ -82,10 +82,10 @@ among_front (suc n) k (m ∷ ks) e =
       | inr there ↦ or_right (m == k) (is_among k ks) (among_front n k ks there)
     ]
 
-pub has_handed_some : (table group : List (ℕ × Rule)) (handed : History → Record → List ℕ) → Hands table group handed → (h : List Record) (x : Record) (old new : List ℕ) → ComesNext table h x → GrewInPart old (handed (told h) x) new
-    → HasHandedSome group (path table h) (told h) x old new
+pub has_handed_some : (table family : List (ℕ × Rule)) (handed : History → Record → List ℕ) → Hands table family handed → (h : List Record) (x : Record) (old new : List ℕ) → ComesNext table h x → GrewInPart old (handed (told h) x) new
+    → HasHandedSome family (path table h) (told h) x old new
 unfolding GrewInPart
-has_handed_some table group handed hands h x old new next (n, below, came) =
+has_handed_some table family handed hands h x old new next (n, below, came) =
     let are = hands h x (steady_by table h x next) next.named next.ordered in
     record {
       handed = take n (handed (told h) x);
@@ -95,15 +95,15 @@ has_handed_some table group handed hands h x old new next (n, below, came) =
 
 -- From the two exact clauses of a call, whatever its result: all others.
 
-pub enough_by : {E : Type 0} → (stands : List Record → Type 0) (group : List (ℕ × Rule)) (handed : History → Record → List ℕ) → ((table : List (ℕ × Rule)) → NestedFacts table → Hands table group handed)
-    → (r : Result (Unit {0}) E) (x : Record) (old new : List ℕ) → OnOk r (HandsExactly stands handed x old new) → OnOk r (HandsEnough stands group x old new)
-enough_by stands group handed hands (Ok u) x old new exact = λ table h is next. has_handed table group handed (hands table (nested_facts table)) h x old new next (exact h is)
-enough_by stands group handed hands (Err e) x old new exact = tt
+pub enough_by : {E : Type 0} → (stands : List Record → Type 0) (family : List (ℕ × Rule)) (handed : History → Record → List ℕ) → ((table : List (ℕ × Rule)) → NestedFacts table → Hands table family handed)
+    → (r : Result (Unit {0}) E) (x : Record) (old new : List ℕ) → OnOk r (HandsExactly stands handed x old new) → OnOk r (HandsEnough stands family x old new)
+enough_by stands family handed hands (Ok u) x old new exact = λ table h is next. has_handed table family handed (hands table (nested_facts table)) h x old new next (exact h is)
+enough_by stands family handed hands (Err e) x old new exact = tt
 
-pub sources_by : {E : Type 0} → (stands : List Record → Type 0) (group : List (ℕ × Rule)) (handed : History → Record → List ℕ) → ((table : List (ℕ × Rule)) → NestedFacts table → Hands table group handed)
-    → (r : Result (Unit {0}) E) (x : Record) (old new : List ℕ) → OnErr r (HandsFront stands handed x old new) → OnErr r (HandsSources stands group x old new)
-sources_by stands group handed hands (Ok u) x old new front = tt
-sources_by stands group handed hands (Err e) x old new front = λ table h is next. has_handed_some table group handed (hands table (nested_facts table)) h x old new next (front h is)
+pub sources_by : {E : Type 0} → (stands : List Record → Type 0) (family : List (ℕ × Rule)) (handed : History → Record → List ℕ) → ((table : List (ℕ × Rule)) → NestedFacts table → Hands table family handed)
+    → (r : Result (Unit {0}) E) (x : Record) (old new : List ℕ) → OnErr r (HandsFront stands handed x old new) → OnErr r (HandsSources stands family x old new)
+sources_by stands family handed hands (Ok u) x old new front = tt
+sources_by stands family handed hands (Err e) x old new front = λ table h is next. has_handed_some table family handed (hands table (nested_facts table)) h x old new next (front h is)
 
 pub grew_few : (old due new : List ℕ) (most : ℕ) → length due ≤ most → GrewBy old due new → length new ≤ length old + most
 grew_few old due new most few grew = let counted : length new ≡ length old + length due = ap length grew ∙ length-append old due in omega (arith, counted, few)

@@ -1,4 +1,4 @@
--- How many pieces the groups hand. Lists of records stand newest first.
+-- How many pieces the families hand. Lists of records stand newest first.
 use Rattle.std.proofs.Common.{◌≡◌, ℕ, ◌+◌, ◌≤◌, Bool, true, false, List, [], ◌∷◌, ◌++◌, length, reverse, Option, Some, None, refl, arith}
 use Rattle.std.specs.Prelude.{◌==◌, ◌&&◌, if◌then◌else◌}
 use Rattle.std.proofs.lemmas.List.{length-append, length-reverse}

@@ -122,7 +122,7 @@ begin_is p u e = by u.what refl e
     by (BeginOf q) what e = (q, what, eqb-true q.number p e)
     by _ what e = absurd (cc)
 
--- the begin, or a run of the dispatch in a group that passes, reaches what is handed
+-- the begin, or a run of the dispatch in a family that passes, reaches what is handed
 pub reach_group : (table : List (ℕ × Rule)) (h : List Record) → IsSteady table h → (p : ℕ) (test : ℕ → Bool) (i : Action) → Among i (told h).actions → Ran p test i.event → Reaches (path table h) i.number (group_handed p test (told h).actions)
 reach_group table h steady p test i among ran = by (greatest_group p test (told h).actions) refl ran
   where

@@ -10,7 +10,7 @@ use Rattle.er_history.specs.History.{Event, Action, told}
 use Rattle.er_history.specs.Rules.{Rule, any_holds}
 use Rattle.er_history.specs.Edges.{around_inline, of_one_event, up_to, is_ruled, edge, edges, path}
 use Rattle.er_history.specs.Laws.{Among, IsNumbered}
-use Rattle.er_history.specs.Handed.{HasGroup}
+use Rattle.er_history.specs.Handed.{HasFamily}
 use Rattle.er_history.specs.Latest.{newest_by, number_of, newest, latest_of_event, latest_among, latest_of_each}
 use Rattle.er_history.proofs.HistoryLemmas.{actions_are_numbered, events_have_first_pieces, paths_lead_over_actions, among_below}
 use Rattle.er_history.proofs.OrderLemmas.{any_append}
@@ -37,10 +37,10 @@ pub and_right : (b c : Bool) → (b && c) ≡ true → c ≡ true
 and_right true c e = e
 and_right false c e = absurd (cc)
 
--- a rule of a group leads from the event of an earlier action
-pub ruled_path : (table group : List (ℕ × Rule)) (h : List Record) (a b : Action) → HasGroup table group → Among a (told h).actions → Among b (told h).actions → a.number < b.number
-    → ((joined : ℕ → ℕ → Bool) → any_holds group joined a.event b.event ≡ true) → path table h a.number b.number ≡ true
-ruled_path table group h a b has first last before holds =
+-- a rule of a family leads from the event of an earlier action
+pub ruled_path : (table family : List (ℕ × Rule)) (h : List Record) (a b : Action) → HasFamily table family → Among a (told h).actions → Among b (told h).actions → a.number < b.number
+    → ((joined : ℕ → ℕ → Bool) → any_holds family joined a.event b.event ≡ true) → path table h a.number b.number ≡ true
+ruled_path table family h a b has first last before holds =
     edge_path table h a b first last (both (nat_lt a.number b.number) _ (less_is a.number b.number before)
     (or_left (is_ruled table (path table h) a b) (around_inline a b || of_one_event a b) (has (up_to b.event.number (path table h)) a.event b.event (holds (up_to b.event.number (path table h))))))
 

@@ -3,20 +3,20 @@ use Rattle.std.proofs.Common.{ℕ, List, [], ◌∷◌, ◌++◌, ◌∙◌}
 use Rattle.er_paths.proofs.Paths.{or_left, or_right}
 use Rattle.er_trace.specs.declared.version.Version.{Version}
 use Rattle.er_history.specs.Rules.{Rule, any_holds, rules, parse_rules, script_rules, load_rules, dispatch_rules, timer_rules, request_rules, task_rules, set_before_timer, timers_in_order, ticks_in_order}
-use Rattle.er_history.specs.Handed.{HasGroup}
+use Rattle.er_history.specs.Handed.{HasFamily}
 use Rattle.er_pieces.specs.Enough.{HasSteady}
 use Rattle.er_history.proofs.OrderLemmas.{holds_append}
 
 -- a table made of two
 
-pub has_first : (a b group : List (ℕ × Rule)) → HasGroup a group → HasGroup (a ++ b) group
-has_first a b group has = λ joined u v e. holds_append a b joined u v ∙ or_left (any_holds a joined u v) _ (has joined u v e)
+pub has_first : (a b family : List (ℕ × Rule)) → HasFamily a family → HasFamily (a ++ b) family
+has_first a b family has = λ joined u v e. holds_append a b joined u v ∙ or_left (any_holds a joined u v) _ (has joined u v e)
 
-pub has_second : (a b group : List (ℕ × Rule)) → HasGroup b group → HasGroup (a ++ b) group
-has_second a b group has = λ joined u v e. holds_append a b joined u v ∙ or_right (any_holds a joined u v) _ (has joined u v e)
+pub has_second : (a b family : List (ℕ × Rule)) → HasFamily b family → HasFamily (a ++ b) family
+has_second a b family has = λ joined u v e. holds_append a b joined u v ∙ or_right (any_holds a joined u v) _ (has joined u v e)
 
-pub has_itself : (group : List (ℕ × Rule)) → HasGroup group group
-has_itself group = λ joined u v e. e
+pub has_itself : (family : List (ℕ × Rule)) → HasFamily family family
+has_itself family = λ joined u v e. e
 
 pub all_rules_are_steady : (v : Version) → HasSteady (rules v)
 all_rules_are_steady v =

@@ -1,4 +1,4 @@
--- Proof that what the six groups of rules hand is enough for all edges. Lists of records stand newest first.
+-- Proof that what the six families of rules hand is enough for all edges. Lists of records stand newest first.
 use Rattle.std.proofs.Common.{◌≡◌, ◌⊎◌, ℕ, ◌<◌, Bool, true, false, List, [], ◌∷◌, ◌++◌, length, take, None, refl, sym, ap, subst, ◌∙◌, arith, inl, inr, append_assoc}
 use Rattle.std.specs.Prelude.{◌==◌, ◌&&◌, ◌||◌, nat_lt, if◌then◌else◌, Result, Ok, Err, OnOk, OnErr}
 use Rattle.std.specs.List.{list_any, AllByRecursion}
@@ -16,7 +16,7 @@ use Rattle.er_history.specs.Edges.{is_ruled, around_inline, of_one_event, up_to,
 use Rattle.er_history.specs.Laws.{Among}
 use Rattle.er_history.specs.Latest.{number_of}
 use Rattle.er_history.specs.Naming.{naming}
-use Rattle.er_history.specs.Handed.{HasGroup, AreSources, AreEnough}
+use Rattle.er_history.specs.Handed.{HasFamily, AreSources, AreEnough}
 use Rattle.er_history.specs.Sound.{out_of_order}
 use Rattle.er_history.proofs.HistoryLemmas.{actions_are_numbered, among_below, among_from, edge_newest}
 use Rattle.er_history.proofs.NamedLemmas.{sound_lists_are_named}
@@ -64,21 +64,21 @@ hands_dispatches table h x steady named ordered = record {
 
 -- all six
 
--- the sources of a group are sources of the table
-group_sources : (v : Version) (table group : List (ℕ × Rule)) (h : List Record) (x : Record) (handed : List ℕ) → HasGroup table group → AreSources group (path (rules v) h) (told h) x handed → ArePieceSources table (path (rules v) h) (told h) x handed
-group_sources v table group h x handed has are = λ k among.
+-- the sources of a family are sources of the table
+family_sources : (v : Version) (table family : List (ℕ × Rule)) (h : List Record) (x : Record) (handed : List ℕ) → HasFamily table family → AreSources family (path (rules v) h) (told h) x handed → ArePieceSources table (path (rules v) h) (told h) x handed
+family_sources v table family h x handed has are = λ k among.
     let s = are k among in
     let new = action_begun (told h) x in
     (s.0, s.1, s.2, or_left (is_ruled table (path (rules v) h) s.0 new) _ (has (up_to new.event.number (path (rules v) h)) s.0.event new.event s.3))
 
-piece_sources : (v : Version) (table group : List (ℕ × Rule)) (h : List Record) (x : Record) (handed : List ℕ) → HasGroup table group → ArePieceSources group (path (rules v) h) (told h) x handed → ArePieceSources table (path (rules v) h) (told h) x handed
-piece_sources v table group h x handed has are = λ k among.
+piece_sources : (v : Version) (table family : List (ℕ × Rule)) (h : List Record) (x : Record) (handed : List ℕ) → HasFamily table family → ArePieceSources family (path (rules v) h) (told h) x handed → ArePieceSources table (path (rules v) h) (told h) x handed
+piece_sources v table family h x handed has are = λ k among.
     let s = are k among in
     let new = action_begun (told h) x in (
       s.0,
       s.1,
       s.2,
-      elim (or_cases (is_ruled group (path (rules v) h) s.0 new) (around_inline s.0 new || of_one_event s.0 new) s.3) [
+      elim (or_cases (is_ruled family (path (rules v) h) s.0 new) (around_inline s.0 new || of_one_event s.0 new) s.3) [
         | inl ruled ↦ or_left (is_ruled table (path (rules v) h) s.0 new) _ (has (up_to new.event.number (path (rules v) h)) s.0.event new.event ruled)
         | inr piece ↦ or_right (is_ruled table (path (rules v) h) s.0 new) _ piece
       ],
@@ -101,16 +101,16 @@ past_running v h x handed i steady named are begin runs last to =
     let whole = path_on (rules v) h i.number runs.piece.number found.0 to (subst (λ n. path (rules v) h n found.0 ≡ true) s.2 found.2) in
     any_from (λ k. path (rules v) h i.number k) found.0 handed found.1 whole
 
--- the source of an edge of a group of rules between events leads to what that group hands, or to what the rules of dispatches do
-group_reaches : (v : Version) (group : List (ℕ × Rule)) (h : List Record) (x : Record) (own others : List ℕ) → IsSteady (rules v) h → naming h x ≡ None → begins x ≡ true → AreEnough group (path (rules v) h) (told h) x own
-    → ArePiecesHanded dispatch_rules (path (rules v) h) (told h) x others → (i : Action) → Among i (told h).actions → is_ruled group (path (rules v) h) i (action_begun (told h) x) ≡ true
+-- the source of an edge of a family of rules between events leads to what that family hands, or to what the rules of dispatches do
+family_reaches : (v : Version) (family : List (ℕ × Rule)) (h : List Record) (x : Record) (own others : List ℕ) → IsSteady (rules v) h → naming h x ≡ None → begins x ≡ true → AreEnough family (path (rules v) h) (told h) x own
+    → ArePiecesHanded dispatch_rules (path (rules v) h) (told h) x others → (i : Action) → Among i (told h).actions → is_ruled family (path (rules v) h) i (action_begun (told h) x) ≡ true
     → Reaches (path (rules v) h) i.number own ⊎ Reaches (path (rules v) h) i.number others
-group_reaches v group h (Back p) own others steady named begin enough are i among ruled =
+family_reaches v family h (Back p) own others steady named begin enough are i among ruled =
     let runs = runs_some (told h).actions i (actions_are_numbered h) among in
     let last : is_among runs.piece.number (number_of (running (told h).actions)) ≡ true =
     ap (λ o. is_among runs.piece.number (number_of o)) runs.is ∙ or_left (runs.piece.number == runs.piece.number) false (eq-eqb runs.piece.number runs.piece.number refl) in
     inr (past_running v h (Back p) others i steady named are begin runs last (enough i runs.piece among runs.is ruled))
-group_reaches v group h x own others steady named begin enough are i among ruled = inl (enough i among ruled)
+family_reaches v family h x own others steady named begin enough are i among ruled = inl (enough i among ruled)
 
 -- lists one behind the other
 
@@ -120,7 +120,7 @@ put_behind l old xs ys same = ap (λ z. z ++ ys) same ∙ append_assoc old xs ys
 no_numbers : (xs ys : List ℕ) → xs ≡ [] → ys ≡ [] → xs ++ ys ≡ []
 no_numbers xs ys e f = rw (e, f) refl
 
-pub has_timers : (v : Version) → HasGroup (rules v) (timer_rules v)
+pub has_timers : (v : Version) → HasFamily (rules v) (timer_rules v)
 has_timers v = has_first (parse_rules ++ script_rules ++ load_rules ++ dispatch_rules ++ timer_rules v ++ request_rules) task_rules (timer_rules v) (has_first (parse_rules ++ script_rules ++ load_rules ++ dispatch_rules ++ timer_rules v) request_rules (timer_rules v) (has_second (parse_rules ++ script_rules ++ load_rules ++ dispatch_rules) (timer_rules v) (timer_rules v) (has_itself (timer_rules v))))
 
 pub all_hand : AllHand
@@ -134,13 +134,13 @@ all_hand v h x old new steady named turns = record {
       (turns.script.grown ∙ put_behind turns.steps old a b turns.parse.grown)))));
   are_handed = record {
     sources = each_both S acts (a ++ b ++ c ++ d ++ e ++ f) g (each_both S acts (a ++ b ++ c ++ d ++ e) f (each_both S acts (a ++ b ++ c ++ d) e (each_both S acts (a ++ b ++ c) d (each_both S acts (a ++ b) c (each_both S acts a b
-        (group_sources v (rules v) parse_rules h x a steady.has.parse turns.parse.are_handed.sources)
-        (group_sources v (rules v) script_rules h x b steady.has.script turns.script.are_handed.sources))
-        (group_sources v (rules v) load_rules h x c steady.has.load turns.load.are_handed.sources))
+        (family_sources v (rules v) parse_rules h x a steady.has.parse turns.parse.are_handed.sources)
+        (family_sources v (rules v) script_rules h x b steady.has.script turns.script.are_handed.sources))
+        (family_sources v (rules v) load_rules h x c steady.has.load turns.load.are_handed.sources))
         (piece_sources v (rules v) dispatch_rules h x d steady.has.dispatch turns.dispatch.are_handed.sources))
-        (group_sources v (rules v) (timer_rules v) h x e (has_timers v) turns.timer.are_handed.sources))
-        (group_sources v (rules v) request_rules h x f steady.has.requests turns.request.are_handed.sources))
-        (group_sources v (rules v) task_rules h x g steady.has.tasks turns.task.are_handed.sources);
+        (family_sources v (rules v) (timer_rules v) h x e (has_timers v) turns.timer.are_handed.sources))
+        (family_sources v (rules v) request_rules h x f steady.has.requests turns.request.are_handed.sources))
+        (family_sources v (rules v) task_rules h x g steady.has.tasks turns.task.are_handed.sources);
     enough = λ begin i among led. elim (or_cases (is_ruled (rules v) joined i n) (around_inline i n || of_one_event i n) led) [
       | inl ruled ↦ by_rules begin i among ruled
       | inr piece ↦ at_d i (turns.dispatch.are_handed.enough begin i among (or_right (is_ruled dispatch_rules joined i n) _ piece))
@@ -225,13 +225,13 @@ all_hand v h x old new steady named turns = record {
         (either (parse_rules ++ script_rules ++ load_rules) dispatch_rules joined i n G
         (either (parse_rules ++ script_rules) load_rules joined i n G
         (either parse_rules script_rules joined i n G
-        (λ r. or_at_d i a (at_a i) (group_reaches v parse_rules h x a d steady named begin turns.parse.are_handed.enough are i among r))
-        (λ r. or_at_d i b (at_b i) (group_reaches v script_rules h x b d steady named begin turns.script.are_handed.enough are i among r)))
-        (λ r. or_at_d i c (at_c i) (group_reaches v load_rules h x c d steady named begin turns.load.are_handed.enough are i among r)))
+        (λ r. or_at_d i a (at_a i) (family_reaches v parse_rules h x a d steady named begin turns.parse.are_handed.enough are i among r))
+        (λ r. or_at_d i b (at_b i) (family_reaches v script_rules h x b d steady named begin turns.script.are_handed.enough are i among r)))
+        (λ r. or_at_d i c (at_c i) (family_reaches v load_rules h x c d steady named begin turns.load.are_handed.enough are i among r)))
         (λ r. at_d i (are.enough begin i among (or_left (is_ruled dispatch_rules joined i n) _ r))))
-        (λ r. or_at_d i e (at_e i) (group_reaches v (timer_rules v) h x e d steady named begin turns.timer.are_handed.enough are i among r)))
-        (λ r. or_at_d i f (at_f i) (group_reaches v request_rules h x f d steady named begin turns.request.are_handed.enough are i among r)))
-        (λ r. or_at_d i g (at_g i) (group_reaches v task_rules h x g d steady named begin turns.task.are_handed.enough are i among r)) ruled
+        (λ r. or_at_d i e (at_e i) (family_reaches v (timer_rules v) h x e d steady named begin turns.timer.are_handed.enough are i among r)))
+        (λ r. or_at_d i f (at_f i) (family_reaches v request_rules h x f d steady named begin turns.request.are_handed.enough are i among r)))
+        (λ r. or_at_d i g (at_g i) (family_reaches v task_rules h x g d steady named begin turns.task.are_handed.enough are i among r)) ruled
 
 -- beside the lists of the earlier actions
 

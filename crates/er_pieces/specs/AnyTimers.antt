@@ -6,7 +6,7 @@ use Rattle.er_history.specs.Rules.{Rule, set_before_timer, ticks_in_order}
 use Rattle.er_history.specs.Edges.{path}
 use Rattle.er_history.specs.Naming.{naming}
 use Rattle.er_history.specs.Sound.{out_of_order}
-use Rattle.er_history.specs.Handed.{HasGroup, AreHanded}
+use Rattle.er_history.specs.Handed.{HasFamily, AreHanded}
 use Rattle.er_pieces.specs.Enough.{IsSteady, NestedFacts}
 use Rattle.er_pieces.specs.HandedPieces.{timer_handed_by}
 
@@ -22,7 +22,7 @@ OnlyToTimeouts rule = (joined : ℕ → ℕ → Bool) (u v : Event) → rule joi
 -- What is handed by it is sources and enough.
 abbrev pub HandsTimersBy : Type 0
 HandsTimersBy = (rule : Rule) → OnlyToTimeouts rule
-    → (table : List (ℕ × Rule)) → HasGroup table (timers_by rule) → NestedFacts table
+    → (table : List (ℕ × Rule)) → HasFamily table (timers_by rule) → NestedFacts table
     → (h : List Record) (x : Record)
     → IsSteady table h → naming h x ≡ None → out_of_order table h x ≡ false
     → AreHanded (timers_by rule) (path table h) (told h) x

@@ -1,9 +1,9 @@
 -- The words in which a crate of rules says what it hands: numbers of actions, put behind those that stand already. Lists of records stand newest first.
 --
--- A clause speaks of each list that a page stands for, so `stands` is that relation of the page: `IsPage page.now`. The clauses of a crate that hands `handed` by the rules of `group` are then
+-- A clause speaks of each list that a page stands for, so `stands` is that relation of the page: `IsPage page.now`. The clauses of a crate that hands `handed` by the rules of `family` are then
 --   OnOk result (HandsExactly stands handed x old new): the numbers have grown by exactly that list;
 --   OnErr result (HandsFront stands handed x old new): memory ran out, and they have grown by a proper front of it;
---   OnOk result (HandsEnough stands group x old new) and OnErr result (HandsSources stands group x old new): it is enough, and all of it sources, for every table by which the record comes next.
+--   OnOk result (HandsEnough stands family x old new) and OnErr result (HandsSources stands family x old new): it is enough, and all of it sources, for every table by which the record comes next.
 --   HandsFew stands most x old new: in any case there are at most so many more.
 -- The others follow from the first two: proofs/ContractLemmas.
 use Rattle.std.specs.Prelude.{◌≡◌, ℕ, ◌+◌, ◌<◌, ◌≤◌, false, List, [], ◌∷◌, ◌++◌, length, take, Option, Some, None}
@@ -53,17 +53,17 @@ abbrev pub HandsFront : (List Record → Type 0) → (History → Record → Lis
 HandsFront stands handed x old new = (h : List Record) → stands h
     → GrewInPart old (handed (told h) x) new
 
--- what it is, by the rules of the group
+-- what it is, by the rules of the family
 
 abbrev pub HandsEnough : (List Record → Type 0) → List (ℕ × Rule) → Record → List ℕ → List ℕ
     → Type 0
-HandsEnough stands group x old new = (table : List (ℕ × Rule)) (h : List Record) → stands h
-    → ComesNext table h x → HasHanded group (path table h) (told h) x old new
+HandsEnough stands family x old new = (table : List (ℕ × Rule)) (h : List Record) → stands h
+    → ComesNext table h x → HasHanded family (path table h) (told h) x old new
 
 abbrev pub HandsSources : (List Record → Type 0) → List (ℕ × Rule) → Record → List ℕ → List ℕ
     → Type 0
-HandsSources stands group x old new = (table : List (ℕ × Rule)) (h : List Record) → stands h
-    → ComesNext table h x → HasHandedSome group (path table h) (told h) x old new
+HandsSources stands family x old new = (table : List (ℕ × Rule)) (h : List Record) → stands h
+    → ComesNext table h x → HasHandedSome family (path table h) (told h) x old new
 
 -- how many they are
 

@@ -1,4 +1,4 @@
--- The most pieces that each group of rules hands for a record. Lists of records stand newest first.
+-- The most pieces that each family of rules hands for a record. Lists of records stand newest first.
 use Rattle.std.specs.Prelude.{ℕ, ◌+◌, ◌≤◌, List, length, max, Option, Some, None}
 use Rattle.er_trace.specs.declared.record.Record.{Record}
 use Rattle.er_trace.specs.declared.record.Record.TheVariants.{Parse, ParseFrame, Exec, Timer, Tick, Dcl, Load, Eload, Fire, Wfire, Reply, Inline, Run, Close, Back}
@@ -79,7 +79,7 @@ most_dispatch h _ = 0
 abbrev pub HandsAtMost : (History → Record → List ℕ) → (List Record → Record → ℕ) → Type 0
 HandsAtMost handed most = (h : List Record) (x : Record) → length (handed (told h) x) ≤ most h x
 
--- the laws of the six groups
+-- the laws of the six families
 abbrev pub ParseHandsAtMost : Type 0
 ParseHandsAtMost = HandsAtMost parse_handed most_parse
 

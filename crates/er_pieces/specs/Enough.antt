@@ -8,21 +8,21 @@ use Rattle.er_history.specs.History.{History, Action, Dispatch, CloseOf, told, b
 use Rattle.er_history.specs.Rules.{Rule, same_target, parse_rules, script_rules, load_rules, dispatch_rules, timer_rules, request_rules, task_rules, set_before_timer, ticks_in_order}
 use Rattle.er_history.specs.Edges.{around_inline, of_one_event, is_ruled, path}
 use Rattle.er_history.specs.Laws.{Among}
-use Rattle.er_history.specs.Handed.{HasGroup, AreEnough}
+use Rattle.er_history.specs.Handed.{HasFamily, AreEnough}
 use Rattle.er_pieces.specs.HandedPieces.{parse_handed, script_handed, load_handed, timer_handed, request_handed, task_handed, dispatch_handed}
 use Rattle.er_history.specs.Naming.{naming, IsNamed}
 use Rattle.er_history.specs.Sound.{out_of_order}
 
 -- the table has rules 1 to 18, 20, 21 and 24 to 31
 pub record HasSteady (table : List (ℕ × Rule)) : Type 0 where
-  pub parse : HasGroup table parse_rules
-  pub script : HasGroup table script_rules
-  pub load : HasGroup table load_rules
-  pub dispatch : HasGroup table dispatch_rules
-  pub timeouts : HasGroup table ((18, set_before_timer) ∷ [])
-  pub ticks : HasGroup table ((20, ticks_in_order) ∷ [])
-  pub requests : HasGroup table request_rules
-  pub tasks : HasGroup table task_rules
+  pub parse : HasFamily table parse_rules
+  pub script : HasFamily table script_rules
+  pub load : HasFamily table load_rules
+  pub dispatch : HasFamily table dispatch_rules
+  pub timeouts : HasFamily table ((18, set_before_timer) ∷ [])
+  pub ticks : HasFamily table ((20, ticks_in_order) ∷ [])
+  pub requests : HasFamily table request_rules
+  pub tasks : HasFamily table task_rules
 
 -- no record is out of order after those before it
 abbrev pub AreInOrder : List (ℕ × Rule) → List Record → Type 0
@@ -59,11 +59,11 @@ pub record NestedFacts (table : List (ℕ × Rule)) : Type 0 where
 abbrev pub NestedFactsHold : Type 0
 NestedFactsHold = (table : List (ℕ × Rule)) → NestedFacts table
 
--- The handed pieces of a group suffice for the record, after a list to which naming and order have nothing against.
+-- The handed pieces of a family suffice for the record, after a list to which naming and order have nothing against.
 abbrev pub Suffices : List (ℕ × Rule) → List (ℕ × Rule) → (History → Record → List ℕ) → Type 0
-Suffices table group handed = (h : List Record) (x : Record)
+Suffices table family handed = (h : List Record) (x : Record)
     → IsSteady table h → naming h x ≡ None → out_of_order table h x ≡ false
-    → AreEnough group (path table h) (told h) x (handed (told h) x)
+    → AreEnough family (path table h) (told h) x (handed (told h) x)
 
 -- Latest pieces suffice for the rules of parsing.
 abbrev pub EnoughParse : Type 0
@@ -82,7 +82,7 @@ EnoughLoad = (table : List (ℕ × Rule)) → NestedFacts table
 
 -- And for those of timers of a version, where the table has them all. What is handed by them may rest on the paths.
 abbrev pub EnoughTimer : Type 0
-EnoughTimer = (v : Version) (table : List (ℕ × Rule)) → HasGroup table (timer_rules v)
+EnoughTimer = (v : Version) (table : List (ℕ × Rule)) → HasFamily table (timer_rules v)
     → NestedFacts table
     → (h : List Record) (x : Record)
     → IsSteady table h → naming h x ≡ None → out_of_order table h x ≡ false

@@ -1,4 +1,4 @@
--- The pieces that each group of rules hands for a record: latest pieces alone. Lists of records stand newest first.
+-- The pieces that each family of rules hands for a record: latest pieces alone. Lists of records stand newest first.
 use Rattle.std.specs.Prelude.{ℕ, Bool, true, false, ◌==◌, nat_lt, if◌then◌else◌, List, [], ◌++◌, Option, Some, None}
 use Rattle.er_trace.specs.declared.record.Record.{Record}
 use Rattle.er_trace.specs.declared.record.Record.TheVariants.{Parse, ParseFrame, Exec, Timer, Tick, Dcl, Load, Eload, Fire, Wfire, Reply, Inline, Run, Close, Back, Message, Anim, Job}

@@ -1,4 +1,4 @@
--- What is handed is sources, and enough of them: the laws of each group whole. Lists of records stand newest first.
+-- What is handed is sources, and enough of them: the laws of each family whole. Lists of records stand newest first.
 use Rattle.std.specs.Prelude.{◌≡◌, ℕ, Bool, true, false, ◌||◌, List, [], None}
 use Rattle.er_trace.specs.declared.record.Record.{Record}
 use Rattle.er_paths.specs.Paths.{is_among}
@@ -9,15 +9,15 @@ use Rattle.er_history.specs.Edges.{around_inline, of_one_event, is_ruled, path}
 use Rattle.er_history.specs.Laws.{Among}
 use Rattle.er_history.specs.Naming.{naming}
 use Rattle.er_history.specs.Sound.{out_of_order}
-use Rattle.er_history.specs.Handed.{HasGroup, AreHanded}
+use Rattle.er_history.specs.Handed.{HasFamily, AreHanded}
 use Rattle.er_pieces.specs.HandedPieces.{parse_handed, script_handed, load_handed, timer_handed, request_handed, task_handed, dispatch_handed}
 use Rattle.er_pieces.specs.Enough.{IsSteady, NestedFacts}
 
--- the pieces of the group are sources and enough, after a list to which naming and order have nothing against
+-- the pieces of the family are sources and enough, after a list to which naming and order have nothing against
 abbrev pub Hands : List (ℕ × Rule) → List (ℕ × Rule) → (History → Record → List ℕ) → Type 0
-Hands table group handed = (h : List Record) (x : Record)
+Hands table family handed = (h : List Record) (x : Record)
     → IsSteady table h → naming h x ≡ None → out_of_order table h x ≡ false
-    → AreHanded group (path table h) (told h) x (handed (told h) x)
+    → AreHanded family (path table h) (told h) x (handed (told h) x)
 
 abbrev pub HandsParse : Type 0
 HandsParse = (table : List (ℕ × Rule)) → NestedFacts table
@@ -32,7 +32,7 @@ HandsLoad = (table : List (ℕ × Rule)) → NestedFacts table
     → Hands table load_rules load_handed
 
 abbrev pub HandsTimer : Type 0
-HandsTimer = (v : Version) (table : List (ℕ × Rule)) → HasGroup table (timer_rules v)
+HandsTimer = (v : Version) (table : List (ℕ × Rule)) → HasFamily table (timer_rules v)
     → NestedFacts table
     → (h : List Record) (x : Record)
     → IsSteady table h → naming h x ≡ None → out_of_order table h x ≡ false
@@ -48,7 +48,7 @@ HandsTask = (table : List (ℕ × Rule)) → NestedFacts table
     → IsSteady table h → naming h x ≡ None → out_of_order table h x ≡ false
     → AreHanded task_rules (path table h) (told h) x (task_handed (path table h) (told h) x)
 
--- For dispatches, each is the source of an edge by a rule of the group, or by one of the two on pieces.
+-- For dispatches, each is the source of an edge by a rule of the family, or by one of the two on pieces.
 abbrev pub DispatchHandsSources : Type 0
 DispatchHandsSources =
     (table : List (ℕ × Rule)) (h : List Record) (x : Record) (joined : ℕ → ℕ → Bool)

@@ -50,10 +50,10 @@ pub record HasHandedSomePieces (table : List (ℕ × Rule)) (joined : ℕ → �
 
 abbrev pub HandsEnoughPieces : (List Record → Type 0) → List (ℕ × Rule) → Record → List ℕ → List ℕ
     → Type 0
-HandsEnoughPieces stands group x old new = (table : List (ℕ × Rule)) (h : List Record) → stands h
-    → ComesNext table h x → HasHandedPieces group (path table h) (told h) x old new
+HandsEnoughPieces stands family x old new = (table : List (ℕ × Rule)) (h : List Record) → stands h
+    → ComesNext table h x → HasHandedPieces family (path table h) (told h) x old new
 
 abbrev pub HandsSourcePieces : (List Record → Type 0) → List (ℕ × Rule) → Record → List ℕ → List ℕ
     → Type 0
-HandsSourcePieces stands group x old new = (table : List (ℕ × Rule)) (h : List Record) → stands h
-    → ComesNext table h x → HasHandedSomePieces group (path table h) (told h) x old new
+HandsSourcePieces stands family x old new = (table : List (ℕ × Rule)) (h : List Record) → stands h
+    → ComesNext table h x → HasHandedSomePieces family (path table h) (told h) x old new

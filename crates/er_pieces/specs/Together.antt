@@ -1,4 +1,4 @@
--- The seven groups of rules together: what they hand one behind the other is enough for all edges. Lists of records stand newest first.
+-- The seven families of rules together: what they hand one behind the other is enough for all edges. Lists of records stand newest first.
 use Rattle.std.specs.Prelude.{◌≡◌, ℕ, ◌<◌, Bool, true, false, List, ◌∷◌, length, None, All}
 use Rattle.er_trace.specs.declared.record.Record.{Record}
 use Rattle.er_paths.specs.Laws.{IsEnough}
@@ -17,7 +17,7 @@ use Rattle.er_pieces.specs.PiecesHanded.{ArePiecesHanded, HasHandedPieces}
 abbrev pub SoundListsAreSteady : Type 0
 SoundListsAreSteady = (v : Version) (h : List Record) → IsSound (rules v) h → IsSteady (rules v) h
 
--- each group has handed behind those before it
+-- each family has handed behind those before it
 pub record HandInTurn (v : Version) (joined : ℕ → ℕ → Bool) (h : List Record) (x : Record)
     (old new : List ℕ) : Type 0 where
   pub steps : List ℕ

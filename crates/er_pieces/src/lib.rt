@@ -2,7 +2,7 @@
 //!
 //! Beside them, why a path leads from one action to another (`steps`).
 //!
-//! Definitions and their laws; no state. What each group of rules hands for a record is a list in `specs/HandedPieces.antt`: latest pieces alone. The laws say that these are sources of edges, and enough of them, for every table that has the steady rules: those that are the same in every version of the format.
+//! Definitions and their laws; no state. What each family of rules hands for a record is a list in `specs/HandedPieces.antt`: latest pieces alone. The laws say that these are sources of edges, and enough of them, for every table that has the steady rules: those that are the same in every version of the format.
 #![tactic(auto)]
 
 pub mod stack;
@@ -16,7 +16,7 @@ ghost use Rattle.er_pieces.specs.Enough.{EnoughParse, EnoughScript, EnoughLoad, 
 ghost use Rattle.er_pieces.specs.Hands.{HandsParse, HandsScript, HandsLoad, HandsTimer, HandsRequest, HandsTask, DispatchHandsSources, DispatchHandsNothing};
 ghost use Rattle.er_pieces.specs.Together.{SoundListsAreSteady, AllHand, HandedStayEnough, HandedAreBelow, HandsDispatches};
 
-/// Given the two laws of nested pieces, the latest pieces that each group of rules hands suffice.
+/// Given the two laws of nested pieces, the latest pieces that each family of rules hands suffice.
 #[tactic(auto, using(crate::proofs::EnoughParse::enough_parse, crate::proofs::EnoughScript::enough_script, crate::proofs::EnoughLoad::enough_load))]
 pub fn latest_pieces_of_parsing_and_loading_suffice()
     ensures parsing { EnoughParse }
@@ -71,7 +71,7 @@ pub fn latest_pieces_of_timers_are_handed_in_each_version()
     ensures { HandsTimersBy }
 {}
 
-/// No group hands more pieces for a record than its count.
+/// No family hands more pieces for a record than its count.
 #[tactic(auto, using(crate::proofs::CountLaws::parse_hands_at_most, crate::proofs::CountLaws::script_hands_at_most, crate::proofs::CountLaws::load_hands_at_most))]
 pub fn few_pieces_of_parsing_and_loading_are_handed()
     ensures parsing { ParseHandsAtMost }
@@ -92,7 +92,7 @@ pub fn latest_pieces_of_dispatches_are_handed()
     ensures { HandsDispatches }
 {}
 
-/// What the seven groups of rules hand, one behind the other, are sources of edges by all rules, and enough of them: so the paths over the handed numbers are those over all edges.
+/// What the seven families of rules hand, one behind the other, are sources of edges by all rules, and enough of them: so the paths over the handed numbers are those over all edges.
 pub fn seven_groups_together_are_enough()
     ensures steady { SoundListsAreSteady }
     ensures handed { AllHand }

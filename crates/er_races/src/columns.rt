@@ -7,7 +7,7 @@ ghost use Rattle.er_races.specs.Fronts.{AreColumns};
 
 use er_access::Table;
 use er_access::access::is_write;
-use er_outside::NoMemory;
+use er_io::NoMemory;
 use er_trace::record::Mode;
 use std::alloc::Global;
 

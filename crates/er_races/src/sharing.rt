@@ -1,8 +1,7 @@
 //! Threads may take and share what a lister answers.
 
 use crate::{ListFault, Race};
-
-fn may_cross_threads<T: Send + Sync>() {}
+use er_io::may_cross_threads;
 
 /// Where a type could not cross threads, this would be refused.
 pub fn types_may_cross_threads() {

@@ -41,7 +41,7 @@ least_on first tests n below here so_far =
     let later : least_from (first + (n + 1)) (drop (n + 1) tests) ≡ least_from (first + n + 1) (drop (suc n) tests) = ap (λ (k : ℕ). least_from k (drop (n + 1) tests)) place ∙ ap (λ (m : ℕ). least_from (first + n + 1) (drop m tests)) one in
     later ∙ ap (least_from (first + n)) (sym split) ∙ so_far
 
--- rules of several groups
+-- rules of several families
 
 lesser_assoc : (a b c : Option ℕ) → lesser (lesser a b) c ≡ lesser a (lesser b c)
 lesser_assoc None b c = refl

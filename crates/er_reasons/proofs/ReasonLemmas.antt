@@ -70,7 +70,7 @@ rule_told version h i j a b x u v events pieces forward first second is_u is_v b
     same_record : {y z : Record} → Some y ≡ Some z → y ≡ z
     same_record e = cc
 
--- the groups of rules one after the other
+-- the families of rules one after the other
 
 abbrev first_six : Version → (ℕ → ℕ → Bool) → Event → Event → Option ℕ
 first_six version joined u v =
@@ -86,7 +86,7 @@ groups_told version joined u v =
     ∙ ap (λ (o : Option ℕ). lesser o (least_rule dispatch_rules joined u v)) (least_append (p ++ script_rules) load_rules joined u v
     ∙ ap (λ (o : Option ℕ). lesser o (least_rule load_rules joined u v)) (least_append p script_rules joined u v)))))
 
--- found group by group
+-- found family by family
 pub groups_found : (version : Version) (joined : ℕ → ℕ → Bool) (u v : Event) (parse script load dispatch timer request task two three four five six all : Option ℕ)
     → parse ≡ least_rule parse_rules joined u v → script ≡ least_rule script_rules joined u v → load ≡ least_rule load_rules joined u v → dispatch ≡ least_rule dispatch_rules joined u v
     → timer ≡ least_rule (timer_rules version) joined u v → request ≡ least_rule request_rules joined u v → task ≡ least_rule task_rules joined u v

@@ -2,7 +2,7 @@
 use Rattle.std.specs.Prelude.{ℕ, Bool, false, not, ◌==◌, ◌&&◌, nat_lt, nat_le, List, Option}
 use Rattle.er_trace.specs.declared.record.Record.{Record}
 use Rattle.er_history.specs.History.{Element, Delivery, LoadOf, EloadOf, FireAt, InlineAt, ReplyOf, What, ScriptRun, TimeoutRun, TickRun, CloseOf, MessageRun, AnimRun, Task, Timeout, Event, Action, is_inline}
-use Rattle.er_history.specs.Rules.{is_some_and, are_some_and, is_plain, declared, is_blocking, is_deferred, same_bytes}
+use Rattle.er_history.specs.Rules.{is_some_and, both_some_and, is_plain, declared, is_blocking, is_deferred, same_bytes}
 
 -- the run of this script
 abbrev pub runs_element : ℕ → What → Bool
@@ -55,14 +55,14 @@ is_setter made event = is_some_and (λ x. x.maker == event) made
 -- both timeouts were set by one event, the one before the other with no greater delay
 abbrev pub fires_in_order : Option Timeout → Option Timeout → Bool
 fires_in_order made later =
-    are_some_and (λ x y.
+    both_some_and (λ x y.
     (x.maker == y.maker) && (nat_lt x.place y.place && nat_le x.delay y.delay))
     made later
 
 -- the one timeout was set before the other with no greater delay, and a path leads from the piece that set it to that of the other
 abbrev pub fires_behind : (ℕ → ℕ → Bool) → Option Timeout → Option Timeout → Bool
 fires_behind joined made later =
-    are_some_and (λ x y.
+    both_some_and (λ x y.
     nat_lt x.place y.place && (nat_le x.delay y.delay && joined x.piece y.piece))
     made later
 

@@ -62,7 +62,7 @@ fn event_rule(
     any_rule(page, clocks, version, u, v)
 }
 
-/// The same of two different events. A group of rules is a line.
+/// The same of two different events. A family of rules is a line.
 fn any_rule(
     page: &Page,
     clocks: &Clocks,

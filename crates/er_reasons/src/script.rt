@@ -116,7 +116,7 @@ fn is_deferred_in(made: Option<Element>, doc: u32) -> bool
 /// Whether the one is a blocking script, the other a deferred script of its document.
 fn is_blocking_before(made: Option<Element>, later: Option<Element>) -> bool
     ensures { result
-        ≡ rules.are_some_and blocks_deferred
+        ≡ rules.both_some_and blocks_deferred
         (option_map element_of made) (option_map element_of later) }
 {
     let Some(x) = made else {
@@ -131,7 +131,7 @@ fn is_blocking_before(made: Option<Element>, later: Option<Element>) -> bool
 /// Whether both are deferred scripts of one document, the one parsed before the other.
 fn is_deferred_before(made: Option<Element>, later: Option<Element>) -> bool
     ensures { result
-        ≡ rules.are_some_and deferred_before
+        ≡ rules.both_some_and deferred_before
         (option_map element_of made) (option_map element_of later) }
 {
     let Some(x) = made else {

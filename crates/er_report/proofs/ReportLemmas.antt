@@ -10,7 +10,7 @@ use Rattle.er_access.specs.Kept.{Kept}
 use Rattle.er_access.specs.Numbers.{locations_of, IsKeptAt}
 use Rattle.er_races.specs.declared.race.Race.{Race}
 use Rattle.er_races.specs.Races.{ArePairs}
-use Rattle.er_report.specs.Pieces.{placed}
+use Rattle.er_report.specs.Fragments.{placed}
 
 pair_from_parts : (o : Option (Kept × Kept)) (a b : Kept) → option_map (λ p. Some p.0) o ≡ Some (Some a) → option_map (λ p. Some p.1) o ≡ Some (Some b) → o ≡ Some (a, b)
 pair_from_parts None a b first second = cc

@@ -1,3 +1,3 @@
 pub mod Report
-pub mod Pieces
+pub mod Fragments
 pub mod Rows

@@ -1,14 +1,14 @@
 //! The lines of a report, of a summary, and of a refusal.
 
 ghost use Rattle.std.specs.Prelude.{ℕ, ◌+◌, List, [], ◌∷◌, ◌++◌, codes};
-ghost use Rattle.er_outside.specs.Ends.{Puts};
-ghost use Rattle.er_report.specs.Pieces.{both_at};
+ghost use Rattle.er_io.specs.Ends.{Puts};
+ghost use Rattle.er_report.specs.Fragments.{both_at};
 ghost use Rattle.er_syntax.specs.Lines.{count_line};
 ghost use Rattle.er_report.specs.Report.{opening_line, race_line, cover_line, group_line, closing_lines, refusal};
 
 use crate::counts::Counts;
 use er_access::Access;
-use er_outside::{Failed, Sink, put_all};
+use er_io::{Failed, Sink, put_all};
 use er_syntax::Text;
 use er_syntax::tokens::{
     end_with_loc, end_with_number, end_with_word, put_count, put_field, put_modes, put_word,
@@ -54,7 +54,7 @@ pub struct RaceLine<'a> {
 impl<'a> Text for RaceLine<'a> {
     ghost text = { λ race. race_line race.number (both_at race.first race.second race.loc.now) };
 
-    #[tactic(auto, using(er_outside::proofs::Puts::composes, crate::proofs::LineLemmas::race_pieces))]
+    #[tactic(auto, using(er_io::proofs::Puts::composes, crate::proofs::LineLemmas::race_fragments))]
     fn put<K: Sink>(&self, sink: &mut K) -> Result<(), Failed> {
         put_word(sink, "race")?;
         put_field(sink, self.number)?;
@@ -77,7 +77,7 @@ pub(crate) struct CoverLine {
 impl Text for CoverLine {
     ghost text = { λ cover. cover_line cover.number cover.group };
 
-    #[tactic(auto, using(er_outside::proofs::Puts::composes, crate::proofs::LineLemmas::cover_pieces))]
+    #[tactic(auto, using(er_io::proofs::Puts::composes, crate::proofs::LineLemmas::cover_fragments))]
     fn put<K: Sink>(&self, sink: &mut K) -> Result<(), Failed> {
         put_word(sink, "cover")?;
         put_field(sink, self.number)?;
@@ -96,7 +96,7 @@ pub(crate) struct GroupLine {
 impl Text for GroupLine {
     ghost text = { λ group. group_line group.number (group.representative, group.size) };
 
-    #[tactic(auto, using(er_outside::proofs::Puts::composes, crate::proofs::LineLemmas::group_pieces))]
+    #[tactic(auto, using(er_io::proofs::Puts::composes, crate::proofs::LineLemmas::group_fragments))]
     fn put<K: Sink>(&self, sink: &mut K) -> Result<(), Failed> {
         put_word(sink, "group")?;
         put_field(sink, self.number)?;
@@ -109,7 +109,7 @@ impl Text for GroupLine {
 impl Text for Counts {
     ghost text = { λ c. closing_lines c };
 
-    #[tactic(auto, using(er_outside::proofs::Puts::composes))]
+    #[tactic(auto, using(er_io::proofs::Puts::composes))]
     fn put<K: Sink>(&self, sink: &mut K) -> Result<(), Failed> {
         put_count(sink, "actions", self.actions)?;
         put_count(sink, "accesses", self.accesses)?;
@@ -132,7 +132,7 @@ pub(crate) struct Refusal {
 impl Text for Refusal {
     ghost text = { λ r. refusal r.line r.cause };
 
-    #[tactic(auto, using(er_outside::proofs::Puts::composes, crate::proofs::LineLemmas::refusal_pieces))]
+    #[tactic(auto, using(er_io::proofs::Puts::composes, crate::proofs::LineLemmas::refusal_fragments))]
     fn put<K: Sink>(&self, sink: &mut K) -> Result<(), Failed> {
         put_word(sink, "refused")?;
         put_field(sink, self.line as u64)?;

@@ -1,7 +1,7 @@
 //! The writer of a summary.
 
 ghost use Rattle.std.specs.Prelude.{◌≡◌, length, OnOk, OnErr};
-ghost use Rattle.er_outside.specs.Ends.{Gets, GetsPart, Puts};
+ghost use Rattle.er_io.specs.Ends.{Gets, GetsPart, Puts};
 ghost use Rattle.er_paths.specs.Paths.{joins};
 ghost use Rattle.er_clocks.specs.Clock.{Tells};
 ghost use Rattle.er_races.specs.Races.{races_of};
@@ -15,7 +15,7 @@ use crate::writer::put_groups;
 use er_access::Table;
 use er_clocks::Clocks;
 use er_cover::Groups;
-use er_outside::{Failed, Sink, WriteFault};
+use er_io::{Failed, Sink, WriteFault};
 use er_races::Race;
 use er_syntax::{Buffer, flush, put_text};
 
@@ -40,7 +40,7 @@ pub fn write_summary<K: Sink>(
 }
 
 /// Writes the summary of these groups and counts.
-#[tactic(auto, using(er_outside::proofs::Puts::composes))]
+#[tactic(auto, using(er_io::proofs::Puts::composes))]
 fn put_summary<K: Sink>(
     sink: &mut K,
     number: u32,

@@ -1,7 +1,7 @@
 //! The writers of a report, and of a refusal.
 
 ghost use Rattle.std.specs.Prelude.{◌≡◌, ◌≤◌, List, ◌++◌, length, All, OnOk, OnErr};
-ghost use Rattle.er_outside.specs.Ends.{Gets, GetsPart, Puts};
+ghost use Rattle.er_io.specs.Ends.{Gets, GetsPart, Puts};
 ghost use Rattle.er_paths.specs.Paths.{joins};
 ghost use Rattle.er_clocks.specs.Clock.{Tells};
 ghost use Rattle.er_access.specs.Kept.{Kept};
@@ -15,7 +15,7 @@ use crate::lines::{CoverLine, GroupLine, Opening, RaceLine, Refusal};
 use er_access::Table;
 use er_clocks::Clocks;
 use er_cover::Groups;
-use er_outside::{Failed, Sink, WriteFault};
+use er_io::{Failed, Sink, WriteFault};
 use er_races::Race;
 use er_syntax::{Buffer, flush, put_text};
 use er_text::Cause;
@@ -39,7 +39,7 @@ pub fn write_report<K: Sink>(
 }
 
 /// Writes the line of a refusal. It takes no memory.
-#[tactic(auto, using(er_outside::proofs::Puts::composes))]
+#[tactic(auto, using(er_io::proofs::Puts::composes))]
 pub fn write_refusal<K: Sink>(sink: &mut K, line: u32, cause: Cause) -> Result<(), WriteFault>
     ensures { Puts K.got K.faults sink.old (refusal line cause) sink.new result }
 {
@@ -50,7 +50,7 @@ pub fn write_refusal<K: Sink>(sink: &mut K, line: u32, cause: Cause) -> Result<(
 }
 
 /// Writes the report of these races, groups and counts.
-#[tactic(auto, using(er_outside::proofs::Puts::composes))]
+#[tactic(auto, using(er_io::proofs::Puts::composes))]
 fn put_report<K: Sink>(
     sink: &mut K,
     table: &Table,

@@ -1,4 +1,4 @@
-//! The groups of rules that ask no path: parsing, scripts, loads, dispatches and requests, a module for each group.
+//! The families of rules that ask no path: parsing, scripts, loads, dispatches and requests, a module for each family.
 //!
 //! Each module says whether a record comes too late by its rules (`against`), and hands the latest pieces that must come before what the record begins (`predecessors`).
 #![tactic(auto)]

@@ -7,7 +7,7 @@ use Rattle.er_trace.specs.declared.fault.FeedFault.{FeedFault}
 use Rattle.er_trace.specs.declared.fault.FeedFault.TheVariants as faults
 use Rattle.std.proofs.lemmas.List.{length-reverse}
 use Rattle.er_run.specs.Accepted.{IsRefusal, IsEndFault}
-use Rattle.er_run.specs.Reading.{HasVersion, IsReading}
+use Rattle.er_run.specs.Reading.{HasNoOtherVersion, IsReading}
 use Rattle.er_text.specs.declared.causes.Cause.{Cause}
 use Rattle.er_trace.specs.declared.record.Record.{Record}
 use Rattle.er_trace.specs.declared.version.Version.{Version}
@@ -89,7 +89,7 @@ IsOf v Start = Unit {0}
 IsOf v (After w records) = v ≡ w
 IsOf v (Ended w records) = v ≡ w
 
-pub place_of : (f : Format) (v : Version) (bytes : List ℕ) (place : Place) (before rest : List ℕ) → AreBefore f place before → bytes ≡ before ++ rest → HasVersion f v bytes → IsOf v place
+pub place_of : (f : Format) (v : Version) (bytes : List ℕ) (place : Place) (before rest : List ℕ) → AreBefore f place before → bytes ≡ before ++ rest → HasNoOtherVersion f v bytes → IsOf v place
 place_of f v bytes Start before rest are begins by = tt
 place_of f v bytes (After w records) before rest are begins by = by w (header_of f w bytes before rest records begins are)
 place_of f v bytes (Ended w records) before rest are begins by = by w (header_of_whole f w bytes before rest records begins are)

@@ -1,6 +1,6 @@
 -- From what was written to the promise of an answer.
 use Rattle.std.proofs.Common.{◌≡◌, ◌≢◌, ℕ, List, [], ◌∷◌, Option, refl, sym, ap, ◌∙◌, subst, inl, inr, ◌⊎◌, reverse, ◌+◌, ◌*◌, ◌≤◌}
-use Rattle.er_outside.specs.Ends.{GetsPart}
+use Rattle.er_io.specs.Ends.{GetsPart}
 use Rattle.er_text.specs.declared.causes.Cause.{Cause}
 use Rattle.er_trace.specs.declared.record.Record.{Record}
 use Rattle.er_trace.specs.declared.version.Version.{Version}

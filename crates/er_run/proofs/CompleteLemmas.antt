@@ -12,7 +12,7 @@ use Rattle.er_run.specs.declared.outcome.Outcome.{Outcome}
 use Rattle.er_run.specs.declared.outcome.Outcome.TheVariants.{Clean, Races, Usage, Refused, ReadFault, WriteFault, NoMemory}
 use Rattle.er_run.specs.Answer.{Answers, FirstIllegal}
 use Rattle.er_run.proofs.IllegalLines.{of_line, of_record, of_end, Kinds, ByLine, ByRecord, ByEnd, kinds}
-use Rattle.er_outside.specs.Ends.{IsSpent}
+use Rattle.er_io.specs.Ends.{IsSpent}
 use Rattle.er_run.specs.Report.{refusal_for}
 use Rattle.er_run.specs.Promise.{IsAnswer, IsSilent, IsGiven, IsDecided}
 use Rattle.er_run.proofs.OneAnswer.{answer_once}
@@ -86,7 +86,7 @@ answers_all f asked bytes taken (Some rest) outcome due held decided a =
     let is_all : rest ≡ [] → bytes ≡ taken = λ none. grind (arith, common_steps) in
     ⊎_elim (λ none. subst (λ bs. Answers f asked bs outcome due) (sym (is_all none)) a) (λ more. subst (λ bs. Answers f asked bs outcome due) (sym same) more) (all_or_more f asked taken rest outcome due decided a)
 
--- an outcome that no fault explains is an answer, or want of memory
+-- an outcome that no fault explains is an answer, or out of memory
 pub answered_or_none : (f : Format) (asked : Command) (bytes : List ℕ) (got_old got_new : Option (List ℕ)) (outcome : Outcome) → (IsAnswer outcome → IsGiven f asked bytes outcome got_old got_new) → (outcome ≡ WriteFault → ⊥) → outcome ≢ Usage
     → outcome ≢ ReadFault → (outcome ≡ NoMemory) ⊎ ((due : List ℕ) × Answers f asked bytes outcome due)
 answered_or_none f asked bytes got_old got_new Clean given no_write no_usage no_read = let g = given tt in inr (g.due, g.answers)
@@ -97,7 +97,7 @@ answered_or_none f asked bytes got_old got_new ReadFault given no_write no_usage
 answered_or_none f asked bytes got_old got_new WriteFault given no_write no_usage no_read = absurd (no_write refl)
 answered_or_none f asked bytes got_old got_new NoMemory given no_write no_usage no_read = inl refl
 
--- and one that leaves the sink as it was is want of memory
+-- and one that leaves the sink as it was is out of memory
 pub only_memory : (outcome : Outcome) → IsSilent outcome → outcome ≢ Usage → outcome ≢ ReadFault → outcome ≡ NoMemory
 only_memory Clean silent no_usage no_read = absurd silent
 only_memory Races silent no_usage no_read = absurd silent

@@ -13,7 +13,7 @@ use Rattle.er_trace.specs.declared.fault.FeedFault.TheVariants as faults
 use Rattle.er_run.specs.declared.input.LineRefusal.{LineRefusal}
 use Rattle.er_run.specs.declared.outcome.Outcome.{Outcome}
 use Rattle.er_run.specs.declared.outcome.Outcome.TheVariants.{Refused}
-use Rattle.er_run.specs.Reading.{HasVersion, IsReading}
+use Rattle.er_run.specs.Reading.{HasNoOtherVersion, IsReading}
 use Rattle.er_trace.specs.declared.version.Version.TheVariants.{One}
 use Rattle.er_lines.specs.Format.{Format, IsFormat}
 use Rattle.er_lines.specs.Lines.{Place, Start, After, Ended, StartCause, whole_line, BeginsWith, Refuses}
@@ -116,7 +116,7 @@ no_first_line f bytes before rest c w none is cause begins =
     let all : rest ≡ bytes = sym (is ∙ ap (λ b. b ++ rest) none) in
     no_header_by f (whole_line f.most rest) c w begins.first begins.rest cause (front_of f.most rest begins.first begins.rest begins.short (all ∙ begins.begins)) begins.header
 
-by_place : (f : Format) → IsFormat f → (place : Place) (bytes : List ℕ) (c : Cause) → Refuses f bytes place c → HasVersion f (version_at place) bytes
+by_place : (f : Format) → IsFormat f → (place : Place) (bytes : List ℕ) (c : Cause) → Refuses f bytes place c → HasNoOtherVersion f (version_at place) bytes
 by_place f good Start bytes c h = λ w begins. absurd (no_first_line f bytes h.before h.rest c w h.are h.begins h.cause begins)
 by_place f good (After v records) bytes c h = λ w begins. one_beginning f good bytes v w (header_of f v bytes h.before h.rest records h.begins h.are) begins
 by_place f good (Ended v records) bytes c h = λ w begins. one_beginning f good bytes v w (header_of_whole f v bytes h.before h.rest records h.begins h.are) begins

@@ -29,7 +29,7 @@ use Rattle.er_trace.specs.declared.record.Loc.{Loc}
 use Rattle.er_trace.specs.declared.record.Loc.TheVariants.{Var}
 use Rattle.er_access.specs.declared.access.Access as access
 use Rattle.er_access.specs.Numbers.{IsKeptAt, locations_of}
-use Rattle.er_report.specs.Pieces.{placed}
+use Rattle.er_report.specs.Fragments.{placed}
 use Rattle.er_report.proofs.CountLemmas.{are_within}
 use Rattle.std.proofs.lemmas.List.Elements.{All-get_or}
 use Rattle.er_graph.specs.Graph.{HasBegun, IsGraph, IsListed}

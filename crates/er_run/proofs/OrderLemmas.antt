@@ -20,7 +20,7 @@ use Rattle.er_access.specs.Kept.{Kept, access_of, is_candidate, pairs_of, repeat
 use Rattle.er_access.specs.Numbers.{IsKeptAt, locations_of}
 use Rattle.er_races.specs.declared.race.Race.{Race}
 use Rattle.er_races.specs.Races.{IsWithin, races_by, races_of}
-use Rattle.er_report.specs.Pieces.{placed}
+use Rattle.er_report.specs.Fragments.{placed}
 use Rattle.er_report.proofs.CountLemmas.{are_pairs, are_within}
 use Rattle.er_report.proofs.ReportLemmas.{reads_pair}
 use Rattle.er_run.specs.Races.{kept, access_in, without_repeats}

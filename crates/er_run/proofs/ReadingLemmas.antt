@@ -36,11 +36,11 @@ use Rattle.er_words.specs.declared.commands.Command.TheVariants.{Check, Gen, Sch
 use Rattle.er_run.specs.declared.findings.Judged.{Judged}
 use Rattle.er_run.specs.Accepted.{IsAccepted, IsEndFault, IsJudged, IsReportable, IsVerdict}
 use Rattle.er_run.specs.declared.outcome.Outcome.TheVariants as outcomes
-use Rattle.er_run.specs.Promise.{piece_bytes, IsFinal, IsJustRefused, IsDecided}
+use Rattle.er_run.specs.Promise.{chunk_bytes, IsFinal, IsJustRefused, IsDecided}
 use Rattle.er_run.specs.Session.{IsSessionOf, IsFaultOf, IsBegun, begun}
-use Rattle.er_outside.specs.Ends.{Gives, IsSpent}
-use Rattle.er_outside.proofs.Puts.{gives_again, gives_nothing_back}
-use Rattle.er_run.specs.Reading.{IsAt, HasVersion, IsOpen, IsRead, IsReadTo, IsAcceptedInput, IsRefusedInput, IsReading, IsEnd, GoesOn, Ends, IsRefusedBehind, IsFinalFault, CountsReads, fault_of}
+use Rattle.er_io.specs.Ends.{Gives, IsSpent}
+use Rattle.er_io.proofs.Puts.{gives_again, gives_nothing_back}
+use Rattle.er_run.specs.Reading.{IsAt, HasNoOtherVersion, IsOpen, IsRead, IsReadTo, IsAcceptedInput, IsRefusedInput, IsReading, IsEnd, GoesOn, Ends, IsRefusedBehind, IsFinalFault, CountsReads, fault_of}
 use Rattle.er_run.proofs.AcceptLemmas.{few_before, few_read, illegal_before, legal_read, refused_line, refused_end, refused_fault, IsOf, place_of}
 
 -- a record is refused for no missing end
@@ -151,7 +151,7 @@ refused_at : (f : Format) (fault : Option FeedFault) (place : Place) (rest kept 
 refused_at f None place rest kept n c is h = absurd (cc)
 refused_at f (Some fault) place rest kept n c is h = let same : fault ≡ faults.Refused n c = cc in subst (IsRefusedAt f place rest) same h
 
-pub refused_reading : (f : Format) (v : Version) (mark : Mark) (kept : List ℕ) (fault : Option FeedFault) (bytes : List ℕ) (records : List Record) (r : LineRefusal) → fault ≡ fault_of (Some r) → Stands f mark kept fault bytes records → HasVersion f v bytes → IsReading f v bytes records (Some r) × (r.cause ≢ NoEnd)
+pub refused_reading : (f : Format) (v : Version) (mark : Mark) (kept : List ℕ) (fault : Option FeedFault) (bytes : List ℕ) (records : List Record) (r : LineRefusal) → fault ≡ fault_of (Some r) → Stands f mark kept fault bytes records → HasNoOtherVersion f v bytes → IsReading f v bytes records (Some r) × (r.cause ≢ NoEnd)
 refused_reading f v mark kept fault bytes records r is stands by =
     let at = refused_at f fault stands.place stands.rest kept r.line r.cause is stands.kept in
     ((stands.place, record { before = stands.before; rest = stands.rest; are = stands.are; few = stands.few; begins = stands.begins; cause = at.1 }, at.0, stands.records_are, by), at.2)
@@ -168,82 +168,82 @@ pub none_open : (f : Format) (records : List Record) → IsOpen f [] records
 none_open f records trace = none_begins f trace.0 (header_of_whole f trace.0 [] [] [] records refl trace.1.whole)
 
 -- a whole trace is one of that version
-pub whole_reading : (f : Format) (v : Version) (bytes : List ℕ) (records : List Record) → IsTraceOf f bytes records → HasVersion f v bytes → IsReading f v bytes records None
+pub whole_reading : (f : Format) (v : Version) (bytes : List ℕ) (records : List Record) → IsTraceOf f bytes records → HasNoOtherVersion f v bytes → IsReading f v bytes records None
 whole_reading f v bytes records trace by =
     let same : v ≡ trace.0 = by trace.0 (header_of_whole f trace.0 bytes bytes [] records (sym (append-nil bytes)) trace.1.whole) in
     subst (λ u. IsTrace f u bytes records) (sym same) trace.1
 
--- one piece
+-- one chunk
 
 -- the version that the first line gives, once it was read
 
 abbrev pub IsGiven : Format → Option Version → List ℕ → Type 0
 IsGiven f given bytes = ((v : Version) → given ≡ Some v → BeginsWith f v bytes) × (given ≡ None → (v : Version) → BeginsWith f v bytes → ⊥)
 
-begins_more : (f : Format) (v : Version) (bytes piece : List ℕ) → BeginsWith f v bytes → BeginsWith f v (bytes ++ piece)
-begins_more f v bytes piece begins = record {
+begins_more : (f : Format) (v : Version) (bytes chunk : List ℕ) → BeginsWith f v bytes → BeginsWith f v (bytes ++ chunk)
+begins_more f v bytes chunk begins = record {
   first = begins.first;
   short = begins.short;
   header = begins.header;
-  rest = begins.rest ++ piece;
-  begins = ap (λ bs. bs ++ piece) begins.begins ∙ append_assoc (line begins.first) begins.rest piece;
+  rest = begins.rest ++ chunk;
+  begins = ap (λ bs. bs ++ chunk) begins.begins ∙ append_assoc (line begins.first) begins.rest chunk;
 }
 
 -- the session is then of that version
-pub by_given : (f : Format) → IsFormat f → (v : Version) (given : Option Version) (bytes piece : List ℕ) → IsGiven f given (bytes ++ piece) → HasVersion f (begun v given) (bytes ++ piece)
-by_given f good v None bytes piece is = λ w begins. absurd (is.1 refl w begins)
-by_given f good v (Some u) bytes piece is = λ w begins. one_beginning f good (bytes ++ piece) u w (is.0 u refl) begins
+pub by_given : (f : Format) → IsFormat f → (v : Version) (given : Option Version) (bytes chunk : List ℕ) → IsGiven f given (bytes ++ chunk) → HasNoOtherVersion f (begun v given) (bytes ++ chunk)
+by_given f good v None bytes chunk is = λ w begins. absurd (is.1 refl w begins)
+by_given f good v (Some u) bytes chunk is = λ w begins. one_beginning f good (bytes ++ chunk) u w (is.0 u refl) begins
 
-given_is : (f : Format) → IsFormat f → (u w : Version) (given : Option Version) (bytes piece : List ℕ) → IsGiven f given (bytes ++ piece) → BeginsWith f w bytes → u ≡ w → begun u given ≡ u
-given_is f good u w None bytes piece is begins same = refl
-given_is f good u w (Some x) bytes piece is begins same = one_beginning f good (bytes ++ piece) x w (is.0 x refl) (begins_more f w bytes piece begins) ∙ sym same
+given_is : (f : Format) → IsFormat f → (u w : Version) (given : Option Version) (bytes chunk : List ℕ) → IsGiven f given (bytes ++ chunk) → BeginsWith f w bytes → u ≡ w → begun u given ≡ u
+given_is f good u w None bytes chunk is begins same = refl
+given_is f good u w (Some x) bytes chunk is begins same = one_beginning f good (bytes ++ chunk) x w (is.0 x refl) (begins_more f w bytes chunk begins) ∙ sym same
 
-begun_at : (f : Format) → IsFormat f → (u : Version) (given : Option Version) (place : Place) (bytes piece before rest : List ℕ) (records : List Record) → AreBefore f place before → bytes ≡ before ++ rest → records ≡ records_before place → HasVersion f u bytes → IsGiven f given (bytes ++ piece)
+begun_at : (f : Format) → IsFormat f → (u : Version) (given : Option Version) (place : Place) (bytes chunk before rest : List ℕ) (records : List Record) → AreBefore f place before → bytes ≡ before ++ rest → records ≡ records_before place → HasNoOtherVersion f u bytes → IsGiven f given (bytes ++ chunk)
     → IsBegun u given (reverse records)
-begun_at f good u given Start bytes piece before rest records are begins listed by is = inr (ap reverse listed)
-begun_at f good u given (After w earlier) bytes piece before rest records are begins listed by is =
+begun_at f good u given Start bytes chunk before rest records are begins listed by is = inr (ap reverse listed)
+begun_at f good u given (After w earlier) bytes chunk before rest records are begins listed by is =
     let there : BeginsWith f w bytes = header_of f w bytes before rest earlier begins are in
-    inl (given_is f good u w given bytes piece is there (by w there))
-begun_at f good u given (Ended w earlier) bytes piece before rest records are begins listed by is =
+    inl (given_is f good u w given bytes chunk is there (by w there))
+begun_at f good u given (Ended w earlier) bytes chunk before rest records are begins listed by is =
     let there : BeginsWith f w bytes = header_of_whole f w bytes before rest earlier begins are in
-    inl (given_is f good u w given bytes piece is there (by w there))
+    inl (given_is f good u w given bytes chunk is there (by w there))
 
 -- no record came in another version
-pub begun_by : (f : Format) → IsFormat f → (mark : Mark) (kept : List ℕ) (fault : Option FeedFault) (session : Session) (given : Option Version) (bytes piece : List ℕ) (records : List Record) → IsAt f mark kept fault session bytes records → IsGiven f given (bytes ++ piece) → IsBegun session.graph.version given (reverse records)
-begun_by f good mark kept fault session given bytes piece records at is =
-    begun_at f good session.graph.version given at.fed.place bytes piece at.fed.before at.fed.rest records at.fed.are at.fed.begins at.fed.records_are at.by is
+pub begun_by : (f : Format) → IsFormat f → (mark : Mark) (kept : List ℕ) (fault : Option FeedFault) (session : Session) (given : Option Version) (bytes chunk : List ℕ) (records : List Record) → IsAt f mark kept fault session bytes records → IsGiven f given (bytes ++ chunk) → IsBegun session.graph.version given (reverse records)
+begun_by f good mark kept fault session given bytes chunk records at is =
+    begun_at f good session.graph.version given at.fed.place bytes chunk at.fed.before at.fed.rest records at.fed.are at.fed.begins at.fed.records_are at.by is
 
-pub on_by : (f : Format) (mark : Mark) (kept : List ℕ) (fault : Option FeedFault) (session : Session) (v : Version) (bytes : List ℕ) (records fresh : List Record) → IsFed f mark kept fault bytes records [] fresh → session.graph.version ≡ v → HasVersion f v bytes → IsSessionOf session (reverse (records ++ fresh)) → GoesOn f mark kept fault session bytes records
+pub on_by : (f : Format) (mark : Mark) (kept : List ℕ) (fault : Option FeedFault) (session : Session) (v : Version) (bytes : List ℕ) (records fresh : List Record) → IsFed f mark kept fault bytes records [] fresh → session.graph.version ≡ v → HasNoOtherVersion f v bytes → IsSessionOf session (reverse (records ++ fresh)) → GoesOn f mark kept fault session bytes records
 on_by f mark kept fault session v bytes records fresh fed is by stands =
-    (fed.0, record { fed = fed.1; stands = subst (λ l. IsSessionOf session (reverse (records ++ l))) fed.2 stands; by = subst (λ u. HasVersion f u bytes) (sym is) by })
+    (fed.0, record { fed = fed.1; stands = subst (λ l. IsSessionOf session (reverse (records ++ l))) fed.2 stands; by = subst (λ u. HasNoOtherVersion f u bytes) (sym is) by })
 
 pub room_by : (f : Format) (mark : Mark) (kept : List ℕ) (fault : Option FeedFault) (bytes : List ℕ) (records fresh : List Record) (count : ℕ) → IsFed f mark kept fault bytes records [] fresh → count ≡ length (reverse records) → count + length fresh ≤ most_lines
 room_by f mark kept fault bytes records fresh count fed is =
     let few = few_fed f mark kept fault bytes (records ++ fed.0) fed.1 in
     omega (arith, few, is, ap length fed.2, length-append records fed.0, length-reverse records)
 
-final_record : (f : Format) (v : Version) (mark : Mark) (kept : List ℕ) (fault : Option FeedFault) (bytes : List ℕ) (records : List Record) (why : FeedFault) → HasVersion f v bytes → Stands f mark kept fault bytes records → IsFaultOf v records why → IsFinalFault f bytes why
+final_record : (f : Format) (v : Version) (mark : Mark) (kept : List ℕ) (fault : Option FeedFault) (bytes : List ℕ) (records : List Record) (why : FeedFault) → HasNoOtherVersion f v bytes → Stands f mark kept fault bytes records → IsFaultOf v records why → IsFinalFault f bytes why
 final_record f v mark kept fault bytes records (faults.Refused n c) by stands (at, is, legal, (x, there, why)) =
     (λ asked. subst (λ k. FirstIllegal f asked bytes k c) (sym is) (illegal_before f asked v bytes stands.place stands.before stands.rest records (place_of f v bytes stands.place stands.before stands.rest stands.are stands.begins by) stands.are stands.few stands.begins stands.records_are at x c there legal why), record_cause v (reverse (take at records)) x c why)
 final_record f v mark kept fault bytes records faults.NoMemory by stands why = tt
 
-pub final_by : (f : Format) (v : Version) (mark : Mark) (kept : List ℕ) (fault : Option FeedFault) (bytes : List ℕ) (records fresh : List Record) (why : FeedFault) → IsFed f mark kept fault bytes records [] fresh → HasVersion f v bytes → IsFaultOf v (records ++ fresh) why → IsFinalFault f bytes why
+pub final_by : (f : Format) (v : Version) (mark : Mark) (kept : List ℕ) (fault : Option FeedFault) (bytes : List ℕ) (records fresh : List Record) (why : FeedFault) → IsFed f mark kept fault bytes records [] fresh → HasNoOtherVersion f v bytes → IsFaultOf v (records ++ fresh) why → IsFinalFault f bytes why
 final_by f v mark kept fault bytes records fresh why fed by refused = final_record f v mark kept fault bytes (records ++ fed.0) why by fed.1 (subst (λ l. IsFaultOf v (records ++ l) why) fed.2 refused)
 
--- what came of a piece
+-- what came of a chunk
 
 spent_end : (left : Option (List ℕ)) (refused : Option LineRefusal) → IsSpent left → IsEnd left refused
 spent_end left None spent = tt
 spent_end left (Some r) spent = inl spent
 
-pub few_taken : (n : ℕ) (buffer : List ℕ) → n ≤ length buffer → length buffer ≤ piece_bytes → length (take n buffer) ≤ piece_bytes
+pub few_taken : (n : ℕ) (buffer : List ℕ) → n ≤ length buffer → length buffer ≤ chunk_bytes → length (take n buffer) ≤ chunk_bytes
 few_taken n buffer within few = omega (arith, within, few, length-take-le n buffer within)
 
 -- none came: the source is at its end
 pub ends_spent : (f : Format) (left_old left_new : Option (List ℕ)) (mark : Mark) (kept : List ℕ) (fault : Option FeedFault) (session : Session) (bytes buffer : List ℕ) (n : ℕ) (records : List Record) (refused : Option LineRefusal) → Gives left_old (take n buffer) left_new → n ≡ 0 → IsSpent left_new
     → IsAt f mark kept fault session bytes records → IsReading f session.graph.version bytes records refused → Ends f left_old left_new session refused bytes
 ends_spent f left_old left_new mark kept fault session bytes buffer zero records refused gave none spent at reading = record {
-  piece = [];
+  chunk = [];
   records = records;
   gave = gave;
   few = omega arith;
@@ -254,22 +254,22 @@ ends_spent f left_old left_new mark kept fault session bytes buffer zero records
 ends_spent f left_old left_new mark kept fault session bytes buffer (suc n) records refused gave none spent at reading = absurd (cc)
 
 -- a line of it is refused
-pub ends_refused : (f : Format) (left_old left_new : Option (List ℕ)) (mark : Mark) (kept : List ℕ) (fault : Option FeedFault) (session : Session) (bytes piece : List ℕ) (records : List Record) (r : LineRefusal) → Gives left_old piece left_new → length piece ≤ piece_bytes
-    → GoesOn f mark kept fault session (bytes ++ piece) records → fault ≡ fault_of (Some r) → Ends f left_old left_new session (Some r) bytes
-ends_refused f left_old left_new mark kept fault session bytes piece records r gave few on is =
-    let reading = refused_reading f session.graph.version mark kept fault (bytes ++ piece) (records ++ on.0) r is on.1.fed on.1.by in
-    record { piece = piece; records = records ++ on.0; gave = gave; few = few; stands = on.1.stands; reading = reading.0; end = inr reading.1 }
+pub ends_refused : (f : Format) (left_old left_new : Option (List ℕ)) (mark : Mark) (kept : List ℕ) (fault : Option FeedFault) (session : Session) (bytes chunk : List ℕ) (records : List Record) (r : LineRefusal) → Gives left_old chunk left_new → length chunk ≤ chunk_bytes
+    → GoesOn f mark kept fault session (bytes ++ chunk) records → fault ≡ fault_of (Some r) → Ends f left_old left_new session (Some r) bytes
+ends_refused f left_old left_new mark kept fault session bytes chunk records r gave few on is =
+    let reading = refused_reading f session.graph.version mark kept fault (bytes ++ chunk) (records ++ on.0) r is on.1.fed on.1.by in
+    record { chunk = chunk; records = records ++ on.0; gave = gave; few = few; stands = on.1.stands; reading = reading.0; end = inr reading.1 }
 
 -- the `end` line is its last one
-pub ends_whole : (f : Format) (left_old left_new : Option (List ℕ)) (mark : Mark) (kept : List ℕ) (fault : Option FeedFault) (session : Session) (bytes piece : List ℕ) (records : List Record) → Gives left_old piece left_new → length piece ≤ piece_bytes
-    → (on : GoesOn f mark kept fault session (bytes ++ piece) records) → IsReading f session.graph.version (bytes ++ piece) (records ++ on.0) None → Ends f left_old left_new session None bytes
-ends_whole f left_old left_new mark kept fault session bytes piece records gave few on reading =
-    record { piece = piece; records = records ++ on.0; gave = gave; few = few; stands = on.1.stands; reading = reading; end = tt }
+pub ends_whole : (f : Format) (left_old left_new : Option (List ℕ)) (mark : Mark) (kept : List ℕ) (fault : Option FeedFault) (session : Session) (bytes chunk : List ℕ) (records : List Record) → Gives left_old chunk left_new → length chunk ≤ chunk_bytes
+    → (on : GoesOn f mark kept fault session (bytes ++ chunk) records) → IsReading f session.graph.version (bytes ++ chunk) (records ++ on.0) None → Ends f left_old left_new session None bytes
+ends_whole f left_old left_new mark kept fault session bytes chunk records gave few on reading =
+    record { chunk = chunk; records = records ++ on.0; gave = gave; few = few; stands = on.1.stands; reading = reading; end = tt }
 
 -- a record of it is refused
-pub refused_by : (f : Format) (left_old left_new : Option (List ℕ)) (n : ℕ) (c : Cause) (bytes piece : List ℕ) (fault : FeedFault) → fault ≡ faults.Refused n c → Gives left_old piece left_new → length piece ≤ piece_bytes → IsFinalFault f (bytes ++ piece) fault
+pub refused_by : (f : Format) (left_old left_new : Option (List ℕ)) (n : ℕ) (c : Cause) (bytes chunk : List ℕ) (fault : FeedFault) → fault ≡ faults.Refused n c → Gives left_old chunk left_new → length chunk ≤ chunk_bytes → IsFinalFault f (bytes ++ chunk) fault
     → IsRefusedBehind f left_old left_new n c bytes
-refused_by f left_old left_new n c bytes piece fault is gave few refused = record { piece = piece; gave = gave; few = few; refused = subst (IsFinalFault f (bytes ++ piece)) is refused }
+refused_by f left_old left_new n c bytes chunk fault is gave few refused = record { chunk = chunk; gave = gave; few = few; refused = subst (IsFinalFault f (bytes ++ chunk)) is refused }
 
 -- as long as no line is refused and the `end` line is to come, nothing is decided
 
@@ -326,34 +326,34 @@ verdict_by f asked bytes records session (Err fault) stands reading same accepte
 
 -- what was taken, and where it is decided
 
-all_given : (f : Format) (first left : Option (List ℕ)) (session : Session) (refused : Option LineRefusal) → (r : IsRead f first left session refused) → Gives first (r.bytes ++ r.ends.piece) left
-all_given f first left session refused r = gives_again first r.left left r.bytes r.ends.piece r.before.gave r.ends.gave
+all_given : (f : Format) (first left : Option (List ℕ)) (session : Session) (refused : Option LineRefusal) → (r : IsRead f first left session refused) → Gives first (r.bytes ++ r.ends.chunk) left
+all_given f first left session refused r = gives_again first r.left left r.bytes r.ends.chunk r.before.gave r.ends.gave
 
-just : (f : Format) (asked : Command) (first left : Option (List ℕ)) (session : Session) (refused : Option LineRefusal) (n : ℕ) (c : Cause) → (r : IsRead f first left session refused) → FirstIllegal f asked (r.bytes ++ r.ends.piece) n c → c ≢ NoEnd → IsJustRefused f asked (r.bytes ++ r.ends.piece) n c
-just f asked first left session refused n c r illegal other = record { before = r.bytes; last = r.ends.piece; is = refl; few = r.ends.few; fresh = r.before.fresh asked; refused = illegal; other = other }
+just : (f : Format) (asked : Command) (first left : Option (List ℕ)) (session : Session) (refused : Option LineRefusal) (n : ℕ) (c : Cause) → (r : IsRead f first left session refused) → FirstIllegal f asked (r.bytes ++ r.ends.chunk) n c → c ≢ NoEnd → IsJustRefused f asked (r.bytes ++ r.ends.chunk) n c
+just f asked first left session refused n c r illegal other = record { before = r.bytes; last = r.ends.chunk; is = refl; few = r.ends.few; fresh = r.before.fresh asked; refused = illegal; other = other }
 
 -- a refusal of bytes that are refused for another cause than a missing end is for another one
 other_cause : (f : Format) → IsFormat f → (asked : Command) (bytes : List ℕ) (n : ℕ) (c : Cause) → FirstIllegal f asked bytes n c → IsFinal f asked bytes → c ≢ NoEnd
 other_cause f good asked bytes n c refused final = λ is. final.3 (sym (refused_once f good asked bytes n final.0 c final.1 refused final.2).1 ∙ is)
 
-decided_by : (f : Format) → IsFormat f → (asked : Command) (first left : Option (List ℕ)) (session : Session) (line : LineRefusal) (n : ℕ) (c : Cause) → (r : IsRead f first left session (Some line)) → FirstIllegal f asked (r.bytes ++ r.ends.piece) n c
-    → IsDecided f asked (r.bytes ++ r.ends.piece) left (outcomes.Refused n c)
+decided_by : (f : Format) → IsFormat f → (asked : Command) (first left : Option (List ℕ)) (session : Session) (line : LineRefusal) (n : ℕ) (c : Cause) → (r : IsRead f first left session (Some line)) → FirstIllegal f asked (r.bytes ++ r.ends.chunk) n c
+    → IsDecided f asked (r.bytes ++ r.ends.chunk) left (outcomes.Refused n c)
 decided_by f good asked first left session line n c r refused = elim r.ends.end [
   | inl spent ↦ inl spent
   | inr other ↦ (
-      let final : IsFinal f asked (r.bytes ++ r.ends.piece) = final_reading f asked session.graph.version (r.bytes ++ r.ends.piece) r.ends.records line r.ends.reading other r.ends.stands.legal in
-      inr (just f asked first left session (Some line) n c r refused (other_cause f good asked (r.bytes ++ r.ends.piece) n c refused final)))
+      let final : IsFinal f asked (r.bytes ++ r.ends.chunk) = final_reading f asked session.graph.version (r.bytes ++ r.ends.chunk) r.ends.records line r.ends.reading other r.ends.stands.legal in
+      inr (just f asked first left session (Some line) n c r refused (other_cause f good asked (r.bytes ++ r.ends.chunk) n c refused final)))
 ]
 
-pub refused_input : (f : Format) → IsFormat f → (asked : Command) (first left : Option (List ℕ)) (session : Session) (line : LineRefusal) (n : ℕ) (c : Cause) → (r : IsRead f first left session (Some line)) → FirstIllegal f asked (r.bytes ++ r.ends.piece) n c → IsRefusedInput f asked first left n c
+pub refused_input : (f : Format) → IsFormat f → (asked : Command) (first left : Option (List ℕ)) (session : Session) (line : LineRefusal) (n : ℕ) (c : Cause) → (r : IsRead f first left session (Some line)) → FirstIllegal f asked (r.bytes ++ r.ends.chunk) n c → IsRefusedInput f asked first left n c
 refused_input f good asked first left session line n c r refused =
-    record { taken = r.bytes ++ r.ends.piece; gave = all_given f first left session (Some line) r; decided = decided_by f good asked first left session line n c r refused; refused = refused }
+    record { taken = r.bytes ++ r.ends.chunk; gave = all_given f first left session (Some line) r; decided = decided_by f good asked first left session line n c r refused; refused = refused }
 
 pub refused_record : (f : Format) (asked : Command) (first left : Option (List ℕ)) (n : ℕ) (c : Cause) → IsReadTo f first left n c → IsRefusedInput f asked first left n c
 refused_record f asked first left n c r = record {
-  taken = r.bytes ++ r.refused.piece;
-  gave = gives_again first r.left left r.bytes r.refused.piece r.before.gave r.refused.gave;
-  decided = inr (record { before = r.bytes; last = r.refused.piece; is = refl; few = r.refused.few; fresh = r.before.fresh asked; refused = r.refused.refused.0 asked; other = r.refused.refused.1 });
+  taken = r.bytes ++ r.refused.chunk;
+  gave = gives_again first r.left left r.bytes r.refused.chunk r.before.gave r.refused.gave;
+  decided = inr (record { before = r.bytes; last = r.refused.chunk; is = refl; few = r.refused.few; fresh = r.before.fresh asked; refused = r.refused.refused.0 asked; other = r.refused.refused.1 });
   refused = r.refused.refused.0 asked;
 }
 
@@ -366,7 +366,7 @@ as_refused f asked bytes line fault n c is other first =
 -- the `end` line is over a limit
 pub refused_limit : (f : Format) (asked : Command) (first left : Option (List ℕ)) (session : Session) (n : ℕ) (c : Cause) → (r : IsRead f first left session None) → IsEndFault (end_cause_for asked session.graph.version (reverse r.ends.records)) (reverse r.ends.records) (faults.Refused n c) → IsRefusedInput f asked first left n c
 refused_limit f asked first left session n c r fault =
-    let bytes = r.bytes ++ r.ends.piece in
+    let bytes = r.bytes ++ r.ends.chunk in
     let refused : FirstIllegal f asked bytes n c = refused_end f asked session.graph.version bytes r.ends.records None n c r.ends.reading tt r.ends.stands.legal (omega (arith, fault.0, length-reverse r.ends.records)) fault.1 in
     record { taken = bytes; gave = all_given f first left session None r; decided = inr (just f asked first left session None n c r refused (end_cause_other asked session.graph.version (reverse r.ends.records) c fault.1)); refused = refused }
 
@@ -404,9 +404,9 @@ after_end f asked v bytes more records trace some = of_line f asked (bytes ++ mo
 
 -- a byte stands behind it
 pub refused_more : (f : Format) → IsFormat f → (asked : Command) (first left_old left_new : Option (List ℕ)) (session : Session) (judged : Judged) (more : List ℕ) (n : ℕ) → judged.session.graph.version ≡ session.graph.version → (r : IsRead f first left_old session None) → IsJudged asked judged.session judged.found (reverse r.ends.records) → Gives left_old more left_new
-    → 0 < length more → length more ≤ piece_bytes → n ≡ length r.ends.records + 3 → IsRefusedInput f asked first left_new n AfterEnd
+    → 0 < length more → length more ≤ chunk_bytes → n ≡ length r.ends.records + 3 → IsRefusedInput f asked first left_new n AfterEnd
 refused_more f good asked first left_old left_new session judged more n same r is gave some few at =
-    let bytes = r.bytes ++ r.ends.piece in
+    let bytes = r.bytes ++ r.ends.chunk in
     let legal = legal_read f asked session.graph.version bytes r.ends.records None refl r.ends.reading (subst (λ u. IsLegal (rules u) (reverse r.ends.records)) same is.stands.legal) (ap (λ u. end_cause_for asked u (reverse r.ends.records)) (sym same) ∙ is.within) in
     let refused : FirstIllegal f asked (bytes ++ more) n AfterEnd = subst (λ k. FirstIllegal f asked (bytes ++ more) k AfterEnd) (sym at) (after_end f asked session.graph.version bytes more r.ends.records legal some) in
     record {
@@ -420,7 +420,7 @@ refused_more f good asked first left_old left_new session judged more n same r i
 pub accepted_input : (f : Format) (asked : Command) (first left_old left_new : Option (List ℕ)) (session : Session) (judged : Judged) → judged.session.graph.version ≡ session.graph.version → (r : IsRead f first left_old session None) → IsJudged asked judged.session judged.found (reverse r.ends.records)
     → (n : ℕ) (buffer : List ℕ) → Gives left_old (take n buffer) left_new → n ≡ 0 → IsSpent left_new → IsAcceptedInput f asked first left_new judged
 accepted_input f asked first left_old left_new session judged same r is n buffer gave none spent =
-    let bytes = r.bytes ++ r.ends.piece in
+    let bytes = r.bytes ++ r.ends.chunk in
     record {
       taken = bytes;
       gave = subst (Gives first bytes) (sym (gives_nothing_back left_old left_new (none_given left_old left_new n buffer gave none))) (all_given f first left_old session None r);

@@ -9,7 +9,7 @@ use Rattle.er_words.specs.declared.commands.WordsFault.TheVariants.{NoMemory}
 use Rattle.er_words.specs.Words.{Asks, Has, HasShards, IsNumberGiven, IsRaceGiven}
 use Rattle.er_trace.specs.Limits.{most_shards}
 use Rattle.er_lines.specs.Format.{Format}
-use Rattle.er_outside.specs.Ends.{Gives, Rose}
+use Rattle.er_io.specs.Ends.{Gives, Rose}
 use Rattle.er_run.specs.Accepted.{IsAskable}
 use Rattle.er_run.specs.declared.outcome.Outcome.{Outcome}
 use Rattle.er_run.specs.Promise.{IsInput, IsDecided, Holds, NoReadFailed}

@@ -1,7 +1,7 @@
 -- From what was put to how the run ends.
 use Rattle.std.proofs.Common.{◌≡◌, ◌≢◌, ℕ, ◌≤◌, ◌∙◌, List, [], ◌∷◌, Option, Result, Ok, Err, refl, sym, subst, length, inl, inr, arith}
 use Rattle.std.specs.Prelude.{OnOk, OnErr}
-use Rattle.er_outside.specs.Ends.{Gets, GetsPart, Rose, one_more}
+use Rattle.er_io.specs.Ends.{Gets, GetsPart, Rose, one_more}
 use Rattle.er_trace.specs.declared.record.Record.{Record}
 use Rattle.er_trace.specs.declared.version.Version.{Version}
 use Rattle.er_races.specs.declared.race.Race.{Race}

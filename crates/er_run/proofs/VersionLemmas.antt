@@ -14,7 +14,7 @@ use Rattle.er_lines.specs.Feed.{IsFed}
 use Rattle.er_lines.proofs.VersionLaws.{behind_of_version}
 use Rattle.er_gen.specs.Generated.{generated, most_rounds}
 use Rattle.er_gen.proofs.GeneratedLemmas.{generated_fits}
-use Rattle.er_run.specs.Reading.{HasVersion}
+use Rattle.er_run.specs.Reading.{HasNoOtherVersion}
 use Rattle.er_run.proofs.AcceptLemmas.{IsOf, place_of}
 
 -- each of them is of it
@@ -38,8 +38,8 @@ before_of_version f good v (After w records) before of are =
 before_of_version f good v (Ended w records) before of are =
     subst (λ (u : Version). list_all (has_record u) records ≡ true) (sym of) (behind_of_version f good w are.front records are.behind)
 
--- what came with a piece
-pub came_of_version : (f : Format) → IsFormat f → (v : Version) (mark : Mark) (kept : List ℕ) (fault : Option FeedFault) (bytes : List ℕ) (earlier came : List Record) → IsFed f mark kept fault bytes earlier [] came → HasVersion f v bytes
+-- what came with a chunk
+pub came_of_version : (f : Format) → IsFormat f → (v : Version) (mark : Mark) (kept : List ℕ) (fault : Option FeedFault) (bytes : List ℕ) (earlier came : List Record) → IsFed f mark kept fault bytes earlier [] came → HasNoOtherVersion f v bytes
     → list_all (has_record v) came ≡ true
 came_of_version f good v mark kept fault bytes earlier came fed by =
     let of : IsOf v fed.1.place = place_of f v bytes fed.1.place fed.1.before fed.1.rest fed.1.are fed.1.begins by in

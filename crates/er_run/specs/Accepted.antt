@@ -1,6 +1,6 @@
 -- What the steps of an answer leave.
 use Rattle.std.specs.Prelude.{◌≡◌, true, false, ℕ, ◌+◌, ◌*◌, ◌<◌, ◌≤◌, List, Option, Some, None, Result, Ok, Err, MatchResult, reverse, length}
-use Rattle.er_outside.specs.Ends.{Gets, GetsPart}
+use Rattle.er_io.specs.Ends.{Gets, GetsPart}
 use Rattle.er_text.specs.declared.causes.Cause.{Cause}
 use Rattle.er_trace.specs.declared.record.Record.{Record}
 use Rattle.er_trace.specs.declared.version.Version.{Version}
@@ -175,7 +175,7 @@ pub record IsReportable (session : Session) : Type 0 where
   pub stands : IsSessionOf session list
   pub few : length list ≤ most_lines
 
--- the fault is the refusal of the bytes, or want of memory
+-- the fault is the refusal of the bytes, or out of memory
 abbrev pub IsRefusal : Format → Command → List ℕ → FeedFault → Type 0
 IsRefusal f asked bytes (faults.Refused n c) = FirstIllegal f asked bytes n c
 IsRefusal f asked bytes faults.NoMemory = Unit {0}

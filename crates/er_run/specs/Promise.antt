@@ -1,6 +1,6 @@
 -- What a call of `run` promises.
 use Rattle.std.specs.Prelude.{◌≡◌, ◌≢◌, ◌⊎◌, ℕ, ◌+◌, ◌*◌, ◌≤◌, List, ◌++◌, length, reverse, Option, Some}
-use Rattle.er_outside.specs.Ends.{Gives, Gets, GetsPart, IsSpent, Rose, one_more}
+use Rattle.er_io.specs.Ends.{Gives, Gets, GetsPart, IsSpent, Rose, one_more}
 use Rattle.er_run.specs.declared.outcome.Outcome.{Outcome}
 use Rattle.er_run.specs.declared.outcome.Outcome.TheVariants.{Clean, Races, Refused, Usage, ReadFault, WriteFault, NoMemory}
 use Rattle.er_trace.specs.declared.record.Record.{Record}
@@ -27,22 +27,22 @@ IsAnswer _ = ⊥
 abbrev pub IsFinal : Format → Command → List ℕ → Type 0
 IsFinal f asked bytes = (n : ℕ) × (c : Cause) × FirstIllegal f asked bytes n c × (c ≢ NoEnd)
 
--- the most bytes of a piece of the input
-abbrev pub piece_bytes : ℕ
-piece_bytes = 4096
+-- the most bytes of a chunk of the input
+abbrev pub chunk_bytes : ℕ
+chunk_bytes = 4096
 
--- without their last piece the bytes are not refused, but for `no-end`, and with it they are refused so
+-- without their last chunk the bytes are not refused, but for `no-end`, and with it they are refused so
 pub record IsJustRefused (f : Format) (asked : Command) (bytes : List ℕ) (n : ℕ)
     (c : Cause) : Type 0 where
   pub before : List ℕ
   pub last : List ℕ
   pub is : bytes ≡ before ++ last
-  pub few : length last ≤ piece_bytes
+  pub few : length last ≤ chunk_bytes
   pub fresh : IsFinal f asked before → ⊥
   pub refused : FirstIllegal f asked bytes n c
   pub other : c ≢ NoEnd
 
--- nothing is left, or the piece that was taken last brought the refusal
+-- nothing is left, or the chunk that was taken last brought the refusal
 abbrev pub IsDecided : Format → Command → List ℕ → Option (List ℕ) → Outcome → Type 0
 IsDecided f asked taken left (Refused n c) = IsSpent left ⊎ IsJustRefused f asked taken n c
 IsDecided f asked taken left _ = IsSpent left

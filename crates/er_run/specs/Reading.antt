@@ -1,6 +1,6 @@
--- What is read of a source, piece by piece. Lists of records stand oldest first, but for those that a session stands for.
+-- What is read of a source, chunk by chunk. Lists of records stand oldest first, but for those that a session stands for.
 use Rattle.std.specs.Prelude.{◌≡◌, ◌≢◌, ◌⊎◌, ℕ, ◌<◌, ◌≤◌, List, ◌++◌, reverse, length, Option, Some, None, Result, Err, IsErrOf}
-use Rattle.er_outside.specs.Ends.{Gives, IsSpent, Rose, one_more}
+use Rattle.er_io.specs.Ends.{Gives, IsSpent, Rose, one_more}
 use Rattle.er_text.specs.declared.causes.Cause.{Cause}
 use Rattle.er_text.specs.declared.causes.Cause.TheVariants.{NoEnd}
 use Rattle.er_trace.specs.declared.record.Record.{Record}
@@ -20,26 +20,26 @@ use Rattle.er_run.specs.Answer.{FirstIllegal}
 use Rattle.er_run.specs.declared.findings.Judged.{Judged}
 use Rattle.er_run.specs.Accepted.{IsAccepted}
 use Rattle.er_run.specs.declared.outcome.Outcome.TheVariants.{Refused}
-use Rattle.er_run.specs.Promise.{piece_bytes, IsFinal, IsDecided}
+use Rattle.er_run.specs.Promise.{chunk_bytes, IsFinal, IsDecided}
 use Rattle.er_run.specs.Session.{IsSessionOf}
 
 -- the first line gives no other version
-abbrev pub HasVersion : Format → Version → List ℕ → Type 0
-HasVersion f v bytes = (w : Version) → BeginsWith f w bytes → v ≡ w
+abbrev pub HasNoOtherVersion : Format → Version → List ℕ → Type 0
+HasNoOtherVersion f v bytes = (w : Version) → BeginsWith f w bytes → v ≡ w
 
 -- the records before the first line that has a cause, with that line; or those of the whole trace
 abbrev pub IsReading : Format → Version → List ℕ → List Record → Option LineRefusal → Type 0
 IsReading f v bytes records None = IsTrace f v bytes records
 IsReading f v bytes records (Some refused) = (place : Place) × Refuses f bytes place refused.cause
     × (refused.line ≡ line_number place) × (records ≡ records_before place)
-    × HasVersion f v bytes
+    × HasNoOtherVersion f v bytes
 
 -- what a feed keeps and the session stand for these bytes and for the records of their whole lines
 pub record IsAt (f : Format) (mark : Mark) (kept : List ℕ) (fault : Option FeedFault)
     (session : Session) (bytes : List ℕ) (records : List Record) : Type 0 where
   pub fed : Stands f mark kept fault bytes records
   pub stands : IsSessionOf session (reverse records)
-  pub by : HasVersion f session.graph.version bytes
+  pub by : HasNoOtherVersion f session.graph.version bytes
 
 -- they stand for some bytes, and for the records of their whole lines
 pub record IsSomewhere (f : Format) (mark : Mark) (kept : List ℕ) (fault : Option FeedFault)
@@ -70,39 +70,39 @@ abbrev pub IsEnd : Option (List ℕ) → Option LineRefusal → Type 0
 IsEnd left None = Unit {0}
 IsEnd left (Some refused) = IsSpent left ⊎ (refused.cause ≢ NoEnd)
 
--- A piece was read, and behind the bytes before it the feed and the session stand for it too.
+-- A chunk was read, and behind the bytes before it the feed and the session stand for it too.
 pub record Advances (f : Format) (left_old left_new : Option (List ℕ)) (mark : Mark)
     (kept : List ℕ) (fault : Option FeedFault) (session : Session) (bytes : List ℕ)
     (records : List Record) : Type 0 where
-  pub piece : List ℕ
-  pub some : 0 < length piece
-  pub gave : Gives left_old piece left_new
-  pub on : GoesOn f mark kept fault session (bytes ++ piece) records
+  pub chunk : List ℕ
+  pub some : 0 < length chunk
+  pub gave : Gives left_old chunk left_new
+  pub on : GoesOn f mark kept fault session (bytes ++ chunk) records
 
 -- the bytes are not the trace of these records, as where its `end` line is still to come
 abbrev pub IsOpen : Format → List ℕ → List Record → Type 0
 IsOpen f bytes records = ¬ IsTraceOf f bytes records
 
--- With the piece that was read behind these bytes the reading is at its end, and the session stands for its records.
+-- With the chunk that was read behind these bytes the reading is at its end, and the session stands for its records.
 pub record Ends (f : Format) (left_old left_new : Option (List ℕ)) (session : Session)
     (refused : Option LineRefusal) (bytes : List ℕ) : Type 0 where
-  pub piece : List ℕ
+  pub chunk : List ℕ
   pub records : List Record
-  pub gave : Gives left_old piece left_new
-  pub few : length piece ≤ piece_bytes
+  pub gave : Gives left_old chunk left_new
+  pub few : length chunk ≤ chunk_bytes
   pub stands : IsSessionOf session (reverse records)
-  pub reading : IsReading f session.graph.version (bytes ++ piece) records refused
+  pub reading : IsReading f session.graph.version (bytes ++ chunk) records refused
   pub end : IsEnd left_new refused
 
--- With the piece that was read behind these bytes a record is refused.
+-- With the chunk that was read behind these bytes a record is refused.
 pub record IsRefusedBehind (f : Format) (left_old left_new : Option (List ℕ)) (n : ℕ) (c : Cause)
     (bytes : List ℕ) : Type 0 where
-  pub piece : List ℕ
-  pub gave : Gives left_old piece left_new
-  pub few : length piece ≤ piece_bytes
-  pub refused : IsFinalFault f (bytes ++ piece) (faults.Refused n c)
+  pub chunk : List ℕ
+  pub gave : Gives left_old chunk left_new
+  pub few : length chunk ≤ chunk_bytes
+  pub refused : IsFinalFault f (bytes ++ chunk) (faults.Refused n c)
 
--- the pieces before the last one do not decide
+-- the chunks before the last one do not decide
 pub record IsUndecided (f : Format) (left_old left_new : Option (List ℕ))
     (bytes : List ℕ) : Type 0 where
   pub gave : Gives left_old bytes left_new
@@ -115,7 +115,7 @@ pub record CountsReads {X : Type 0} (result : Result X InputFault) (old new : �
   pub stands : result ≢ Err Failed → new ≡ old
   pub count : old ≤ new
 
--- A trace was read to its end, or to the piece that decides.
+-- A trace was read to its end, or to the chunk that decides.
 pub record IsRead (f : Format) (left_old left_new : Option (List ℕ)) (session : Session)
     (refused : Option LineRefusal) : Type 0 where
   pub bytes : List ℕ
@@ -123,7 +123,7 @@ pub record IsRead (f : Format) (left_old left_new : Option (List ℕ)) (session 
   pub before : IsUndecided f left_old left bytes
   pub ends : Ends f left left_new session refused bytes
 
--- A trace was read to a piece with a record that is refused.
+-- A trace was read to a chunk with a record that is refused.
 pub record IsReadTo (f : Format) (left_old left_new : Option (List ℕ)) (n : ℕ)
     (c : Cause) : Type 0 where
   pub bytes : List ℕ

@@ -7,8 +7,8 @@ ghost use Rattle.er_run.specs.Accepted.{IsComparedFor, IsTestedFor, IsJudgement,
 use crate::findings::Judged;
 use crate::outcome::Outcome;
 use crate::tell::{tell, tell_fault};
+use er_io::Sink;
 use er_lines::format::Lines;
-use er_outside::Sink;
 use er_trace::fault::FeedFault;
 use er_words::Command;
 

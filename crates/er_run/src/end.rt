@@ -15,7 +15,7 @@ use crate::session::Session;
 use er_clocks::Meter;
 use er_cover::{CoverFault, Groups};
 use er_explain::explain;
-use er_outside::NoMemory;
+use er_io::NoMemory;
 use er_races::{ListFault, Race};
 use er_schedule::{Schedules, make_schedules};
 use er_shard::{Gate, group_shards, list_shards};

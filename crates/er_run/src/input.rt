@@ -1,4 +1,4 @@
-//! Reads a trace piece by piece, and judges each record as its line ends.
+//! Reads a trace chunk by chunk, and judges each record as its line ends.
 
 ghost use Rattle.std.specs.Prelude.{◌≡◌, ◌≢◌, true, ℕ, ◌+◌, ◌<◌, ◌≤◌, List, [], ◌++◌, length, reverse, Option, Ok, Err, Some, None, IfOk, OnOk, IfErr, IsErrOf};
 ghost use Rattle.std.specs.List.{list_all};
@@ -8,12 +8,12 @@ ghost use Rattle.er_lines.specs.Lines.{IsTraceOf};
 ghost use Rattle.er_lines.specs.Feed.{Stands};
 ghost use Rattle.er_trace.specs.declared.version.Version.{Version};
 ghost use Rattle.er_run.specs.Session.{IsSessionOf, IsReady, IsFaultOf, IsBegun, begun};
-ghost use Rattle.er_run.specs.Reading.{IsAt, HasVersion, IsSomewhere, IsOpen, IsRead, IsReadTo, IsReading, GoesOn, Advances, Ends, IsRefusedBehind, IsFinalFault, CountsReads, fault_of};
+ghost use Rattle.er_run.specs.Reading.{IsAt, HasNoOtherVersion, IsSomewhere, IsOpen, IsRead, IsReadTo, IsReading, GoesOn, Advances, Ends, IsRefusedBehind, IsFinalFault, CountsReads, fault_of};
 
 use crate::session::Session;
+use er_io::Source;
 use er_lines::feed::LineFeed;
 use er_lines::format::Lines;
-use er_outside::Source;
 use er_text::Cause;
 use er_trace::fault::FeedFault;
 use er_trace::record::Record;
@@ -21,7 +21,7 @@ use er_trace::version::Version;
 use std::alloc::Global;
 
 /// How many bytes are read at a time.
-const PIECE: usize = 4096;
+const CHUNK: usize = 4096;
 
 /// Why the input was not read to its end.
 #[derive(Clone, Copy, Debug, PartialEq, Eq)]
@@ -40,7 +40,7 @@ pub(crate) struct LineRefusal {
     pub(crate) cause: Cause,
 }
 
-/// How the reading stands after a piece.
+/// How the reading stands after a chunk.
 #[derive(Clone, Copy)]
 enum Step {
     GoesOn,
@@ -67,7 +67,7 @@ pub(crate) fn read<L: Lines, S: Source>(
     let mut came = Vec::new(alloc);
     // Each turn reads a byte at least, and as long as no line is refused fewer bytes come than turns may.
     for turn in 0..u64::MAX {
-        match read_piece(alloc, source, &mut feed, &mut session, &mut came) {
+        match read_chunk(alloc, source, &mut feed, &mut session, &mut came) {
             Ok(Step::GoesOn) => {}
             Ok(Step::Ended(refused)) => return Ok((session, refused)),
             Err(fault) => return Err(fault),
@@ -76,8 +76,8 @@ pub(crate) fn read<L: Lines, S: Source>(
     unreachable!()
 }
 
-/// Reads the next piece and judges the records of the lines that end in it. What the list holds goes.
-fn read_piece<L: Lines, S: Source>(
+/// Reads the next chunk and judges the records of the lines that end in it. What the list holds goes.
+fn read_chunk<L: Lines, S: Source>(
     alloc: Global,
     source: &mut S,
     feed: &mut LineFeed<L>,
@@ -105,14 +105,14 @@ fn read_piece<L: Lines, S: Source>(
         → IsRefusedBehind L.format (S.left source.old) (S.left source.new) n c bytes }
     ensures reads { CountsReads result (S.faults source.old) (S.faults source.new) }
 {
-    let mut buffer = [0u8; PIECE];
+    let mut buffer = [0u8; CHUNK];
     let Ok(n) = source.read(&mut buffer) else {
         return Err(InputFault::Failed);
     };
     if n == 0 {
         return Ok(Step::Ended(line_at_end(feed)));
     }
-    match take_piece(alloc, feed, session, came, &buffer[..n]) {
+    match take_chunk(alloc, feed, session, came, &buffer[..n]) {
         Ok(None) => Ok(step_of(feed)),
         Ok(Some(refusal)) => Ok(Step::Ended(Some(refusal))),
         Err(FeedFault::Refused { line, cause }) => Err(InputFault::Refused { line, cause }),
@@ -143,7 +143,7 @@ fn line_at_end<L: Lines>(feed: &LineFeed<L>) -> Option<LineRefusal>
     requires { feed.now.fault ≡ None }
     ensures { (bytes : List ℕ) (records : List Record)
         → Stands L.format feed.now.mark feed.now.line.items feed.now.fault bytes records
-        → (v : Version) → HasVersion L.format v bytes
+        → (v : Version) → HasNoOtherVersion L.format v bytes
         → IsReading L.format v bytes records result }
 {
     match feed.finish() {
@@ -154,27 +154,27 @@ fn line_at_end<L: Lines>(feed: &LineFeed<L>) -> Option<LineRefusal>
     }
 }
 
-/// Feeds a piece and judges the records of the lines that end in it, which take the place of what the list
+/// Feeds a chunk and judges the records of the lines that end in it, which take the place of what the list
 /// holds. Answers the line that is refused, where one is.
-fn take_piece<L: Lines>(
+fn take_chunk<L: Lines>(
     alloc: Global,
     feed: &mut LineFeed<L>,
     session: &mut Session,
     came: &mut Vec<Record>,
-    piece: &[u8],
+    chunk: &[u8],
 ) -> Result<Option<LineRefusal>, FeedFault>
     requires { IsSomewhere L.format feed.old.mark feed.old.line.items feed.old.fault session.old }
     ensures on { OnOk result ((bytes : List ℕ) (records : List Record)
         → IsAt L.format feed.old.mark feed.old.line.items feed.old.fault session.old bytes records
         → GoesOn L.format feed.new.mark feed.new.line.items feed.new.fault session.new
-        (bytes ++ piece.now) records) }
+        (bytes ++ chunk.now) records) }
     ensures fault { IfOk result (λ refused. feed.new.fault ≡ fault_of refused) }
     ensures refused { IfErr result (λ fault. (bytes : List ℕ) (records : List Record)
         → IsAt L.format feed.old.mark feed.old.line.items feed.old.fault session.old bytes records
-        → IsFinalFault L.format (bytes ++ piece.now) fault) }
+        → IsFinalFault L.format (bytes ++ chunk.now) fault) }
 {
     came.clear();
-    match feed.feed(piece, came) {
+    match feed.feed(chunk, came) {
         Ok(()) => {
             if let Err(fault) = judge_all(alloc, session, feed.version(), came.as_slice()) {
                 return Err(fault);

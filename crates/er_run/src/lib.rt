@@ -2,7 +2,7 @@
 #![tactic(auto)]
 
 ghost use Rattle.std.specs.Prelude.{◌≡◌, ◌≢◌, ◌⊎◌, ℕ, ◌<◌, ◌≤◌, ◌^◌, List, map, string_bytes};
-ghost use Rattle.er_outside.specs.Ends.{Rose, one_more};
+ghost use Rattle.er_io.specs.Ends.{Rose, one_more};
 ghost use Rattle.er_words.specs.Words.{Asks};
 ghost use Rattle.er_run.specs.Answer.{Answers, format_of};
 ghost use Rattle.er_run.specs.Promise.{IsAnswer, IsAnswered, IsCutShort, IsSilent, Holds, NoReadFailed, seen};
@@ -10,7 +10,7 @@ ghost use Rattle.er_run.specs.Promise.{IsAnswer, IsAnswered, IsCutShort, IsSilen
 use crate::modes::{judge_generated, judge_input};
 use crate::outcome::Outcome;
 use er_clocks::Meter;
-use er_outside::{Sink, Source};
+use er_io::{Sink, Source};
 use er_shard::Gate;
 use er_words::{Asked, Command, WordsFault, read_words};
 use std::alloc::Global;
@@ -29,7 +29,7 @@ pub mod sure;
 mod tell;
 
 /// Does what the words ask for: reads the trace that the source gives, at most 4,096 bytes at a time, to its
-/// end or to the piece that decides a refusal. It writes the report of its races, two orders for one of
+/// end or to the chunk that decides a refusal. It writes the report of its races, two orders for one of
 /// them, why two of its actions are ordered, or the refusal, to the sink; or the summary of a generated
 /// trace.
 ///
@@ -56,7 +56,7 @@ pub fn run<R: Threads + Sync, S: Source, K: Sink, G: Gate + Sync>(
         → IsAnswered (format_of asked.command) asked.command
         (seen (S.left source.old) (K.got sink.old) compares.old tests.old)
         (seen (S.left source.new) (K.got sink.new) compares.new tests.new) result }
-    // Words that ask for a command are no wrong usage; others give that, or want of memory.
+    // Words that ask for a command are no wrong usage; others give that, or out of memory.
     ensures usage { result ≡ Outcome.Usage
         → (asked : Asked) → ¬ Asks (map string_bytes words.now) asked }
     ensures refused { ((asked : Asked) → ¬ Asks (map string_bytes words.now) asked)
@@ -88,7 +88,7 @@ pub fn run<R: Threads + Sync, S: Source, K: Sink, G: Gate + Sync>(
     ensures unread { result ≡ Outcome.Usage → source.new ≡ source.old }
     ensures generated { (asked : Asked) (n : ℕ) → Asks (map string_bytes words.now) asked
         → asked.command ≡ Command.Gen n → (source.new ≡ source.old) × (result ≢ Outcome.ReadFault) }
-    // A refused command, a failed read and want of memory leave the sink as it was.
+    // A refused command, a failed read and out of memory leave the sink as it was.
     ensures unwritten { IsSilent result → sink.new ≡ sink.old }
     // Where no fault came, the outcome is the answer of all that the command has to judge, unless memory
     // ran out.

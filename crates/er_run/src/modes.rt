@@ -1,7 +1,7 @@
 //! What a mode judges: the trace that is read, or a generated one.
 
 ghost use Rattle.std.specs.Prelude.{◌≡◌, ◌≢◌, ◌⊎◌, ℕ, ◌<◌, ◌≤◌, ◌^◌, List, Some};
-ghost use Rattle.er_outside.specs.Ends.{Rose, one_more};
+ghost use Rattle.er_io.specs.Ends.{Rose, one_more};
 ghost use Rattle.er_trace.specs.Trace.{text};
 ghost use Rattle.er_trace.specs.declared.version.Version.TheVariants.{One};
 ghost use Rattle.er_gen.specs.Generated.{generated, most_rounds};
@@ -16,10 +16,10 @@ use crate::answer::answer;
 use crate::input::InputFault;
 use crate::outcome::Outcome;
 use er_clocks::Meter;
+use er_io::{Sink, Source};
 use er_jsonl::JsonLines;
 use er_lines::format::Lines;
 use er_lines::text::TextLines;
-use er_outside::{Sink, Source};
 use er_shard::Gate;
 use er_trace::fault::FeedFault;
 use er_words::{Asked, Command, Input};

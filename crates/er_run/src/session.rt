@@ -11,7 +11,7 @@ ghost use Rattle.er_run.specs.Session.{IsSessionOf, IsSession, IsFaultAfter, IsF
 use er_access::{AddFault, Table};
 use er_gen::Generator;
 use er_graph::Graph;
-use er_outside::NoMemory;
+use er_io::NoMemory;
 use er_page::page::Page;
 use er_text::Cause;
 use er_trace::fault::FeedFault;

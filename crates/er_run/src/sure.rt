@@ -8,7 +8,7 @@ ghost use Rattle.er_run.specs.Promise.{Holds};
 use crate::outcome::Outcome;
 use crate::run;
 use er_clocks::Meter;
-use er_ends::{SureSink, SureSource};
+use er_io_system::{SureSink, SureSource};
 use er_shard::Gate;
 use er_words::Asked;
 use std::alloc::Global;

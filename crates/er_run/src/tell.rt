@@ -1,7 +1,7 @@
 //! The text that is due: that of what was found of a legal trace, or a refusal, as the command asks for it.
 
 ghost use Rattle.std.specs.Prelude.{◌≡◌, ◌≢◌, ◌≤◌, List};
-ghost use Rattle.er_outside.specs.Ends.{Puts};
+ghost use Rattle.er_io.specs.Ends.{Puts};
 ghost use Rattle.er_trace.specs.declared.record.Record.{Record};
 ghost use Rattle.er_trace.specs.declared.version.Version.{Version};
 ghost use Rattle.er_run.specs.Answer.{outcome_of, outcome_for};
@@ -15,8 +15,8 @@ use crate::findings::{Found, Judged, Listing};
 use crate::outcome::Outcome;
 use crate::session::Session;
 use er_explain::write_steps;
+use er_io::{Sink, WriteFault};
 use er_json::{write_json_refusal, write_json_report};
-use er_outside::{Sink, WriteFault};
 use er_races::Race;
 use er_report::{write_refusal, write_report, write_summary};
 use er_schedule::{Schedules, write_schedules};

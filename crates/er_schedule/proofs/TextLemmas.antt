@@ -11,7 +11,7 @@ use Rattle.er_access.specs.Kept.{Kept}
 use Rattle.er_access.specs.Numbers.{locations_of, IsKeptAt}
 use Rattle.er_races.specs.declared.race.Race.{Race}
 use Rattle.er_races.specs.Races.{races_by, IsWithin}
-use Rattle.er_report.specs.Pieces.{placed, both_at}
+use Rattle.er_report.specs.Fragments.{placed, both_at}
 use Rattle.er_report.proofs.CountLemmas.{are_pairs, are_within}
 use Rattle.er_report.proofs.ReportLemmas.{reads_pair}
 use Rattle.er_schedule.specs.Schedules.{Orders, orders_of}

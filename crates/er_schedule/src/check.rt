@@ -9,7 +9,7 @@ ghost use Rattle.er_paths.specs.orders.Orders.{is_schedule, is_next};
 ghost use Rattle.er_schedule.specs.Marks.{is_marked, may_come, all_come};
 
 use er_clocks::{Clocks, Paths};
-use er_outside::NoMemory;
+use er_io::NoMemory;
 use std::alloc::Global;
 
 /// Whether the order has each action once and nothing else, no path leads from a member to another, earlier one, and i stands directly before j.

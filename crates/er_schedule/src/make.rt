@@ -9,7 +9,7 @@ ghost use Rattle.er_schedule.specs.Schedules.{orders_of, AreLawful};
 
 use crate::Schedules;
 use er_clocks::{Clocks, Paths};
-use er_outside::NoMemory;
+use er_io::NoMemory;
 use std::alloc::Global;
 
 /// The two orders of two actions that no path joins: all that have a path to one of them come first, then the two, then the others.

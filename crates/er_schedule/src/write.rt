@@ -1,15 +1,15 @@
 //! Writes the two orders of a race.
 
 ghost use Rattle.std.specs.Prelude.{◌≡◌, ◌≤◌, ◌++◌, ℕ, List, codes, length, OnOk, OnErr};
-ghost use Rattle.er_outside.specs.Ends.{Gets, GetsPart, Puts};
+ghost use Rattle.er_io.specs.Ends.{Gets, GetsPart, Puts};
 ghost use Rattle.er_syntax.specs.Buffered.{CountsFaults, HoldsRest};
-ghost use Rattle.er_report.specs.Pieces.{both_at};
+ghost use Rattle.er_report.specs.Fragments.{both_at};
 ghost use Rattle.er_syntax.specs.Lines.{count_line};
 ghost use Rattle.er_schedule.specs.Text.{opening_line, end_line, order_lines, schedules_of, schedule_text, AreOrders, AreSomeOrders};
 
 use crate::Schedules;
 use er_access::Table;
-use er_outside::{Failed, Sink, WriteFault, put_all};
+use er_io::{Failed, Sink, WriteFault, put_all};
 use er_races::Race;
 use er_report::RaceLine;
 use er_syntax::tokens::put_count;
@@ -43,7 +43,7 @@ pub fn write_schedules<K: Sink>(
 }
 
 /// The same through a buffer.
-#[tactic(auto, using(er_outside::proofs::Puts::composes))]
+#[tactic(auto, using(er_io::proofs::Puts::composes))]
 fn put_schedules<K: Sink>(
     sink: &mut K,
     race: &RaceLine<'_>,

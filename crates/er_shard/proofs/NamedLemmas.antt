@@ -5,7 +5,7 @@ use Rattle.std.specs.declared.vec.Vec.{Vec}
 use Rattle.std.proofs.lemmas.Nat.{mul-le, le-div}
 use Rattle.std.proofs.lemmas.List.{map-append, length-map}
 use Rattle.std.proofs.Math.Nat.{div-le_of_le-mul, div-mul-le_self}
-use Rattle.er_outside.specs.declared.ends.NoMemory.{NoMemory}
+use Rattle.er_io.specs.declared.ends.NoMemory.{NoMemory}
 use Rattle.er_cover.specs.declared.class.Class.{Class}
 use Rattle.er_access.specs.Kept.{Kept}
 use Rattle.er_races.specs.declared.race.Race.{Race}

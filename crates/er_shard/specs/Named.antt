@@ -2,7 +2,7 @@
 use Rattle.std.specs.Prelude.{◌≡◌, ◌-◌, ◌*◌, ◌/◌, ◌≤◌, ℕ, Bool, List, ◌++◌, length, Result, Ok, Err, IfOk}
 use Rattle.std.specs.declared.vec.Vec.{Vec}
 use Rattle.std.proofs.Common.{Global}
-use Rattle.er_outside.specs.declared.ends.NoMemory.{NoMemory}
+use Rattle.er_io.specs.declared.ends.NoMemory.{NoMemory}
 use Rattle.er_cover.specs.Parts.{Classing, names_between, once_of}
 
 -- where the classes of a shard begin

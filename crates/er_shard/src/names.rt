@@ -6,9 +6,9 @@ ghost use Rattle.er_cover.specs.Parts.{Classing, once_of};
 ghost use Rattle.er_shard.specs.Named.{AreBothNamed, IsNamed, begin_of};
 
 use er_clocks::Meter;
-use er_outside::NoMemory;
+use er_io::NoMemory;
 
-/// The groups that some classes name, or want of memory, and how many comparisons were made.
+/// The groups that some classes name, or out of memory, and how many comparisons were made.
 #[derive(Drop)]
 pub(crate) struct Names {
     pub(crate) names: Result<Vec<u32>, NoMemory>,

@@ -1,8 +1,7 @@
 //! Threads may share a gate.
 
 use crate::FreeGate;
-
-fn may_cross_threads<T: Send + Sync>() {}
+use er_io::may_cross_threads;
 
 /// Where the type could not cross threads, this would be refused.
 pub fn types_may_cross_threads() {

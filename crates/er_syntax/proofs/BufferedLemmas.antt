@@ -1,8 +1,8 @@
 -- What a sequence of texts put into a buffer does, from what each of them does.
 use Rattle.std.proofs.Common.{◌≡◌, ℕ, ◌≤◌, List, [], ◌++◌, length, take, Option, Some, refl, sym, ap, ◌∙◌, arith}
 use Rattle.std.proofs.lemmas.Grind.{common_steps}
-use Rattle.er_outside.specs.Ends.{Gets, GetsPart}
-use Rattle.er_outside.proofs.Puts.{gets_nothing, gets_again, gets_part_later}
+use Rattle.er_io.specs.Ends.{Gets, GetsPart}
+use Rattle.er_io.proofs.Puts.{gets_nothing, gets_again, gets_part_later}
 use Rattle.er_syntax.specs.Buffered.{HoldsRest}
 
 -- all is held, and nothing came

@@ -40,5 +40,5 @@ item_before_loc x (Var o n) = first_item x _ _
 item_before_loc x (Elem d n) = first_item x _ _
 item_before_loc x (Slot e n) = first_item x _ _
 
-pub count_pieces : (name : List ℕ) (n : ℕ) → count_line name n ≡ item_start (Word name) ++ item_line (Number n ∷ [])
-count_pieces name n = first_item _ _ _
+pub count_parts : (name : List ℕ) (n : ℕ) → count_line name n ≡ item_start (Word name) ++ item_line (Number n ∷ [])
+count_parts name n = first_item _ _ _

@@ -4,8 +4,8 @@ use Rattle.std.specs.Prelude.{map}
 use Rattle.std.specs.List.{AllByRecursion, flat_map}
 use Rattle.std.proofs.lemmas.Grind.{common_steps, flat_map-append}
 use Rattle.std.proofs.lemmas.List.{take-append-drop, take_all}
-use Rattle.er_outside.specs.Ends.{Gets, GetsPart}
-use Rattle.er_outside.proofs.Puts.{gets_again, gets_part_later, gets_part_first}
+use Rattle.er_io.specs.Ends.{Gets, GetsPart}
+use Rattle.er_io.proofs.Puts.{gets_again, gets_part_later, gets_part_first}
 use Rattle.er_syntax.specs.declared.print.Token.{Token}
 use Rattle.er_trace.specs.Items.{IsItem, item_spelling}
 use Rattle.er_syntax.specs.Tokens.{token_item, tokens_spelling}

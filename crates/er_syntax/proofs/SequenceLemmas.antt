@@ -3,8 +3,8 @@ use Rattle.std.proofs.Common.{◌≡◌, ℕ, zero, suc, ◌+◌, ◌≤◌, Lis
 use Rattle.std.specs.List.{slice_get}
 use Rattle.std.proofs.lemmas.Grind.{common_steps}
 use Rattle.std.proofs.lemmas.List.{take_all}
-use Rattle.er_outside.specs.Ends.{GetsPart}
-use Rattle.er_outside.proofs.Puts.{gets_part_first}
+use Rattle.er_io.specs.Ends.{GetsPart}
+use Rattle.er_io.proofs.Puts.{gets_part_first}
 use Rattle.er_syntax.specs.Buffered.{HoldsRest}
 use Rattle.er_syntax.specs.Lines.{lines_from}
 use Rattle.er_syntax.proofs.BufferedLemmas.{holds_more, part_more}

@@ -1,7 +1,7 @@
 -- What a buffer in front of a sink does.
 use Rattle.std.specs.Prelude.{◌≡◌, ℕ, ◌≤◌, List, ◌++◌, Option, Result, OnOk, OnErr}
-use Rattle.er_outside.specs.Ends.{Gets, Rose, one_more}
-use Rattle.er_outside.specs.declared.ends.Failed.{Failed}
+use Rattle.er_io.specs.Ends.{Gets, Rose, one_more}
+use Rattle.er_io.specs.declared.ends.Failed.{Failed}
 
 -- a front of the bytes that are due came, and the rest is held
 unfoldable pub HoldsRest : Option (List ℕ) → List ℕ → Option (List ℕ) → List ℕ → Type 0

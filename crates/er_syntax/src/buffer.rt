@@ -1,9 +1,9 @@
 //! A buffer of fixed size.
 
 ghost use Rattle.std.specs.Prelude.{◌≡◌, ◌<◌, ◌≤◌, [], Some, length, take, IfOk, OnOk, OnErr};
-ghost use Rattle.er_outside.specs.Ends.{Gets, Rose, last_count};
+ghost use Rattle.er_io.specs.Ends.{Gets, Rose, last_count};
 
-use er_outside::{Failed, Sink};
+use er_io::{Failed, Sink};
 use std::marker::Model;
 
 /// How many bytes the buffer holds at most. No line is half as long, so that each write but the
@@ -68,27 +68,27 @@ impl Sink for Buffer {
     // Its faults are not counted: the count stands at its end.
     ghost faults = { λ _. last_count };
 
-    fn write(&mut self, piece: &[u8]) -> Result<usize, Failed>
-        ensures taken { IfOk result (λ n. n ≤ length piece.now) }
-        ensures got { IfOk result (λ n. Gets (Some self.old) (take n piece.now) (Some self.new)) }
-        ensures some { IfOk result (λ n. 0 < length piece.now → 0 < n) }
+    fn write(&mut self, chunk: &[u8]) -> Result<usize, Failed>
+        ensures taken { IfOk result (λ n. n ≤ length chunk.now) }
+        ensures got { IfOk result (λ n. Gets (Some self.old) (take n chunk.now) (Some self.new)) }
+        ensures some { IfOk result (λ n. 0 < length chunk.now → 0 < n) }
         ensures kept { OnErr result (Some self.new ≡ Some self.old) }
         ensures cause { OnErr result (Rose last_count last_count) }
         ensures count { last_count ≤ last_count }
         ensures stands { OnOk result (last_count ≡ last_count) }
     {
-        let count = piece.len().min(ROOM - self.count);
-        if count == 0 && !piece.is_empty() {
+        let count = chunk.len().min(ROOM - self.count);
+        if count == 0 && !chunk.is_empty() {
             return Err(Failed);
         }
-        // Many pieces are one space: to store a byte is no call, to copy a slice of one byte is.
-        if let [byte] = piece {
+        // Many chunks are one space: to store a byte is no call, to copy a slice of one byte is.
+        if let [byte] = chunk {
             self.bytes[self.count] = *byte;
             self.count += 1;
             return Ok(1);
         }
         let end = self.count + count;
-        self.bytes[self.count..end].copy_from_slice(&piece[..count]);
+        self.bytes[self.count..end].copy_from_slice(&chunk[..count]);
         self.count = end;
         Ok(count)
     }

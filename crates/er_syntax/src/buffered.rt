@@ -1,11 +1,11 @@
-//! A buffer in front of a sink, so that a text of many small pieces takes few writes.
+//! A buffer in front of a sink, so that a text of many small parts takes few writes.
 
 ghost use Rattle.std.specs.Prelude.{◌≡◌, ℕ, ◌≤◌, List, [], ◌++◌, length, take, OnOk, OnErr};
-ghost use Rattle.er_outside.specs.Ends.{GetsPart, Puts};
+ghost use Rattle.er_io.specs.Ends.{GetsPart, Puts};
 ghost use Rattle.er_syntax.specs.Buffered.{CountsFaults, HoldsRest};
 
 use crate::buffer::Buffer;
-use er_outside::{Failed, Sink, put_all};
+use er_io::{Failed, Sink, put_all};
 
 /// A text that can be written to any sink.
 pub trait Text {
@@ -33,7 +33,7 @@ fn hold<T: Text>(buffer: &mut Buffer, text: &T) -> Result<(), Failed>
 
 /// Puts the text behind what the buffer holds. Where there is no room, what it holds is written
 /// first. A text for which no buffer is long enough goes straight to the sink.
-#[tactic(auto, using(er_outside::proofs::Puts::composes, crate::proofs::BufferedLemmas::holds))]
+#[tactic(auto, using(er_io::proofs::Puts::composes, crate::proofs::BufferedLemmas::holds))]
 pub fn put_text<K: Sink, T: Text>(sink: &mut K, buffer: &mut Buffer, text: &T) -> Result<(), Failed>
     ensures whole { OnOk result (HoldsRest (K.got sink.old) (buffer.old ++ T.text text.now)
         (K.got sink.new) buffer.new) }

@@ -2,13 +2,13 @@
 
 ghost use Rattle.std.specs.Prelude.{◌≡◌, ℕ, ◌≤◌, List, [], ◌∷◌, map, decimal, OnOk, OnErr, codes};
 ghost use Rattle.std.specs.List.{AllByRecursion};
-ghost use Rattle.er_outside.specs.Ends.{Puts};
+ghost use Rattle.er_io.specs.Ends.{Puts};
 ghost use Rattle.er_text.specs.Name.{IsName};
 ghost use Rattle.er_trace.specs.Items.{IsItem, item_spelling, items_spelling, Word, Number, Named};
 ghost use Rattle.er_trace.specs.Spelling.{loc_spelling, loc_items, mode_word, record_items, spelling, IsLoc, IsRecord};
 ghost use Rattle.er_syntax.specs.Tokens.{line_items, token_item, tokens_spelling};
 
-use er_outside::{Failed, Sink, put_all};
+use er_io::{Failed, Sink, put_all};
 use er_text::{put_name, put_number};
 use er_trace::name::Name;
 use er_trace::record::{Loc, Mode, Record};
@@ -33,7 +33,7 @@ fn put_token<K: Sink>(sink: &mut K, token: &Token) -> Result<(), Failed>
 }
 
 /// Writes a space and the item.
-#[tactic(auto, using(crate::proofs::PrintLaws::after_byte, er_outside::proofs::Puts::composes))]
+#[tactic(auto, using(crate::proofs::PrintLaws::after_byte, er_io::proofs::Puts::composes))]
 fn put_next<K: Sink>(sink: &mut K, token: &Token) -> Result<(), Failed>
     requires { IsItem (token_item token.now) }
     ensures { Puts K.got K.faults sink.old
@@ -44,7 +44,7 @@ fn put_next<K: Sink>(sink: &mut K, token: &Token) -> Result<(), Failed>
 }
 
 /// Writes the word and the items, with single spaces between.
-#[tactic(auto, using(crate::proofs::PrintLaws::tokens_writes, er_outside::proofs::Puts::composes))]
+#[tactic(auto, using(crate::proofs::PrintLaws::tokens_writes, er_io::proofs::Puts::composes))]
 fn put_tokens<K: Sink>(sink: &mut K, word: &str, later: &[Token]) -> Result<(), Failed>
     requires { AllByRecursion IsItem (map token_item later.now) }
     ensures { Puts K.got K.faults sink.old (tokens_spelling word.now later.now) sink.new result }

@@ -4,7 +4,7 @@ ghost use Rattle.std.specs.Prelude.{◌≡◌, ◌↔◌, [], ◌∷◌, ◌++�
 ghost use Rattle.er_tasks.specs.Begun.{AreRuns, GoesOn, HasPlace, IsRunTo, task_number};
 
 use crate::tasks::{BegunTask, Task};
-use er_outside::NoMemory;
+use er_io::NoMemory;
 use std::alloc::Global;
 
 /// A task whose event began: its number, the event, and what declared it.

@@ -9,7 +9,7 @@ ghost use Rattle.er_tasks.specs.Tasks.{IsStarted, QueuedAre, event_under, number
 
 use crate::begun::{Begun, Started, run_to};
 use crate::tasks::BegunTask;
-use er_outside::NoMemory;
+use er_io::NoMemory;
 use indexmap::IndexMap;
 use std::alloc::Global;
 

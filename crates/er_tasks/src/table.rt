@@ -18,7 +18,7 @@ ghost use Rattle.er_tasks.specs.Tasks.{HaveRoom, IsNoted, IsStarted, TaskGiven, 
 use crate::begun::{Begun, Started, run_to};
 use crate::tasks::{BegunTask, Task};
 use er_history::firsts::{Now, make_room, note_maker, note_pair};
-use er_outside::NoMemory;
+use er_io::NoMemory;
 use indexmap::IndexMap;
 use std::alloc::Global;
 

@@ -9,7 +9,7 @@ use crate::forms::{anim_in, asked_in, is_of_task, job_in, message_in, posted_in,
 use crate::queued::Queued;
 use crate::table::TaskTable;
 use er_history::firsts::Now;
-use er_outside::NoMemory;
+use er_io::NoMemory;
 use er_trace::record::Record;
 use std::alloc::Global;
 

@@ -3,11 +3,11 @@
 
 ghost use Rattle.std.specs.Prelude.{◌≡◌, ◌≢◌, ℕ, ◌+◌, ◌*◌, ◌≤◌, ◌<◌, List, ◌∷◌, ◌++◌, length, take, IfOk, IsOkAnd, MatchOption, IfSome, Some, OnOk, OnErr};
 ghost use Rattle.std.specs.Iterator.{YieldsFirst, item_count};
-ghost use Rattle.er_outside.specs.Ends.{Puts};
+ghost use Rattle.er_io.specs.Ends.{Puts};
 ghost use Rattle.er_text.specs.Name.{IsName, most_name, stands_for_itself, hex_digit, byte_spelling, name_spelling};
 
 use crate::numbers::BadToken;
-use er_outside::{Failed, Sink, put_all};
+use er_io::{Failed, Sink, put_all};
 use std::marker::Model;
 
 /// How many bytes a name has at most.

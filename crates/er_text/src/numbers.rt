@@ -1,12 +1,12 @@
 //! Numbers: decimal, without a sign and without leading zeros, and below 2 ^ 32.
 
 ghost use Rattle.std.specs.Prelude.{◌≡◌, ℕ, ◌≤◌, IfOk, OnOk, OnErr, Ok, length, decimal};
-ghost use Rattle.er_outside.specs.Ends.{Puts};
+ghost use Rattle.er_io.specs.Ends.{Puts};
 ghost use Rattle.std.specs.Option.{SomeIff};
 ghost use Rattle.std.specs.Str.Parse.{AllDigits, digits_value};
 ghost use Rattle.er_text.specs.Number.{IsNumber};
 
-use er_outside::{Failed, Sink, put_all};
+use er_io::{Failed, Sink, put_all};
 use itoa::Buffer;
 
 /// A word that is not what was asked for.

@@ -7,7 +7,7 @@ ghost use Rattle.std.specs.Cmp.Lexicographic.{pointwise};
 ghost use Rattle.std.specs.Cmp.Rules.{comparing, hashing};
 ghost use Rattle.er_text.specs.Name.{most_name, IsName};
 
-use er_outside::NoMemory;
+use er_io::NoMemory;
 use er_text::NameWord;
 use smallvec::SmallVec;
 use std::alloc::Global;

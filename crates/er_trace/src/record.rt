@@ -4,7 +4,7 @@ ghost use Rattle.std.specs.Prelude.{◌≡◌, IfOk};
 ghost use Rattle.er_trace.specs.Spelling.{kind_word, new_kind_word, mode_word};
 
 use crate::name::Name;
-use er_outside::NoMemory;
+use er_io::NoMemory;
 
 /// The kind of an element that the parser made.
 #[derive(Clone, Copy, Debug, PartialEq, Eq)]

@@ -2,8 +2,7 @@
 
 use crate::name::Name;
 use crate::record::{Loc, Mode};
-
-fn may_cross_threads<T: Send + Sync>() {}
+use er_io::may_cross_threads;
 
 /// Where a type could not cross threads, this would be refused.
 pub fn types_may_cross_threads() {

@@ -84,15 +84,15 @@ item_token (Word word) = Token.string word
 item_token (Number n) = Token.number (decimal n)
 item_token (Named name) = Token.string name
 
-abbrev later_pieces : Bool → List Item → List (List ℕ × Token)
-later_pieces spaced [] = ([], Token.end_array) ∷ []
-later_pieces spaced (i ∷ items) = (gap spaced, item_token i) ∷ later_pieces spaced items
+abbrev later_chunks : Bool → List Item → List (List ℕ × Token)
+later_chunks spaced [] = ([], Token.end_array) ∷ []
+later_chunks spaced (i ∷ items) = (gap spaced, item_token i) ∷ later_chunks spaced items
 
-abbrev pieces : Bool → List Item → List (List ℕ × Token)
-pieces spaced [] = ([], Token.begin_array) ∷ ([], Token.end_array) ∷ []
-pieces spaced (i ∷ items) = ([], Token.begin_array) ∷ ([], item_token i) ∷ later_pieces spaced items
+abbrev chunks : Bool → List Item → List (List ℕ × Token)
+chunks spaced [] = ([], Token.begin_array) ∷ ([], Token.end_array) ∷ []
+chunks spaced (i ∷ items) = ([], Token.begin_array) ∷ ([], item_token i) ∷ later_chunks spaced items
 
-later_printed : (spaced : Bool) (items : List Item) → list_all is_plain_item items ≡ true → print_spaced true (later_pieces spaced items) ≡ later_text spaced items
+later_printed : (spaced : Bool) (items : List Item) → list_all is_plain_item items ≡ true → print_spaced true (later_chunks spaced items) ≡ later_text spaced items
 unfolding print_spaced
 later_printed spaced [] h = refl
 later_printed spaced (Word word ∷ items) h =
@@ -103,7 +103,7 @@ later_printed spaced (Named name ∷ items) h =
     let p = and_parts (list_all needs_no_escape name) (list_all is_plain_item items) h in
     ap₂ (λ (x y : List ℕ). comma ∷ (gap spaced ++ (x ++ y))) (escaped_string name p.0) (later_printed spaced items p.1)
 
-printed : (spaced : Bool) (items : List Item) → list_all is_plain_item items ≡ true → print_spaced false (pieces spaced items) ≡ plain_text spaced items
+printed : (spaced : Bool) (items : List Item) → list_all is_plain_item items ≡ true → print_spaced false (chunks spaced items) ≡ plain_text spaced items
 unfolding print_spaced
 printed spaced [] h = refl
 printed spaced (Word word ∷ items) h =
@@ -120,11 +120,11 @@ one_token (Word word) = refl
 one_token (Number n) = refl
 one_token (Named name) = refl
 
-later_tokens : (spaced : Bool) (items : List Item) → map (λ p. p.1) (later_pieces spaced items) ≡ tree.items_tokens (json_of items)
+later_tokens : (spaced : Bool) (items : List Item) → map (λ p. p.1) (later_chunks spaced items) ≡ tree.items_tokens (json_of items)
 later_tokens spaced [] = refl
 later_tokens spaced (i ∷ items) = ap₂ (λ (x y : List Token). x ++ y) (sym (one_token i)) (later_tokens spaced items)
 
-all_tokens : (spaced : Bool) (items : List Item) → map (λ p. p.1) (pieces spaced items) ≡ tree.json_tokens (outline (data_of items))
+all_tokens : (spaced : Bool) (items : List Item) → map (λ p. p.1) (chunks spaced items) ≡ tree.json_tokens (outline (data_of items))
 all_tokens spaced [] = refl
 all_tokens spaced (i ∷ items) = ap (λ (ts : List Token). Token.begin_array ∷ ts) (later_tokens spaced (i ∷ items))
 
@@ -132,11 +132,11 @@ is_gap : (spaced : Bool) → IsGap (gap spaced)
 is_gap true = (inl refl, tt)
 is_gap false = tt
 
-later_gaps : (spaced : Bool) (items : List Item) → AreGaps (later_pieces spaced items)
+later_gaps : (spaced : Bool) (items : List Item) → AreGaps (later_chunks spaced items)
 later_gaps spaced [] = (tt, tt)
 later_gaps spaced (i ∷ items) = (is_gap spaced, later_gaps spaced items)
 
-all_gaps : (spaced : Bool) (items : List Item) → AreGaps (pieces spaced items)
+all_gaps : (spaced : Bool) (items : List Item) → AreGaps (chunks spaced items)
 all_gaps spaced [] = (tt, (tt, tt))
 all_gaps spaced (i ∷ items) = (tt, (tt, later_gaps spaced items))
 
@@ -173,9 +173,9 @@ items_back (i ∷ items) each =
 read_back : (spaced : Bool) (items : List Item) → AllByRecursion IsItem items → list_all is_plain_item items ≡ true → read (plain_text spaced items) ≡ Some (data_of items)
 read_back spaced items each plain =
     let j : json.Json = outline (data_of items) in
-    let printable : ArePrintable (map (λ p. p.1) (pieces spaced items)) = subst ArePrintable (sym (all_tokens spaced items)) (ArePrintable-json_tokens j (numbers items each)) in
+    let printable : ArePrintable (map (λ p. p.1) (chunks spaced items)) = subst ArePrintable (sym (all_tokens spaced items)) (ArePrintable-json_tokens j (numbers items each)) in
     let lexed : tokens (plain_text spaced items) ≡ tree.json_tokens j =
-    ap tokens (sym (printed spaced items plain)) ∙ (tokens-print_spaced (pieces spaced items) (all_gaps spaced items) printable ∙ all_tokens spaced items) in
+    ap tokens (sym (printed spaced items plain)) ∙ (tokens-print_spaced (chunks spaced items) (all_gaps spaced items) printable ∙ all_tokens spaced items) in
     let shallow : tree.depth j ≤ max_depth = omega (arith, flat items) in
     let valued : json.value max_depth (tree.json_tokens j) ≡ Some (j, []) =
     ap (json.value max_depth) (sym (append-nil (tree.json_tokens j))) ∙ value-json_tokens j max_depth [] shallow in

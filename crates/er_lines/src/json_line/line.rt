@@ -8,7 +8,7 @@ ghost use Rattle.er_lines.specs.Steps.{IsLater};
 
 use crate::format::Later;
 use crate::json_line::members::{are_end, header_of, members_of, read_record};
-use er_outside::NoMemory;
+use er_io::NoMemory;
 use er_trace::fault::LineFault;
 use er_trace::record::Record;
 use er_trace::version::Version;

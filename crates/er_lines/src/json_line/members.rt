@@ -14,7 +14,7 @@ ghost use Rattle.er_lines.specs.json_line.Texts.{member_word, next_word, text_of
 
 use crate::json_line::kinds::are_kinds;
 use crate::json_line::letters::Letters;
-use er_outside::put_all;
+use er_io::put_all;
 use er_syntax::parse::parse_record;
 use er_text::{MOST_NAME, put_name, put_number};
 use er_trace::fault::LineFault;

@@ -42,7 +42,7 @@ use Rattle.er_path_rules.specs.task.Before.{event_in, goes_before, AreJoined, Ha
 use Rattle.er_path_rules.specs.task.Counts.{queued_count, most_task}
 use Rattle.er_path_rules.specs.task.Due.{is_task, declared_first, is_earlier, is_job_of, maker_of, comes_before}
 use Rattle.er_path_rules.specs.task.Enough.{HandsEnoughTasks, HandsSourceTasks}
-use Rattle.er_path_rules.specs.task.Handed.{HandsSomeEvents, HandsEvents, HandsPassing, HandsSome}
+use Rattle.er_path_rules.specs.task.Handed.{HandsSomeEvents, HandsEvents, HandsEnoughOf, HandsSome}
 use Rattle.er_path_rules.specs.task.Parts.{due_for, task_due, task_count, jobs_due, callback_due, callback_count}
 use Rattle.er_path_rules.proofs.task.ListLemmas.{TaskSays, task_says, none_made, goes_is, IsListOf, found_at, tasks_are_events, task_events, all_events, all_kept, tasks_are_joined}
 use Rattle.er_path_rules.proofs.task.PartLemmas.{nothing_handed, some_as, hands_as, hands_both, some_first, some_later, is_event, event_handed, event_in_part, each_handed, each_in_part, AreOf, tasks_handed, tasks_in_part}
@@ -114,7 +114,7 @@ maker_events kind page number next some found = ∥∥₁_map some (λ p. record
 
 -- before a task
 
-pub no_task : (kind : TaskKind) (page : Page) (links : List (List ℕ)) (number : ℕ) (old : List ℕ) → None ≡ task_at kind page.tasks number → HandsPassing (IsTimed Three page links) (task_due kind number) (task_count kind number) old old
+pub no_task : (kind : TaskKind) (page : Page) (links : List (List ℕ)) (number : ℕ) (old : List ℕ) → None ≡ task_at kind page.tasks number → HandsEnoughOf (IsTimed Three page links) (task_due kind number) (task_count kind number) old old
 no_task kind page links number old none h timed =
     nothing_handed (path (rules Three) h) (told h).actions (task_due kind number h) (task_count kind number h) old
     (λ i among. ap (λ o. comes_before (path (rules Three) h) kind o i.event) (none_made kind page.tasks h timed.page.tasks number (sym none)))
@@ -143,7 +143,7 @@ count_by joined kind number h next says = ap (λ o. 1 + length (events_of_each (
 
 pub task_whole : {E : Type 0} → (kind : TaskKind) (page : Page) (links : List (List ℕ)) (number : ℕ) (next : Task) (xs : List BegunTask) (r : Result (Unit {0}) E) (old mid new : List ℕ) → Some next ≡ task_at kind page.tasks number
     → IsNumbered page (tasks_begun kind) xs → AreBegunOn kind page xs → GrewFor page (λ t. latest_of (Some next.maker) t.actions) old mid
-    → OnOk r ((h : List Record) → IsTimed Three page links h → HandsOf (path (rules Three) h) (told h).actions (Before next) xs 0 mid new) → OnOk r (HandsPassing (IsTimed Three page links) (task_due kind number) (task_count kind number) old new)
+    → OnOk r ((h : List Record) → IsTimed Three page links h → HandsOf (path (rules Three) h) (told h).actions (Before next) xs 0 mid new) → OnOk r (HandsEnoughOf (IsTimed Three page links) (task_due kind number) (task_count kind number) old new)
 task_whole kind page links number next xs (Err e) old mid new found numbers begun first second = tt
 task_whole kind page links number next xs (Ok u) old mid new found numbers begun first second = λ h timed.
     let joined = path (rules Three) h in
@@ -207,11 +207,11 @@ queued_count_is u page h is xs list =
       queued_counted u h,
     )
 
-pub no_jobs : (page : Page) (links : List (List ℕ)) (old : List ℕ) → HandsPassing (IsTimed Three page links) (jobs_due None) (λ h. queued_count h None) old old
+pub no_jobs : (page : Page) (links : List (List ℕ)) (old : List ℕ) → HandsEnoughOf (IsTimed Three page links) (jobs_due None) (λ h. queued_count h None) old old
 no_jobs page links old h timed = nothing_handed (path (rules Three) h) (told h).actions (jobs_due None h) 0 old (λ i among. refl)
 
 pub jobs_whole : {E : Type 0} → (u : ℕ) (page : Page) (links : List (List ℕ)) (xs : List BegunTask) (r : Result (Unit {0}) E) (old new : List ℕ) → IsNumbered page (λ h. queued_jobs h u) xs → AreBegunOn OfJob page xs
-    → OnOk r ((h : List Record) → IsTimed Three page links h → HandsOf (path (rules Three) h) (told h).actions Nothing xs 0 old new) → OnOk r (HandsPassing (IsTimed Three page links) (jobs_due (Some u)) (λ h. queued_count h (Some u)) old new)
+    → OnOk r ((h : List Record) → IsTimed Three page links h → HandsOf (path (rules Three) h) (told h).actions Nothing xs 0 old new) → OnOk r (HandsEnoughOf (IsTimed Three page links) (jobs_due (Some u)) (λ h. queued_count h (Some u)) old new)
 jobs_whole u page links xs (Err e) old new numbers begun hands = tt
 jobs_whole u page links xs (Ok t) old new numbers begun hands = λ h timed.
     let joined = path (rules Three) h in
@@ -231,7 +231,7 @@ jobs_part u page links xs (Err e) old new numbers begun hands = λ h timed.
 -- the jobs of a dispatch
 
 pub within_whole : {E : Type 0} → (page : Page) (d : ℕ) (slice : List ℕ) (r : Result (Unit {0}) E) (old new : List ℕ) → ((h : List Record) → IsPage page h → slice ≡ jobs_in h d) → OnOk r (GrewFor page (λ t. latest_of_all (reverse slice) t.actions) old new)
-    → OnOk r (HandsPassing (IsPage page) (λ h. is_job_within d) (λ h. length (jobs_in h d)) old new)
+    → OnOk r (HandsEnoughOf (IsPage page) (λ h. is_job_within d) (λ h. length (jobs_in h d)) old new)
 within_whole page d slice (Err e) old new is grew = tt
 within_whole page d slice (Ok t) old new is grew = λ h stands.
     each_handed (rules Three) h (is_job_within d) (length (jobs_in h d)) old new refl (subst (λ (l : List ℕ). GrewBy old l new) (slice_handed h (is_job_within d) slice (is h stands)) (grew h stands))
@@ -254,8 +254,8 @@ queuer_is kind page h is number maker e = e ∙ by (task_at kind page.tasks numb
         ap (option_map (λ (x : Task). x.maker)) f ∙ (ap (λ m. Some m) (sym says.maker) ∙ ap maker_of (sym says.is))
 
 pub callback_whole : {E : Type 0} → (kind : TaskKind) (page : Page) (links : List (List ℕ)) (number : ℕ) (maker : Option ℕ) (r : Result (Unit {0}) E) (old mid new : List ℕ) → maker ≡ option_map (λ (x : Task). x.maker) (task_at kind page.tasks number)
-    → HandsPassing (IsTimed Three page links) (task_due kind number) (task_count kind number) old mid → OnOk r (HandsPassing (IsTimed Three page links) (jobs_due maker) (λ h. queued_count h maker) mid new)
-    → OnOk r (HandsPassing (IsTimed Three page links) (callback_due kind number) (callback_count kind number) old new)
+    → HandsEnoughOf (IsTimed Three page links) (task_due kind number) (task_count kind number) old mid → OnOk r (HandsEnoughOf (IsTimed Three page links) (jobs_due maker) (λ h. queued_count h maker) mid new)
+    → OnOk r (HandsEnoughOf (IsTimed Three page links) (callback_due kind number) (callback_count kind number) old new)
 callback_whole kind page links number maker (Err e) old mid new is first second = tt
 callback_whole kind page links number maker (Ok t) old mid new is first second = λ h timed.
     let joined = path (rules Three) h in
@@ -270,7 +270,7 @@ callback_first kind page links number (Err e) old new first = λ h timed.
     some_first (told h).actions (task_due kind number h) (jobs_due (maker_of (task_made kind h number)) h) (task_count kind number h) (queued_count h (maker_of (task_made kind h number))) old new (first h timed)
 
 pub callback_part : {E : Type 0} → (kind : TaskKind) (page : Page) (links : List (List ℕ)) (number : ℕ) (maker : Option ℕ) (r : Result (Unit {0}) E) (old mid new : List ℕ) → maker ≡ option_map (λ (x : Task). x.maker) (task_at kind page.tasks number)
-    → HandsPassing (IsTimed Three page links) (task_due kind number) (task_count kind number) old mid → OnErr r (HandsSome (IsTimed Three page links) (jobs_due maker) (λ h. queued_count h maker) mid new)
+    → HandsEnoughOf (IsTimed Three page links) (task_due kind number) (task_count kind number) old mid → OnErr r (HandsSome (IsTimed Three page links) (jobs_due maker) (λ h. queued_count h maker) mid new)
     → OnErr r (HandsSome (IsTimed Three page links) (callback_due kind number) (callback_count kind number) old new)
 callback_part kind page links number maker (Ok t) old mid new is first second = tt
 callback_part kind page links number maker (Err e) old mid new is first second = λ h timed.
@@ -285,7 +285,7 @@ abbrev pub IsSame : (List Record → Type 0) → (List Record → Event → Bool
 IsSame stands test same most more = (h : List Record) → stands h → ((u : Event) → test h u ≡ same h u) × (most h ≡ more h)
 
 pub whole_as : {E : Type 0} → (stands wider : List Record → Type 0) (test same : List Record → Event → Bool) (most more : List Record → ℕ) (r : Result (Unit {0}) E) (old new : List ℕ) → ((h : List Record) → stands h → wider h) → IsSame stands test same most more
-    → OnOk r (HandsPassing wider test most old new) → OnOk r (HandsPassing stands same more old new)
+    → OnOk r (HandsEnoughOf wider test most old new) → OnOk r (HandsEnoughOf stands same more old new)
 whole_as stands wider test same most more (Err e) old new to is hands = tt
 whole_as stands wider test same most more (Ok t) old new to is hands = λ h stand.
     hands_as (path (rules Three) h) (told h).actions (test h) (same h) (most h) (more h) old new (λ i among. (is h stand).0 i.event) (omega (arith, (is h stand).1)) (hands h (to h stand))
@@ -315,7 +315,7 @@ job_count h j =
     ap (λ l. 1 + length l) (sym (events_same _ _ (told h).actions (λ a among.
     jobs_counted (path (rules Three) h) a.event (length (told h).actions) j (task_made OfJob h j) (map (λ (o : Open). o.dispatch.number) (told h).stack) (older h a among) (made_known h (declares_task OfJob j)))))
 
-pub nothing_due : (page : Page) (links : List (List ℕ)) (x : Record) (old : List ℕ) → ((h : List Record) (u : Event) → due_for x h u ≡ false) → HandsPassing (IsTimed Three page links) (due_for x) (λ h. most_task h x) old old
+pub nothing_due : (page : Page) (links : List (List ℕ)) (x : Record) (old : List ℕ) → ((h : List Record) (u : Event) → due_for x h u ≡ false) → HandsEnoughOf (IsTimed Three page links) (due_for x) (λ h. most_task h x) old old
 nothing_due page links x old none h timed = nothing_handed (path (rules Three) h) (told h).actions (due_for x h) (most_task h x) old (λ i among. none h i.event)
 
 -- so it is sources, and enough
@@ -348,7 +348,7 @@ no_numbers h x (k ∷ ks) sources e =
     let none = none_for_notes h x s.0.event e in
     absurd (cc)
 
-pub enough_tasks : {E : Type 0} → (stands : List Record → Type 0) (x : Record) (old new : List ℕ) (r : Result (Unit {0}) E) → OnOk r (HandsPassing stands (due_for x) (λ h. most_task h x) old new) → OnOk r (HandsEnoughTasks stands x old new)
+pub enough_tasks : {E : Type 0} → (stands : List Record → Type 0) (x : Record) (old new : List ℕ) (r : Result (Unit {0}) E) → OnOk r (HandsEnoughOf stands (due_for x) (λ h. most_task h x) old new) → OnOk r (HandsEnoughTasks stands x old new)
 enough_tasks stands x old new (Err e) hands = tt
 enough_tasks stands x old new (Ok t) hands = λ h is next.
     let all = hands h is in
@@ -368,12 +368,12 @@ source_tasks stands x old new (Err e) hands = λ h is next. let some = hands h i
 
 -- how many they are, and that what stood before stays in front
 
-pub few_tasks : {E : Type 0} → (stands : List Record → Type 0) (x : Record) (old new : List ℕ) (r : Result (Unit {0}) E) → OnOk r (HandsPassing stands (due_for x) (λ h. most_task h x) old new) → OnErr r (HandsSome stands (due_for x) (λ h. most_task h x) old new)
+pub few_tasks : {E : Type 0} → (stands : List Record → Type 0) (x : Record) (old new : List ℕ) (r : Result (Unit {0}) E) → OnOk r (HandsEnoughOf stands (due_for x) (λ h. most_task h x) old new) → OnErr r (HandsSome stands (due_for x) (λ h. most_task h x) old new)
     → HandsFew stands most_task x old new
 few_tasks stands x old new (Ok t) whole part = λ h is. let some = (whole h is).some in grew_few old some.handed new (most_task h x) some.few some.grown
 few_tasks stands x old new (Err e) whole part = λ h is. let some = part h is in grew_few old some.handed new (most_task h x) some.few some.grown
 
-pub kept_tasks : {E : Type 0} → (stands : List Record → Type 0) (x : Record) (old new : List ℕ) (r : Result (Unit {0}) E) → OnOk r (HandsPassing stands (due_for x) (λ h. most_task h x) old new) → OnErr r (HandsSome stands (due_for x) (λ h. most_task h x) old new)
+pub kept_tasks : {E : Type 0} → (stands : List Record → Type 0) (x : Record) (old new : List ℕ) (r : Result (Unit {0}) E) → OnOk r (HandsEnoughOf stands (due_for x) (λ h. most_task h x) old new) → OnErr r (HandsSome stands (due_for x) (λ h. most_task h x) old new)
     → (h : List Record) → stands h → take (length old) new ≡ old
 kept_tasks stands x old new (Ok t) whole part h is = let some = (whole h is).some in grew_behind old some.handed new some.grown
 kept_tasks stands x old new (Err e) whole part h is = let some = part h is in grew_behind old some.handed new some.grown

@@ -13,7 +13,7 @@ use Rattle.er_paths.proofs.Paths.{or_cases, or_left, or_right}
 use Rattle.er_history.specs.History as history
 use Rattle.er_history.specs.History.{What, MessageRun, AnimRun, JobRun, Event, Action, told}
 use Rattle.er_history.specs.Edges.{path, up_to, is_ruled, around_inline, of_one_event}
-use Rattle.er_history.specs.Handed.{HasGroup}
+use Rattle.er_history.specs.Handed.{HasFamily}
 use Rattle.er_history.specs.Latest.{events_of_each}
 use Rattle.er_history.specs.Laws.{Among}
 use Rattle.er_history.specs.LookUps.{before, event_of}
@@ -236,7 +236,7 @@ run_is_task OfAnim _ n o e = absurd (cc)
 run_is_task OfJob (JobRun j made within) n o e = tt
 run_is_task OfJob _ n o e = absurd (cc)
 
-pub tasks_are_joined : (table : List (ℕ × Rule)) → HasGroup table task_rules → (kind : TaskKind) (tasks : Tasks) (h : List Record) → IsNamed h → TasksAre tasks h → (pick : history.Task → Bool) (xs : List BegunTask) → IsListOf kind tasks (begun_by kind pick h) xs
+pub tasks_are_joined : (table : List (ℕ × Rule)) → HasFamily table task_rules → (kind : TaskKind) (tasks : Tasks) (h : List Record) → IsNamed h → TasksAre tasks h → (pick : history.Task → Bool) (xs : List BegunTask) → IsListOf kind tasks (begun_by kind pick h) xs
     → AreJoined (path table h) (told h).actions xs
 tasks_are_joined table has kind tasks h named are pick xs list = record { declared = declared_at; piece = piece; join = join }
   where

@@ -21,7 +21,7 @@ use Rattle.er_names.specs.declared.names.SetTimeout.{SetTimeout}
 use Rattle.er_names.specs.declared.names.Timeout.{Timeout}
 use Rattle.er_names.specs.Fired.{GoesOn, IsFound, number_of, numbered}
 use Rattle.er_names.specs.Names.{Setting, setting_of, setting, TimeoutsAre, NamesAre, IsSet, IsRankedByPlace, rank_of, timeout_at}
-use Rattle.er_path_rules.specs.timer.Fired.{is_no_longer, goes_off_first, is_joined, goes_before, fired_handed, set_by, handed_before}
+use Rattle.er_path_rules.specs.timer.Fired.{is_no_longer, goes_off_first, is_joined, goes_before, fired_handed, set_by, callback_handed}
 use Rattle.er_path_rules.specs.timer.Walk.{Misses}
 
 -- under its number
@@ -67,13 +67,13 @@ no_maker names h t stands none = by _ (timeout_made h t) none (stands.tables.tim
 -- what is due by the timeout is due by its number
 
 pub due_by : (names : Names) (v : Version) (h : List Record) (t : ℕ) (x : SetTimeout) → NamesAre names h → timeout_at names t ≡ Some x
-    → latest_of_event x.maker (told h).actions ++ fired_handed v h x.timeout x.maker ≡ handed_before v h t
+    → latest_of_event x.maker (told h).actions ++ fired_handed v h x.timeout x.maker ≡ callback_handed v h t
 due_by names v h t x stands is =
     let number = set_number names t x is in
     let maker : maker_of_timeout h t ≡ Some x.maker = subst (λ k. maker_of_timeout h k ≡ Some x.maker) number (maker_told names h x stands (is_set names t x is)) in
     ap (λ k. latest_of_event x.maker (told h).actions ++ fired_handed v h k x.maker) number ∙ ap (set_by v h t) (sym maker)
 
-pub none_due : (names : Names) (v : Version) (h : List Record) (t : ℕ) → NamesAre names h → timeout_at names t ≡ None → [] ≡ handed_before v h t
+pub none_due : (names : Names) (v : Version) (h : List Record) (t : ℕ) → NamesAre names h → timeout_at names t ≡ None → [] ≡ callback_handed v h t
 none_due names v h t stands none = ap (set_by v h t) (sym (no_maker names h t stands none))
 
 -- none, where an index is past the end

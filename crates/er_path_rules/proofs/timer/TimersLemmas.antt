@@ -33,7 +33,7 @@ use Rattle.er_pieces.proofs.NestedLaws.{nested_facts}
 use Rattle.er_pieces.proofs.PathLemmas.{path_on}
 use Rattle.er_pieces.proofs.SourceLemmas.{each_both, each_made, each_newest}
 use Rattle.er_path_rules.specs.timer.Enough.{HandsEnoughTimers, HandsSourceTimers, timer_due}
-use Rattle.er_path_rules.specs.timer.Fired.{goes_off_first, is_joined, goes_before, handed_for, handed_for_each, set_by, handed_before, tick_handed, asks_for_path}
+use Rattle.er_path_rules.specs.timer.Fired.{goes_off_first, is_joined, goes_before, handed_for, handed_for_each, set_by, callback_handed, tick_handed, asks_for_path}
 use Rattle.er_path_rules.specs.timer.Grown.{AreOf, Suffice, GrewEnoughFor, GrewSomeFor}
 use Rattle.er_path_rules.specs.timer.Timed.{IsTimed}
 use Rattle.er_path_rules.proofs.timer.FiredLemmas.{fired_are_handed}
@@ -41,7 +41,7 @@ use Rattle.er_path_rules.proofs.timer.GrownLemmas.{Composes, reach_over, grew_al
 
 -- the callback of a timeout
 
-pub due_is_handed : (v : Version) (h : List Record) (t : ℕ) → IsNamed h → handed_before v h t ≡ timer_due v (Timer t) h
+pub due_is_handed : (v : Version) (h : List Record) (t : ℕ) → IsNamed h → callback_handed v h t ≡ timer_due v (Timer t) h
 due_is_handed v h t named = by (timeout_made h t) refl
   where
     by : (o : Option Timeout) → timeout_made h t ≡ o → set_by v h t (option_map (λ (x : Timeout). x.maker) o) ≡ timeout_handed (timers_in_order v) (path (rules v) h) (told h) (event_with (length (told h).actions) (TimeoutRun t o)) o
@@ -138,9 +138,9 @@ tick_stand v h i k among =
 timers_hand : (v : Version) (h : List Record) (x : Record) → ComesNext (rules v) h x → AreHanded (timer_rules v) (path (rules v) h) (told h) x (timer_due v x h)
 timers_hand v h x next = hands_timer v (rules v) (has_timers v) (nested_facts (rules v)) h x (steady_by (rules v) h x next) next.named next.ordered
 
-still_enough : (group : List (ℕ × Rule)) (joined : ℕ → ℕ → Bool) (h : History) (x : Record) (due handed : List ℕ) → Composes joined → Suffice joined due handed → AreEnough group joined h x due → AreEnough group joined h x handed
-still_enough group joined h (Back p) due handed on suffice enough = enough
-still_enough group joined h x due handed on suffice enough = λ i among ruled. reach_over joined i.number due handed on (enough i among ruled) suffice.reached
+still_enough : (family : List (ℕ × Rule)) (joined : ℕ → ℕ → Bool) (h : History) (x : Record) (due handed : List ℕ) → Composes joined → Suffice joined due handed → AreEnough family joined h x due → AreEnough family joined h x handed
+still_enough family joined h (Back p) due handed on suffice enough = enough
+still_enough family joined h x due handed on suffice enough = λ i among ruled. reach_over joined i.number due handed on (enough i among ruled) suffice.reached
 
 none_left : (due handed : List ℕ) → AreOf due handed → due ≡ [] → handed ≡ []
 none_left due [] are none = refl

@@ -27,9 +27,9 @@ pub record HandsEvents (joined : ℕ → ℕ → Bool) (actions : List Action) (
 
 -- for each list that stands
 
-abbrev pub HandsPassing : (List Record → Type 0) → (List Record → Event → Bool) → (List Record → ℕ)
+abbrev pub HandsEnoughOf : (List Record → Type 0) → (List Record → Event → Bool) → (List Record → ℕ)
     → List ℕ → List ℕ → Type 0
-HandsPassing stands test most old new = (h : List Record) → stands h
+HandsEnoughOf stands test most old new = (h : List Record) → stands h
     → HandsEvents (path (rules Three) h) (told h).actions (test h) (most h) old new
 
 abbrev pub HandsSome : (List Record → Type 0) → (List Record → Event → Bool) → (List Record → ℕ)

@@ -4,14 +4,14 @@ use Rattle.er_trace.specs.declared.record.Record.{Record}
 use Rattle.er_trace.specs.declared.version.Version.{Version}
 use Rattle.er_trace.specs.declared.version.Version.TheVariants.{One, Two, Three}
 use Rattle.er_history.specs.History.{told}
-use Rattle.er_history.specs.Rules.{rules, are_some_and}
+use Rattle.er_history.specs.Rules.{rules, both_some_and}
 use Rattle.er_history.specs.Edges.{path}
 use Rattle.er_history.specs.Latest.{newest, latest_of_event, latest_of}
 use Rattle.er_history.specs.Kinds.{is_tick_of}
 use Rattle.er_history.specs.LookUps.{maker_of_timeout, maker_of_interval, set_before, delay_of, setting_piece, fired, fired_with, timer_event}
 
 abbrev pub is_no_longer : Option ℕ → Option ℕ → Bool
-is_no_longer delay other = are_some_and (λ (m : ℕ) (n : ℕ). nat_le m n) delay other
+is_no_longer delay other = both_some_and (λ (m : ℕ) (n : ℕ). nat_le m n) delay other
 
 -- both are set, the first one first and with no greater delay
 abbrev pub goes_off_first : List Record → ℕ → ℕ → Bool
@@ -19,7 +19,7 @@ goes_off_first h s t = set_before h s t && is_no_longer (delay_of h s) (delay_of
 
 -- a path leads from the piece that set the first to the piece that set the second
 abbrev pub is_joined : (ℕ → ℕ → Bool) → Option ℕ → Option ℕ → Bool
-is_joined joined first second = are_some_and joined first second
+is_joined joined first second = both_some_and joined first second
 
 -- rule 19 of the version asks for a path
 abbrev pub asks_for_path : Version → Bool
@@ -61,8 +61,8 @@ set_by v h t None = []
 set_by v h t (Some u) = latest_of_event u (told h).actions ++ fired_handed v h t u
 
 -- what comes before a callback of a timeout
-abbrev pub handed_before : Version → List Record → ℕ → List ℕ
-handed_before v h t = set_by v h t (maker_of_timeout h t)
+abbrev pub callback_handed : Version → List Record → ℕ → List ℕ
+callback_handed v h t = set_by v h t (maker_of_timeout h t)
 
 -- what comes before a callback of an interval
 abbrev pub tick_handed : List Record → ℕ → List ℕ

@@ -15,7 +15,7 @@ ghost use Rattle.er_path_rules.specs.task.Before as says;
 ghost use Rattle.er_path_rules.specs.task.Before.{AreJoined, HandsOf, HandsSomeOf, WalksOn, event_in};
 
 use er_clocks::Clocks;
-use er_outside::NoMemory;
+use er_io::NoMemory;
 use er_page::handing::hand;
 use er_page::page::Page;
 use er_tasks::tasks::{BegunTask, Task};

@@ -9,7 +9,7 @@ ghost use Rattle.er_page.specs.Page.{IsPage, IsSomePage};
 ghost use Rattle.er_pieces.specs.Contract.{HandsFew};
 ghost use Rattle.er_path_rules.specs.task.Counts.{most_task, queued_count};
 ghost use Rattle.er_path_rules.specs.task.Enough.{HandsEnoughTasks, HandsSourceTasks};
-ghost use Rattle.er_path_rules.specs.task.Handed.{HandsPassing, HandsSome};
+ghost use Rattle.er_path_rules.specs.task.Handed.{HandsEnoughOf, HandsSome};
 ghost use Rattle.er_path_rules.specs.task.Kinds.{shown};
 ghost use Rattle.er_path_rules.specs.task.Parts.{callback_count, callback_due, due_for, jobs_due, task_count, task_due};
 ghost use Rattle.er_path_rules.specs.timer.Timed.{IsTimed, IsSomeTimed};
@@ -17,7 +17,7 @@ ghost use Rattle.er_path_rules.specs.timer.Timed.{IsTimed, IsSomeTimed};
 use crate::task::before::{Asked, hand_before};
 use crate::task::kinds::{Kind, begun, made, maker};
 use er_clocks::Clocks;
-use er_outside::NoMemory;
+use er_io::NoMemory;
 use er_page::handing::{hand_each, hand_latest};
 use er_page::page::Page;
 use er_trace::record::Record;
@@ -54,7 +54,7 @@ fn hand(
     out: &mut SmallVec<u32, 8>,
 ) -> Result<(), NoMemory>
     requires some { ∥ IsSomePage page.now ∥₁ }
-    ensures whole { OnOk result (HandsPassing (IsTimed Three page.now clocks.now)
+    ensures whole { OnOk result (HandsEnoughOf (IsTimed Three page.now clocks.now)
         (due_for rec.now) (λ h. most_task h rec.now) out.old.items out.new.items) }
     ensures part { OnErr result (HandsSome (IsTimed Three page.now clocks.now)
         (due_for rec.now) (λ h. most_task h rec.now) out.old.items out.new.items) }
@@ -83,7 +83,7 @@ fn hand_callback(
     out: &mut SmallVec<u32, 8>,
 ) -> Result<(), NoMemory>
     requires some { ∥ IsSomePage page.now ∥₁ }
-    ensures whole { OnOk result (HandsPassing (IsTimed Three page.now clocks.now)
+    ensures whole { OnOk result (HandsEnoughOf (IsTimed Three page.now clocks.now)
         (callback_due (shown kind) number) (callback_count (shown kind) number)
         out.old.items out.new.items) }
     ensures part { OnErr result (HandsSome (IsTimed Three page.now clocks.now)
@@ -103,7 +103,7 @@ fn hand_task(
     out: &mut SmallVec<u32, 8>,
 ) -> Result<(), NoMemory>
     requires some { ∥ IsSomePage page.now ∥₁ }
-    ensures whole { OnOk result (HandsPassing (IsTimed Three page.now clocks.now)
+    ensures whole { OnOk result (HandsEnoughOf (IsTimed Three page.now clocks.now)
         (task_due (shown kind) number) (task_count (shown kind) number)
         out.old.items out.new.items) }
     ensures part { OnErr result (HandsSome (IsTimed Three page.now clocks.now)
@@ -125,7 +125,7 @@ fn hand_jobs_of(
     out: &mut SmallVec<u32, 8>,
 ) -> Result<(), NoMemory>
     requires some { ∥ IsSomePage page.now ∥₁ }
-    ensures whole { OnOk result (HandsPassing (IsTimed Three page.now clocks.now)
+    ensures whole { OnOk result (HandsEnoughOf (IsTimed Three page.now clocks.now)
         (jobs_due queuer) (λ h. queued_count h queuer) out.old.items out.new.items) }
     ensures part { OnErr result (HandsSome (IsTimed Three page.now clocks.now)
         (jobs_due queuer) (λ h. queued_count h queuer) out.old.items out.new.items) }
@@ -145,7 +145,7 @@ fn hand_jobs_of(
 /// Hands the jobs that began while the dispatch was on the stack.
 fn hand_jobs_in(page: &Page, dispatch: u32, out: &mut SmallVec<u32, 8>) -> Result<(), NoMemory>
     requires some { ∥ IsSomePage page.now ∥₁ }
-    ensures whole { OnOk result (HandsPassing (IsPage page.now)
+    ensures whole { OnOk result (HandsEnoughOf (IsPage page.now)
         (λ h. is_job_within dispatch) (λ h. length (jobs_in h dispatch))
         out.old.items out.new.items) }
     ensures part { OnErr result (HandsSome (IsPage page.now)

@@ -17,8 +17,8 @@ ghost use Rattle.er_path_rules.specs.timer.Walk as walks;
 ghost use Rattle.er_path_rules.specs.timer.Walk.{AreFired, AreJoined, Misses, WalksOn};
 
 use er_clocks::Clocks;
+use er_io::NoMemory;
 use er_names::names::{FiredTimeout, SetTimeout};
-use er_outside::NoMemory;
 use er_page::handing::hand_latest;
 use er_page::page::Page;
 use er_trace::version::Version;

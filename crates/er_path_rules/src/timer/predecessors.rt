@@ -10,7 +10,7 @@ ghost use Rattle.er_page.specs.Page.{IsPage, IsSomePage};
 ghost use Rattle.er_pieces.specs.Contract.{GrewForEach, GrewInPartForEach, HandsFew};
 ghost use Rattle.er_pieces.specs.Counts.{most_timer};
 ghost use Rattle.er_page.specs.Handing.{HasEvents};
-ghost use Rattle.er_path_rules.specs.timer.Fired.{fired_handed, handed_before, tick_handed};
+ghost use Rattle.er_path_rules.specs.timer.Fired.{fired_handed, callback_handed, tick_handed};
 ghost use Rattle.er_path_rules.specs.timer.Fired as says;
 ghost use Rattle.er_path_rules.specs.timer.Enough.{HandsEnoughTimers, HandsSourceTimers, timer_due};
 ghost use Rattle.er_path_rules.specs.timer.Grown.{GrewEnoughFor, GrewSomeFor};
@@ -19,8 +19,8 @@ ghost use Rattle.er_path_rules.specs.timer.Walk.{AreFired};
 
 use crate::timer::fired::hand_fired;
 use er_clocks::Clocks;
+use er_io::NoMemory;
 use er_names::names::{FiredTimeout, SetTimeout};
-use er_outside::NoMemory;
 use er_page::handing::hand_latest;
 use er_page::page::Page;
 use er_trace::record::Record;
@@ -84,9 +84,9 @@ fn hand_for_timer(
 ) -> Result<(), NoMemory>
     requires some { ∥ IsSomePage page.now ∥₁ }
     ensures whole { OnOk result (GrewEnoughFor version page.now clocks.now
-        (λ h. handed_before version h timeout) out.old.items out.new.items) }
+        (λ h. callback_handed version h timeout) out.old.items out.new.items) }
     ensures part { OnErr result (GrewSomeFor version page.now clocks.now
-        (λ h. handed_before version h timeout) out.old.items out.new.items) }
+        (λ h. callback_handed version h timeout) out.old.items out.new.items) }
 {
     match page.timeout(timeout) {
         Some(next) => hand_set_by(page, clocks, version, next, out),

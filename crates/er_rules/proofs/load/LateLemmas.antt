@@ -9,7 +9,7 @@ use Rattle.er_paths.proofs.Paths.{or_cases, or_left, or_right}
 use Rattle.er_history.specs.History.{Element, Dispatch, Delivery, DclOf, LoadOf, What, ScriptRun, ParseStep, BeginOf, Event, Action, Open, told, begins, first_to, maker_by, declares_document, what_begun, is_inline}
 use Rattle.er_history.specs.Rules.{Rule, any_holds, is_dcl_of, load_rules, dcl_before_load}
 use Rattle.er_history.specs.Edges.{path}
-use Rattle.er_history.specs.Handed.{HasGroup}
+use Rattle.er_history.specs.Handed.{HasFamily}
 use Rattle.er_history.specs.Kinds.{is_load_of}
 use Rattle.er_history.specs.Laws.{Among}
 use Rattle.er_history.specs.LookUps.{element_made, begins_dcl, begins_load, begins_eload}
@@ -99,7 +99,7 @@ two_kinds : (d : ℕ) (y : Delivery) → is_dcl_of d y ≡ true → is_load_of d
 two_kinds d (DclOf c m) e f = cc
 two_kinds d _ e f = cc
 
-no_load : (table : List (ℕ × Rule)) (h : List Record) → HasGroup table load_rules → IsNamed h → AreInOrder table h → (o : Open) → On o (told h).stack → (d : ℕ) → is_dcl_of d o.dispatch.delivers ≡ true → (i : Action) → Among i (told h).actions
+no_load : (table : List (ℕ × Rule)) (h : List Record) → HasFamily table load_rules → IsNamed h → AreInOrder table h → (o : Open) → On o (told h).stack → (d : ℕ) → is_dcl_of d o.dispatch.delivers ≡ true → (i : Action) → Among i (told h).actions
     → begins_a (is_load_of d) i.event.what ≡ true → ⊥
 no_load table h has named ordered o on d is i among e =
     let begun = open_begun h o on in
@@ -122,7 +122,7 @@ no_load table h has named ordered o on d is i among e =
         let one : o.dispatch ≡ p = cc in
         two_kinds d p.delivers (ap (λ (q : Dispatch). is_dcl_of d q.delivers) (sym one) ∙ is) load
 
-none_behind : (table : List (ℕ × Rule)) (h : List Record) → HasGroup table load_rules → IsNamed h → AreInOrder table h → (o : Open) → On o (told h).stack → list_any (λ (i : Action). behind_dcl o.dispatch.delivers i.event.what) (told h).actions ≡ false
+none_behind : (table : List (ℕ × Rule)) (h : List Record) → HasFamily table load_rules → IsNamed h → AreInOrder table h → (o : Open) → On o (told h).stack → list_any (λ (i : Action). behind_dcl o.dispatch.delivers i.event.what) (told h).actions ≡ false
 none_behind table h has named ordered o on = by o.dispatch.delivers refl
   where
     by : (y : Delivery) → o.dispatch.delivers ≡ y → list_any (λ (i : Action). behind_dcl y i.event.what) (told h).actions ≡ false
@@ -170,7 +170,7 @@ dcl_leads_back : (h : List Record) → IsNamed h → (joined : ℕ → ℕ → B
     → list_any (λ (i : Action). any_holds load_rules joined (event_with (length (told h).actions) (BeginOf (record { number = p; begin = length (told h).actions; delivers = DclOf d m }))) i.event) (told h).actions ≡ has_load h d
 dcl_leads_back h named joined p d m = back_is h joined (BeginOf (record { number = p; begin = length (told h).actions; delivers = DclOf d m })) ∙ load_has h named d
 
-serving_leads : (table : List (ℕ × Rule)) (h : List Record) → HasGroup table load_rules → IsNamed h → AreInOrder table h → (joined : ℕ → ℕ → Bool) (o : Open) → On o (told h).stack → (v : What) → ((z : What) → late_by v z ≡ behind_dcl o.dispatch.delivers z)
+serving_leads : (table : List (ℕ × Rule)) (h : List Record) → HasFamily table load_rules → IsNamed h → AreInOrder table h → (joined : ℕ → ℕ → Bool) (o : Open) → On o (told h).stack → (v : What) → ((z : What) → late_by v z ≡ behind_dcl o.dispatch.delivers z)
     → list_any (λ (i : Action). any_holds load_rules joined (event_with (length (told h).actions) v) i.event) (told h).actions ≡ false
 serving_leads table h has named ordered joined o on v same =
     back_is h joined v ∙ (any_same (λ (i : Action). late_by v i.event.what) (λ (i : Action). behind_dcl o.dispatch.delivers i.event.what) (told h).actions (λ i among. same i.event.what) ∙ none_behind table h has named ordered o on)

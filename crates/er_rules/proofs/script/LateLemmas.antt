@@ -23,7 +23,7 @@ use Rattle.er_pieces.specs.Enough.{AreInOrder}
 use Rattle.er_pieces.proofs.ContractLemmas.{in_order}
 use Rattle.er_pieces.proofs.SourceLemmas.{newest_passes}
 use Rattle.er_history.proofs.EventLemmas.{event_with}
-use Rattle.er_history.specs.Handed.{HasGroup}
+use Rattle.er_history.specs.Handed.{HasFamily}
 use Rattle.er_history.specs.Rules.{Rule}
 use Rattle.er_rules.specs.script.Scripts.{is_parsed_before}
 use Rattle.er_rules.specs.script.Against.{has_deferred_run, is_blocking_late, is_deferred_late, is_run_late, LateRecordsLeadBack}
@@ -115,7 +115,7 @@ blocking_late h y named =
     is_sync kinds.Sync = true
     is_sync _ = false
 
-deferred_late : (table : List (ℕ × Rule)) (h : List Record) (y : Element) → HasGroup table script_rules → IsNamed h → AreInOrder table h
+deferred_late : (table : List (ℕ × Rule)) (h : List Record) (y : Element) → HasFamily table script_rules → IsNamed h → AreInOrder table h
     → list_any (λ i. is_deferred y && (is_run_of is_deferred y.doc i.event && run_after y.piece i)) (told h).actions ≡ is_deferred_late h y.doc (Some y)
 deferred_late table h y has named ordered =
     let acts = (told h).actions in
@@ -123,7 +123,7 @@ deferred_late table h y has named ordered =
     ∙ (ap (λ b. is_deferred y && b) (any_last h (is_run_of is_deferred y.doc) (run_after y.piece) (deferred_pass_on table h has named ordered y.doc y.piece))
     ∙ passed_is h y (newest_by (is_run_of is_deferred y.doc) acts) named refl)
 
-run_leads : (table : List (ℕ × Rule)) (h : List Record) (joined : ℕ → ℕ → Bool) (e : ℕ) (y : Element) → HasGroup table script_rules → IsNamed h → AreInOrder table h
+run_leads : (table : List (ℕ × Rule)) (h : List Record) (joined : ℕ → ℕ → Bool) (e : ℕ) (y : Element) → HasFamily table script_rules → IsNamed h → AreInOrder table h
     → list_any (leads_to_begun joined (told h) (ScriptRun e (Some y))) (told h).actions ≡ is_run_late h (Some y)
 run_leads table h joined e y has named ordered =
     let acts = (told h).actions in
@@ -133,7 +133,7 @@ run_leads table h joined e y has named ordered =
     (λ i. is_deferred y && (is_run_of is_deferred y.doc i.event && run_after y.piece i)) acts
     ∙ (λ k. blocking_late h y named k || deferred_late table h y has named ordered k))
 
-script_leads : (table : List (ℕ × Rule)) (h : List Record) (joined : ℕ → ℕ → Bool) (e : ℕ) (o : Option Element) → HasGroup table script_rules → IsNamed h → AreInOrder table h
+script_leads : (table : List (ℕ × Rule)) (h : List Record) (joined : ℕ → ℕ → Bool) (e : ℕ) (o : Option Element) → HasFamily table script_rules → IsNamed h → AreInOrder table h
     → list_any (leads_to_begun joined (told h) (ScriptRun e o)) (told h).actions ≡ is_run_late h o
 script_leads table h joined e None has named ordered = unmade_leads h joined e
 script_leads table h joined e (Some y) has named ordered = run_leads table h joined e y has named ordered

@@ -7,7 +7,7 @@ use Rattle.er_trace.specs.declared.record.Record.{Record}
 use Rattle.er_paths.proofs.Paths.{or_cases, or_left, or_right, place_cases}
 use Rattle.er_history.specs.History.{Element, ScriptRun, Event, Action, told}
 use Rattle.er_history.specs.Rules.{Rule, is_some_and, is_deferred, script_rules}
-use Rattle.er_history.specs.Handed.{HasGroup}
+use Rattle.er_history.specs.Handed.{HasFamily}
 use Rattle.er_history.specs.Kinds.{is_step_of, is_run_of}
 use Rattle.er_history.specs.Laws.{Among}
 use Rattle.er_history.specs.Latest.{newest_by}
@@ -95,7 +95,7 @@ steps_pass_on h named d p a i first last e f le after =
 abbrev pub run_after : ℕ → Action → Bool
 run_after p i = parsed_after p i.event.what
 
-pub deferred_pass_on : (table : List (ℕ × Rule)) (h : List Record) → HasGroup table script_rules → IsNamed h → AreInOrder table h → (d p : ℕ) → PassesOn (is_run_of is_deferred d) (run_after p) (told h).actions
+pub deferred_pass_on : (table : List (ℕ × Rule)) (h : List Record) → HasFamily table script_rules → IsNamed h → AreInOrder table h → (d p : ℕ) → PassesOn (is_run_of is_deferred d) (run_after p) (told h).actions
 deferred_pass_on table h has named ordered d p a i first last e f le after =
     let one = run_is h named is_deferred d a first e in
     let two = run_is h named is_deferred d i last f in

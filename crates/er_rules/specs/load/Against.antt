@@ -5,7 +5,7 @@ use Rattle.er_trace.specs.declared.record.Record.TheVariants.{Parse, ParseFrame,
 use Rattle.er_history.specs.History.{Element, told}
 use Rattle.er_history.specs.Rules.{Rule, is_some_and, is_blocking, is_deferred, load_rules}
 use Rattle.er_history.specs.Edges.{path}
-use Rattle.er_history.specs.Handed.{HasGroup}
+use Rattle.er_history.specs.Handed.{HasFamily}
 use Rattle.er_history.specs.LookUps.{element_made, dcl_of, load_of, eload_of}
 use Rattle.er_history.specs.Naming.{naming}
 use Rattle.er_history.specs.Sound.{IsSound, leads_back}
@@ -49,5 +49,5 @@ is_late h _ = false
 -- In a sound list these are the records from whose event a rule leads back.
 abbrev pub LateLoadsLeadBack : Type 0
 LateLoadsLeadBack = (table : List (ℕ × Rule)) (h : List Record) (x : Record)
-    → HasGroup table load_rules → IsSound table h → naming h x ≡ None
+    → HasFamily table load_rules → IsSound table h → naming h x ≡ None
     → leads_back load_rules (path table h) (told h) x ≡ is_late h x

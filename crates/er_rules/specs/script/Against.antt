@@ -6,7 +6,7 @@ use Rattle.er_history.specs.History.{Element, told}
 use Rattle.er_history.specs.Rules.{Rule, is_some_and, script_rules}
 use Rattle.er_history.specs.Edges.{path}
 use Rattle.er_history.specs.Naming.{naming}
-use Rattle.er_history.specs.Handed.{HasGroup}
+use Rattle.er_history.specs.Handed.{HasFamily}
 use Rattle.er_history.specs.Sound.{IsSound, leads_back}
 use Rattle.er_history.specs.LookUps.{element_made, last_parse, last_deferred_run, last_deferred_element}
 use Rattle.er_rules.specs.script.Scripts.{blocks, defers, is_parsed_before}
@@ -49,5 +49,5 @@ is_late h _ = false
 -- In a sound list these are the records from whose event a rule leads back.
 abbrev pub LateRecordsLeadBack : Type 0
 LateRecordsLeadBack = (table : List (ℕ × Rule)) (h : List Record) (x : Record)
-    → HasGroup table script_rules → IsSound table h → naming h x ≡ None
+    → HasFamily table script_rules → IsSound table h → naming h x ≡ None
     → leads_back script_rules (path table h) (told h) x ≡ is_late h x

@@ -1,7 +1,7 @@
 -- What the rules of scripts ask of elements.
 use Rattle.std.specs.Prelude.{ℕ, Bool, ◌&&◌, nat_lt, if◌then◌else◌, List, [], Option, Some, None}
 use Rattle.er_history.specs.History.{Element, History}
-use Rattle.er_history.specs.Rules.{is_some_and, are_some_and, is_blocking, is_deferred}
+use Rattle.er_history.specs.Rules.{is_some_and, both_some_and, is_blocking, is_deferred}
 use Rattle.er_pieces.specs.HandedPieces.{dcl_handed}
 
 -- it was made, and is a blocking or a deferred script
@@ -15,7 +15,7 @@ defers = is_some_and is_deferred
 -- parse steps made both, the first before the second
 abbrev pub is_parsed_before : Option Element → Option Element → Bool
 is_parsed_before =
-    are_some_and (λ (x : Element) (y : Element).
+    both_some_and (λ (x : Element) (y : Element).
     x.is_static && (y.is_static && nat_lt x.piece y.piece))
 
 -- the document of a deferred script

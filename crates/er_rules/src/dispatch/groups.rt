@@ -8,7 +8,7 @@ ghost use Rattle.er_pieces.specs.Contract.{GrewForEach, GrewInPartForEach};
 ghost use Rattle.er_pieces.specs.HandedPieces.{runs_or_begin};
 ghost use Rattle.er_rules.specs.dispatch.Due.{before_run};
 
-use er_outside::NoMemory;
+use er_io::NoMemory;
 use er_page::handing::{hand_each, hand_latest};
 use er_page::page::Page;
 use smallvec::SmallVec;

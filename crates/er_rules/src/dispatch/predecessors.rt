@@ -11,7 +11,7 @@ ghost use Rattle.er_pieces.specs.PiecesHanded.{HandsEnoughPieces, HandsSourcePie
 
 use crate::dispatch::groups::{hand_for_run, hand_group};
 use crate::dispatch::targets::{hand_at_element, hand_at_window, hand_document, hand_in_piece};
-use er_outside::NoMemory;
+use er_io::NoMemory;
 use er_page::handing::hand_some;
 use er_page::page::Page;
 use er_trace::record::Record;

@@ -9,7 +9,7 @@ ghost use Rattle.er_page.specs.Page.{IsPage, IsSomePage};
 ghost use Rattle.er_pieces.specs.Contract.{GrewForEach, GrewInPartForEach};
 ghost use Rattle.er_rules.specs.dispatch.Due.{at_element, at_window, in_piece};
 
-use er_outside::NoMemory;
+use er_io::NoMemory;
 use er_page::handing::{hand_latest, hand_some};
 use er_page::page::Page;
 use er_trace::name::Name;

@@ -7,7 +7,7 @@ ghost use Rattle.er_history.specs.Rules.{Rule, is_some_and, load_rules};
 ghost use Rattle.er_history.specs.Edges.{path};
 ghost use Rattle.er_history.specs.LookUps.{element_made};
 ghost use Rattle.er_history.specs.Naming.{naming};
-ghost use Rattle.er_history.specs.Handed.{HasGroup};
+ghost use Rattle.er_history.specs.Handed.{HasFamily};
 ghost use Rattle.er_history.specs.Sound.{IsSound, leads_back};
 ghost use Rattle.er_page.specs.Page.{IsPage};
 ghost use Rattle.er_rules.specs.load.Against as says;
@@ -20,7 +20,7 @@ use er_trace::record::{Kind, Record};
 /// Rules 11 and 13 never do: they go by the order of the records. Nor does rule 12 from the event that made an element, which has begun.
 pub fn against(page: &Page, rec: &Record) -> bool
     ensures { (table : List (ℕ × Rule)) (h : List Record) → IsPage page.now h
-        → HasGroup table load_rules → IsSound table h → naming h rec.now ≡ None
+        → HasFamily table load_rules → IsSound table h → naming h rec.now ≡ None
         → result ≡ leads_back load_rules (path table h) (told h) rec.now }
 {
     is_late(page, rec)

@@ -9,7 +9,7 @@ ghost use Rattle.er_pieces.specs.HandedPieces.{load_handed};
 ghost use Rattle.er_page.specs.Handing.{GrewFor, GrewInPartFor};
 ghost use Rattle.er_rules.specs.load.Loads.{window_parts, dcl_part, async_part, static_part, eload_parts, maker_part, run_part, inner_part, close_of, inner_close_of};
 
-use er_outside::NoMemory;
+use er_io::NoMemory;
 use er_page::handing::{hand_each, hand_latest, hand_parsed};
 use er_page::page::Page;
 use er_trace::record::Record;

@@ -6,7 +6,7 @@ ghost use Rattle.er_page.specs.Page.{IsSomePage};
 ghost use Rattle.er_pieces.specs.HandedPieces.{parse_handed, step_handed};
 ghost use Rattle.er_page.specs.Handing.{GrewFor, GrewInPartFor};
 
-use er_outside::NoMemory;
+use er_io::NoMemory;
 use er_page::handing::hand_latest;
 use er_page::page::Page;
 use er_trace::record::Record;

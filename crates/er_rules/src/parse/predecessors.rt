@@ -8,7 +8,7 @@ ghost use Rattle.er_pieces.specs.Counts.{most_parse};
 ghost use Rattle.er_pieces.specs.HandedPieces.{parse_handed};
 
 use crate::parse::due::hand_due;
-use er_outside::NoMemory;
+use er_io::NoMemory;
 use er_page::page::Page;
 use er_trace::record::Record;
 use smallvec::SmallVec;

@@ -11,7 +11,7 @@ ghost use Rattle.er_pieces.specs.HandedPieces.{request_handed};
 ghost use Rattle.er_rules.specs.request.Replies.{reply_handed};
 ghost use Rattle.er_page.specs.Handing.{GrewFor, GrewInPartFor};
 
-use er_outside::NoMemory;
+use er_io::NoMemory;
 use er_page::handing::hand_latest;
 use er_page::page::Page;
 use er_trace::record::Record;

@@ -6,7 +6,7 @@ ghost use Rattle.er_history.specs.History.{told};
 ghost use Rattle.er_history.specs.Rules.{Rule, script_rules};
 ghost use Rattle.er_history.specs.Edges.{path};
 ghost use Rattle.er_history.specs.Naming.{naming};
-ghost use Rattle.er_history.specs.Handed.{HasGroup};
+ghost use Rattle.er_history.specs.Handed.{HasFamily};
 ghost use Rattle.er_history.specs.Sound.{IsSound, leads_back};
 ghost use Rattle.er_history.specs.LookUps.{element_made};
 ghost use Rattle.er_page.specs.Page.{IsPage};
@@ -21,7 +21,7 @@ use er_trace::record::Record;
 /// Rule 3 never does: the event that made a script has begun.
 pub fn against(page: &Page, rec: &Record) -> bool
     ensures { (table : List (ℕ × Rule)) (h : List Record) → IsPage page.now h
-        → HasGroup table script_rules → IsSound table h → naming h rec.now ≡ None
+        → HasFamily table script_rules → IsSound table h → naming h rec.now ≡ None
         → result ≡ leads_back script_rules (path table h) (told h) rec.now }
 {
     is_late(page, rec)

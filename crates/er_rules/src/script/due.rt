@@ -13,7 +13,7 @@ ghost use Rattle.er_page.specs.Handing.{GrewFor, GrewInPartFor};
 ghost use Rattle.er_rules.specs.script.Scripts.{deferred_document, before_deferred};
 
 use crate::script::elements::is_deferred;
-use er_outside::NoMemory;
+use er_io::NoMemory;
 use er_page::handing::{hand_latest, hand_parsed};
 use er_page::page::Page;
 use er_trace::record::Record;

@@ -8,7 +8,7 @@ ghost use Rattle.er_pieces.specs.Counts.{most_script};
 ghost use Rattle.er_pieces.specs.HandedPieces.{script_handed};
 
 use crate::script::due::hand_due;
-use er_outside::NoMemory;
+use er_io::NoMemory;
 use er_page::page::Page;
 use er_trace::record::Record;
 use smallvec::SmallVec;

@@ -75,7 +75,7 @@ returns-in-Gen-clause-complete g c = λ asked asks no_read no_write bytes held.
     let all : bytes ≡ text One (generated c.in-Gen.number) = rw same at held in
     rw (same, all) (answered_or_none _ _ _ _ _ c.judge_generated.result c.judge_generated.ensures.answered (λ w. no_write (c.judge_generated.ensures.faults.rose w)) c.judge_generated.ensures.no_usage c.judge_generated.ensures.no_read_fault)
 
--- words that ask for no command, and want of memory
+-- words that ask for no command, and out of memory
 
 pub returns-in-Err-Usage-clause-usage : goal.returns-in-Err-Usage-clause-usage
 returns-in-Err-Usage-clause-usage g c = λ is asked asks.

@@ -1,6 +1,6 @@
 use Rattle.std.proofs.Common.{◌++◌, rules}
 use Rattle.std.proofs.lemmas.Result.{on_ok_weaker, on_err_weaker}
-use Rattle.er_outside.specs.Ends.{GetsPart}
+use Rattle.er_io.specs.Ends.{GetsPart}
 use Rattle.er_syntax.specs.Buffered.{HoldsRest}
 use Rattle.er_syntax.proofs.BufferedLemmas.{all_came, part_came}
 use Rattle.er_syntax.proofs.SequenceLemmas.{three_held, second_of_three, third_of_three}

@@ -3,7 +3,7 @@ use Rattle.er_history.specs.Rules.{rules}
 use Rattle.er_history.specs.Edges.{path}
 use Rattle.er_history.proofs.NamedLemmas.{sound_lists_are_named}
 use Rattle.er_pieces.proofs.SteadyLemmas.{all_rules_are_steady}
-use Rattle.er_graph.proofs.GroupLemmas.{late}
+use Rattle.er_graph.proofs.FamilyLemmas.{late}
 use Rattle.er_graph.proofs.order.is_late.Goals as goal
 
 pub returns : goal.returns

@@ -1,7 +1,7 @@
 use Rattle.std.proofs.Common.{◌∙◌, sym, arith}
 use Rattle.std.proofs.lemmas.Grind.{common_steps}
 use Rattle.std.proofs.lemmas.Result.{on_ok_weaker, on_err_weaker}
-use Rattle.er_outside.proofs.Puts.{composes}
+use Rattle.er_io.proofs.Puts.{composes}
 use Rattle.er_json.proofs.LetterLemmas.{part_behind, whole_name}
 use Rattle.er_json.proofs.location.+put_name.Goals as goal
 

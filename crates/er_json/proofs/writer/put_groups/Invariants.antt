@@ -2,7 +2,7 @@ use Rattle.std.proofs.Common.{◌≡◌, ◌++◌, take}
 use Rattle.std.specs.List.{zip}
 use Rattle.er_syntax.specs.Buffered.{HoldsRest}
 use Rattle.er_syntax.specs.Lines.{lines_from}
-use Rattle.er_json.specs.Pieces.{group_item}
+use Rattle.er_json.specs.Fragments.{group_item}
 use Rattle.er_json.proofs.writer.put_groups.Given as goal
 
 -- the groups so far came, or are held

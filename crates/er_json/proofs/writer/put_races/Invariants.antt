@@ -4,7 +4,7 @@ use Rattle.er_access.specs.Kept.{Kept}
 use Rattle.er_races.specs.Races.{ArePairs}
 use Rattle.er_syntax.specs.Buffered.{HoldsRest}
 use Rattle.er_syntax.specs.Lines.{lines_from}
-use Rattle.er_json.specs.Pieces.{race_item}
+use Rattle.er_json.specs.Fragments.{race_item}
 use Rattle.er_json.proofs.writer.put_races.Given as goal
 
 -- the races so far came, or are held

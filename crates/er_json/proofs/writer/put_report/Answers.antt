@@ -1,8 +1,8 @@
 use Rattle.std.proofs.Common.{◌++◌, rules}
 use Rattle.std.proofs.lemmas.Result.{on_ok_weaker, on_err_weaker}
-use Rattle.er_outside.specs.Ends.{GetsPart}
+use Rattle.er_io.specs.Ends.{GetsPart}
 use Rattle.er_syntax.specs.Buffered.{HoldsRest}
-use Rattle.er_json.specs.Pieces.{before_groups, group_items, before_races, race_items, after_races, pieces_of}
+use Rattle.er_json.specs.Fragments.{before_groups, group_items, before_races, race_items, after_races, fragments_of}
 use Rattle.er_syntax.proofs.BufferedLemmas.{all_came, part_came}
 use Rattle.er_syntax.proofs.SequenceLemmas.{five_held, second_part, third_part, fourth_part, fifth_part}
 use Rattle.er_json.proofs.writer.put_report.Goals as goal
@@ -10,41 +10,41 @@ use Rattle.er_json.proofs.writer.put_report.Goals as goal
 pub returns-in_err-put_groups-clause-part : goal.returns-in_err-put_groups-clause-part
 returns-in_err-put_groups-clause-part g c = λ pairs are.
     let sink = g.K.Sink.got in
-    let part : GetsPart (sink c.args.sink.now) (pieces_of pairs c.args.groups.now c.args.counts.now) (sink c.put_groups.new.sink) =
-    second_part _ _ _ _ _ (before_groups c.args.counts.now) (group_items c.args.groups.now) (before_races c.args.counts.now) (race_items pairs c.args.groups.now) after_races c.new-buffer.ensures (rw c.parts_before_groups.ensures at c.in_ok-put_piece.ensures.whole) c.in_err-put_groups.ensures.part in
+    let part : GetsPart (sink c.args.sink.now) (fragments_of pairs c.args.groups.now c.args.counts.now) (sink c.put_groups.new.sink) =
+    second_part _ _ _ _ _ (before_groups c.args.counts.now) (group_items c.args.groups.now) (before_races c.args.counts.now) (race_items pairs c.args.groups.now) after_races c.new-buffer.ensures (rw c.parts_before_groups.ensures at c.in_ok-put_fragment.ensures.whole) c.in_err-put_groups.ensures.part in
     search rules
 
-pub returns-in_err-put_piece-2-clause-part : goal.returns-in_err-put_piece-2-clause-part
-returns-in_err-put_piece-2-clause-part g c = λ pairs are.
+pub returns-in_err-put_fragment-2-clause-part : goal.returns-in_err-put_fragment-2-clause-part
+returns-in_err-put_fragment-2-clause-part g c = λ pairs are.
     let sink = g.K.Sink.got in
-    let part : GetsPart (sink c.args.sink.now) (pieces_of pairs c.args.groups.now c.args.counts.now) (sink c.put_piece-2.new.sink) =
-    third_part _ _ _ _ _ _ _ (before_groups c.args.counts.now) (group_items c.args.groups.now) (before_races c.args.counts.now) (race_items pairs c.args.groups.now) after_races c.new-buffer.ensures (rw c.parts_before_groups.ensures at c.in_ok-put_piece.ensures.whole) c.in_ok-put_groups.ensures.whole (rw c.parts_before_races.ensures at c.in_err-put_piece-2.ensures.part) in
+    let part : GetsPart (sink c.args.sink.now) (fragments_of pairs c.args.groups.now c.args.counts.now) (sink c.put_fragment-2.new.sink) =
+    third_part _ _ _ _ _ _ _ (before_groups c.args.counts.now) (group_items c.args.groups.now) (before_races c.args.counts.now) (race_items pairs c.args.groups.now) after_races c.new-buffer.ensures (rw c.parts_before_groups.ensures at c.in_ok-put_fragment.ensures.whole) c.in_ok-put_groups.ensures.whole (rw c.parts_before_races.ensures at c.in_err-put_fragment-2.ensures.part) in
     search rules
 
 pub returns-in_err-put_races-clause-part : goal.returns-in_err-put_races-clause-part
 returns-in_err-put_races-clause-part g c = λ pairs are.
     let sink = g.K.Sink.got in
-    let part : GetsPart (sink c.args.sink.now) (pieces_of pairs c.args.groups.now c.args.counts.now) (sink c.put_races.new.sink) =
-    fourth_part _ _ _ _ _ _ _ _ _ (before_groups c.args.counts.now) (group_items c.args.groups.now) (before_races c.args.counts.now) (race_items pairs c.args.groups.now) after_races c.new-buffer.ensures (rw c.parts_before_groups.ensures at c.in_ok-put_piece.ensures.whole) c.in_ok-put_groups.ensures.whole (rw c.parts_before_races.ensures at c.in_ok-put_piece-2.ensures.whole) (c.in_err-put_races.ensures.part pairs are) in
+    let part : GetsPart (sink c.args.sink.now) (fragments_of pairs c.args.groups.now c.args.counts.now) (sink c.put_races.new.sink) =
+    fourth_part _ _ _ _ _ _ _ _ _ (before_groups c.args.counts.now) (group_items c.args.groups.now) (before_races c.args.counts.now) (race_items pairs c.args.groups.now) after_races c.new-buffer.ensures (rw c.parts_before_groups.ensures at c.in_ok-put_fragment.ensures.whole) c.in_ok-put_groups.ensures.whole (rw c.parts_before_races.ensures at c.in_ok-put_fragment-2.ensures.whole) (c.in_err-put_races.ensures.part pairs are) in
     search rules
 
-pub returns-in_err-put_piece-3-clause-part : goal.returns-in_err-put_piece-3-clause-part
-returns-in_err-put_piece-3-clause-part g c = λ pairs are.
+pub returns-in_err-put_fragment-3-clause-part : goal.returns-in_err-put_fragment-3-clause-part
+returns-in_err-put_fragment-3-clause-part g c = λ pairs are.
     let sink = g.K.Sink.got in
-    let part : GetsPart (sink c.args.sink.now) (pieces_of pairs c.args.groups.now c.args.counts.now) (sink c.put_piece-3.new.sink) =
-    fifth_part _ _ _ _ _ _ _ _ _ _ _ (before_groups c.args.counts.now) (group_items c.args.groups.now) (before_races c.args.counts.now) (race_items pairs c.args.groups.now) after_races c.new-buffer.ensures (rw c.parts_before_groups.ensures at c.in_ok-put_piece.ensures.whole) c.in_ok-put_groups.ensures.whole (rw c.parts_before_races.ensures at c.in_ok-put_piece-2.ensures.whole) (c.in_ok-put_races.ensures.whole pairs are) (rw c.parts_after_races.ensures at c.in_err-put_piece-3.ensures.part) in
+    let part : GetsPart (sink c.args.sink.now) (fragments_of pairs c.args.groups.now c.args.counts.now) (sink c.put_fragment-3.new.sink) =
+    fifth_part _ _ _ _ _ _ _ _ _ _ _ (before_groups c.args.counts.now) (group_items c.args.groups.now) (before_races c.args.counts.now) (race_items pairs c.args.groups.now) after_races c.new-buffer.ensures (rw c.parts_before_groups.ensures at c.in_ok-put_fragment.ensures.whole) c.in_ok-put_groups.ensures.whole (rw c.parts_before_races.ensures at c.in_ok-put_fragment-2.ensures.whole) (c.in_ok-put_races.ensures.whole pairs are) (rw c.parts_after_races.ensures at c.in_err-put_fragment-3.ensures.part) in
     search rules
 
 pub returns-clause-whole : goal.returns-clause-whole
 returns-clause-whole g c = λ pairs are.
     let sink = g.K.Sink.got in
-    let held : HoldsRest (sink c.args.sink.now) (c.new-buffer.result ++ pieces_of pairs c.args.groups.now c.args.counts.now) (sink c.put_piece-3.new.sink) c.put_piece-3.new.buffer =
-    five_held _ _ _ _ _ _ _ _ _ _ _ _ (before_groups c.args.counts.now) (group_items c.args.groups.now) (before_races c.args.counts.now) (race_items pairs c.args.groups.now) after_races (rw c.parts_before_groups.ensures at c.in_ok-put_piece.ensures.whole) c.in_ok-put_groups.ensures.whole (rw c.parts_before_races.ensures at c.in_ok-put_piece-2.ensures.whole) (c.in_ok-put_races.ensures.whole pairs are) (rw c.parts_after_races.ensures at c.in_ok-put_piece-3.ensures.whole) in
+    let held : HoldsRest (sink c.args.sink.now) (c.new-buffer.result ++ fragments_of pairs c.args.groups.now c.args.counts.now) (sink c.put_fragment-3.new.sink) c.put_fragment-3.new.buffer =
+    five_held _ _ _ _ _ _ _ _ _ _ _ _ (before_groups c.args.counts.now) (group_items c.args.groups.now) (before_races c.args.counts.now) (race_items pairs c.args.groups.now) after_races (rw c.parts_before_groups.ensures at c.in_ok-put_fragment.ensures.whole) c.in_ok-put_groups.ensures.whole (rw c.parts_before_races.ensures at c.in_ok-put_fragment-2.ensures.whole) (c.in_ok-put_races.ensures.whole pairs are) (rw c.parts_after_races.ensures at c.in_ok-put_fragment-3.ensures.whole) in
     on_ok_weaker c.flush.result (λ more. all_came _ _ _ _ _ _ c.new-buffer.ensures held more) c.flush.ensures.puts.whole
 
 pub returns-clause-part : goal.returns-clause-part
 returns-clause-part g c = λ pairs are.
     let sink = g.K.Sink.got in
-    let held : HoldsRest (sink c.args.sink.now) (c.new-buffer.result ++ pieces_of pairs c.args.groups.now c.args.counts.now) (sink c.put_piece-3.new.sink) c.put_piece-3.new.buffer =
-    five_held _ _ _ _ _ _ _ _ _ _ _ _ (before_groups c.args.counts.now) (group_items c.args.groups.now) (before_races c.args.counts.now) (race_items pairs c.args.groups.now) after_races (rw c.parts_before_groups.ensures at c.in_ok-put_piece.ensures.whole) c.in_ok-put_groups.ensures.whole (rw c.parts_before_races.ensures at c.in_ok-put_piece-2.ensures.whole) (c.in_ok-put_races.ensures.whole pairs are) (rw c.parts_after_races.ensures at c.in_ok-put_piece-3.ensures.whole) in
+    let held : HoldsRest (sink c.args.sink.now) (c.new-buffer.result ++ fragments_of pairs c.args.groups.now c.args.counts.now) (sink c.put_fragment-3.new.sink) c.put_fragment-3.new.buffer =
+    five_held _ _ _ _ _ _ _ _ _ _ _ _ (before_groups c.args.counts.now) (group_items c.args.groups.now) (before_races c.args.counts.now) (race_items pairs c.args.groups.now) after_races (rw c.parts_before_groups.ensures at c.in_ok-put_fragment.ensures.whole) c.in_ok-put_groups.ensures.whole (rw c.parts_before_races.ensures at c.in_ok-put_fragment-2.ensures.whole) (c.in_ok-put_races.ensures.whole pairs are) (rw c.parts_after_races.ensures at c.in_ok-put_fragment-3.ensures.whole) in
     on_err_weaker c.flush.result (λ more. part_came _ _ _ _ _ _ c.new-buffer.ensures held more) c.flush.ensures.puts.part

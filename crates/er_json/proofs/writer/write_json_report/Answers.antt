@@ -1,9 +1,9 @@
 use Rattle.std.proofs.Common.{◌≡◌, rules}
 use Rattle.er_paths.specs.Paths.{joins}
-use Rattle.er_outside.specs.Ends.{Gets, GetsPart}
+use Rattle.er_io.specs.Ends.{Gets, GetsPart}
 use Rattle.er_races.specs.Races.{races_by}
 use Rattle.er_json.specs.Json.{report}
-use Rattle.er_json.specs.Pieces.{pieces_of}
+use Rattle.er_json.specs.Fragments.{fragments_of}
 use Rattle.er_report.proofs.CountLemmas.{are_pairs, are_within, names_counted, sizes_counted}
 use Rattle.er_json.proofs.LineLemmas.{line_told}
 use Rattle.er_json.proofs.writer.write_json_report.Goals as goal
@@ -23,7 +23,7 @@ returns-in_err-put_report g c = λ lists stands.
     let joined = joins c.args.clocks.now in
     let table = c.args.table.now in
     let pairs = races_by joined table in
-    let told : pieces_of pairs c.args.groups.now c.count_all-counts.result ≡ report lists table = line_told c.args.clocks.now lists table c.args.groups.now c.count_all-counts.result stands c.requires.groups (c.count_all-counts.ensures.counts lists stands) in
+    let told : fragments_of pairs c.args.groups.now c.count_all-counts.result ≡ report lists table = line_told c.args.clocks.now lists table c.args.groups.now c.count_all-counts.result stands c.requires.groups (c.count_all-counts.ensures.counts lists stands) in
     let part : GetsPart (sink c.args.sink.now) (report lists table) (sink c.put_report.new.sink) = rw told at (c.in_err-put_report.ensures.part pairs (are_pairs joined table c.args.races.now c.requires.races)) in
     record {
       whole = search rules;
@@ -40,7 +40,7 @@ returns g c = λ lists stands.
     let joined = joins c.args.clocks.now in
     let table = c.args.table.now in
     let pairs = races_by joined table in
-    let told : pieces_of pairs c.args.groups.now c.count_all-counts.result ≡ report lists table = line_told c.args.clocks.now lists table c.args.groups.now c.count_all-counts.result stands c.requires.groups (c.count_all-counts.ensures.counts lists stands) in
+    let told : fragments_of pairs c.args.groups.now c.count_all-counts.result ≡ report lists table = line_told c.args.clocks.now lists table c.args.groups.now c.count_all-counts.result stands c.requires.groups (c.count_all-counts.ensures.counts lists stands) in
     let all : Gets (sink c.args.sink.now) (report lists table) (sink c.put_report.new.sink) = rw told at (c.in_ok-put_report.ensures.whole pairs (are_pairs joined table c.args.races.now c.requires.races)) in
     record {
       whole = all;

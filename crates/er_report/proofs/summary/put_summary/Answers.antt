@@ -1,6 +1,6 @@
 use Rattle.std.proofs.Common.{◌++◌, codes, rules}
 use Rattle.std.proofs.lemmas.Result.{on_ok_weaker, on_err_weaker}
-use Rattle.er_outside.specs.Ends.{GetsPart}
+use Rattle.er_io.specs.Ends.{GetsPart}
 use Rattle.er_syntax.specs.Buffered.{HoldsRest}
 use Rattle.er_syntax.specs.Lines.{count_line}
 use Rattle.er_report.specs.Report.{group_lines, closing_lines, summary_of}

@@ -1,6 +1,6 @@
 use Rattle.std.proofs.Common.{◌≡◌, rules}
 use Rattle.er_paths.specs.Paths.{joins}
-use Rattle.er_outside.specs.Ends.{Gets, GetsPart}
+use Rattle.er_io.specs.Ends.{Gets, GetsPart}
 use Rattle.er_report.specs.Report.{summary, summary_of}
 use Rattle.er_report.proofs.CountLemmas.{sizes_counted, summary_told}
 use Rattle.er_report.proofs.summary.write_summary.Goals as goal

@@ -1,6 +1,6 @@
 use Rattle.std.proofs.Common.{refl, rules, ◌∙◌}
 use Rattle.er_races.specs.declared.race.Race.{Race}
-use Rattle.er_report.specs.Pieces.{placed}
+use Rattle.er_report.specs.Fragments.{placed}
 use Rattle.er_report.specs.Report.{race_line}
 use Rattle.er_syntax.proofs.BufferedLemmas.{holds_start}
 use Rattle.er_syntax.proofs.SequenceLemmas.{line_held, line_part}

@@ -1,6 +1,6 @@
 use Rattle.std.proofs.Common.{◌++◌, rules}
 use Rattle.std.proofs.lemmas.Result.{on_ok_weaker, on_err_weaker}
-use Rattle.er_outside.specs.Ends.{GetsPart}
+use Rattle.er_io.specs.Ends.{GetsPart}
 use Rattle.er_syntax.specs.Buffered.{HoldsRest}
 use Rattle.er_report.specs.Report.{opening_line, race_lines, cover_lines, group_lines, closing_lines, report_of}
 use Rattle.er_syntax.proofs.BufferedLemmas.{all_came, part_came}

@@ -1,7 +1,7 @@
 use Rattle.std.proofs.Common.{arith, rules}
 use Rattle.std.proofs.lemmas.Grind.{common_steps}
-use Rattle.er_outside.specs.Ends.{GetsPart}
-use Rattle.er_outside.proofs.Puts.{composes}
+use Rattle.er_io.specs.Ends.{GetsPart}
+use Rattle.er_io.proofs.Puts.{composes}
 use Rattle.er_report.specs.Report.{refusal}
 use Rattle.er_syntax.proofs.BufferedLemmas.{all_came, part_came}
 use Rattle.er_report.proofs.writer.write_refusal.Goals as goal

@@ -1,6 +1,6 @@
 use Rattle.std.proofs.Common.{◌≡◌, rules}
 use Rattle.er_paths.specs.Paths.{joins}
-use Rattle.er_outside.specs.Ends.{Gets, GetsPart}
+use Rattle.er_io.specs.Ends.{Gets, GetsPart}
 use Rattle.er_races.specs.Races.{races_by}
 use Rattle.er_report.specs.Report.{report, report_of}
 use Rattle.er_report.proofs.CountLemmas.{are_pairs, are_within, names_counted, report_told, sizes_counted}

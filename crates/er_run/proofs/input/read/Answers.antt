@@ -1,5 +1,5 @@
 use Rattle.std.proofs.Common.{[], ◌++◌, refl, sym, ◌∙◌, arith, length-append}
-use Rattle.er_outside.proofs.Puts.{gives_again, gives_nothing}
+use Rattle.er_io.proofs.Puts.{gives_again, gives_nothing}
 use Rattle.er_run.proofs.ReadingLemmas.{none_begins, none_open, going_short, reads_stand, undecided}
 use Rattle.er_run.proofs.input.read.Goals as goal
 
@@ -19,11 +19,11 @@ loop-turn-preserved g c =
     let a = c.in-Ok-GoesOn.ensures.on (cc) h.bytes h.records h.at in
     let before = c.loop-turn.invariant.long in
     record {
-      here = record { bytes = h.bytes ++ a.piece; records = h.records ++ a.on.0; at = a.on.1 };
-      ahead = c.in-Ok-GoesOn.ensures.ahead (cc) (h.bytes ++ a.piece) (h.records ++ a.on.0) a.on.1;
-      gave = gives_again _ _ _ h.bytes a.piece c.loop-turn.invariant.gave a.gave;
+      here = record { bytes = h.bytes ++ a.chunk; records = h.records ++ a.on.0; at = a.on.1 };
+      ahead = c.in-Ok-GoesOn.ensures.ahead (cc) (h.bytes ++ a.chunk) (h.records ++ a.on.0) a.on.1;
+      gave = gives_again _ _ _ h.bytes a.chunk c.loop-turn.invariant.gave a.gave;
       going = c.in-Ok-GoesOn.ensures.going (cc);
-      long = omega (arith, before, a.some, length-append h.bytes a.piece);
+      long = omega (arith, before, a.some, length-append h.bytes a.chunk);
       stands = c.in-Ok-GoesOn.ensures.reads.stands (λ e. cc) ∙ c.loop-turn.invariant.stands;
     }
 

@@ -1,5 +1,5 @@
 use Rattle.std.proofs.Common.{◌≡◌, ◌≤◌, length, None}
-use Rattle.er_outside.specs.Ends.{Gives}
+use Rattle.er_io.specs.Ends.{Gives}
 use Rattle.er_run.specs.Reading.{IsSomewhere, IsOpen}
 use Rattle.er_run.proofs.input.read.Given as goal
 

@@ -1,4 +1,4 @@
-use Rattle.er_outside.specs.Ends.{Puts}
+use Rattle.er_io.specs.Ends.{Puts}
 use Rattle.er_run.proofs.JudgedLemmas.{found_by_clocks, groups_by_clocks, line_due}
 use Rattle.er_run.proofs.tell.put_line.Goals as goal
 

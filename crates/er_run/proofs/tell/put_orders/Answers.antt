@@ -1,4 +1,4 @@
-use Rattle.er_outside.specs.Ends.{Puts}
+use Rattle.er_io.specs.Ends.{Puts}
 use Rattle.er_run.proofs.JudgedLemmas.{some_orders, orders_due}
 use Rattle.er_run.proofs.tell.put_orders.Goals as goal
 

@@ -1,4 +1,4 @@
-use Rattle.er_outside.specs.Ends.{Puts}
+use Rattle.er_io.specs.Ends.{Puts}
 use Rattle.er_run.proofs.JudgedLemmas.{found_by_clocks, groups_by_clocks, report_due}
 use Rattle.er_run.proofs.tell.put_report.Goals as goal
 

@@ -1,8 +1,8 @@
 use Rattle.std.proofs.Common.{◌++◌, rules, codes}
 use Rattle.std.proofs.lemmas.Result.{on_ok_weaker, on_err_weaker}
-use Rattle.er_outside.specs.Ends.{GetsPart}
+use Rattle.er_io.specs.Ends.{GetsPart}
 use Rattle.er_syntax.specs.Buffered.{HoldsRest}
-use Rattle.er_report.specs.Pieces.{both_at}
+use Rattle.er_report.specs.Fragments.{both_at}
 use Rattle.er_report.specs.Report.{race_line}
 use Rattle.er_syntax.proofs.BufferedLemmas.{all_came, part_came}
 use Rattle.er_syntax.proofs.SequenceLemmas.{five_held, second_part, third_part, fourth_part, fifth_part}

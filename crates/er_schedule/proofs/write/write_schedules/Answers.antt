@@ -1,7 +1,7 @@
 use Rattle.std.proofs.Common.{◌≡◌, ◌-◌, ◌<◌, arith, length, rules}
-use Rattle.er_outside.specs.Ends.{Gets, GetsPart}
+use Rattle.er_io.specs.Ends.{Gets, GetsPart}
 use Rattle.er_races.specs.declared.race.Race.{Race}
-use Rattle.er_report.specs.Pieces.{both_at}
+use Rattle.er_report.specs.Fragments.{both_at}
 use Rattle.er_schedule.specs.Text.{schedules_of, schedule_text}
 use Rattle.er_schedule.proofs.TextLemmas.{race_first, race_second, text_told}
 use Rattle.er_schedule.proofs.write.write_schedules.Goals as goal

@@ -1,6 +1,6 @@
 use Rattle.std.proofs.Common.{arith}
-use Rattle.er_outside.specs.Ends.{GetsPart}
-use Rattle.er_outside.proofs.Puts.{composes}
+use Rattle.er_io.specs.Ends.{GetsPart}
+use Rattle.er_io.proofs.Puts.{composes}
 use Rattle.er_syntax.specs.Tokens.{tokens_spelling}
 use Rattle.er_trace.proofs.ResultLaws.{on_err}
 use Rattle.er_syntax.proofs.PrintLaws.{tokens_part_later, tokens_all, same_token}

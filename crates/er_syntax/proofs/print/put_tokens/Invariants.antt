@@ -1,5 +1,5 @@
 use Rattle.std.proofs.Common.{◌≡◌, ◌++◌, take}
-use Rattle.er_outside.specs.Ends.{Gets}
+use Rattle.er_io.specs.Ends.{Gets}
 use Rattle.er_syntax.proofs.PrintLaws.{later_spelling}
 use Rattle.er_syntax.proofs.print.put_tokens.Given as goal
 

@@ -8,5 +8,5 @@ pub returns : goal.returns
 returns g c =
     let none : c.args.self.now.line.items ≡ [] = grind (arith, common_steps) in
     let few : c.in-After.records + 2 ≤ most_lines = omega (arith, c.if-records.false) in
-    front_at g.L.Lines.format c.args.self.now.mark c.args.self.now.line.items c.args.piece.now c.in_ok-found.left.now c.in_ok-found.found c.in-After.version c.in-After.records
+    front_at g.L.Lines.format c.args.self.now.mark c.args.self.now.line.items c.args.chunk.now c.in_ok-found.left.now c.in_ok-found.found c.in-After.version c.in-After.records
     c.in-After.is few none c.in_ok-found.ensures

@@ -5,7 +5,7 @@ use Rattle.er_history.specs.Rules.{rules}
 use Rattle.er_history.specs.Edges.{path}
 use Rattle.er_path_rules.specs.timer.Grown.{GrewEnough}
 use Rattle.er_path_rules.proofs.timer.GrownLemmas.{grew_none, enough_as, some_as}
-use Rattle.er_path_rules.specs.timer.Fired.{fired_handed, handed_before}
+use Rattle.er_path_rules.specs.timer.Fired.{fired_handed, callback_handed}
 use Rattle.er_path_rules.proofs.timer.SetLemmas.{is_set, maker_told, due_by, none_due}
 use Rattle.er_path_rules.proofs.timer.TimersLemmas.{setter_events}
 use Rattle.er_path_rules.proofs.timer.predecessors.hand_for_timer.Goals as goal
@@ -21,11 +21,11 @@ hand_set_by-requires c =
     }
 
 pub returns-in-Some-clause-whole : goal.returns-in-Some-clause-whole
-returns-in-Some-clause-whole c = enough_as c.args.version c.args.page.now c.args.clocks.now (λ h. latest_of_event c.in-Some.next.maker (told h).actions ++ fired_handed c.args.version h c.in-Some.next.timeout c.in-Some.next.maker) (λ h. handed_before c.args.version h c.args.timeout)
+returns-in-Some-clause-whole c = enough_as c.args.version c.args.page.now c.args.clocks.now (λ h. latest_of_event c.in-Some.next.maker (told h).actions ++ fired_handed c.args.version h c.in-Some.next.timeout c.in-Some.next.maker) (λ h. callback_handed c.args.version h c.args.timeout)
     c.hand_set_by.result c.args.out.now.items c.hand_set_by.new.out.items (λ h is. due_by c.args.page.now.names c.args.version h c.args.timeout c.in-Some.next is.page.names (sym c.timeout.ensures ∙ c.in-Some.is)) c.hand_set_by.ensures.whole
 
 pub returns-in-Some-clause-part : goal.returns-in-Some-clause-part
-returns-in-Some-clause-part c = some_as c.args.version c.args.page.now c.args.clocks.now (λ h. latest_of_event c.in-Some.next.maker (told h).actions ++ fired_handed c.args.version h c.in-Some.next.timeout c.in-Some.next.maker) (λ h. handed_before c.args.version h c.args.timeout)
+returns-in-Some-clause-part c = some_as c.args.version c.args.page.now c.args.clocks.now (λ h. latest_of_event c.in-Some.next.maker (told h).actions ++ fired_handed c.args.version h c.in-Some.next.timeout c.in-Some.next.maker) (λ h. callback_handed c.args.version h c.args.timeout)
     c.hand_set_by.result c.args.out.now.items c.hand_set_by.new.out.items (λ h is. due_by c.args.page.now.names c.args.version h c.args.timeout c.in-Some.next is.page.names (sym c.timeout.ensures ∙ c.in-Some.is)) c.hand_set_by.ensures.part
 
 pub returns-in-None-clause-whole : goal.returns-in-None-clause-whole

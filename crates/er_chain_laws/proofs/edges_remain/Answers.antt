@@ -1,5 +1,0 @@
-use Rattle.er_chain_laws.proofs.VersionLemmas as lemma
-use Rattle.er_chain_laws.proofs.edges_remain.Goals as goal
-
-pub returns : goal.returns
-returns c = lemma.edges_remain

@@ -1,5 +1,0 @@
-use Rattle.er_chain_laws.proofs.VersionLemmas as lemma
-use Rattle.er_chain_laws.proofs.paths_remain.Goals as goal
-
-pub returns : goal.returns
-returns c = lemma.paths_remain

@@ -1,5 +1,0 @@
-use Rattle.er_chain_laws.proofs.LeastLemmas as lemma
-use Rattle.er_chain_laws.proofs.steps_have_least_rules.Goals as goal
-
-pub returns : goal.returns
-returns c = lemma.steps_have_least_rules

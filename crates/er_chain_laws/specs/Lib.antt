@@ -1,4 +1,0 @@
-pub mod Kept
-pub mod LeastRule
-pub mod Tasks
-pub mod Versions

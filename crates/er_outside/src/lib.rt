@@ -1,8 +1,0 @@
-//! The outside of the program: where bytes come from, and where they go.
-#![tactic(auto)]
-
-mod ends;
-mod put;
-
-pub use ends::{Failed, NoMemory, Sink, Source, WriteFault};
-pub use put::put_all;

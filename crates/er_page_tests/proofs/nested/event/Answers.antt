@@ -1,0 +1,5 @@
+use Rattle.er_page.proofs.PageLemmas.{begun_of_count}
+use Rattle.er_page_tests.proofs.nested.event.Goals as goal
+
+pub event_of-requires : goal.event_of-requires
+event_of-requires c = record { begun = begun_of_count _ _ c.actions.result c.args.reading.now.some c.actions.ensures c.if-action-actions.false }

@@ -1,5 +1,0 @@
-use Rattle.er_rows.proofs.StandingLemmas.{whole_after}
-use Rattle.er_rows.proofs.graph.hand_record.Goals as goal
-
-pub returns-in-Ok : goal.returns-in-Ok
-returns-in-Ok c = whole_after c.args.graph.now c.accept.new.self c.args.line _ c.requires.whole c.in-Ok.ensures.accepted

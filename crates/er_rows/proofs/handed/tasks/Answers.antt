@@ -1,6 +1,0 @@
-use Rattle.std.proofs.Common.{◌∙◌, sym}
-use Rattle.er_rows.proofs.StandingLemmas.{some_timed}
-use Rattle.er_rows.proofs.handed.tasks.Goals as goal
-
-pub predecessors-done-requires : goal.predecessors-done-requires
-predecessors-done-requires c = record { timed = some_timed c.args.graph.now _ _ _ c.requires.whole c.page.ensures c.clocks.ensures (sym c.in-Three.is ∙ c.version.ensures) }
