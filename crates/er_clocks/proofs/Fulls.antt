@@ -10,7 +10,7 @@ use Rattle.er_paths.specs.links.Chains.{chains, chain_of, members, entry, last_p
 use Rattle.er_paths.proofs.links.Tests.{decide, never}
 use Rattle.er_paths.proofs.links.Chains.{IsFront, count_le, back_to, front_linked, members_linked, chain_stays}
 use Rattle.er_paths.proofs.links.Fits.{IsBegun, fit_number, chains_begun, chains_are_first_fit, chain_number_short}
-use Rattle.er_chains.specs.Lengths.{one_more}
+use Rattle.er_clocks.specs.Lengths.{one_more}
 
 -- full exactly where the last member passes
 full_where_last : (q : ℕ → Bool) (m : ℕ) (c : List ℕ) → IsFront q (m ∷ c) → (count_in q (m ∷ c) == length (m ∷ c)) ≡ q m

@@ -1,3 +1,4 @@
+pub mod Lengths
 pub mod AskedLemmas
 pub mod Fulls
 pub mod Uncovered

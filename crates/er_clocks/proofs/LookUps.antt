@@ -8,7 +8,7 @@ use Rattle.er_paths.specs.links.Chains.{chains, chain_of, place_of, entry}
 use Rattle.er_paths.specs.links.Links.{links_of}
 use Rattle.er_paths.proofs.links.Chains.{chains_tell_paths}
 use Rattle.er_paths.proofs.links.Fits.{chain_number_short, place_short}
-use Rattle.er_chains.proofs.Lengths.{few_chains}
+use Rattle.er_clocks.proofs.Lengths.{few_chains}
 use Rattle.er_clocks.specs.Shared.{row_of, shared, AreShared}
 use Rattle.er_clocks.specs.Clock.{IsClock, StandsFor}
 use Rattle.er_clocks.specs.declared.clocks.Clocks.TheInside.{Inside}

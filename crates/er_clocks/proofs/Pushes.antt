@@ -11,7 +11,7 @@ use Rattle.er_paths.specs.links.Links.{numbers_below, links, links_of, links_to,
 use Rattle.er_paths.proofs.Paths.{place_cases, joins_past, paths_go_forward, enough_long, any_handed, handed_paths}
 use Rattle.er_paths.proofs.links.Chains.{GoesBack, back_to, front_linked, IsFront, IsLinked, chains_linked, all_linked_still, chain_stays, chains_of_paths}
 use Rattle.er_paths.proofs.links.Links.{keeps, kept_of, any_kept, kept_short, links_newest, links_grow, length-links, links_have_the_paths, links_long, links_of_paths}
-use Rattle.er_chains.specs.Lengths.{one_more}
+use Rattle.er_clocks.specs.Lengths.{one_more}
 use Rattle.er_paths.specs.Limits.{most_actions}
 use Rattle.er_clocks.specs.Shared.{row_of}
 use Rattle.er_clocks.specs.Clock.{number_at, IsClock, StandsFor}

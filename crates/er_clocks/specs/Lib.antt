@@ -1,3 +1,4 @@
+pub mod Lengths
 pub mod Asked
 pub mod Shared
 pub mod Clock

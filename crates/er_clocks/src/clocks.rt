@@ -11,8 +11,7 @@ ghost use Rattle.er_clocks.specs.Rows.{is_covered};
 use crate::list::LinkList;
 use crate::row::{Number, Row, number_at};
 use crate::shared::Shared;
-use crate::{Meter, Paths};
-use er_chains::Chains;
+use crate::{Chains, Meter, Paths};
 use std::alloc::Global;
 use std::marker::Model;
 

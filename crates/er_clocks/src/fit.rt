@@ -3,10 +3,9 @@
 ghost use Rattle.std.specs.Prelude.{◌≡◌, ◌≢◌, ◌≤◌, ◌<◌, ℕ, length, slice_index};
 ghost use Rattle.er_clocks.specs.Reached.{reach_at, like_at, IsReachFrom, IsFit};
 
-use crate::Clocks;
 use crate::row::Number;
 use crate::sources::Reach;
-use er_chains::Chains;
+use crate::{Chains, Clocks};
 
 impl Clocks {
     /// The chain that first fit takes where these are the entries.

@@ -1,6 +1,7 @@
 //! Vector clocks over chains: whether a path leads from one action to another, by one comparison of two numbers.
 #![tactic(auto)]
 
+mod chains;
 mod clocks;
 mod fit;
 pub mod laws;
@@ -14,6 +15,7 @@ mod shared;
 pub mod sharing;
 mod sources;
 
+pub use chains::Chains;
 pub use clocks::Clocks;
 pub use meter::Meter;
 pub use paths::Paths;

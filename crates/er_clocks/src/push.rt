@@ -7,12 +7,11 @@ ghost use Rattle.er_clocks.specs.Clock.{StandsForMore};
 ghost use Rattle.er_clocks.specs.Reached.{IsReachFrom, IsHeldOff, IsLikeOff};
 ghost use Rattle.er_clocks.specs.Shared.{shared, taken, AreShared, IsTakenFrom};
 
-use crate::Clocks;
 use crate::list::LinkList;
 use crate::row::{Row, number_at};
 use crate::shared::{Shared, Taken, put_number};
 use crate::sources::Reach;
-use er_chains::Chains;
+use crate::{Chains, Clocks};
 use er_io::NoMemory;
 use std::alloc::Global;
 

@@ -1,6 +1,6 @@
 //! The lengths of chains.
 
-use er_chains::Chains;
+use er_clocks::Chains;
 use std::test::Fail;
 
 #[test]

@@ -2,7 +2,7 @@
 
 ghost use Rattle.std.specs.Prelude.{◌≡◌, ◌≤◌, ◌<◌, ◌-◌, ◌^◌, [], length, slice_index, OnOk, OnErr};
 ghost use Rattle.std.specs.List.{sum};
-ghost use Rattle.er_chains.specs.Lengths.{one_more};
+ghost use Rattle.er_clocks.specs.Lengths.{one_more};
 
 use er_io::NoMemory;
 use std::alloc::Global;

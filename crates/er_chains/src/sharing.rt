@@ -1,9 +1,0 @@
-//! Threads may take and share chains.
-
-use crate::Chains;
-use er_io::may_cross_threads;
-
-/// Where a type could not cross threads, this would be refused.
-pub fn types_may_cross_threads() {
-    may_cross_threads::<Chains>();
-}
