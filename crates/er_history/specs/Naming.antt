@@ -7,7 +7,7 @@ use Rattle.er_trace.specs.declared.record.Record.{Record}
 use Rattle.er_trace.specs.declared.record.Record.TheVariants.{Parse, ParseFrame, Exec, Timer, Dcl, Load, Eload, Fire, Wfire, Reply, Inline, New, NewFrame, Set}
 use Rattle.er_trace.specs.declared.nesting.Nesting.{Nesting}
 use Rattle.er_trace.specs.declared.nesting.Nesting.TheVariants.{Note, Alone, OutsideInline, Called, Under, Behind}
-use Rattle.er_trace.specs.Signature.{Uses, UsesNone, UsesDocument, UsesElement, UsesTimeout, UsesInterval, UsesRequest, UsesDispatch, UsesHandler, UsesMessage, UsesAnim, UsesJob, Names, NamesNone, MakesElement, MakesFrame, MakesHandler, MakesTimeout, MakesInterval, MakesRequest, MakesMessage, MakesAnim, MakesJob, StartsScript, StartsTimeout, StartsMessage, StartsAnim, StartsJob, StartsDispatch, StartsDcl, StartsLoad, StartsEload, nesting, uses, names}
+use Rattle.er_trace.specs.Signature.{Uses, UsesNone, UsesDocument, UsesElement, UsesTimeout, UsesInterval, UsesRequest, UsesDispatch, UsesDispatchAndHandler, UsesMessage, UsesAnim, UsesJob, Claims, ClaimsNone, MakesElement, MakesFrame, MakesHandler, MakesTimeout, MakesInterval, MakesRequest, MakesMessage, MakesAnim, MakesJob, StartsScript, StartsTimeout, StartsMessage, StartsAnim, StartsJob, StartsDispatch, StartsDcl, StartsLoad, StartsEload, nesting, uses, claims}
 use Rattle.er_trace.specs.declared.record.Kind.{Kind}
 use Rattle.er_trace.specs.declared.record.Kind.TheVariants as kinds
 use Rattle.er_paths.specs.Limits.{most_actions}
@@ -43,23 +43,23 @@ fires_timeout number (Timer t) = t == number
 fires_timeout number _ = false
 
 abbrev pub begins_message : ℕ → Record → Bool
-begins_message number x = by (names x)
+begins_message number x = by (claims x)
   where
-    by : Names → Bool
+    by : Claims → Bool
     by (StartsMessage m) = m == number
     by _ = false
 
 abbrev pub begins_anim : ℕ → Record → Bool
-begins_anim number x = by (names x)
+begins_anim number x = by (claims x)
   where
-    by : Names → Bool
+    by : Claims → Bool
     by (StartsAnim a) = a == number
     by _ = false
 
 abbrev pub begins_job : ℕ → Record → Bool
-begins_job number x = by (names x)
+begins_job number x = by (claims x)
   where
-    by : Names → Bool
+    by : Claims → Bool
     by (StartsJob j) = j == number
     by _ = false
 
@@ -94,15 +94,15 @@ unknown h x = by (uses x)
     by (UsesAnim a) = not (list_any (asks_for_anim a) h)
     by (UsesJob j) = not (list_any (queues_job j) h)
     by (UsesDispatch p) = not (list_any (begins_dispatch p) h)
-    by (UsesHandler p x) =
+    by (UsesDispatchAndHandler p x) =
         not (list_any (begins_dispatch p) h) || not (list_any (declares_handler x) h)
 
 -- it declares or starts what was declared or started before
 abbrev pub again : List Record → Record → Bool
-again h x = by (names x)
+again h x = by (claims x)
   where
-    by : Names → Bool
-    by NamesNone = false
+    by : Claims → Bool
+    by ClaimsNone = false
     by (MakesElement e) = list_any (declares_element e) h
     by (MakesFrame e f) = list_any (declares_element e) h || knows_document h f
     by (MakesHandler x) = list_any (declares_handler x) h
@@ -140,9 +140,9 @@ is_script (Some e) = of e.form
 
 -- it runs an element that is no script
 abbrev pub not_script : History → Record → Bool
-not_script h x = by (names x)
+not_script h x = by (claims x)
   where
-    by : Names → Bool
+    by : Claims → Bool
     by (StartsScript e) = not (is_script (first_to (makes_element e) h.entries))
     by (StartsTimeout t) = false
     by (StartsMessage m) = false
@@ -152,7 +152,7 @@ not_script h x = by (names x)
     by (StartsDcl p d) = false
     by (StartsLoad p d) = false
     by (StartsEload p e) = false
-    by NamesNone = false
+    by ClaimsNone = false
     by (MakesElement e) = false
     by (MakesFrame e f) = false
     by (MakesHandler x) = false

@@ -1,7 +1,7 @@
 -- Messages, animation callbacks and jobs: tasks of three kinds. Lists of records stand newest first; a list of tasks that have begun stands oldest first.
 use Rattle.std.specs.Prelude.{ℕ, Bool, ◌==◌, if◌then◌else◌, List, [], ◌∷◌, ◌++◌, option_map, Option, Some, None}
 use Rattle.er_trace.specs.declared.record.Record.{Record}
-use Rattle.er_trace.specs.Signature.{Names, StartsMessage, StartsAnim, StartsJob, names}
+use Rattle.er_trace.specs.Signature.{Claims, StartsMessage, StartsAnim, StartsJob, claims}
 use Rattle.er_history.specs.History.{Task, told, first_to, maker_by, makes_task, posts_message, asks_for_anim, queues_job}
 use Rattle.er_history.specs.Naming.{begins_message, begins_anim, begins_job}
 
@@ -24,9 +24,9 @@ starts_task OfJob = begins_job
 
 -- the number of the task whose event the record begins
 abbrev pub task_started : TaskKind → Record → Option ℕ
-task_started kind x = by kind (names x)
+task_started kind x = by kind (claims x)
   where
-    by : TaskKind → Names → Option ℕ
+    by : TaskKind → Claims → Option ℕ
     by OfMessage (StartsMessage m) = Some m
     by OfMessage _ = None
     by OfAnim (StartsAnim a) = Some a

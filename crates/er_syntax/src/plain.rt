@@ -242,15 +242,17 @@ fn timer_line(bytes: &[u8]) -> Option<(Record, &[u8])>
 }
 
 /// The record whose line stands at the front, and what stands behind the LF, where it is one of
-/// those that are read so. `None` says nothing.
+/// those that are read so. `None` says nothing. Accesses are the most frequent: their first word
+/// alone has one letter.
 pub fn plain_line(alloc: Global, bytes: &[u8]) -> Option<(Record, &[u8])>
     ensures { IfSome result (λ pair. ((v : Version) → IsRecordOf v pair.0)
         × (bytes.now ≡ spelling pair.0 ++ line_end ∷ pair.1.now)) }
 {
-    match bytes.first()? {
-        b'p' => parse_line(bytes),
-        b's' => set_line(bytes),
-        b't' => timer_line(bytes),
-        _ => access_line(alloc, bytes),
+    match bytes {
+        [_, b' ', ..] => access_line(alloc, bytes),
+        [b'p', ..] => parse_line(bytes),
+        [b's', ..] => set_line(bytes),
+        [b't', ..] => timer_line(bytes),
+        _ => None,
     }
 }

@@ -1,4 +1,4 @@
--- The signature of each form of record: where among the open dispatches it may stand, which numbers it uses, and what it declares or starts.
+-- The signature of each form of record: where it may stand, by the open dispatches or by the running action; which numbers it uses; which it claims.
 use Rattle.std.specs.Prelude.{ℕ}
 use Rattle.er_trace.specs.declared.nesting.Nesting.{Nesting}
 use Rattle.er_trace.specs.declared.nesting.Nesting.TheVariants.{Note, Alone, OutsideInline, Called, Under, Behind}
@@ -14,47 +14,47 @@ pub data Uses : Type 0 where
   UsesInterval : (interval : ℕ) → Uses
   UsesRequest : (request : ℕ) → Uses
   UsesDispatch : (dispatch : ℕ) → Uses
-  UsesHandler : (dispatch : ℕ) → (handler : ℕ) → Uses
+  UsesDispatchAndHandler : (dispatch : ℕ) → (handler : ℕ) → Uses
   UsesMessage : (message : ℕ) → Uses
   UsesAnim : (anim : ℕ) → Uses
   UsesJob : (job : ℕ) → Uses
 
--- what it declares or starts, which no other record of a list may
-pub data Names : Type 0 where
-  NamesNone : Names
-  MakesElement : (element : ℕ) → Names
-  MakesFrame : (element : ℕ) → (inner : ℕ) → Names
-  MakesHandler : (handler : ℕ) → Names
-  MakesTimeout : (timeout : ℕ) → Names
-  MakesInterval : (interval : ℕ) → Names
-  MakesRequest : (request : ℕ) → Names
-  MakesMessage : (message : ℕ) → Names
-  MakesAnim : (anim : ℕ) → Names
-  MakesJob : (job : ℕ) → Names
-  StartsScript : (element : ℕ) → Names
-  StartsTimeout : (timeout : ℕ) → Names
-  StartsMessage : (message : ℕ) → Names
-  StartsAnim : (anim : ℕ) → Names
-  StartsJob : (job : ℕ) → Names
-  StartsDispatch : (dispatch : ℕ) → Names
-  StartsDcl : (dispatch : ℕ) → (doc : ℕ) → Names
-  StartsLoad : (dispatch : ℕ) → (doc : ℕ) → Names
-  StartsEload : (dispatch : ℕ) → (element : ℕ) → Names
+-- the numbers that it declares or starts, which no other record of a list may
+pub data Claims : Type 0 where
+  ClaimsNone : Claims
+  MakesElement : (element : ℕ) → Claims
+  MakesFrame : (element : ℕ) → (inner : ℕ) → Claims
+  MakesHandler : (handler : ℕ) → Claims
+  MakesTimeout : (timeout : ℕ) → Claims
+  MakesInterval : (interval : ℕ) → Claims
+  MakesRequest : (request : ℕ) → Claims
+  MakesMessage : (message : ℕ) → Claims
+  MakesAnim : (anim : ℕ) → Claims
+  MakesJob : (job : ℕ) → Claims
+  StartsScript : (element : ℕ) → Claims
+  StartsTimeout : (timeout : ℕ) → Claims
+  StartsMessage : (message : ℕ) → Claims
+  StartsAnim : (anim : ℕ) → Claims
+  StartsJob : (job : ℕ) → Claims
+  StartsDispatch : (dispatch : ℕ) → Claims
+  StartsDcl : (dispatch : ℕ) → (doc : ℕ) → Claims
+  StartsLoad : (dispatch : ℕ) → (doc : ℕ) → Claims
+  StartsEload : (dispatch : ℕ) → (element : ℕ) → Claims
 
 pub record Signature : Type 0 where
   pub nesting : Nesting
   pub uses : Uses
-  pub names : Names
+  pub claims : Claims
 
-abbrev sign : Nesting → Uses → Names → Signature
-sign nesting uses names = record { nesting = nesting; uses = uses; names = names }
+abbrev sign : Nesting → Uses → Claims → Signature
+sign nesting uses claims = record { nesting = nesting; uses = uses; claims = claims }
 
 abbrev pub signature : Record → Signature
 signature (Parse d e k) = sign Alone (UsesDocument d) (MakesElement e)
 signature (ParseFrame d e f) = sign Alone (UsesDocument d) (MakesFrame e f)
 signature (Exec e) = sign Alone (UsesElement e) (StartsScript e)
 signature (Timer t) = sign Alone (UsesTimeout t) (StartsTimeout t)
-signature (Tick i) = sign Alone (UsesInterval i) NamesNone
+signature (Tick i) = sign Alone (UsesInterval i) ClaimsNone
 signature (Dcl p d) = sign Alone (UsesDocument d) (StartsDcl p d)
 signature (Load p d) = sign Alone (UsesDocument d) (StartsLoad p d)
 signature (Eload p e) = sign Alone (UsesElement e) (StartsEload p e)
@@ -62,9 +62,9 @@ signature (Fire p e n) = sign Alone (UsesElement e) (StartsDispatch p)
 signature (Wfire p d n) = sign Alone (UsesDocument d) (StartsDispatch p)
 signature (Reply p r) = sign Alone (UsesRequest r) (StartsDispatch p)
 signature (Inline p e n) = sign Called (UsesElement e) (StartsDispatch p)
-signature (Run p g x) = sign (Under p) (UsesHandler p x) NamesNone
-signature (Close p) = sign (Under p) (UsesDispatch p) NamesNone
-signature (Back p) = sign (Behind p) (UsesDispatch p) NamesNone
+signature (Run p g x) = sign (Under p) (UsesDispatchAndHandler p x) ClaimsNone
+signature (Close p) = sign (Under p) (UsesDispatch p) ClaimsNone
+signature (Back p) = sign (Behind p) (UsesDispatch p) ClaimsNone
 signature (Message m) = sign Alone (UsesMessage m) (StartsMessage m)
 signature (Anim a) = sign Alone (UsesAnim a) (StartsAnim a)
 signature (Job j) = sign OutsideInline (UsesJob j) (StartsJob j)
@@ -77,7 +77,7 @@ signature (Send r) = sign Note UsesNone (MakesRequest r)
 signature (Post m) = sign Note UsesNone (MakesMessage m)
 signature (Ask a) = sign Note UsesNone (MakesAnim a)
 signature (Queue j) = sign Note UsesNone (MakesJob j)
-signature (Access m l) = sign Note UsesNone NamesNone
+signature (Access m l) = sign Note UsesNone ClaimsNone
 
 abbrev pub nesting : Record → Nesting
 nesting x = (signature x).nesting
@@ -85,5 +85,5 @@ nesting x = (signature x).nesting
 abbrev pub uses : Record → Uses
 uses x = (signature x).uses
 
-abbrev pub names : Record → Names
-names x = (signature x).names
+abbrev pub claims : Record → Claims
+claims x = (signature x).claims

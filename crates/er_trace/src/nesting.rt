@@ -1,4 +1,5 @@
-//! Where among the open dispatches a record may stand, and so whether it begins an action.
+//! Where a record may stand, by the open dispatches or by the running action, and so whether it
+//! begins an action.
 
 ghost use Rattle.std.specs.Prelude.{◌≡◌};
 ghost use Rattle.er_trace.specs.Signature.{nesting};
