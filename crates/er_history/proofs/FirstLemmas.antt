@@ -1,7 +1,6 @@
 -- How a table comes to answer for one record more.
 use Rattle.std.proofs.Common.{◌≡◌, ℕ, Bool, true, false, List, [], ◌∷◌, length, Option, Some, None, option_map, is_some, refl, sym, ap, subst, ◌∙◌}
-use Rattle.std.specs.Prelude.{◌||◌, nat_eq}
-use Rattle.std.specs.Map.{lookup}
+use Rattle.std.specs.Prelude.{◌||◌}
 use Rattle.er_trace.specs.declared.record.Record.{Record}
 use Rattle.er_history.specs.History.{told, or_else, first_to, maker_by, running, actions_after, Action, Entry}
 use Rattle.er_history.specs.Noted.{noted_in}
@@ -57,10 +56,6 @@ firsts_same test gives found h x nothing none stands = record {
   first = λ k. stands.first k ∙ (sym (or_none (first_to (gives k) h)) ∙ ap (or_else (first_to (gives k) h)) (sym (nothing k)));
   known = λ k. rw (none k) (stands.known k);
 }
-
--- an empty table finds nothing
-pub none_found : {X : Type 0} (entries : List (ℕ × X)) → entries ≡ [] → (k : ℕ) → lookup (nat_eq k) entries ≡ None
-none_found entries empty k = ap (lookup (nat_eq k)) empty
 
 -- nothing is made yet
 pub none_made : (test : ℕ → Record → Bool) (found : ℕ → Option ℕ) → ((k : ℕ) → found k ≡ None) → MakersAre test found []

@@ -1,20 +1,22 @@
 -- What a list of records says: which actions have begun, of which events they are pieces, and which dispatches are not finished. Lists stand newest first.
 use Rattle.std.specs.Prelude.{ℕ, ◌-◌, Bool, true, false, ◌==◌, if◌then◌else◌, List, [], ◌∷◌, length, map, Option, Some, None}
+pub use Rattle.er_numbers.specs.Numbers.{or_else}
 use Rattle.er_trace.specs.Signature.{nesting}
 use Rattle.er_trace.specs.declared.nesting.Nesting.{Nesting}
 use Rattle.er_trace.specs.declared.nesting.Nesting.TheVariants.{Note, Alone, OutsideInline, Called, Under, Behind}
 use Rattle.er_trace.specs.declared.record.Record.{Record}
-use Rattle.er_trace.specs.declared.record.Record.TheVariants.{Parse, ParseFrame, Exec, Timer, Tick, Dcl, Load, Eload, Fire, Wfire, Reply, Inline, Run, Close, Back, New, NewFrame, On, Set, Every, Send, Access, Post, Ask, Queue, Message, Anim, Job}
+use Rattle.er_trace.specs.declared.record.Record.TheVariants.{Parse, ParseFrame, Exec, Timer, Tick, Dcl, Load, Eload, Fire, Wfire, Reply, Inline, Run, Close, Back, New, NewFrame, On, Set, Every, Send, Post, Ask, Queue, Message, Anim, Job}
 use Rattle.er_trace.specs.declared.record.Kind.{Kind}
 use Rattle.er_trace.specs.declared.record.Kind.TheVariants as kinds
 use Rattle.er_trace.specs.declared.record.NewKind.{NewKind}
 use Rattle.er_trace.specs.declared.record.NewKind.TheVariants as new_kinds
 
--- An element: its document, its form, whether a parse step made it, and the event and the piece that made it.
+-- The form of an element: one with a kind, or a frame with the document inside.
 pub data Form : Type 0 where
   Kinded : (kind : Kind) → Form
   Framing : (inner : ℕ) → Form
 
+-- An element: its document, its form, whether a parse step made it, and the event and the piece that made it.
 pub record Element : Type 0 where
   pub doc : ℕ
   pub form : Form
@@ -99,7 +101,7 @@ pub record History : Type 0 where
   pub actions : List Action
   pub stack : List Open
 
--- a record that begins an action stands where no note does
+-- a record with this nesting begins an action: only a note begins none
 abbrev pub begins_at : Nesting → Bool
 begins_at Note = false
 begins_at Alone = true
@@ -108,12 +110,9 @@ begins_at Called = true
 begins_at (Under p) = true
 begins_at (Behind p) = true
 
+-- the record begins an action
 abbrev pub begins : Record → Bool
 begins x = begins_at (nesting x)
-
-abbrev pub or_else : {B : Type 0} → Option B → Option B → Option B
-or_else None o = o
-or_else (Some x) o = Some x
 
 -- the first of a list, newest first, that gives something
 abbrev pub first_to : {A B : Type 0} → (A → Option B) → List A → Option B

@@ -22,12 +22,12 @@ abbrev pub made_by : Option ℕ → Event → Bool
 made_by None u = false
 made_by (Some m) u = m == u.number
 
--- it was made, and passes the test
+-- there is one, and it passes the test
 abbrev pub is_some_and : {A : Type 0} → (A → Bool) → Option A → Bool
 is_some_and test None = false
 is_some_and test (Some x) = test x
 
--- both were made, and pass the test
+-- there are both, and they pass the test
 abbrev pub both_some_and : {A : Type 0} → (A → A → Bool) → Option A → Option A → Bool
 both_some_and test (Some x) (Some y) = test x y
 both_some_and test _ _ = false

@@ -1,8 +1,7 @@
 -- An access declares, starts and finishes nothing.
 use Rattle.std.proofs.Common.{◌≡◌, ℕ, List, [], ◌∷◌, ◌++◌, length, Option, Some, None, refl, sym, ap, ◌∙◌, arith}
-use Rattle.std.specs.Prelude.{nat_eq}
 use Rattle.std.proofs.lemmas.List.{append-nil}
-use Rattle.indexmap.specs.IndexMap.{get}
+use Rattle.er_numbers.specs.Numbers.{found}
 use Rattle.er_trace.specs.declared.record.Record.{Record}
 use Rattle.er_trace.specs.declared.record.Record.TheVariants.{Access}
 use Rattle.er_trace.specs.declared.record.Loc.{Loc}
@@ -19,9 +18,9 @@ use Rattle.er_names.proofs.RankLemmas.{ranked_more}
 tables_same : (tables : Tables) (h : List Record) (m : Mode) (l : Loc) (a : Action) → running (actions_after (told h) (Access m l)) ≡ Some a
     → TablesAre tables h → TablesAre tables (Access m l ∷ h)
 tables_same tables h m l a runs stands = record {
-  elements = elements_more _ _ None h (Access m l) a (λ k. sym (or_none (get nat_eq tables.elements k))) stands.elements (record { made = λ k place. refl; known = λ k. refl }) runs;
-  timeouts = timeouts_more _ _ None h (Access m l) a (λ k. sym (or_none (get nat_eq tables.timeouts k))) stands.timeouts (record { placed = λ k place. refl; made = λ k place. refl; known = λ k. refl }) runs;
-  ranked = ranked_more _ _ None h (Access m l) a _ _ (λ k. sym (or_none (get nat_eq tables.timeouts k))) (omega arith) tt stands.ranked (record { placed = λ k place. refl; made = λ k place. refl; known = λ k. refl }) tt runs;
+  elements = elements_more _ _ None h (Access m l) a (λ k. sym (or_none (found tables.elements k))) stands.elements (record { made = λ k place. refl; known = λ k. refl }) runs;
+  timeouts = timeouts_more _ _ None h (Access m l) a (λ k. sym (or_none (found tables.timeouts k))) stands.timeouts (record { placed = λ k place. refl; made = λ k place. refl; known = λ k. refl }) runs;
+  ranked = ranked_more _ _ None h (Access m l) a _ _ (λ k. sym (or_none (found tables.timeouts k))) (omega arith) tt stands.ranked (record { placed = λ k place. refl; made = λ k place. refl; known = λ k. refl }) tt runs;
   documents = makers_same _ _ h (Access m l) (λ k. refl) stands.documents;
   handlers = makers_same _ _ h (Access m l) (λ k. refl) stands.handlers;
   intervals = makers_same _ _ h (Access m l) (λ k. refl) stands.intervals;

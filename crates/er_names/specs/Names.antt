@@ -1,7 +1,7 @@
 -- What the tables of names stand for. Lists of records stand newest first.
-use Rattle.std.specs.Prelude.{◌≡◌, ℕ, ◌<◌, ◌||◌, if◌then◌else◌, Bool, false, List, length, Option, Some, None, is_some, option_map, nat_eq}
+use Rattle.std.specs.Prelude.{◌≡◌, ℕ, ◌||◌, if◌then◌else◌, Bool, false, List, length, Option, Some, None, is_some, option_map}
 use Rattle.std.specs.List.{list_any}
-use Rattle.indexmap.specs.IndexMap.{get, spare, index_map_len}
+use Rattle.er_numbers.specs.Numbers.{found, HasRoomWhere}
 use Rattle.er_trace.specs.declared.record.Record.{Record}
 use Rattle.er_trace.specs.Versions.{is_of_task}
 use Rattle.er_history.specs.History as history
@@ -86,57 +86,57 @@ IsRankedByPlace found count h =
 
 -- each table answers what the list says
 pub record TablesAre (tables : Tables) (h : List Record) : Type 0 where
-  pub elements : ElementsAre (get nat_eq tables.elements) h
-  pub timeouts : TimeoutsAre (get nat_eq tables.timeouts) h
-  pub ranked : IsRankedByPlace (get nat_eq tables.timeouts) (index_map_len tables.timeouts) h
-  pub documents : MakersAre declares_document (get nat_eq tables.documents) h
-  pub handlers : MakersAre declares_handler (get nat_eq tables.handlers) h
-  pub intervals : MakersAre declares_interval (get nat_eq tables.intervals) h
-  pub requests : MakersAre declares_request (get nat_eq tables.requests) h
-  pub runs : MakersAre runs_script (get nat_eq tables.runs) h
-  pub callbacks : MakersAre fires_timeout (get nat_eq tables.callbacks) h
-  pub begins : MakersAre begins_dispatch (get nat_eq tables.begins) h
-  pub closes : MakersAre closes_dispatch (get nat_eq tables.closes) h
-  pub frames : FirstsAre declares_document makes_frame (get nat_eq tables.frames) h
-  pub dcls : FirstsAre is_dcl begins_dcl (get nat_eq tables.dcls) h
-  pub loads : FirstsAre is_load begins_load (get nat_eq tables.loads) h
-  pub eloads : FirstsAre is_eload begins_eload (get nat_eq tables.eloads) h
+  pub elements : ElementsAre (found tables.elements) h
+  pub timeouts : TimeoutsAre (found tables.timeouts) h
+  pub ranked : IsRankedByPlace (found tables.timeouts) (tables.timeouts.count) h
+  pub documents : MakersAre declares_document (found tables.documents) h
+  pub handlers : MakersAre declares_handler (found tables.handlers) h
+  pub intervals : MakersAre declares_interval (found tables.intervals) h
+  pub requests : MakersAre declares_request (found tables.requests) h
+  pub runs : MakersAre runs_script (found tables.runs) h
+  pub callbacks : MakersAre fires_timeout (found tables.callbacks) h
+  pub begins : MakersAre begins_dispatch (found tables.begins) h
+  pub closes : MakersAre closes_dispatch (found tables.closes) h
+  pub frames : FirstsAre declares_document makes_frame (found tables.frames) h
+  pub dcls : FirstsAre is_dcl begins_dcl (found tables.dcls) h
+  pub loads : FirstsAre is_load begins_load (found tables.loads) h
+  pub eloads : FirstsAre is_eload begins_eload (found tables.eloads) h
 
 -- each table answers what the list says, and so do those of what has fired
 pub record NamesAre (names : Names) (h : List Record) : Type 0 where
   pub tables : TablesAre names.tables h
   pub fired : FiredAre names.fired h
-  pub found : AreFound (get nat_eq names.tables.timeouts) names.fired
+  pub found : AreFound (found names.tables.timeouts) names.fired
 
 -- the timeout of this number
 abbrev pub timeout_at : Names → ℕ → Option SetTimeout
-timeout_at names t = option_map (numbered t) (get nat_eq names.tables.timeouts t)
+timeout_at names t = option_map (numbered t) (found names.tables.timeouts t)
 
 -- it is the timeout of its number
 abbrev pub IsSet : Names → SetTimeout → Type 0
 IsSet names x = timeout_at names x.timeout ≡ Some x
 
--- each table has room for one number more
-pub record HaveSpare (tables : Tables) : Type 0 where
-  pub elements : 0 < spare tables.elements
-  pub timeouts : 0 < spare tables.timeouts
-  pub documents : 0 < spare tables.documents
-  pub handlers : 0 < spare tables.handlers
-  pub intervals : 0 < spare tables.intervals
-  pub requests : 0 < spare tables.requests
-  pub runs : 0 < spare tables.runs
-  pub callbacks : 0 < spare tables.callbacks
-  pub begins : 0 < spare tables.begins
-  pub closes : 0 < spare tables.closes
-  pub frames : 0 < spare tables.frames
-  pub dcls : 0 < spare tables.dcls
-  pub loads : 0 < spare tables.loads
-  pub eloads : 0 < spare tables.eloads
+-- each table has room for what the record notes in it
+pub record HaveRoomFor (tables : Tables) (x : Record) : Type 0 where
+  pub elements : HasRoomWhere tables.elements (λ k. declares_element k x)
+  pub timeouts : HasRoomWhere tables.timeouts (λ k. sets_timeout k x)
+  pub documents : HasRoomWhere tables.documents (λ k. declares_document k x)
+  pub handlers : HasRoomWhere tables.handlers (λ k. declares_handler k x)
+  pub intervals : HasRoomWhere tables.intervals (λ k. declares_interval k x)
+  pub requests : HasRoomWhere tables.requests (λ k. declares_request k x)
+  pub runs : HasRoomWhere tables.runs (λ k. runs_script k x)
+  pub callbacks : HasRoomWhere tables.callbacks (λ k. fires_timeout k x)
+  pub begins : HasRoomWhere tables.begins (λ k. begins_dispatch k x)
+  pub closes : HasRoomWhere tables.closes (λ k. closes_dispatch k x)
+  pub frames : HasRoomWhere tables.frames (λ k. declares_document k x)
+  pub dcls : HasRoomWhere tables.dcls (λ k. is_dcl k x)
+  pub loads : HasRoomWhere tables.loads (λ k. is_load k x)
+  pub eloads : HasRoomWhere tables.eloads (λ k. is_eload k x)
 
 -- and so has the list of a timeout whose callback the record begins
 pub record HasRoomFor (names : Names) (x : Record) : Type 0 where
-  pub tables : HaveSpare names.tables
-  pub fired : HasPlaceFor names.fired (timer_found (get nat_eq names.tables.timeouts) x)
+  pub tables : HaveRoomFor names.tables x
+  pub fired : HasPlaceFor names.fired (timer_found (found names.tables.timeouts) x)
 
 -- the element or the document is declared
 abbrev pub declares_either : ℕ → ℕ → List Record → Bool

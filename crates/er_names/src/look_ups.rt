@@ -1,8 +1,8 @@
 //! What the list of accepted records says, by number. No look-up takes memory.
 
-ghost use Rattle.std.specs.Prelude.{◌≡◌, ℕ, List, Some, None, option_map, map, nat_eq};
+ghost use Rattle.std.specs.Prelude.{◌≡◌, ℕ, List, Some, None, option_map, map};
 ghost use Rattle.std.specs.List.{All};
-ghost use Rattle.indexmap.specs.IndexMap.{get};
+ghost use Rattle.er_numbers.specs.Numbers.{found};
 ghost use Rattle.er_trace.specs.declared.record.Record.{Record};
 ghost use Rattle.er_history.specs.LookUps as says;
 ghost use Rattle.er_names.specs.Fired.{AreCounted, number_of, sets};
@@ -26,21 +26,21 @@ impl Names {
     pub fn maker_of_document(&self, doc: u32) -> Option<u32>
         ensures { Answers self.now (λ h. says.maker_of_document h doc) result }
     {
-        self.tables.documents.get(&doc).copied()
+        self.tables.documents.find(doc)
     }
 
     /// The event that registered the handler.
     pub fn maker_of_handler(&self, handler: u32) -> Option<u32>
         ensures { Answers self.now (λ h. says.maker_of_handler h handler) result }
     {
-        self.tables.handlers.get(&handler).copied()
+        self.tables.handlers.find(handler)
     }
 
     /// The event that set the timeout.
     pub fn maker_of_timeout(&self, timeout: u32) -> Option<u32>
         ensures { Answers self.now (λ h. says.maker_of_timeout h timeout) result }
     {
-        let found = self.tables.timeouts.get(&timeout)?;
+        let found = self.tables.timeouts.find(timeout)?;
         Some(found.maker)
     }
 
@@ -48,14 +48,14 @@ impl Names {
     pub fn maker_of_interval(&self, interval: u32) -> Option<u32>
         ensures { Answers self.now (λ h. says.maker_of_interval h interval) result }
     {
-        self.tables.intervals.get(&interval).copied()
+        self.tables.intervals.find(interval)
     }
 
     /// The event that sent the request.
     pub fn maker_of_request(&self, request: u32) -> Option<u32>
         ensures { Answers self.now (λ h. says.maker_of_request h request) result }
     {
-        self.tables.requests.get(&request).copied()
+        self.tables.requests.find(request)
     }
 }
 
@@ -119,14 +119,14 @@ impl Names {
     pub fn run_of(&self, element: u32) -> Option<u32>
         ensures { Answers self.now (λ h. says.run_of h element) result }
     {
-        self.tables.runs.get(&element).copied()
+        self.tables.runs.find(element)
     }
 
     /// The dispatch of the element's first load event.
     pub fn eload_of(&self, element: u32) -> Option<u32>
         ensures { Answers self.now (λ h. says.eload_of h element) result }
     {
-        self.tables.eloads.get(&element).copied()
+        self.tables.eloads.find(element)
     }
 }
 
@@ -136,21 +136,21 @@ impl Names {
     pub fn frame_of(&self, doc: u32) -> Option<u32>
         ensures { Answers self.now (λ h. says.frame_of h doc) result }
     {
-        self.tables.frames.get(&doc).copied()
+        self.tables.frames.find(doc)
     }
 
     /// The dispatch of DOMContentLoaded of the document.
     pub fn dcl_of(&self, doc: u32) -> Option<u32>
         ensures { Answers self.now (λ h. says.dcl_of h doc) result }
     {
-        self.tables.dcls.get(&doc).copied()
+        self.tables.dcls.find(doc)
     }
 
     /// The dispatch of load of the document's window.
     pub fn load_of(&self, doc: u32) -> Option<u32>
         ensures { Answers self.now (λ h. says.load_of h doc) result }
     {
-        self.tables.loads.get(&doc).copied()
+        self.tables.loads.find(doc)
     }
 }
 
@@ -160,7 +160,7 @@ impl Names {
     pub fn delay_of(&self, timeout: u32) -> Option<u32>
         ensures { Answers self.now (λ h. says.delay_of h timeout) result }
     {
-        let found = self.tables.timeouts.get(&timeout)?;
+        let found = self.tables.timeouts.find(timeout)?;
         Some(found.delay)
     }
 
@@ -168,7 +168,7 @@ impl Names {
     pub fn setting_piece(&self, timeout: u32) -> Option<u32>
         ensures { Answers self.now (λ h. says.setting_piece h timeout) result }
     {
-        let set = self.tables.timeouts.get(&timeout)?;
+        let set = self.tables.timeouts.find(timeout)?;
         Some(set.piece)
     }
 
@@ -176,7 +176,7 @@ impl Names {
     pub fn timer_event(&self, timeout: u32) -> Option<u32>
         ensures { Answers self.now (λ h. says.timer_event h timeout) result }
     {
-        self.tables.callbacks.get(&timeout).copied()
+        self.tables.callbacks.find(timeout)
     }
 
     /// All timeouts that have fired, in order of firing.
@@ -197,8 +197,8 @@ impl Names {
     pub fn timeout(&self, timeout: u32) -> Option<SetTimeout>
         ensures { result ≡ timeout_at self.now timeout }
     {
-        let set = self.tables.timeouts.get(&timeout)?;
-        Some(numbered(timeout, *set))
+        let set = self.tables.timeouts.find(timeout)?;
+        Some(numbered(timeout, set))
     }
 
     /// All timeouts that have fired, in order of firing, as they were set.
@@ -234,23 +234,23 @@ impl Names {
 
     /// How many timeouts were set before this one.
     fn rank(&self, timeout: u32) -> Option<usize>
-        ensures { result ≡ option_map rank_of (get nat_eq self.now.tables.timeouts timeout) }
+        ensures { result ≡ option_map rank_of (found self.now.tables.timeouts timeout) }
     {
-        let found = self.tables.timeouts.get(&timeout)?;
-        Some(found.rank)
+        let set = self.tables.timeouts.find(timeout)?;
+        Some(set.rank)
     }
 
     /// The begin of the dispatch.
     pub fn begin_event(&self, dispatch: u32) -> Option<u32>
         ensures { Answers self.now (λ h. says.begin_event h dispatch) result }
     {
-        self.tables.begins.get(&dispatch).copied()
+        self.tables.begins.find(dispatch)
     }
 
     /// The close of the dispatch.
     pub fn close_event(&self, dispatch: u32) -> Option<u32>
         ensures { Answers self.now (λ h. says.close_event h dispatch) result }
     {
-        self.tables.closes.get(&dispatch).copied()
+        self.tables.closes.find(dispatch)
     }
 }

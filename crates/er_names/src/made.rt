@@ -1,44 +1,70 @@
 //! The element or the timeout that a record makes, and how it is noted.
 
-ghost use Rattle.std.specs.Prelude.{◌≡◌, ℕ, ◌<◌, List, ◌∷◌, nat_eq};
-ghost use Rattle.indexmap.specs.IndexMap.{get, spare, index_map_len};
+ghost use Rattle.std.specs.Prelude.{◌≡◌, ℕ, List, ◌∷◌, is_some};
+ghost use Rattle.er_numbers.specs.Numbers.{found, HasRoomWhere};
 ghost use Rattle.er_trace.specs.declared.record.Record.{Record};
 ghost use Rattle.er_history.specs.History as history;
+ghost use Rattle.er_history.specs.Naming.{declares_element, sets_timeout};
+ghost use Rattle.er_history.specs.Noted.{is_number, noted_in};
 ghost use Rattle.er_history.specs.Taken.{IsNow, KeepsEach, Takes};
 ghost use Rattle.er_names.specs.Names.{ElementsAre, TimeoutsAre, ElementGiven, SettingGiven, HasRank, IsRankedByPlace};
 
 use crate::names::{Element, Form, Timeout};
 use er_history::firsts::{Now, note_pair};
+use er_numbers::Numbers;
 use er_trace::record::{Kind, NewKind, Record};
-use indexmap::IndexMap;
 
 /// Notes the element that the record makes.
-pub(crate) fn note_element(table: &mut IndexMap<u32, Element>, rec: &Record, now: Now)
-    requires room { 0 < spare table.old }
-    ensures { Takes ElementsAre (get nat_eq table.old) (get nat_eq table.new) rec.now now }
+pub(crate) fn note_element(table: &mut Numbers<Element>, rec: &Record, now: Now)
+    requires room { HasRoomWhere table.old (λ k. declares_element k rec.now) }
+    ensures { Takes ElementsAre (found table.old) (found table.new) rec.now now }
 {
     let pair = element_in(rec, now);
     note_pair(table, pair);
 }
 
 /// Notes the timeout that the record sets.
-pub(crate) fn note_timeout(table: &mut IndexMap<u32, Timeout>, rec: &Record, now: Now)
-    requires room { 0 < spare table.old }
-    ensures set { Takes TimeoutsAre (get nat_eq table.old) (get nat_eq table.new) rec.now now }
-    ensures kept { KeepsEach (get nat_eq table.old) (get nat_eq table.new) }
+pub(crate) fn note_timeout(table: &mut Numbers<Timeout>, rec: &Record, now: Now)
+    requires room { HasRoomWhere table.old (λ k. sets_timeout k rec.now) }
+    ensures set { Takes TimeoutsAre (found table.old) (found table.new) rec.now now }
+    ensures kept { KeepsEach (found table.old) (found table.new) }
     ensures ranked { (h : List Record)
-        → IsRankedByPlace (get nat_eq table.old) (index_map_len table.old) h
+        → IsRankedByPlace (found table.old) (table.old.count) h
         → IsNow h rec.now now
-        → IsRankedByPlace (get nat_eq table.new) (index_map_len table.new) (rec.now ∷ h) }
+        → IsRankedByPlace (found table.new) (table.new.count) (rec.now ∷ h) }
 {
-    let pair = timeout_in(rec, now, table.len());
+    let pair = timeout_in(rec, now, table.count());
     note_pair(table, pair);
+}
+
+/// The number of the element that a record makes.
+pub(crate) fn made_in(rec: &Record) -> Option<u32>
+    ensures { (k : ℕ) → is_number k result ≡ declares_element k rec.now }
+{
+    match rec {
+        Record::Parse { element, .. } => Some(*element),
+        Record::ParseFrame { element, .. } => Some(*element),
+        Record::New { element, .. } => Some(*element),
+        Record::NewFrame { element, .. } => Some(*element),
+        _ => None,
+    }
+}
+
+/// The number of the timeout that a record sets.
+pub(crate) fn set_in(rec: &Record) -> Option<u32>
+    ensures { (k : ℕ) → is_number k result ≡ sets_timeout k rec.now }
+{
+    match rec {
+        Record::Set { timeout, .. } => Some(*timeout),
+        _ => None,
+    }
 }
 
 /// The element that a record makes where this action runs.
 fn element_in(rec: &Record, now: Now) -> Option<(u32, Element)>
-    ensures { (a : history.Action) → now.action ≡ a.number → now.event ≡ a.event.number
+    ensures made { (a : history.Action) → now.action ≡ a.number → now.event ≡ a.event.number
         → ElementGiven result rec.now a }
+    ensures known { (k : ℕ) → is_some (noted_in k result) ≡ declares_element k rec.now }
 {
     match rec {
         Record::Parse { doc, element, kind } => {
@@ -69,6 +95,7 @@ fn timeout_in(rec: &Record, now: Now, rank: usize) -> Option<(u32, Timeout)>
     ensures set { (a : history.Action) → now.action ≡ a.number → now.event ≡ a.event.number
         → SettingGiven result rec.now a }
     ensures ranked { HasRank result rank }
+    ensures known { (k : ℕ) → is_some (noted_in k result) ≡ sets_timeout k rec.now }
 {
     match rec {
         Record::Set { timeout, delay } => Some((

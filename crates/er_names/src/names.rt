@@ -90,7 +90,7 @@ impl Names {
         ensures kept { StillStands NamesAre self.old self.new }
         ensures room { OnOk result (HasRoomFor self.new rec.now) }
     {
-        self.tables.make_room()?;
+        self.tables.make_room(rec)?;
         let timer = self.tables.timer_in(rec);
         self.fired.make_room(timer)
     }

@@ -1,6 +1,6 @@
 //! Which records use or declare what, against what is known.
 
-ghost use Rattle.std.specs.Prelude.{◌≡◌, ℕ, ◌||◌, ◌==◌, Bool, List, Option, option_map, is_some, nat_eq};
+ghost use Rattle.std.specs.Prelude.{◌≡◌, ℕ, ◌||◌, ◌==◌, Bool, List, Option, option_map, is_some};
 ghost use Rattle.std.specs.List.{list_any};
 ghost use Rattle.er_trace.specs.declared.record.Record.{Record};
 ghost use Rattle.er_history.specs.History.{told};
@@ -28,14 +28,14 @@ impl Names {
             Record::Eload { element, .. } => !self.has_element(*element),
             Record::Fire { element, .. } => !self.has_element(*element),
             Record::Inline { element, .. } => !self.has_element(*element),
-            Record::Timer { timeout } => !self.tables.timeouts.contains_key(timeout),
-            Record::Tick { interval } => !self.tables.intervals.contains_key(interval),
-            Record::Reply { request, .. } => !self.tables.requests.contains_key(request),
+            Record::Timer { timeout } => !self.tables.timeouts.has(*timeout),
+            Record::Tick { interval } => !self.tables.intervals.has(*interval),
+            Record::Reply { request, .. } => !self.tables.requests.has(*request),
             Record::Run {
                 dispatch,
                 handler,
                 ..
-            } => !self.has_begun(*dispatch) || !self.tables.handlers.contains_key(handler),
+            } => !self.has_begun(*dispatch) || !self.tables.handlers.has(*handler),
             Record::Close { dispatch } => !self.has_begun(*dispatch),
             Record::Back { dispatch } => !self.has_begun(*dispatch),
             Record::On { .. } => false,
@@ -61,25 +61,25 @@ impl Names {
             Record::New { element, .. } => self.has_element(*element),
             Record::ParseFrame { element, inner, .. } => self.has_frame(*element, *inner),
             Record::NewFrame { element, inner, .. } => self.has_frame(*element, *inner),
-            Record::Exec { element } => self.tables.runs.contains_key(element),
-            Record::Timer { timeout } => self.tables.callbacks.contains_key(timeout),
+            Record::Exec { element } => self.tables.runs.has(*element),
+            Record::Timer { timeout } => self.tables.callbacks.has(*timeout),
             Record::Dcl { dispatch, doc } => {
-                self.has_begun(*dispatch) || self.tables.dcls.contains_key(doc)
+                self.has_begun(*dispatch) || self.tables.dcls.has(*doc)
             }
             Record::Load { dispatch, doc } => {
-                self.has_begun(*dispatch) || self.tables.loads.contains_key(doc)
+                self.has_begun(*dispatch) || self.tables.loads.has(*doc)
             }
             Record::Eload { dispatch, element } => {
-                self.has_begun(*dispatch) || self.tables.eloads.contains_key(element)
+                self.has_begun(*dispatch) || self.tables.eloads.has(*element)
             }
             Record::Fire { dispatch, .. } => self.has_begun(*dispatch),
             Record::Wfire { dispatch, .. } => self.has_begun(*dispatch),
             Record::Reply { dispatch, .. } => self.has_begun(*dispatch),
             Record::Inline { dispatch, .. } => self.has_begun(*dispatch),
-            Record::On { handler } => self.tables.handlers.contains_key(handler),
-            Record::Set { timeout, .. } => self.tables.timeouts.contains_key(timeout),
-            Record::Every { interval, .. } => self.tables.intervals.contains_key(interval),
-            Record::Send { request } => self.tables.requests.contains_key(request),
+            Record::On { handler } => self.tables.handlers.has(*handler),
+            Record::Set { timeout, .. } => self.tables.timeouts.has(*timeout),
+            Record::Every { interval, .. } => self.tables.intervals.has(*interval),
+            Record::Send { request } => self.tables.requests.has(*request),
             Record::Post { .. } => false,
             Record::Ask { .. } => false,
             Record::Queue { .. } => false,
@@ -134,20 +134,20 @@ impl Names {
     pub fn element(&self, element: u32) -> Option<Element>
         ensures { Answers self.now (λ h. element_made h element) (option_map element_of result) }
     {
-        self.tables.elements.get(&element).copied()
+        self.tables.elements.find(element)
     }
 
     /// Document 0 is known from the start.
     fn knows_document(&self, doc: u32) -> bool
         ensures { Answers self.now (λ h. naming.knows_document h doc) result }
     {
-        doc == 0 || self.tables.documents.contains_key(&doc)
+        doc == 0 || self.tables.documents.has(doc)
     }
 
     fn has_element(&self, element: u32) -> bool
         ensures { Answers self.now (list_any (naming.declares_element element)) result }
     {
-        self.tables.elements.contains_key(&element)
+        self.tables.elements.has(element)
     }
 
     /// Whether the element or the document is declared.
@@ -160,7 +160,7 @@ impl Names {
     fn has_begun(&self, dispatch: u32) -> bool
         ensures { Answers self.now (list_any (naming.begins_dispatch dispatch)) result }
     {
-        self.tables.begins.contains_key(&dispatch)
+        self.tables.begins.has(dispatch)
     }
 }
 

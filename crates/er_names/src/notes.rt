@@ -1,7 +1,7 @@
 //! What a record declares, starts or finishes, table by table.
 
-ghost use Rattle.std.specs.Prelude.{◌≡◌, ℕ, ◌<◌, is_some, nat_eq};
-ghost use Rattle.indexmap.specs.IndexMap.{get, spare};
+ghost use Rattle.std.specs.Prelude.{◌≡◌, ℕ, is_some};
+ghost use Rattle.er_numbers.specs.Numbers.{found, HasRoomWhere};
 ghost use Rattle.er_history.specs.History.{declares_document, declares_handler, declares_interval, declares_request};
 ghost use Rattle.er_history.specs.Naming.{runs_script, fires_timeout, begins_dispatch, is_dcl, is_load, is_eload};
 ghost use Rattle.er_history.specs.LookUps.{closes_dispatch, makes_frame, begins_dcl, begins_load, begins_eload};
@@ -10,19 +10,19 @@ ghost use Rattle.er_history.specs.Noted.{noted_in, is_number};
 ghost use Rattle.er_history.specs.Taken.{Takes, TakesAny};
 
 use er_history::firsts::{Now, note_first, note_maker};
+use er_numbers::Numbers;
 use er_trace::record::Record;
-use indexmap::IndexMap;
 
 /// Notes the document that the record declares.
-pub(crate) fn note_document(table: &mut IndexMap<u32, u32>, rec: &Record, now: Now)
-    requires room { 0 < spare table.old }
+pub(crate) fn note_document(table: &mut Numbers<u32>, rec: &Record, now: Now)
+    requires room { HasRoomWhere table.old (λ k. declares_document k rec.now) }
     ensures { Takes (MakersAre declares_document)
-        (get nat_eq table.old) (get nat_eq table.new) rec.now now }
+        (found table.old) (found table.new) rec.now now }
 {
     note_maker(table, document_in(rec), now.event);
 }
 
-fn document_in(rec: &Record) -> Option<u32>
+pub(crate) fn document_in(rec: &Record) -> Option<u32>
     ensures { (k : ℕ) → is_number k result ≡ declares_document k rec.now }
 {
     match rec {
@@ -33,15 +33,15 @@ fn document_in(rec: &Record) -> Option<u32>
 }
 
 /// Notes the handler that it registers.
-pub(crate) fn note_handler(table: &mut IndexMap<u32, u32>, rec: &Record, now: Now)
-    requires room { 0 < spare table.old }
+pub(crate) fn note_handler(table: &mut Numbers<u32>, rec: &Record, now: Now)
+    requires room { HasRoomWhere table.old (λ k. declares_handler k rec.now) }
     ensures { Takes (MakersAre declares_handler)
-        (get nat_eq table.old) (get nat_eq table.new) rec.now now }
+        (found table.old) (found table.new) rec.now now }
 {
     note_maker(table, handler_in(rec), now.event);
 }
 
-fn handler_in(rec: &Record) -> Option<u32>
+pub(crate) fn handler_in(rec: &Record) -> Option<u32>
     ensures { (k : ℕ) → is_number k result ≡ declares_handler k rec.now }
 {
     match rec {
@@ -51,15 +51,15 @@ fn handler_in(rec: &Record) -> Option<u32>
 }
 
 /// Notes the interval that it sets.
-pub(crate) fn note_interval(table: &mut IndexMap<u32, u32>, rec: &Record, now: Now)
-    requires room { 0 < spare table.old }
+pub(crate) fn note_interval(table: &mut Numbers<u32>, rec: &Record, now: Now)
+    requires room { HasRoomWhere table.old (λ k. declares_interval k rec.now) }
     ensures { Takes (MakersAre declares_interval)
-        (get nat_eq table.old) (get nat_eq table.new) rec.now now }
+        (found table.old) (found table.new) rec.now now }
 {
     note_maker(table, interval_in(rec), now.event);
 }
 
-fn interval_in(rec: &Record) -> Option<u32>
+pub(crate) fn interval_in(rec: &Record) -> Option<u32>
     ensures { (k : ℕ) → is_number k result ≡ declares_interval k rec.now }
 {
     match rec {
@@ -69,15 +69,15 @@ fn interval_in(rec: &Record) -> Option<u32>
 }
 
 /// Notes the request that it sends.
-pub(crate) fn note_request(table: &mut IndexMap<u32, u32>, rec: &Record, now: Now)
-    requires room { 0 < spare table.old }
+pub(crate) fn note_request(table: &mut Numbers<u32>, rec: &Record, now: Now)
+    requires room { HasRoomWhere table.old (λ k. declares_request k rec.now) }
     ensures { Takes (MakersAre declares_request)
-        (get nat_eq table.old) (get nat_eq table.new) rec.now now }
+        (found table.old) (found table.new) rec.now now }
 {
     note_maker(table, request_in(rec), now.event);
 }
 
-fn request_in(rec: &Record) -> Option<u32>
+pub(crate) fn request_in(rec: &Record) -> Option<u32>
     ensures { (k : ℕ) → is_number k result ≡ declares_request k rec.now }
 {
     match rec {
@@ -87,16 +87,16 @@ fn request_in(rec: &Record) -> Option<u32>
 }
 
 /// Notes the run of a script that it begins.
-pub(crate) fn note_run(table: &mut IndexMap<u32, u32>, rec: &Record, now: Now)
-    requires room { 0 < spare table.old }
+pub(crate) fn note_run(table: &mut Numbers<u32>, rec: &Record, now: Now)
+    requires room { HasRoomWhere table.old (λ k. runs_script k rec.now) }
     ensures { Takes (MakersAre runs_script)
-        (get nat_eq table.old) (get nat_eq table.new) rec.now now }
+        (found table.old) (found table.new) rec.now now }
 {
     note_maker(table, run_in(rec), now.event);
 }
 
 /// The script element that it runs.
-fn run_in(rec: &Record) -> Option<u32>
+pub(crate) fn run_in(rec: &Record) -> Option<u32>
     ensures { (k : ℕ) → is_number k result ≡ runs_script k rec.now }
 {
     match rec {
@@ -106,16 +106,16 @@ fn run_in(rec: &Record) -> Option<u32>
 }
 
 /// Notes the callback of a timeout that it begins.
-pub(crate) fn note_callback(table: &mut IndexMap<u32, u32>, rec: &Record, now: Now)
-    requires room { 0 < spare table.old }
+pub(crate) fn note_callback(table: &mut Numbers<u32>, rec: &Record, now: Now)
+    requires room { HasRoomWhere table.old (λ k. fires_timeout k rec.now) }
     ensures { Takes (MakersAre fires_timeout)
-        (get nat_eq table.old) (get nat_eq table.new) rec.now now }
+        (found table.old) (found table.new) rec.now now }
 {
     note_maker(table, callback_in(rec), now.event);
 }
 
 /// The timeout whose callback it begins.
-fn callback_in(rec: &Record) -> Option<u32>
+pub(crate) fn callback_in(rec: &Record) -> Option<u32>
     ensures { (k : ℕ) → is_number k result ≡ fires_timeout k rec.now }
 {
     match rec {
@@ -125,16 +125,16 @@ fn callback_in(rec: &Record) -> Option<u32>
 }
 
 /// Notes the begin of a dispatch.
-pub(crate) fn note_begin(table: &mut IndexMap<u32, u32>, rec: &Record, now: Now)
-    requires room { 0 < spare table.old }
+pub(crate) fn note_begin(table: &mut Numbers<u32>, rec: &Record, now: Now)
+    requires room { HasRoomWhere table.old (λ k. begins_dispatch k rec.now) }
     ensures { Takes (MakersAre begins_dispatch)
-        (get nat_eq table.old) (get nat_eq table.new) rec.now now }
+        (found table.old) (found table.new) rec.now now }
 {
     note_maker(table, begun_in(rec), now.event);
 }
 
 /// The dispatch that begins.
-fn begun_in(rec: &Record) -> Option<u32>
+pub(crate) fn begun_in(rec: &Record) -> Option<u32>
     ensures { (k : ℕ) → is_number k result ≡ begins_dispatch k rec.now }
 {
     match rec {
@@ -150,16 +150,16 @@ fn begun_in(rec: &Record) -> Option<u32>
 }
 
 /// Notes the close of a dispatch.
-pub(crate) fn note_close(table: &mut IndexMap<u32, u32>, rec: &Record, now: Now)
-    requires room { 0 < spare table.old }
+pub(crate) fn note_close(table: &mut Numbers<u32>, rec: &Record, now: Now)
+    requires room { HasRoomWhere table.old (λ k. closes_dispatch k rec.now) }
     ensures { Takes (MakersAre closes_dispatch)
-        (get nat_eq table.old) (get nat_eq table.new) rec.now now }
+        (found table.old) (found table.new) rec.now now }
 {
     note_maker(table, closed_in(rec), now.event);
 }
 
 /// The dispatch whose close begins.
-fn closed_in(rec: &Record) -> Option<u32>
+pub(crate) fn closed_in(rec: &Record) -> Option<u32>
     ensures { (k : ℕ) → is_number k result ≡ closes_dispatch k rec.now }
 {
     match rec {
@@ -169,10 +169,10 @@ fn closed_in(rec: &Record) -> Option<u32>
 }
 
 /// Notes the frame element of a document that it declares.
-pub(crate) fn note_frame(table: &mut IndexMap<u32, u32>, rec: &Record)
-    requires room { 0 < spare table.old }
+pub(crate) fn note_frame(table: &mut Numbers<u32>, rec: &Record)
+    requires room { HasRoomWhere table.old (λ k. declares_document k rec.now) }
     ensures { TakesAny (FirstsAre declares_document makes_frame)
-        (get nat_eq table.old) (get nat_eq table.new) rec.now }
+        (found table.old) (found table.new) rec.now }
 {
     note_first(table, frame_in(rec));
 }
@@ -190,16 +190,16 @@ fn frame_in(rec: &Record) -> Option<(u32, u32)>
 }
 
 /// Notes the dispatch of DOMContentLoaded of a document that it begins.
-pub(crate) fn note_dcl(table: &mut IndexMap<u32, u32>, rec: &Record)
-    requires room { 0 < spare table.old }
+pub(crate) fn note_dcl(table: &mut Numbers<u32>, rec: &Record)
+    requires room { HasRoomWhere table.old (λ k. is_dcl k rec.now) }
     ensures { TakesAny (FirstsAre is_dcl begins_dcl)
-        (get nat_eq table.old) (get nat_eq table.new) rec.now }
+        (found table.old) (found table.new) rec.now }
 {
     note_first(table, dcl_in(rec));
 }
 
 /// A document, and its dispatch of DOMContentLoaded.
-fn dcl_in(rec: &Record) -> Option<(u32, u32)>
+pub(crate) fn dcl_in(rec: &Record) -> Option<(u32, u32)>
     ensures gives { (k : ℕ) → noted_in k result ≡ begins_dcl k rec.now }
     ensures tells { (k : ℕ) → is_some (noted_in k result) ≡ is_dcl k rec.now }
 {
@@ -210,16 +210,16 @@ fn dcl_in(rec: &Record) -> Option<(u32, u32)>
 }
 
 /// Notes the dispatch of load of a document that it begins.
-pub(crate) fn note_load(table: &mut IndexMap<u32, u32>, rec: &Record)
-    requires room { 0 < spare table.old }
+pub(crate) fn note_load(table: &mut Numbers<u32>, rec: &Record)
+    requires room { HasRoomWhere table.old (λ k. is_load k rec.now) }
     ensures { TakesAny (FirstsAre is_load begins_load)
-        (get nat_eq table.old) (get nat_eq table.new) rec.now }
+        (found table.old) (found table.new) rec.now }
 {
     note_first(table, load_in(rec));
 }
 
 /// A document, and its dispatch of load.
-fn load_in(rec: &Record) -> Option<(u32, u32)>
+pub(crate) fn load_in(rec: &Record) -> Option<(u32, u32)>
     ensures gives { (k : ℕ) → noted_in k result ≡ begins_load k rec.now }
     ensures tells { (k : ℕ) → is_some (noted_in k result) ≡ is_load k rec.now }
 {
@@ -230,21 +230,31 @@ fn load_in(rec: &Record) -> Option<(u32, u32)>
 }
 
 /// Notes the dispatch of an element's first load event that it begins.
-pub(crate) fn note_eload(table: &mut IndexMap<u32, u32>, rec: &Record)
-    requires room { 0 < spare table.old }
+pub(crate) fn note_eload(table: &mut Numbers<u32>, rec: &Record)
+    requires room { HasRoomWhere table.old (λ k. is_eload k rec.now) }
     ensures { TakesAny (FirstsAre is_eload begins_eload)
-        (get nat_eq table.old) (get nat_eq table.new) rec.now }
+        (found table.old) (found table.new) rec.now }
 {
     note_first(table, eload_in(rec));
 }
 
 /// An element, and its dispatch of the first load event.
-fn eload_in(rec: &Record) -> Option<(u32, u32)>
+pub(crate) fn eload_in(rec: &Record) -> Option<(u32, u32)>
     ensures gives { (k : ℕ) → noted_in k result ≡ begins_eload k rec.now }
     ensures tells { (k : ℕ) → is_some (noted_in k result) ≡ is_eload k rec.now }
 {
     match rec {
         Record::Eload { dispatch, element } => Some((*element, *dispatch)),
         _ => None,
+    }
+}
+
+/// The number of a pair.
+pub(crate) fn number_of(pair: Option<(u32, u32)>) -> Option<u32>
+    ensures { (k : ℕ) → is_number k result ≡ is_some (noted_in k pair) }
+{
+    match pair {
+        Some((number, _)) => Some(number),
+        None => None,
     }
 }

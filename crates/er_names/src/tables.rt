@@ -1,49 +1,52 @@
 //! The tables of what the records have declared, started and finished, and how they take one record more.
 
-ghost use Rattle.std.specs.Prelude.{◌≡◌, ℕ, ◌<◌, [], OnOk, nat_eq};
-ghost use Rattle.indexmap.specs.IndexMap.{get, spare};
+ghost use Rattle.std.specs.Prelude.{◌≡◌, ℕ, [], OnOk};
+ghost use Rattle.er_numbers.specs.Numbers.{found, HasRoomWhere};
+ghost use Rattle.er_history.specs.Noted.{is_number};
 ghost use Rattle.er_history.specs.Taken.{StillStands, KeepsEach, Takes};
 ghost use Rattle.er_names.specs.Fired.{timer_found};
 ghost use Rattle.er_names.specs.Fired as says;
-ghost use Rattle.er_names.specs.Names.{TablesAre, HaveSpare};
+ghost use Rattle.er_names.specs.Names.{TablesAre, HaveRoomFor};
 
-use crate::made::{note_element, note_timeout};
+use crate::made::{made_in, note_element, note_timeout, set_in};
 use crate::names::{Element, SetTimeout, Timeout};
 use crate::notes::{
-    note_begin, note_callback, note_close, note_dcl, note_document, note_eload, note_frame,
-    note_handler, note_interval, note_load, note_request, note_run,
+    begun_in, callback_in, closed_in, dcl_in, document_in, eload_in, handler_in, interval_in,
+    load_in, note_begin, note_callback, note_close, note_dcl, note_document, note_eload,
+    note_frame, note_handler, note_interval, note_load, note_request, note_run, number_of,
+    request_in, run_in,
 };
 use er_history::firsts::{Now, make_room};
 use er_io::NoMemory;
+use er_numbers::Numbers;
 use er_trace::record::Record;
-use indexmap::IndexMap;
 use std::alloc::Global;
 
 /// What was noted first under each number.
 pub(crate) struct Tables {
-    pub(crate) elements: IndexMap<u32, Element>,
-    pub(crate) timeouts: IndexMap<u32, Timeout>,
+    pub(crate) elements: Numbers<Element>,
+    pub(crate) timeouts: Numbers<Timeout>,
     /// The maker of each document but document 0.
-    pub(crate) documents: IndexMap<u32, u32>,
-    pub(crate) handlers: IndexMap<u32, u32>,
-    pub(crate) intervals: IndexMap<u32, u32>,
-    pub(crate) requests: IndexMap<u32, u32>,
+    pub(crate) documents: Numbers<u32>,
+    pub(crate) handlers: Numbers<u32>,
+    pub(crate) intervals: Numbers<u32>,
+    pub(crate) requests: Numbers<u32>,
     /// The event of the run of each script element.
-    pub(crate) runs: IndexMap<u32, u32>,
+    pub(crate) runs: Numbers<u32>,
     /// The event of the callback of each timeout.
-    pub(crate) callbacks: IndexMap<u32, u32>,
+    pub(crate) callbacks: Numbers<u32>,
     /// The begin of each dispatch.
-    pub(crate) begins: IndexMap<u32, u32>,
+    pub(crate) begins: Numbers<u32>,
     /// The close of each dispatch.
-    pub(crate) closes: IndexMap<u32, u32>,
+    pub(crate) closes: Numbers<u32>,
     /// The frame element of each document.
-    pub(crate) frames: IndexMap<u32, u32>,
+    pub(crate) frames: Numbers<u32>,
     /// The dispatch of DOMContentLoaded of each document.
-    pub(crate) dcls: IndexMap<u32, u32>,
+    pub(crate) dcls: Numbers<u32>,
     /// The dispatch of load of each document.
-    pub(crate) loads: IndexMap<u32, u32>,
+    pub(crate) loads: Numbers<u32>,
     /// The dispatch of the first load event of each element.
-    pub(crate) eloads: IndexMap<u32, u32>,
+    pub(crate) eloads: Numbers<u32>,
 }
 
 impl Drop for Tables {
@@ -82,7 +85,7 @@ impl Drop for Tables {
 }
 
 /// Lets a table go, by a call: the ends of fourteen tables written out in a row take long to prove.
-fn let_go<V: Drop>(_: IndexMap<u32, V>) {}
+fn let_go<V: Drop>(_: Numbers<V>) {}
 
 impl Tables {
     /// No name yet. It takes no memory.
@@ -90,57 +93,69 @@ impl Tables {
         ensures { TablesAre result [] }
     {
         Tables {
-            elements: IndexMap::new(alloc),
-            timeouts: IndexMap::new(alloc),
-            documents: IndexMap::new(alloc),
-            handlers: IndexMap::new(alloc),
-            intervals: IndexMap::new(alloc),
-            requests: IndexMap::new(alloc),
-            runs: IndexMap::new(alloc),
-            callbacks: IndexMap::new(alloc),
-            begins: IndexMap::new(alloc),
-            closes: IndexMap::new(alloc),
-            frames: IndexMap::new(alloc),
-            dcls: IndexMap::new(alloc),
-            loads: IndexMap::new(alloc),
-            eloads: IndexMap::new(alloc),
+            elements: Numbers::new(alloc),
+            timeouts: Numbers::new(alloc),
+            documents: Numbers::new(alloc),
+            handlers: Numbers::new(alloc),
+            intervals: Numbers::new(alloc),
+            requests: Numbers::new(alloc),
+            runs: Numbers::new(alloc),
+            callbacks: Numbers::new(alloc),
+            begins: Numbers::new(alloc),
+            closes: Numbers::new(alloc),
+            frames: Numbers::new(alloc),
+            dcls: Numbers::new(alloc),
+            loads: Numbers::new(alloc),
+            eloads: Numbers::new(alloc),
         }
     }
 
-    /// Makes room for what one record more declares, starts or finishes.
-    pub(crate) fn make_room(&mut self) -> Result<(), NoMemory>
+    /// Makes room for what the record declares, starts or finishes.
+    pub(crate) fn make_room(&mut self, rec: &Record) -> Result<(), NoMemory>
         ensures kept { StillStands TablesAre self.old self.new }
-        ensures timeouts { (k : ℕ)
-            → get nat_eq self.new.timeouts k ≡ get nat_eq self.old.timeouts k }
-        ensures room { OnOk result (HaveSpare self.new) }
+        ensures timeouts { (k : ℕ) → found self.new.timeouts k ≡ found self.old.timeouts k }
+        ensures room { OnOk result (HaveRoomFor self.new rec.now) }
     {
-        make_room(&mut self.elements)?;
-        make_room(&mut self.timeouts)?;
+        make_room(&mut self.elements, made_in(rec))?;
+        make_room(&mut self.timeouts, set_in(rec))?;
         make_rooms(
             &mut self.documents,
+            document_in(rec),
             &mut self.handlers,
+            handler_in(rec),
             &mut self.intervals,
+            interval_in(rec),
             &mut self.requests,
+            request_in(rec),
         )?;
         make_rooms(
             &mut self.runs,
+            run_in(rec),
             &mut self.callbacks,
+            callback_in(rec),
             &mut self.begins,
+            begun_in(rec),
             &mut self.closes,
+            closed_in(rec),
         )?;
         make_rooms(
             &mut self.frames,
+            document_in(rec),
             &mut self.dcls,
+            number_of(dcl_in(rec)),
             &mut self.loads,
+            number_of(load_in(rec)),
             &mut self.eloads,
-        )
+            number_of(eload_in(rec)),
+        )?;
+        Ok(())
     }
 
     /// Takes a record, after which this action runs.
     pub(crate) fn take(&mut self, rec: &Record, now: Now)
-        requires room { HaveSpare self.old }
+        requires room { HaveRoomFor self.old rec.now }
         ensures taken { Takes TablesAre self.old self.new rec.now now }
-        ensures kept { KeepsEach (get nat_eq self.old.timeouts) (get nat_eq self.new.timeouts) }
+        ensures kept { KeepsEach (found self.old.timeouts) (found self.new.timeouts) }
     {
         note_element(&mut self.elements, rec, now);
         note_timeout(&mut self.timeouts, rec, now);
@@ -160,34 +175,40 @@ impl Tables {
 
     /// The timeout whose callback the record begins.
     pub(crate) fn timer_in(&self, rec: &Record) -> Option<SetTimeout>
-        ensures { result ≡ timer_found (get nat_eq self.now.timeouts) rec.now }
+        ensures { result ≡ timer_found (found self.now.timeouts) rec.now }
     {
         let Record::Timer { timeout } = rec else {
             return None;
         };
-        let set = self.timeouts.get(timeout)?;
-        Some(numbered(*timeout, *set))
+        let set = self.timeouts.find(*timeout)?;
+        Some(numbered(*timeout, set))
     }
 }
 
-/// Makes room for one number more in each of four tables.
+/// Makes room in each of four tables for the number beside it, if there is one.
 fn make_rooms(
-    first: &mut IndexMap<u32, u32>,
-    second: &mut IndexMap<u32, u32>,
-    third: &mut IndexMap<u32, u32>,
-    fourth: &mut IndexMap<u32, u32>,
+    first: &mut Numbers<u32>,
+    in_first: Option<u32>,
+    second: &mut Numbers<u32>,
+    in_second: Option<u32>,
+    third: &mut Numbers<u32>,
+    in_third: Option<u32>,
+    fourth: &mut Numbers<u32>,
+    in_fourth: Option<u32>,
 ) -> Result<(), NoMemory>
-    ensures first { (k : ℕ) → get nat_eq first.new k ≡ get nat_eq first.old k }
-    ensures second { (k : ℕ) → get nat_eq second.new k ≡ get nat_eq second.old k }
-    ensures third { (k : ℕ) → get nat_eq third.new k ≡ get nat_eq third.old k }
-    ensures fourth { (k : ℕ) → get nat_eq fourth.new k ≡ get nat_eq fourth.old k }
-    ensures room { OnOk result ((0 < spare first.new) × (0 < spare second.new)
-        × (0 < spare third.new) × (0 < spare fourth.new)) }
+    ensures first { (k : ℕ) → found first.new k ≡ found first.old k }
+    ensures second { (k : ℕ) → found second.new k ≡ found second.old k }
+    ensures third { (k : ℕ) → found third.new k ≡ found third.old k }
+    ensures fourth { (k : ℕ) → found fourth.new k ≡ found fourth.old k }
+    ensures room { OnOk result (HasRoomWhere first.new (λ k. is_number k in_first)
+        × HasRoomWhere second.new (λ k. is_number k in_second)
+        × HasRoomWhere third.new (λ k. is_number k in_third)
+        × HasRoomWhere fourth.new (λ k. is_number k in_fourth)) }
 {
-    make_room(first)?;
-    make_room(second)?;
-    make_room(third)?;
-    make_room(fourth)
+    make_room(first, in_first)?;
+    make_room(second, in_second)?;
+    make_room(third, in_third)?;
+    make_room(fourth, in_fourth)
 }
 
 /// The timeout with its number.

@@ -122,7 +122,7 @@ impl<V: Copy + Drop> Numbers<V> {
         };
     }
 
-    /// Whether a place is so small that the vector may grow to it: so it has at most two places for each value.
+    /// Whether a place is so small that the vector may grow to it: beyond its first places it has at most two for each put.
     fn is_small(&self, place: usize) -> bool {
         place < FIRST_PLACES || place / 2 < self.count
     }

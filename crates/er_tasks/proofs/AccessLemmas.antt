@@ -1,8 +1,7 @@
 -- An access declares and begins no task.
 use Rattle.std.proofs.Common.{◌≡◌, ℕ, false, List, [], ◌∷◌, ◌++◌, Some, None, refl, sym, ap, ◌∙◌, arith}
-use Rattle.std.specs.Prelude.{nat_eq}
 use Rattle.std.proofs.lemmas.List.{append-nil}
-use Rattle.indexmap.specs.IndexMap.{get}
+use Rattle.er_numbers.specs.Numbers.{found}
 use Rattle.er_trace.specs.declared.record.Record.{Record}
 use Rattle.er_trace.specs.declared.record.Record.TheVariants.{Access}
 use Rattle.er_trace.specs.declared.record.Loc.{Loc}
@@ -34,8 +33,8 @@ none_started OfJob h m l = refl
 table_same : (kind : TaskKind) (table : TaskTable) (h : List Record) (m : Mode) (l : Loc) (a : Action) → running (actions_after (told h) (Access m l)) ≡ Some a
     → TaskTableIs kind table h → TaskTableIs kind table (Access m l ∷ h)
 table_same kind table h m l a runs stands = record {
-  made = declared_more kind _ _ None h (Access m l) a (λ k. sym (or_none (get nat_eq table.declared k))) stands.made given runs;
-  ranked = tasks_ranked_more kind _ _ None h (Access m l) a _ _ (λ k. sym (or_none (get nat_eq table.declared k))) (omega arith) tt stands.ranked given tt runs;
+  made = declared_more kind _ _ None h (Access m l) a (λ k. sym (or_none (found table.declared k))) stands.made given runs;
+  ranked = tasks_ranked_more kind _ _ None h (Access m l) a _ _ (λ k. sym (or_none (found table.declared k))) (omega arith) tt stands.ranked given tt runs;
   events = makers_same (starts_task kind) _ h (Access m l) (no_start kind m l) stands.events;
   numbers = stands.numbers ∙ none_more;
   same = stands.same ∙ none_more;

@@ -1,7 +1,7 @@
 -- What the tables of messages, animation callbacks and jobs stand for. Lists of records stand newest first.
-use Rattle.std.specs.Prelude.{◌≡◌, ℕ, ◌<◌, ◌==◌, Bool, true, false, if◌then◌else◌, List, [], ◌∷◌, length, Option, Some, None, is_some, option_map, map, nat_eq}
+use Rattle.std.specs.Prelude.{◌≡◌, ℕ, ◌==◌, Bool, true, false, if◌then◌else◌, List, [], ◌∷◌, length, Option, Some, None, is_some, option_map, map}
 use Rattle.std.specs.List.{list_any}
-use Rattle.indexmap.specs.IndexMap.{get, spare, index_map_len}
+use Rattle.er_numbers.specs.Numbers.{found, HasRoomWhere}
 use Rattle.er_trace.specs.declared.record.Record.{Record}
 use Rattle.er_trace.specs.Versions.{is_of_task}
 use Rattle.er_history.specs.History as history
@@ -59,22 +59,30 @@ TasksAreRanked kind found count h =
 
 -- the tables of a kind of tasks answer what the list says
 pub record TaskTableIs (kind : TaskKind) (table : TaskTable) (h : List Record) : Type 0 where
-  pub made : TasksDeclared kind (get nat_eq table.declared) h
-  pub ranked : TasksAreRanked kind (get nat_eq table.declared) (index_map_len table.declared) h
-  pub events : MakersAre (starts_task kind) (get nat_eq table.started) h
+  pub made : TasksDeclared kind (found table.declared) h
+  pub ranked : TasksAreRanked kind (found table.declared) table.declared.count h
+  pub events : MakersAre (starts_task kind) (found table.started) h
   pub numbers : table.begun.listed.items ≡ tasks_begun kind h
   pub same : map task_number table.begun.tasks.items ≡ tasks_begun kind h
   pub begun :
-      AreBegun (get nat_eq table.declared) (get nat_eq table.started) table.begun.tasks.items
+      AreBegun (found table.declared) (found table.started) table.begun.tasks.items
 
 -- the record declares the one number and begins the event of the other, if there are such
 abbrev pub IsNoted : TaskKind → Record → Option ℕ → Option ℕ → Type 0
 IsNoted kind x posted begun =
     ((k : ℕ) → is_number k posted ≡ declares_task kind k x) × (begun ≡ task_started kind x)
 
--- each of them has room for one number more
-abbrev pub HaveRoom : TaskTable → Type 0
-HaveRoom table = (0 < spare table.declared) × (0 < spare table.started) × HasPlace table.begun
+-- they have room for the one task and the event of the other, if there are such
+abbrev pub HaveRoomOf : TaskTable → Option ℕ → Option ℕ → Type 0
+HaveRoomOf table posted begun = HasRoomWhere table.declared (λ k. is_number k posted)
+    × HasRoomWhere table.started (λ k. is_number k begun)
+    × HasPlace table.begun
+
+-- they have room for what the record declares and begins of the kind
+abbrev pub HaveRoom : TaskKind → TaskTable → Record → Type 0
+HaveRoom kind table x = HasRoomWhere table.declared (λ k. declares_task kind k x)
+    × HasRoomWhere table.started (λ k. is_number k (task_started kind x))
+    × HasPlace table.begun
 
 -- a number with the task of it that is found
 abbrev pub with_task : (ℕ → Option Task) → Option ℕ → Option (ℕ × Task)
@@ -123,15 +131,15 @@ pub record TasksAre (tasks : Tasks) (h : List Record) : Type 0 where
   pub jobs : TaskTableIs OfJob tasks.jobs h
   pub queued : QueuedAre tasks.queued h
   pub begun : (u : ℕ)
-      → AreBegun (get nat_eq tasks.jobs.declared) (get nat_eq tasks.jobs.started)
+      → AreBegun (found tasks.jobs.declared) (found tasks.jobs.started)
       (tasks_at tasks.queued u)
 
--- and there is room for one task more of each kind, and for the job that the record begins
+-- there is room for what the record declares and begins of each kind, and for the job that it begins
 pub record HaveRoomFor (tasks : Tasks) (x : Record) : Type 0 where
-  pub messages : HaveRoom tasks.messages
-  pub anims : HaveRoom tasks.anims
-  pub jobs : HaveRoom tasks.jobs
-  pub queued : HasPlaceFor tasks.queued (queuer_of (get nat_eq tasks.jobs.declared) x)
+  pub messages : HaveRoom OfMessage tasks.messages x
+  pub anims : HaveRoom OfAnim tasks.anims x
+  pub jobs : HaveRoom OfJob tasks.jobs x
+  pub queued : HasPlaceFor tasks.queued (queuer_of (found tasks.jobs.declared) x)
 
 -- the same, asked only where the record declares or begins a task
 abbrev pub HaveRoomIfTask : Tasks → Record → Type 0
@@ -145,12 +153,12 @@ table_of OfJob tasks = tasks.jobs
 
 -- what declared the task of this number
 abbrev pub task_at : TaskKind → Tasks → ℕ → Option Task
-task_at kind tasks number = get nat_eq (table_of kind tasks).declared number
+task_at kind tasks number = found (table_of kind tasks).declared number
 
 -- these have begun, each as the tables have it, and they stand in runs
 abbrev pub HaveBegun : TaskKind → Tasks → List BegunTask → Type 0
 HaveBegun kind tasks begun =
-    AreBegun (get nat_eq (table_of kind tasks).declared) (get nat_eq (table_of kind tasks).started)
+    AreBegun (found (table_of kind tasks).declared) (found (table_of kind tasks).started)
     begun
 
 -- What naming asks of records that declare or begin a task, and of no other.

@@ -1,33 +1,33 @@
 //! Messages, animation callbacks or jobs: what declared them, and those whose events have begun.
 
-ghost use Rattle.std.specs.Prelude.{◌≡◌, ℕ, ◌<◌, Bool, List, [], ◌∷◌, ◌++◌, Option, Some, IsSome, IfSome, option_map, map, nat_eq, OnOk};
+ghost use Rattle.std.specs.Prelude.{◌≡◌, ℕ, ◌<◌, Bool, List, [], ◌∷◌, ◌++◌, Option, Some, IsSome, IfSome, is_some, option_map, map, OnOk};
 ghost use Rattle.std.specs.List.{list_any};
-ghost use Rattle.indexmap.specs.IndexMap.{get, spare, index_map_len};
+ghost use Rattle.er_numbers.specs.Numbers.{found, HasRoomWhere};
 ghost use Rattle.er_trace.specs.declared.record.Record.{Record};
 ghost use Rattle.er_history.specs.History.{told, running, actions_after, Action};
 ghost use Rattle.er_history.specs.LookUps.{before};
 ghost use Rattle.er_history.specs.Tasks as says;
 ghost use Rattle.er_history.specs.Tasks.{TaskKind, declares_task, starts_task};
 ghost use Rattle.er_history.specs.Found.{MakersAre};
-ghost use Rattle.er_history.specs.Noted.{is_number};
+ghost use Rattle.er_history.specs.Noted.{is_number, noted_in};
 ghost use Rattle.er_history.specs.Taken.{IsNow, StillStands, KeepsEach};
 ghost use Rattle.er_tasks.specs.declared.tasks.Task.{Task};
 ghost use Rattle.er_tasks.specs.Begun.{AreBegun, HasPlace, task_number};
-ghost use Rattle.er_tasks.specs.Tasks.{HaveRoom, IsNoted, IsStarted, TaskGiven, TaskTableIs, TasksAreRanked, TasksDeclared, numbers_in, task_of, task_rank, with_task};
+ghost use Rattle.er_tasks.specs.Tasks.{HaveRoomOf, IsNoted, IsStarted, TaskGiven, TaskTableIs, TasksAreRanked, TasksDeclared, numbers_in, task_of, task_rank, with_task};
 
 use crate::begun::{Begun, Started, run_to};
 use crate::tasks::{BegunTask, Task};
 use er_history::firsts::{Now, make_room, note_maker, note_pair};
 use er_io::NoMemory;
-use indexmap::IndexMap;
+use er_numbers::Numbers;
 use std::alloc::Global;
 
 /// The tasks of one kind.
 pub(crate) struct TaskTable {
     /// What declared each.
-    pub(crate) declared: IndexMap<u32, Task>,
+    pub(crate) declared: Numbers<Task>,
     /// The event of each.
-    pub(crate) started: IndexMap<u32, u32>,
+    pub(crate) started: Numbers<u32>,
     /// Those whose events have begun, listed by their numbers.
     pub(crate) begun: Begun,
 }
@@ -48,22 +48,26 @@ impl TaskTable {
         ensures { (kind : TaskKind) → TaskTableIs kind result [] }
     {
         TaskTable {
-            declared: IndexMap::new(alloc),
-            started: IndexMap::new(alloc),
+            declared: Numbers::new(alloc),
+            started: Numbers::new(alloc),
             begun: Begun::new(alloc),
         }
     }
 
-    /// Makes room for one task more, and for one event more.
-    pub(crate) fn make_room(&mut self) -> Result<(), NoMemory>
+    /// Makes room for the one task, and for the event of the other, if there are such.
+    pub(crate) fn make_room(
+        &mut self,
+        posted: Option<u32>,
+        begun: Option<u32>,
+    ) -> Result<(), NoMemory>
         ensures kept { (kind : TaskKind) → StillStands (TaskTableIs kind) self.old self.new }
-        ensures declared { (k : ℕ) → get nat_eq self.new.declared k
-            ≡ get nat_eq self.old.declared k }
-        ensures started { (k : ℕ) → get nat_eq self.new.started k ≡ get nat_eq self.old.started k }
-        ensures room { OnOk result (HaveRoom self.new) }
+        ensures declared { (k : ℕ) → found self.new.declared k
+            ≡ found self.old.declared k }
+        ensures started { (k : ℕ) → found self.new.started k ≡ found self.old.started k }
+        ensures room { OnOk result (HaveRoomOf self.new posted begun) }
     {
-        make_room(&mut self.declared)?;
-        make_room(&mut self.started)?;
+        make_room(&mut self.declared, posted)?;
+        make_room(&mut self.started, begun)?;
         self.begun.make_room()
     }
 
@@ -75,16 +79,16 @@ impl TaskTable {
         begun: Option<u32>,
         now: Now,
     ) -> Option<Started>
-        requires room { HaveRoom self.old }
+        requires room { HaveRoomOf self.old posted begun }
         ensures taken { (kind : TaskKind) (h : List Record) (x : Record)
             → IsNoted kind x posted begun → TaskTableIs kind self.old h → IsNow h x now
             → TaskTableIs kind self.new (x ∷ h) }
-        ensures declared { KeepsEach (get nat_eq self.old.declared) (get nat_eq self.new.declared) }
-        ensures started { KeepsEach (get nat_eq self.old.started) (get nat_eq self.new.started) }
+        ensures declared { KeepsEach (found self.old.declared) (found self.new.declared) }
+        ensures started { KeepsEach (found self.old.started) (found self.new.started) }
         ensures answers { option_map task_of result
-            ≡ with_task (get nat_eq self.old.declared) begun }
+            ≡ with_task (found self.old.declared) begun }
         ensures found { IfSome result
-            (IsStarted (get nat_eq self.new.declared) (get nat_eq self.new.started)) }
+            (IsStarted (found self.new.declared) (found self.new.started)) }
     {
         let made = self.made(begun);
         note_task(&mut self.declared, posted, now);
@@ -94,34 +98,34 @@ impl TaskTable {
 
     /// The task of a number, with the number.
     fn made(&self, number: Option<u32>) -> Option<(u32, Task)>
-        ensures { result ≡ with_task (get nat_eq self.now.declared) number }
+        ensures { result ≡ with_task (found self.now.declared) number }
     {
         let number = number?;
-        let task = self.declared.get(&number)?;
-        Some((number, *task))
+        let task = self.declared.find(number)?;
+        Some((number, task))
     }
 
     /// Puts a task whose event began to the others.
     fn begin(&mut self, made: Option<(u32, Task)>) -> Option<Started>
         requires room { HasPlace self.old.begun }
-        requires there { IfSome made (λ p. IsSome (get nat_eq self.old.started p.0)) }
-        requires made { IfSome made (λ p. get nat_eq self.old.declared p.0 ≡ Some p.1) }
+        requires there { IfSome made (λ p. IsSome (found self.old.started p.0)) }
+        requires made { IfSome made (λ p. found self.old.declared p.0 ≡ Some p.1) }
         ensures declared { self.new.declared ≡ self.old.declared }
         ensures started { self.new.started ≡ self.old.started }
         ensures listed { self.new.begun.listed.items
             ≡ self.old.begun.listed.items ++ numbers_in made }
         ensures numbers { map task_number self.new.begun.tasks.items
             ≡ map task_number self.old.begun.tasks.items ++ numbers_in made }
-        ensures begun { AreBegun (get nat_eq self.old.declared) (get nat_eq self.old.started)
+        ensures begun { AreBegun (found self.old.declared) (found self.old.started)
             self.old.begun.tasks.items
-            → AreBegun (get nat_eq self.old.declared) (get nat_eq self.old.started)
+            → AreBegun (found self.old.declared) (found self.old.started)
             self.new.begun.tasks.items }
         ensures answers { option_map task_of result ≡ made }
         ensures found { IfSome result
-            (IsStarted (get nat_eq self.old.declared) (get nat_eq self.old.started)) }
+            (IsStarted (found self.old.declared) (found self.old.started)) }
     {
         let (number, task) = made?;
-        let Some(event) = self.started.get(&number).copied() else {
+        let Some(event) = self.started.find(number) else {
             unreachable!()
         };
         let run = run_to(self.begun.tasks.as_slice(), task);
@@ -142,7 +146,7 @@ impl TaskTable {
     /// The event that queued, posted or asked for a task.
     pub(crate) fn maker(&self, number: Option<u32>) -> Option<u32>
         ensures { result ≡ option_map (λ (p : ℕ × Task). p.1.maker)
-            (with_task (get nat_eq self.now.declared) number) }
+            (with_task (found self.now.declared) number) }
     {
         let (_, task) = self.made(number)?;
         Some(task.maker)
@@ -150,9 +154,9 @@ impl TaskTable {
 
     /// What declared the task.
     pub(crate) fn task(&self, number: u32) -> Option<Task>
-        ensures { result ≡ get nat_eq self.now.declared number }
+        ensures { result ≡ found self.now.declared number }
     {
-        self.declared.get(&number).copied()
+        self.declared.find(number)
     }
 
     /// Whether it is declared.
@@ -160,7 +164,7 @@ impl TaskTable {
         ensures { (kind : TaskKind) (h : List Record) → TaskTableIs kind self.now h
             → result ≡ list_any (declares_task kind number) h }
     {
-        self.declared.contains_key(&number)
+        self.declared.has(number)
     }
 
     /// Whether its event has begun.
@@ -168,7 +172,7 @@ impl TaskTable {
         ensures { (kind : TaskKind) (h : List Record) → TaskTableIs kind self.now h
             → result ≡ list_any (starts_task kind number) h }
     {
-        self.started.contains_key(&number)
+        self.started.has(number)
     }
 
     /// The piece that declared it.
@@ -176,7 +180,7 @@ impl TaskTable {
         ensures { (kind : TaskKind) (h : List Record) → TaskTableIs kind self.now h
             → result ≡ says.task_piece kind h number }
     {
-        let task = self.declared.get(&number)?;
+        let task = self.declared.find(number)?;
         Some(task.piece)
     }
 
@@ -185,7 +189,7 @@ impl TaskTable {
         ensures { (kind : TaskKind) (h : List Record) → TaskTableIs kind self.now h
             → result ≡ says.task_event kind h number }
     {
-        self.started.get(&number).copied()
+        self.started.find(number)
     }
 
     /// Whether both are declared, the first in an earlier record.
@@ -200,9 +204,9 @@ impl TaskTable {
     }
 
     fn rank(&self, number: u32) -> Option<usize>
-        ensures { result ≡ option_map task_rank (get nat_eq self.now.declared number) }
+        ensures { result ≡ option_map task_rank (found self.now.declared number) }
     {
-        let task = self.declared.get(&number)?;
+        let task = self.declared.find(number)?;
         Some(task.rank)
     }
 
@@ -219,26 +223,26 @@ impl TaskTable {
         ensures numbers { (kind : TaskKind) (h : List Record) → TaskTableIs kind self.now h
             → map task_number result.now ≡ says.tasks_begun kind h }
         ensures begun { (kind : TaskKind) (h : List Record) → TaskTableIs kind self.now h
-            → AreBegun (get nat_eq self.now.declared) (get nat_eq self.now.started) result.now }
+            → AreBegun (found self.now.declared) (found self.now.started) result.now }
     {
         self.begun.tasks.as_slice()
     }
 }
 
 /// Notes the task that a record declares.
-fn note_task(table: &mut IndexMap<u32, Task>, number: Option<u32>, now: Now)
-    requires room { 0 < spare table.old }
+fn note_task(table: &mut Numbers<Task>, number: Option<u32>, now: Now)
+    requires room { HasRoomWhere table.old (λ k. is_number k number) }
     ensures made { (kind : TaskKind) (h : List Record) (x : Record)
         → ((k : ℕ) → is_number k number ≡ declares_task kind k x) → IsNow h x now
-        → TasksDeclared kind (get nat_eq table.old) h
-        → TasksDeclared kind (get nat_eq table.new) (x ∷ h) }
+        → TasksDeclared kind (found table.old) h
+        → TasksDeclared kind (found table.new) (x ∷ h) }
     ensures ranked { (kind : TaskKind) (h : List Record) (x : Record)
         → ((k : ℕ) → is_number k number ≡ declares_task kind k x) → IsNow h x now
-        → TasksAreRanked kind (get nat_eq table.old) (index_map_len table.old) h
-        → TasksAreRanked kind (get nat_eq table.new) (index_map_len table.new) (x ∷ h) }
-    ensures kept { KeepsEach (get nat_eq table.old) (get nat_eq table.new) }
+        → TasksAreRanked kind (found table.old) table.old.count h
+        → TasksAreRanked kind (found table.new) table.new.count (x ∷ h) }
+    ensures kept { KeepsEach (found table.old) (found table.new) }
 {
-    let pair = task_in(number, now, table.len());
+    let pair = task_in(number, now, table.count());
     note_pair(table, pair);
 }
 
@@ -249,6 +253,7 @@ fn task_in(number: Option<u32>, now: Now, rank: usize) -> Option<(u32, Task)>
         → ((k : ℕ) → is_number k number ≡ declares_task kind k x)
         → now.action ≡ a.number → now.event ≡ a.event.number → TaskGiven kind result x a }
     ensures ranked { IfSome result (λ p. p.1.rank ≡ rank) }
+    ensures known { (k : ℕ) → is_some (noted_in k result) ≡ is_number k number }
 {
     let number = number?;
     Some((
@@ -262,16 +267,16 @@ fn task_in(number: Option<u32>, now: Now, rank: usize) -> Option<(u32, Task)>
 }
 
 /// Notes the event of a task.
-fn note_event(table: &mut IndexMap<u32, u32>, number: Option<u32>, event: u32)
-    requires room { 0 < spare table.old }
+fn note_event(table: &mut Numbers<u32>, number: Option<u32>, event: u32)
+    requires room { HasRoomWhere table.old (λ k. is_number k number) }
     ensures made { (test : ℕ → Record → Bool) (h : List Record) (x : Record) (a : Action)
-        → MakersAre test (get nat_eq table.old) h
+        → MakersAre test (found table.old) h
         → ((k : ℕ) → is_number k number ≡ test k x)
         → running (actions_after (told h) x) ≡ Some a
         → event ≡ a.event.number
-        → MakersAre test (get nat_eq table.new) (x ∷ h) }
-    ensures there { IfSome number (λ k. IsSome (get nat_eq table.new k)) }
-    ensures kept { KeepsEach (get nat_eq table.old) (get nat_eq table.new) }
+        → MakersAre test (found table.new) (x ∷ h) }
+    ensures there { IfSome number (λ k. IsSome (found table.new k)) }
+    ensures kept { KeepsEach (found table.old) (found table.new) }
 {
     note_maker(table, number, event);
 }

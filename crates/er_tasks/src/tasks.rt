@@ -69,9 +69,9 @@ impl Tasks {
         ensures kept { StillStands TasksAre self.old self.new }
         ensures room { OnOk result (HaveRoomFor self.new rec.now) }
     {
-        self.messages.make_room()?;
-        self.anims.make_room()?;
-        self.jobs.make_room()?;
+        self.messages.make_room(posted_in(rec), message_in(rec))?;
+        self.anims.make_room(asked_in(rec), anim_in(rec))?;
+        self.jobs.make_room(queued_in(rec), job_in(rec))?;
         let queuer = self.jobs.maker(job_in(rec));
         self.queued.make_room(queuer)
     }

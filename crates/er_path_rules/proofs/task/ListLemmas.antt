@@ -1,12 +1,12 @@
 -- What lists of tasks that have begun say of the list of records that the tables stand for. Lists of records stand newest first.
 use Rattle.std.proofs.Common.{◌≡◌, ℕ, suc, ◌<◌, Bool, true, false, cond, List, [], ◌∷◌, ◌++◌, length, map, filter, get_or, Option, Some, None, option_map, refl, sym, ap, subst, ◌∙◌, arith, inl, inr}
-use Rattle.std.specs.Prelude.{◌==◌, ◌&&◌, ◌||◌, nat_lt, nat_eq, if◌then◌else◌, reverse, AllPairs}
+use Rattle.std.specs.Prelude.{◌==◌, ◌&&◌, ◌||◌, nat_lt, if◌then◌else◌, reverse, AllPairs}
 use Rattle.std.specs.List.{All}
 use Rattle.std.proofs.lemmas.Bool.{eqb-true}
 use Rattle.std.proofs.lemmas.List.{reverse-append, length-map, get_or-map}
 use Rattle.std.proofs.lemmas.List.Elements.{All-push}
 use Rattle.std.proofs.lemmas.List.Quantifiers.{all_pairs_push}
-use Rattle.indexmap.specs.IndexMap.{get, index_map_len}
+use Rattle.er_numbers.specs.Numbers.{found}
 use Rattle.er_trace.specs.declared.record.Record.{Record}
 use Rattle.er_paths.specs.Paths.{is_among}
 use Rattle.er_paths.proofs.Paths.{or_cases, or_left, or_right}
@@ -79,7 +79,7 @@ ranks_are kind tasks h are k n x y one two is also =
     ∙ ((λ i. before (sym (ranked.places k) i) (sym (ranked.places n) i))
     ∙ (λ i. before (option_map (λ (t : history.Task). t.place) (one.is i)) (option_map (λ (t : history.Task). t.place) (two.is i))))))
   where
-    ranked : IsRanked (λ m. option_map task_rank (task_at kind tasks m)) (task_place kind h) (index_map_len (table_of kind tasks).declared) (length (told h).entries)
+    ranked : IsRanked (λ m. option_map task_rank (task_at kind tasks m)) (task_place kind h) (table_of kind tasks).declared.count (length (told h).entries)
     ranked = (table_is kind tasks h are).ranked
 
 pub goes_is : (joined : ℕ → ℕ → Bool) (kind : TaskKind) (tasks : Tasks) (h : List Record) → TasksAre tasks h → (k n : ℕ) (x y : Task) → (one : TaskSays kind h k x) → (two : TaskSays kind h n y) → task_at kind tasks k ≡ Some x → task_at kind tasks n ≡ Some y
@@ -98,7 +98,7 @@ found_at kind tasks xs begun i x there = subst (λ (y : BegunTask). task_at kind
 event_at : (kind : TaskKind) (tasks : Tasks) (h : List Record) (xs : List BegunTask) → TasksAre tasks h → HaveBegun kind tasks xs → (i : ℕ) (x : BegunTask) → StandsAt xs i x → task_event kind h x.number ≡ Some x.event
 event_at kind tasks h xs are begun i x there =
     sym ((table_is kind tasks h are).events.made x.number)
-    ∙ subst (λ (y : BegunTask). get nat_eq (table_of kind tasks).started y.number ≡ Some y.event) there.1 (begun.each i x there.0).1
+    ∙ subst (λ (y : BegunTask). found (table_of kind tasks).started y.number ≡ Some y.event) there.1 (begun.each i x there.0).1
 
 -- each is an event
 pub tasks_are_events : (kind : TaskKind) (tasks : Tasks) (h : List Record) (xs : List BegunTask) → TasksAre tasks h → HaveBegun kind tasks xs → (u : ℕ) → is_among u (map event_in xs) ≡ true → event_of h u ≡ Some u

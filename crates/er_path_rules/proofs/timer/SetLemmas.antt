@@ -1,8 +1,8 @@
 -- What stands beside a timeout that was set is what the look-ups say of it. Lists of records stand newest first.
 use Rattle.std.proofs.Common.{◌≡◌, ℕ, ◌<◌, ◌≤◌, Bool, true, false, List, [], ◌++◌, Option, Some, None, option_map, refl, sym, ap, subst, ◌∙◌, arith, inl, inr}
-use Rattle.std.specs.Prelude.{◌&&◌, nat_eq, nat_lt, nat_le}
+use Rattle.std.specs.Prelude.{◌&&◌, nat_lt, nat_le}
 use Rattle.std.proofs.lemmas.Bool.Decides.{nat_tests}
-use Rattle.indexmap.specs.IndexMap.{get, index_map_len}
+use Rattle.er_numbers.specs.Numbers.{found}
 use Rattle.er_trace.specs.declared.record.Record.{Record}
 use Rattle.er_trace.specs.declared.version.Version.{Version}
 use Rattle.er_trace.specs.declared.version.Version.TheVariants.{One, Two, Three}
@@ -85,8 +85,8 @@ no_timeout = record { timeout = 0; delay = 0; maker = 0; piece = 0; rank = 0 }
 delay_told : (names : Names) (h : List Record) (x : SetTimeout) → NamesAre names h → IsSet names x → delay_of h x.timeout ≡ Some x.delay
 delay_told names h x stands is = told_field (λ s. s.delay) _ h x stands.tables.timeouts is
 
-rank_told : (names : Names) (x : SetTimeout) → IsSet names x → option_map rank_of (get nat_eq names.tables.timeouts x.timeout) ≡ Some x.rank
-rank_told names x is = by (get nat_eq names.tables.timeouts x.timeout) is
+rank_told : (names : Names) (x : SetTimeout) → IsSet names x → option_map rank_of (found names.tables.timeouts x.timeout) ≡ Some x.rank
+rank_told names x is = by (found names.tables.timeouts x.timeout) is
   where
     by : (o : Option Timeout) → option_map (numbered x.timeout) o ≡ Some x → option_map rank_of o ≡ Some x.rank
     by None e = absurd (cc)
@@ -100,7 +100,7 @@ off_is names h x y stands one two =
     ∙ ((λ i. before (sym (ranked.ranks x.timeout) i) (sym (ranked.ranks y.timeout) i))
     ∙ (λ i. before (rank_told names x one i) (rank_told names y two i))))
   where
-    ranked : IsRankedByPlace (get nat_eq names.tables.timeouts) (index_map_len names.tables.timeouts) h
+    ranked : IsRankedByPlace (found names.tables.timeouts) names.tables.timeouts.count h
     ranked = stands.tables.ranked
 
 -- in each version the one must go off first

@@ -13,7 +13,7 @@ returns-clause-set c = λ h stands now.
 pub returns-clause-ranked : goal.returns-clause-ranked
 returns-clause-ranked c = λ h stands now.
     let given = c.timeout_in-pair.ensures.set now.running_action now.action now.event in
-    let rank = subst (HasRank c.timeout_in-pair.result) c.len.ensures.len c.timeout_in-pair.ensures.ranked in
+    let rank = subst (HasRank c.timeout_in-pair.result) c.count.ensures c.timeout_in-pair.ensures.ranked in
     ranked_more _ _ c.timeout_in-pair.result h c.args.rec.now now.running_action _ _ c.note_pair.ensures.found c.note_pair.ensures.longer c.note_pair.ensures.counted
     stands given rank now.runs
 

@@ -12,7 +12,7 @@ returns-clause-made c = λ kind h x same now stands.
 pub returns-clause-ranked : goal.returns-clause-ranked
 returns-clause-ranked c = λ kind h x same now stands.
     let given = c.task_in-pair.ensures.given kind x now.running_action same now.action now.event in
-    let rank = subst (λ n. IfSome c.task_in-pair.result (λ p. p.1.rank ≡ n)) c.len.ensures.len c.task_in-pair.ensures.ranked in
+    let rank = subst (λ n. IfSome c.task_in-pair.result (λ p. p.1.rank ≡ n)) c.count.ensures c.task_in-pair.ensures.ranked in
     tasks_ranked_more kind _ _ c.task_in-pair.result h x now.running_action _ _ c.note_pair.ensures.found c.note_pair.ensures.longer c.note_pair.ensures.counted
     stands given rank now.runs
 

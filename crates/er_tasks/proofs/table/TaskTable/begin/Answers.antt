@@ -1,6 +1,5 @@
 use Rattle.std.proofs.Common.{rules, sym, subst}
-use Rattle.std.specs.Prelude.{nat_eq}
-use Rattle.indexmap.specs.IndexMap.{get}
+use Rattle.er_numbers.specs.Numbers.{found}
 use Rattle.er_tasks.specs.declared.begun.Started.{Started}
 use Rattle.er_tasks.specs.Begun.{AreBegun, AreRuns, IsRunTo}
 use Rattle.er_tasks.specs.Tasks.{IsStarted}
@@ -9,9 +8,9 @@ use Rattle.er_tasks.proofs.table.TaskTable.begin.Goals as goal
 
 pub returns-clause-begun : goal.returns-clause-begun
 returns-clause-begun c = λ are.
-    let found = get nat_eq c.args.self.now.declared in
-    let started = get nat_eq c.args.self.now.started in
+    let declared = found c.args.self.now.declared in
+    let started = found c.args.self.now.started in
     let s : Started = record { number = c.in_ok-number.number; event = c.in-Some.event; task = c.in_ok-number.task } in
-    let is : IsStarted found started s = search rules in
+    let is : IsStarted declared started s = search rules in
     let to = subst (λ xs. IsRunTo xs c.in_ok-number.task c.run_to-run.result) c.as_slice.ensures.value (c.run_to-run.ensures (subst AreRuns (sym c.as_slice.ensures.value) are.runs)) in
-    subst (AreBegun found started) (sym c.push.ensures.tasks) (begun_more found started c.args.self.now.begun.tasks.items s c.run_to-run.result are is to)
+    subst (AreBegun declared started) (sym c.push.ensures.tasks) (begun_more declared started c.args.self.now.begun.tasks.items s c.run_to-run.result are is to)

@@ -1,9 +1,19 @@
-use Rattle.std.proofs.Common.{◌∙◌, ap, ◌++◌}
+use Rattle.std.proofs.Common.{◌∙◌, sym, ap, ◌++◌}
 use Rattle.er_history.specs.LookUps.{jobs_queued}
 use Rattle.er_history.specs.Tasks.{OfMessage, OfAnim, OfJob, queued_jobs}
 use Rattle.er_tasks.specs.Tasks.{with_task, event_under, number_under}
 use Rattle.er_tasks.proofs.TaskLemmas.{job_listed, job_events, still_begun}
+use Rattle.er_tasks.proofs.RoomLemmas.{noted_room}
 use Rattle.er_tasks.proofs.tasks.Tasks.take.Goals as goal
+
+pub take-message-requires : goal.take-message-requires
+take-message-requires c = record { room = noted_room OfMessage c.args.self.now.messages _ _ _ (c.posted_in.ensures, c.message_in.ensures) (c.requires.room (sym c.is_of_task.ensures ∙ c.if-not-is_of_task.false)).messages }
+
+pub take-anim-requires : goal.take-anim-requires
+take-anim-requires c = record { room = noted_room OfAnim c.args.self.now.anims _ _ _ (c.asked_in.ensures, c.anim_in.ensures) (c.requires.room (sym c.is_of_task.ensures ∙ c.if-not-is_of_task.false)).anims }
+
+pub take-job-requires : goal.take-job-requires
+take-job-requires c = record { room = noted_room OfJob c.args.self.now.jobs _ _ _ (c.queued_in.ensures, c.job_in.ensures) (c.requires.room (sym c.is_of_task.ensures ∙ c.if-not-is_of_task.false)).jobs }
 
 pub returns : goal.returns
 returns c = λ h stands now.
