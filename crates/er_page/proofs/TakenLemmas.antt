@@ -16,9 +16,9 @@ use Rattle.er_paths.specs.Limits.{most_actions}
 use Rattle.er_history.proofs.HistoryLemmas.{actions_are_numbered}
 use Rattle.er_history.specs.declared.firsts.Now.{Now}
 use Rattle.er_history.specs.Taken.{IsNow, StillStands}
-use Rattle.er_names.specs.declared.names.Names.{Names}
-use Rattle.er_names.specs.Names.{NamesAre}
-use Rattle.er_names.proofs.AccessLemmas.{names_same}
+use Rattle.er_claims.specs.declared.claimed.Claimed.{Claimed}
+use Rattle.er_claims.specs.Claimed.{ClaimedAre}
+use Rattle.er_claims.proofs.AccessLemmas.{claimed_same}
 use Rattle.er_tasks.specs.declared.tasks.Tasks.{Tasks}
 use Rattle.er_tasks.specs.Tasks.{TasksAre}
 use Rattle.er_tasks.proofs.AccessLemmas.{tasks_same}
@@ -68,7 +68,7 @@ note_is h x is = by (begins x) is
 -- a page takes a record that begins a piece
 pub page_begun : (new : Page) (stack : Stack) (pieces : Pieces) (latest : Latest) (within : Within) (dispatch : Option ℕ) (h : List Record) (x : Record) (start : Start) (action : ℕ) (role : Role)
     → StackIs stack h → PiecesAre pieces h → LatestAre latest (told h).actions → WithinIs within h → dispatch ≡ job_dispatch h x → IsAccepted h → IsNextOf h x → Some (about_start start) ≡ about_begun h x → action ≡ length pieces.list.items
-    → (IsNow h x (record { action = action; event = start.event }) → NamesAre new.names (x ∷ h))
+    → (IsNow h x (record { action = action; event = start.event }) → ClaimedAre new.claimed (x ∷ h))
     → (IsNow h x (record { action = action; event = start.event }) → TasksAre new.tasks (x ∷ h))
     → reverse new.stack.levels.items ≡ levels_after (reverse stack.levels.items) action x
     → new.pieces.list.items ≡ pieces.list.items ++ record { begin = x; start = start } ∷ []
@@ -77,7 +77,7 @@ pub page_begun : (new : Page) (stack : Stack) (pieces : Pieces) (latest : Latest
     → ((actions : List Action) (a : Action) → LatestAre latest actions → IsTold role (record { action = action; event = start.event }) a → LatestAre new.latest (a ∷ actions))
     → ((p : ℕ) → jobs_at new.within p ≡ jobs_at within p ++ job_under p dispatch action)
     → IsPage new (x ∷ h)
-page_begun new stack pieces latest within dispatch h x start action role is are came jobs under accepted next starts count names tasks levels items each plays more put =
+page_begun new stack pieces latest within dispatch h x start action role is are came jobs under accepted next starts count claimed tasks levels items each plays more put =
     let begun = begun_is h x start starts in
     let long : action ≡ length (told h).actions = count ∙ pieces_long pieces.list.items (told h).actions are.all in
     let event : start.event ≡ (event_begun (told h) x).number = ap (λ (m : About). m.event) begun.same in
@@ -86,7 +86,7 @@ page_begun new stack pieces latest within dispatch h x start action role is are 
     let one : LatestAre new.latest (action_begun (told h) x ∷ (told h).actions) = more (told h).actions (action_begun (told h) x) came (record { says = says; action = long; event = event }) in
     let now : IsNow h x (record { action = action; event = start.event }) = record { running_action = action_begun (told h) x; runs = rw begun.begin refl; action = long; event = event } in
     record {
-      names = names now;
+      claimed = claimed now;
       tasks = tasks now;
       stack = stack_taken stack new.stack h x action is long levels;
       pieces = piece_taken pieces new.pieces h x start are starts items each;
@@ -130,9 +130,9 @@ note_stack (Queue j) h b = refl
 note_stack (Access m l) h b = refl
 note_stack _ h b = absurd (cc)
 
-page_noted_with : (old new : Page) (h : List Record) (x : Record) → IsPage old h → IsNextOf h x → begins x ≡ false → NamesAre new.names (x ∷ h) → TasksAre new.tasks (x ∷ h) → new.stack ≡ old.stack → new.pieces ≡ old.pieces → new.latest ≡ old.latest → new.within ≡ old.within → IsPage new (x ∷ h)
-page_noted_with old new h x is next note names tasks stack pieces latest within = record {
-  names = names;
+page_noted_with : (old new : Page) (h : List Record) (x : Record) → IsPage old h → IsNextOf h x → begins x ≡ false → ClaimedAre new.claimed (x ∷ h) → TasksAre new.tasks (x ∷ h) → new.stack ≡ old.stack → new.pieces ≡ old.pieces → new.latest ≡ old.latest → new.within ≡ old.within → IsPage new (x ∷ h)
+page_noted_with old new h x is next note claimed tasks stack pieces latest within = record {
+  claimed = claimed;
   tasks = tasks;
   stack = record { levels = ap (λ (s : Stack). reverse s.levels.items) stack ∙ (is.stack.levels ∙ ap levels_of (sym (note_stack x h note))) };
   pieces = pieces_kept old.pieces new.pieces h x is.pieces (rw note refl) (ap (λ (p : Pieces). p.list.items) pieces) (λ u. ap (λ (p : Pieces). found p.latest u) pieces);
@@ -142,13 +142,13 @@ page_noted_with old new h x is next note names tasks stack pieces latest within 
 }
 
 pub page_noted : (old new : Page) (h : List Record) (x : Record) (now : Now) → IsPage old h → IsNextOf h x → None ≡ about_begun h x → now_of (reverse old.pieces.list.items) ≡ Some now
-    → (IsNow h x now → NamesAre new.names (x ∷ h)) → (IsNow h x now → TasksAre new.tasks (x ∷ h)) → new.stack ≡ old.stack → new.pieces ≡ old.pieces → new.latest ≡ old.latest → new.within ≡ old.within → IsPage new (x ∷ h)
-page_noted old new h x now is next starts newest names tasks stack pieces latest within =
+    → (IsNow h x now → ClaimedAre new.claimed (x ∷ h)) → (IsNow h x now → TasksAre new.tasks (x ∷ h)) → new.stack ≡ old.stack → new.pieces ≡ old.pieces → new.latest ≡ old.latest → new.within ≡ old.within → IsPage new (x ∷ h)
+page_noted old new h x now is next starts newest claimed tasks stack pieces latest within =
     let note = note_is h x starts in
     let runs = note_runs old.pieces h x is.pieces next.0 note in
     let same : now ≡ record { action = runs.0.number; event = runs.0.event.number } = cc in
     let is_now : IsNow h x now = record { running_action = runs.0; runs = runs.1; action = ap (λ (n : Now). n.action) same; event = ap (λ (n : Now). n.event) same } in
-    page_noted_with old new h x is next note (names is_now) (tasks is_now) stack pieces latest within
+    page_noted_with old new h x is next note (claimed is_now) (tasks is_now) stack pieces latest within
 
 -- some action runs
 pub note_somewhere : (page : Page) (h : List Record) (x : Record) → IsPage page h → IsNextOf h x → None ≡ about_begun h x → now_of (reverse page.pieces.list.items) ≡ None → ⊥
@@ -160,9 +160,9 @@ pub accessed : (page : Page) (h : List Record) (x : Record) (m : Mode) (l : Loc)
 accessed page h x m l e is named fits =
     let runs = some_runs h x named in
     let run = ap (λ y. running (actions_after (told h) y)) (sym e) ∙ runs.1 in
-    let names : NamesAre page.names (x ∷ h) = rw e (names_same page.names h m l runs.0 run is.names) in
+    let claimed : ClaimedAre page.claimed (x ∷ h) = rw e (claimed_same page.claimed h m l runs.0 run is.claimed) in
     let tasks : TasksAre page.tasks (x ∷ h) = rw e (tasks_same page.tasks h m l runs.0 run is.tasks) in
-    page_noted_with page page h x is (named, fits) (ap begins e) names tasks refl refl refl refl
+    page_noted_with page page h x is (named, fits) (ap begins e) claimed tasks refl refl refl refl
 
 -- what a page keeps, where a record is next
 
@@ -182,10 +182,10 @@ depth_next page (Inline p e n) some = ∥∥₁_elim some (hlevel props) (λ nex
     deep next = has_depth page.stack next.list (Inline p e n) next.stands.stack next.fits
 depth_next page _ some = tt
 
--- where its names and tasks have room, the page stands for what it did
-pub with_room : (page : Page) (names : Names) (tasks : Tasks) (h : List Record) → StillStands NamesAre page.names names → StillStands TasksAre page.tasks tasks → IsPage page h
-    → IsPage (record { names = names; tasks = tasks; stack = page.stack; pieces = page.pieces; latest = page.latest; within = page.within }) h
-with_room page names tasks h kept stays is = record { names = kept h is.names; tasks = stays h is.tasks; stack = is.stack; pieces = is.pieces; latest = is.latest; within = is.within; accepted = is.accepted }
+-- where what is claimed and the tasks have room, the page stands for what it did
+pub with_room : (page : Page) (claimed : Claimed) (tasks : Tasks) (h : List Record) → StillStands ClaimedAre page.claimed claimed → StillStands TasksAre page.tasks tasks → IsPage page h
+    → IsPage (record { claimed = claimed; tasks = tasks; stack = page.stack; pieces = page.pieces; latest = page.latest; within = page.within }) h
+with_room page claimed tasks h kept stays is = record { claimed = kept h is.claimed; tasks = stays h is.tasks; stack = is.stack; pieces = is.pieces; latest = is.latest; within = is.within; accepted = is.accepted }
 
 pub next_kept : (old new : Page) (x : Record) → ((h : List Record) → IsPage old h → IsPage new h) → ∥ IsNext old x ∥₁ → ∥ IsNext new x ∥₁
 next_kept old new x kept some = ∥∥₁_map some (λ next. record { list = next.list; stands = kept next.list next.stands; named = next.named; fits = next.fits })

@@ -4,7 +4,7 @@ use Rattle.er_trace.specs.declared.record.Record.{Record}
 use Rattle.er_history.specs.History.{told}
 use Rattle.er_history.specs.LookUps.{event_of}
 use Rattle.er_history.specs.Naming.{naming, room}
-use Rattle.er_names.specs.Names.{NamesAre}
+use Rattle.er_claims.specs.Claimed.{ClaimedAre}
 use Rattle.er_tasks.specs.Tasks.{TasksAre}
 use Rattle.er_latest.specs.Latest.{LatestAre}
 use Rattle.er_page.specs.declared.page.Page.{Page}
@@ -15,7 +15,7 @@ use Rattle.er_page.specs.Within.{WithinIs}
 
 -- the list is accepted, and all that the page keeps answers what the list says
 pub record IsPage (page : Page) (h : List Record) : Type 0 where
-  pub names : NamesAre page.names h
+  pub claimed : ClaimedAre page.claimed h
   pub tasks : TasksAre page.tasks h
   pub stack : StackIs page.stack h
   pub pieces : PiecesAre page.pieces h

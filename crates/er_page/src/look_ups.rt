@@ -24,14 +24,14 @@ ghost use Rattle.std.specs.List.{All};
 ghost use Rattle.er_trace.specs.declared.record.Record.{Record};
 ghost use Rattle.er_history.specs.History.{told};
 ghost use Rattle.er_history.specs.LookUps as says;
-ghost use Rattle.er_names.specs.Fired.{AreCounted, number_of, sets};
-ghost use Rattle.er_names.specs.Names.{IsSet, element_of, timeout_at};
+ghost use Rattle.er_claims.specs.Fired.{AreCounted, number_of, sets};
+ghost use Rattle.er_claims.specs.Claimed.{IsSet, element_of, timeout_at};
 ghost use Rattle.er_page.specs.LookUps.{begun_of, suspended_at};
 ghost use Rattle.er_page.specs.Page.{Answers, HasBegun, HasEvent, IsPage};
 
 use crate::page::Page;
 use crate::piece::Begun;
-use er_names::names::{Element, FiredTimeout, SetTimeout};
+use er_claims::claimed::{Element, FiredTimeout, SetTimeout};
 use er_trace::name::Name;
 use er_trace::record::{Kind, Record};
 
@@ -94,7 +94,7 @@ impl Page {
     pub fn maker_of_element(&self, element: u32) -> Option<u32>
         ensures { Answers self.now (λ h. says.maker_of_element h element) result }
     {
-        self.names.maker_of_element(element)
+        self.claimed.maker_of_element(element)
     }
 
     /// The event that declared the document. Document 0 has none.
@@ -102,35 +102,35 @@ impl Page {
         ensures maker { Answers self.now (λ h. says.maker_of_document h doc) result }
         ensures root { doc ≡ 0 → Answers self.now (λ h. None) result }
     {
-        self.names.maker_of_document(doc)
+        self.claimed.maker_of_document(doc)
     }
 
     /// The event that registered the handler.
     pub fn maker_of_handler(&self, handler: u32) -> Option<u32>
         ensures { Answers self.now (λ h. says.maker_of_handler h handler) result }
     {
-        self.names.maker_of_handler(handler)
+        self.claimed.maker_of_handler(handler)
     }
 
     /// The event that set the timeout.
     pub fn maker_of_timeout(&self, timeout: u32) -> Option<u32>
         ensures { Answers self.now (λ h. says.maker_of_timeout h timeout) result }
     {
-        self.names.maker_of_timeout(timeout)
+        self.claimed.maker_of_timeout(timeout)
     }
 
     /// The event that set the interval.
     pub fn maker_of_interval(&self, interval: u32) -> Option<u32>
         ensures { Answers self.now (λ h. says.maker_of_interval h interval) result }
     {
-        self.names.maker_of_interval(interval)
+        self.claimed.maker_of_interval(interval)
     }
 
     /// The event that sent the request.
     pub fn maker_of_request(&self, request: u32) -> Option<u32>
         ensures { Answers self.now (λ h. says.maker_of_request h request) result }
     {
-        self.names.maker_of_request(request)
+        self.claimed.maker_of_request(request)
     }
 }
 
@@ -141,77 +141,77 @@ impl Page {
         ensures { Answers self.now
             (λ h. says.element_made h element) (option_map element_of result) }
     {
-        self.names.element(element)
+        self.claimed.element(element)
     }
 
     /// The document in which the element was made.
     pub fn document_of(&self, element: u32) -> Option<u32>
         ensures { Answers self.now (λ h. says.document_of h element) result }
     {
-        self.names.document_of(element)
+        self.claimed.document_of(element)
     }
 
     /// Whether a parse step made the element.
     pub fn is_static(&self, element: u32) -> bool
         ensures { Answers self.now (λ h. says.is_static h element) result }
     {
-        self.names.is_static(element)
+        self.claimed.is_static(element)
     }
 
     /// The kind of a script element: `Inline`, `Sync`, `Defer` or `Async`.
     pub fn script_kind(&self, element: u32) -> Option<Kind>
         ensures { Answers self.now (λ h. says.script_kind h element) result }
     {
-        self.names.script_kind(element)
+        self.claimed.script_kind(element)
     }
 
     /// The frame element that declared the document.
     pub fn frame_of(&self, doc: u32) -> Option<u32>
         ensures { Answers self.now (λ h. says.frame_of h doc) result }
     {
-        self.names.frame_of(doc)
+        self.claimed.frame_of(doc)
     }
 
     /// The document that the frame element declared.
     pub fn inner_of(&self, element: u32) -> Option<u32>
         ensures { Answers self.now (λ h. says.inner_of h element) result }
     {
-        self.names.inner_of(element)
+        self.claimed.inner_of(element)
     }
 
     /// The parse step that made the element, if it is static.
     pub fn parse_action(&self, element: u32) -> Option<u32>
         ensures { Answers self.now (λ h. says.parse_action h element) result }
     {
-        self.names.parse_action(element)
+        self.claimed.parse_action(element)
     }
 
     /// The event that is the run of the script element.
     pub fn run_of(&self, element: u32) -> Option<u32>
         ensures { Answers self.now (λ h. says.run_of h element) result }
     {
-        self.names.run_of(element)
+        self.claimed.run_of(element)
     }
 
     /// The dispatch of the element's first load event.
     pub fn eload_of(&self, element: u32) -> Option<u32>
         ensures { Answers self.now (λ h. says.eload_of h element) result }
     {
-        self.names.eload_of(element)
+        self.claimed.eload_of(element)
     }
 
     /// The dispatch of DOMContentLoaded of the document.
     pub fn dcl_of(&self, doc: u32) -> Option<u32>
         ensures { Answers self.now (λ h. says.dcl_of h doc) result }
     {
-        self.names.dcl_of(doc)
+        self.claimed.dcl_of(doc)
     }
 
     /// The dispatch of load of the document's window.
     pub fn load_of(&self, doc: u32) -> Option<u32>
         ensures { Answers self.now (λ h. says.load_of h doc) result }
     {
-        self.names.load_of(doc)
+        self.claimed.load_of(doc)
     }
 }
 
@@ -266,52 +266,52 @@ impl Page {
     pub fn delay_of(&self, timeout: u32) -> Option<u32>
         ensures { Answers self.now (λ h. says.delay_of h timeout) result }
     {
-        self.names.delay_of(timeout)
+        self.claimed.delay_of(timeout)
     }
 
     /// The event that is the callback of the timeout.
     pub fn timer_event(&self, timeout: u32) -> Option<u32>
         ensures { Answers self.now (λ h. says.timer_event h timeout) result }
     {
-        self.names.timer_event(timeout)
+        self.claimed.timer_event(timeout)
     }
 
     /// The piece that set the timeout.
     pub fn setting_piece(&self, timeout: u32) -> Option<u32>
         ensures { Answers self.now (λ h. says.setting_piece h timeout) result }
     {
-        self.names.setting_piece(timeout)
+        self.claimed.setting_piece(timeout)
     }
 
     /// All timeouts that have fired, in order of firing.
     pub fn fired(&self) -> &[u32]
         ensures { Answers self.now (λ h. says.fired h) result.now }
     {
-        self.names.fired()
+        self.claimed.fired()
     }
 
     /// The timeouts set in the event that have fired, in order of firing.
     pub fn fired_with(&self, event: u32) -> &[u32]
         ensures { Answers self.now (λ h. says.fired_with h event) result.now }
     {
-        self.names.fired_with(event)
+        self.claimed.fired_with(event)
     }
 
     /// The timeout of this number, as it was set.
     pub fn timeout(&self, timeout: u32) -> Option<SetTimeout>
-        ensures { result ≡ timeout_at self.now.names timeout }
+        ensures { result ≡ timeout_at self.now.claimed timeout }
     {
-        self.names.timeout(timeout)
+        self.claimed.timeout(timeout)
     }
 
     /// All timeouts that have fired, in order of firing, as they were set.
     pub fn fired_timeouts(&self) -> &[FiredTimeout]
         ensures numbers { Answers self.now (λ h. says.fired h) (map number_of (sets result.now)) }
         ensures set { (h : List Record) → IsPage self.now h
-            → All (IsSet self.now.names) (sets result.now) }
+            → All (IsSet self.now.claimed) (sets result.now) }
         ensures counted { (h : List Record) → IsPage self.now h → AreCounted result.now }
     {
-        self.names.fired_timeouts()
+        self.claimed.fired_timeouts()
     }
 
     /// The timeouts set in the event that have fired, in order of firing, as they were set.
@@ -319,17 +319,17 @@ impl Page {
         ensures numbers { Answers self.now
             (λ h. says.fired_with h event) (map number_of (sets result.now)) }
         ensures set { (h : List Record) → IsPage self.now h
-            → All (IsSet self.now.names) (sets result.now) }
+            → All (IsSet self.now.claimed) (sets result.now) }
         ensures counted { (h : List Record) → IsPage self.now h → AreCounted result.now }
     {
-        self.names.fired_timeouts_with(event)
+        self.claimed.fired_timeouts_with(event)
     }
 
     /// Whether both timeouts are set, the first in an earlier line.
     pub fn set_before(&self, t: u32, t2: u32) -> bool
         ensures { Answers self.now (λ h. says.set_before h t t2) result }
     {
-        self.names.set_before(t, t2)
+        self.claimed.set_before(t, t2)
     }
 
     /// The event that is the latest callback of the interval.
@@ -367,21 +367,21 @@ impl Page {
     pub fn begin_event(&self, dispatch: u32) -> Option<u32>
         ensures { Answers self.now (λ h. says.begin_event h dispatch) result }
     {
-        self.names.begin_event(dispatch)
+        self.claimed.begin_event(dispatch)
     }
 
     /// The close of the dispatch.
     pub fn close_event(&self, dispatch: u32) -> Option<u32>
         ensures { Answers self.now (λ h. says.close_event h dispatch) result }
     {
-        self.names.close_event(dispatch)
+        self.claimed.close_event(dispatch)
     }
 
     /// The piece that the inline dispatch suspended, which is the one just before its begin.
     pub fn suspended_by(&self, dispatch: u32) -> Option<u32>
         ensures { Answers self.now (λ h. says.suspended_by h dispatch) result }
     {
-        let action = self.names.begin_event(dispatch)?;
+        let action = self.claimed.begin_event(dispatch)?;
         let begin = self.pieces.begin(action)?;
         suspended_at(begin, action)
     }

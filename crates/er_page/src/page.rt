@@ -7,7 +7,7 @@ ghost use Rattle.er_trace.specs.declared.record.Record.{Record};
 ghost use Rattle.er_history.specs.History.{told};
 ghost use Rattle.er_history.specs.Naming.{again, misplaced, naming, room, too_many_actions, too_deep, unknown};
 ghost use Rattle.er_page.specs.Accepted.{result_of};
-ghost use Rattle.er_names.specs.Names.{HasRoomFor};
+ghost use Rattle.er_claims.specs.Claimed.{HasRoomFor};
 ghost use Rattle.er_tasks.specs.Tasks.{HaveRoomIfTask};
 ghost use Rattle.er_page.specs.Page.{IsPage, IsNext, IsNextOf, Answers};
 ghost use Rattle.er_page.specs.Pieces.{about_start, about_begun};
@@ -17,10 +17,10 @@ use crate::roles::{first_of, role_by, served_of};
 use crate::stack::Stack;
 use crate::starts::start_of;
 use crate::within::{Within, job_dispatch};
+use er_claims::claimed::Claimed;
 use er_history::firsts::Now;
 use er_io::NoMemory;
 use er_latest::latest::Latest;
-use er_names::names::Names;
 use er_tasks::forms::is_of_task;
 use er_tasks::tasks::Tasks;
 use er_text::Cause;
@@ -36,7 +36,7 @@ const MOST_INLINE: u32 = 256;
 
 /// What a list of accepted records declares, has run and has on the stack.
 pub struct Page {
-    pub(crate) names: Names,
+    pub(crate) claimed: Claimed,
     pub(crate) tasks: Tasks,
     pub(crate) stack: Stack,
     pub(crate) pieces: Pieces,
@@ -47,7 +47,7 @@ pub struct Page {
 impl Drop for Page {
     fn drop(self) {
         let Page {
-            names: _,
+            claimed: _,
             tasks: _,
             stack: _,
             pieces: _,
@@ -63,7 +63,7 @@ impl Page {
         ensures { IfOk result (λ page. IsPage page []) }
     {
         Ok(Page {
-            names: Names::new(alloc),
+            claimed: Claimed::new(alloc),
             tasks: Tasks::new(alloc),
             stack: Stack::new(alloc),
             pieces: Pieces::new(alloc),
@@ -82,7 +82,7 @@ impl Page {
         if self.is_again(rec) {
             return Err(Cause::Again);
         }
-        if self.names.is_not_script(rec) {
+        if self.claimed.is_not_script(rec) {
             return Err(Cause::NotScript);
         }
         if self.is_misplaced(rec) {
@@ -129,10 +129,10 @@ impl Page {
     #[tactic(auto, using(crate::proofs::TakenLemmas::with_room))]
     fn make_room(&mut self, rec: &Record) -> Result<(), NoMemory>
         ensures kept { (h : List Record) → IsPage self.old h → IsPage self.new h }
-        ensures names { OnOk result (HasRoomFor self.new.names rec.now) }
+        ensures claimed { OnOk result (HasRoomFor self.new.claimed rec.now) }
         ensures tasks { OnOk result (HaveRoomIfTask self.new.tasks rec.now) }
     {
-        self.names.make_room(rec)?;
+        self.claimed.make_room(rec)?;
         if is_of_task(rec) {
             self.tasks.make_room(rec)?;
         }
@@ -142,7 +142,7 @@ impl Page {
     /// Takes a record that begins a piece of this event. All that grows is made to grow first.
     fn begin(&mut self, rec: &Record, start: Start) -> Result<(), NoMemory>
         requires next { ∥ IsNext self.old rec.now ∥₁ }
-        requires names { HasRoomFor self.old.names rec.now }
+        requires claimed { HasRoomFor self.old.claimed rec.now }
         requires tasks { HaveRoomIfTask self.old.tasks rec.now }
         ensures taken { OnOk result ((h : List Record) → IsPage self.old h → IsNextOf h rec.now
             → Some (about_start start) ≡ about_begun h rec.now → IsPage self.new (rec.now ∷ h)) }
@@ -154,12 +154,12 @@ impl Page {
         self.pieces.make_room(event)?;
         self.stack.make_room()?;
         let first = first_of(&self.pieces, rec, start);
-        let role = role_by(&self.names, first, served_of(&self.pieces, start));
+        let role = role_by(&self.claimed, first, served_of(&self.pieces, start));
         self.latest.make_room(&role)?;
         let dispatch = job_dispatch(&self.stack, rec);
         self.within.make_room(dispatch)?;
         self.latest.take(&role, Now { action, event });
-        self.names.take(rec, Now { action, event });
+        self.claimed.take(rec, Now { action, event });
         self.tasks.take(rec, Now { action, event });
         self.stack.take(rec, action);
         self.pieces.take(begin, start);
@@ -169,13 +169,13 @@ impl Page {
 
     /// Takes a note, which stands in the running action.
     fn note(&mut self, rec: &Record)
-        requires names { HasRoomFor self.old.names rec.now }
+        requires claimed { HasRoomFor self.old.claimed rec.now }
         requires tasks { HaveRoomIfTask self.old.tasks rec.now }
         ensures { (h : List Record) → IsPage self.old h → IsNextOf h rec.now
             → None ≡ about_begun h rec.now → IsPage self.new (rec.now ∷ h) }
     {
         if let Some(now) = self.pieces.now() {
-            self.names.take(rec, now);
+            self.claimed.take(rec, now);
             self.tasks.take(rec, now);
         }
     }
@@ -184,14 +184,14 @@ impl Page {
     fn is_unknown(&self, rec: &Record) -> bool
         ensures { Answers self.now (λ h. unknown h rec.now) result }
     {
-        self.names.is_unknown(rec) | self.tasks.is_unknown(rec)
+        self.claimed.is_unknown(rec) | self.tasks.is_unknown(rec)
     }
 
     /// Whether it declares or starts what was declared or started before.
     fn is_again(&self, rec: &Record) -> bool
         ensures { Answers self.now (λ h. again h rec.now) result }
     {
-        self.names.is_again(rec) | self.tasks.is_again(rec)
+        self.claimed.is_again(rec) | self.tasks.is_again(rec)
     }
 
     /// Whether the record begins an action that is one too many.

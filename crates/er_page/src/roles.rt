@@ -2,14 +2,14 @@
 
 ghost use Rattle.std.specs.Prelude.{◌≡◌, List, option_map};
 ghost use Rattle.er_trace.specs.declared.record.Record.{Record};
-ghost use Rattle.er_names.specs.Names.{NamesAre, element_of};
+ghost use Rattle.er_claims.specs.Claimed.{ClaimedAre, element_of};
 ghost use Rattle.er_latest.specs.Roles as latest;
 ghost use Rattle.er_latest.specs.Roles.{said_by};
 ghost use Rattle.er_page.specs.Roles.{role_by, close_by, first_in, begin_in, read};
 
 use crate::piece::{Pieces, Start};
+use er_claims::claimed::{Claimed, Element, Form};
 use er_latest::role::Role;
-use er_names::names::{Element, Form, Names};
 use er_trace::record::{Kind, Record};
 
 /// The record that began the event of a piece that this record begins.
@@ -31,14 +31,18 @@ pub(crate) fn served_of<'a>(pieces: &'a Pieces, start: Start) -> Option<&'a Reco
 }
 
 /// The role of an event that this record began, which serves the dispatch that the other record began, if one.
-pub(crate) fn role_by<'a>(names: &Names, first: &'a Record, served: Option<&'a Record>) -> Role<'a>
-    ensures { (h : List Record) → NamesAre names.now h
+pub(crate) fn role_by<'a>(
+    claimed: &Claimed,
+    first: &'a Record,
+    served: Option<&'a Record>,
+) -> Role<'a>
+    ensures { (h : List Record) → ClaimedAre claimed.now h
         → said_by result ≡ role_by h first.now (read served.entry) }
 {
     match first {
         Record::Parse { doc, .. } => Role::Step { doc: *doc },
         Record::ParseFrame { doc, .. } => Role::Step { doc: *doc },
-        Record::Exec { element } => script_role(*element, names.element(*element)),
+        Record::Exec { element } => script_role(*element, claimed.element(*element)),
         Record::Tick { interval } => Role::Tick {
             interval: *interval,
         },
@@ -51,7 +55,7 @@ pub(crate) fn role_by<'a>(names: &Names, first: &'a Record, served: Option<&'a R
             group: *group,
         },
         Record::Close { .. } => match served {
-            Some(begin) => close_by(names, begin),
+            Some(begin) => close_by(claimed, begin),
             None => Role::Other,
         },
         _ => Role::Other,
@@ -59,11 +63,11 @@ pub(crate) fn role_by<'a>(names: &Names, first: &'a Record, served: Option<&'a R
 }
 
 /// The role of the close of a dispatch that this record began.
-fn close_by<'a>(names: &Names, begin: &'a Record) -> Role<'a>
-    ensures { (h : List Record) → NamesAre names.now h → said_by result ≡ close_by h begin.now }
+fn close_by<'a>(claimed: &Claimed, begin: &'a Record) -> Role<'a>
+    ensures { (h : List Record) → ClaimedAre claimed.now h → said_by result ≡ close_by h begin.now }
 {
     match begin {
-        Record::Eload { element, .. } => load_role(names.element(*element)),
+        Record::Eload { element, .. } => load_role(claimed.element(*element)),
         Record::Fire { element, name, .. } => Role::AtElement {
             element: *element,
             name,

@@ -5,7 +5,7 @@ use Rattle.er_history.specs.History as history
 use Rattle.er_history.specs.LookUps.{timeout_made}
 use Rattle.er_history.specs.Tasks.{OfMessage, OfAnim, OfJob, task_made}
 use Rattle.er_history.specs.Rules.{Rule}
-use Rattle.er_names.specs.Names.{element_of}
+use Rattle.er_claims.specs.Claimed.{element_of}
 use Rattle.er_pieces.specs.steps.Steps.{least_rule, rule_of_events}
 use Rattle.er_reasons.specs.Read.{within_of}
 use Rattle.er_reasons.specs.declared.event.Event.{Event}

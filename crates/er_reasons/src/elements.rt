@@ -3,11 +3,11 @@
 ghost use Rattle.std.specs.Prelude.{◌≡◌, ℕ, List, ◌==◌, ◌&&◌, nat_lt, option_map};
 ghost use Rattle.er_trace.specs.declared.record.Record.{Record};
 ghost use Rattle.er_history.specs.Rules as rules;
-ghost use Rattle.er_names.specs.Names.{element_of};
+ghost use Rattle.er_claims.specs.Claimed.{element_of};
 ghost use Rattle.er_reasons.specs.Shown.{event_shown};
 
 use crate::event::Event;
-use er_names::names::{Element, Form};
+use er_claims::claimed::{Element, Form};
 use er_trace::record::Kind;
 
 /// Whether u was begun first.

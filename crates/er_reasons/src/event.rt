@@ -1,6 +1,6 @@
 //! What an event is, as far as rules ask.
 
-use er_names::names::Element;
+use er_claims::claimed::Element;
 use er_trace::name::Name;
 
 /// What a dispatch delivers, with what made its target.

@@ -3,14 +3,14 @@
 ghost use Rattle.std.specs.Prelude.{◌≡◌, ℕ, Bool, ◌&&◌, ◌||◌, ◌==◌, not, List, option_map};
 ghost use Rattle.er_trace.specs.declared.record.Record.{Record};
 ghost use Rattle.er_history.specs.Rules as rules;
-ghost use Rattle.er_names.specs.Names.{element_of};
+ghost use Rattle.er_claims.specs.Claimed.{element_of};
 ghost use Rattle.er_reasons.specs.Shown.{delivered, holds, least, what_shown};
 ghost use Rattle.er_reasons.specs.Words.{is_inner_load_before, is_static_load_before, runs_element};
 
 use crate::elements::{declares, is_blocking, is_deferred, is_maker, is_plain, recorded};
 use crate::event::{Delivery, Event, What};
 use crate::numbers::least_from;
-use er_names::names::Element;
+use er_claims::claimed::Element;
 
 /// The least number of a rule on loads that holds from u to v.
 pub(crate) fn load_rule(u: &Event<'_>, v: &Event<'_>) -> Option<u32>

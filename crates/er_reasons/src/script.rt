@@ -3,14 +3,14 @@
 ghost use Rattle.std.specs.Prelude.{◌≡◌, ℕ, Bool, ◌&&◌, ◌==◌, nat_lt, List, option_map};
 ghost use Rattle.er_trace.specs.declared.record.Record.{Record};
 ghost use Rattle.er_history.specs.Rules as rules;
-ghost use Rattle.er_names.specs.Names.{element_of};
+ghost use Rattle.er_claims.specs.Claimed.{element_of};
 ghost use Rattle.er_reasons.specs.Shown.{holds, least};
 ghost use Rattle.er_reasons.specs.Words.{blocks_deferred, blocks_step, deferred_before};
 
 use crate::elements::{is_blocking, is_deferred, is_maker};
 use crate::event::{Event, What};
 use crate::numbers::least_from;
-use er_names::names::Element;
+use er_claims::claimed::Element;
 
 /// The least number of a rule on scripts that holds from u to v.
 pub(crate) fn script_rule(u: &Event<'_>, v: &Event<'_>) -> Option<u32>

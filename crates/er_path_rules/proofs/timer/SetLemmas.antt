@@ -16,11 +16,11 @@ use Rattle.er_history.proofs.HandedLemmas.{action_stands}
 use Rattle.er_history.proofs.HistoryLemmas.{actions_are_numbered, number_taken}
 use Rattle.er_history.proofs.MakersLemmas.{timeout_below}
 use Rattle.er_pieces.proofs.PathLemmas.{both, less_is}
-use Rattle.er_names.specs.declared.names.Names.{Names}
-use Rattle.er_names.specs.declared.names.SetTimeout.{SetTimeout}
-use Rattle.er_names.specs.declared.names.Timeout.{Timeout}
-use Rattle.er_names.specs.Fired.{GoesOn, IsFound, number_of, numbered}
-use Rattle.er_names.specs.Names.{Setting, setting_of, setting, TimeoutsAre, NamesAre, IsSet, IsRankedByPlace, rank_of, timeout_at}
+use Rattle.er_claims.specs.declared.claimed.Claimed.{Claimed}
+use Rattle.er_claims.specs.declared.claimed.SetTimeout.{SetTimeout}
+use Rattle.er_claims.specs.declared.claimed.Timeout.{Timeout}
+use Rattle.er_claims.specs.Fired.{GoesOn, IsFound, number_of, numbered}
+use Rattle.er_claims.specs.Claimed.{Setting, setting_of, setting, TimeoutsAre, ClaimedAre, IsSet, IsRankedByPlace, rank_of, timeout_at}
 use Rattle.er_path_rules.specs.timer.Fired.{is_no_longer, goes_off_first, is_joined, goes_before, fired_handed, set_by, callback_handed}
 use Rattle.er_path_rules.specs.timer.Walk.{Misses}
 
@@ -30,11 +30,11 @@ number_found : (t : ℕ) (x : SetTimeout) (o : Option Timeout) → option_map (n
 number_found t x None e = absurd (cc)
 number_found t x (Some y) e = let same : numbered t y ≡ x = cc in sym (ap number_of same)
 
-pub set_number : (names : Names) (t : ℕ) (x : SetTimeout) → timeout_at names t ≡ Some x → x.timeout ≡ t
-set_number names t x is = number_found t x _ is
+pub set_number : (claimed : Claimed) (t : ℕ) (x : SetTimeout) → timeout_at claimed t ≡ Some x → x.timeout ≡ t
+set_number claimed t x is = number_found t x _ is
 
-pub is_set : (names : Names) (t : ℕ) (x : SetTimeout) → timeout_at names t ≡ Some x → IsSet names x
-is_set names t x is = subst (λ k. timeout_at names k ≡ Some x) (sym (set_number names t x is)) is
+pub is_set : (claimed : Claimed) (t : ℕ) (x : SetTimeout) → timeout_at claimed t ≡ Some x → IsSet claimed x
+is_set claimed t x is = subst (λ k. timeout_at claimed k ≡ Some x) (sym (set_number claimed t x is)) is
 
 -- its piece and its maker
 
@@ -49,14 +49,14 @@ told_field f found h x stands is = by (found x.timeout) (timeout_made h x.timeou
     by (Some y) None e g = absurd (cc)
     by (Some y) (Some m) e g = sym (ap (option_map f) g) ∙ ap (option_map (λ z. f (set_fields z))) e
 
-pub piece_told : (names : Names) (h : List Record) (x : SetTimeout) → NamesAre names h → IsSet names x → setting_piece h x.timeout ≡ Some x.piece
-piece_told names h x stands is = told_field (λ s. s.piece) _ h x stands.tables.timeouts is
+pub piece_told : (claimed : Claimed) (h : List Record) (x : SetTimeout) → ClaimedAre claimed h → IsSet claimed x → setting_piece h x.timeout ≡ Some x.piece
+piece_told claimed h x stands is = told_field (λ s. s.piece) _ h x stands.tables.timeouts is
 
-pub maker_told : (names : Names) (h : List Record) (x : SetTimeout) → NamesAre names h → IsSet names x → maker_of_timeout h x.timeout ≡ Some x.maker
-maker_told names h x stands is = told_field (λ s. s.maker) _ h x stands.tables.timeouts is
+pub maker_told : (claimed : Claimed) (h : List Record) (x : SetTimeout) → ClaimedAre claimed h → IsSet claimed x → maker_of_timeout h x.timeout ≡ Some x.maker
+maker_told claimed h x stands is = told_field (λ s. s.maker) _ h x stands.tables.timeouts is
 
-pub no_maker : (names : Names) (h : List Record) (t : ℕ) → NamesAre names h → timeout_at names t ≡ None → maker_of_timeout h t ≡ None
-no_maker names h t stands none = by _ (timeout_made h t) none (stands.tables.timeouts.made t)
+pub no_maker : (claimed : Claimed) (h : List Record) (t : ℕ) → ClaimedAre claimed h → timeout_at claimed t ≡ None → maker_of_timeout h t ≡ None
+no_maker claimed h t stands none = by _ (timeout_made h t) none (stands.tables.timeouts.made t)
   where
     by : (o : Option Timeout) (m : Option history.Timeout) → option_map (numbered t) o ≡ None → option_map setting_of o ≡ option_map setting m → option_map (λ (x : history.Timeout). x.maker) m ≡ None
     by None None e g = refl
@@ -66,15 +66,15 @@ no_maker names h t stands none = by _ (timeout_made h t) none (stands.tables.tim
 
 -- what is due by the timeout is due by its number
 
-pub due_by : (names : Names) (v : Version) (h : List Record) (t : ℕ) (x : SetTimeout) → NamesAre names h → timeout_at names t ≡ Some x
+pub due_by : (claimed : Claimed) (v : Version) (h : List Record) (t : ℕ) (x : SetTimeout) → ClaimedAre claimed h → timeout_at claimed t ≡ Some x
     → latest_of_event x.maker (told h).actions ++ fired_handed v h x.timeout x.maker ≡ callback_handed v h t
-due_by names v h t x stands is =
-    let number = set_number names t x is in
-    let maker : maker_of_timeout h t ≡ Some x.maker = subst (λ k. maker_of_timeout h k ≡ Some x.maker) number (maker_told names h x stands (is_set names t x is)) in
+due_by claimed v h t x stands is =
+    let number = set_number claimed t x is in
+    let maker : maker_of_timeout h t ≡ Some x.maker = subst (λ k. maker_of_timeout h k ≡ Some x.maker) number (maker_told claimed h x stands (is_set claimed t x is)) in
     ap (λ k. latest_of_event x.maker (told h).actions ++ fired_handed v h k x.maker) number ∙ ap (set_by v h t) (sym maker)
 
-pub none_due : (names : Names) (v : Version) (h : List Record) (t : ℕ) → NamesAre names h → timeout_at names t ≡ None → [] ≡ callback_handed v h t
-none_due names v h t stands none = ap (set_by v h t) (sym (no_maker names h t stands none))
+pub none_due : (claimed : Claimed) (v : Version) (h : List Record) (t : ℕ) → ClaimedAre claimed h → timeout_at claimed t ≡ None → [] ≡ callback_handed v h t
+none_due claimed v h t stands none = ap (set_by v h t) (sym (no_maker claimed h t stands none))
 
 -- none, where an index is past the end
 abbrev pub no_timeout : SetTimeout
@@ -82,25 +82,25 @@ no_timeout = record { timeout = 0; delay = 0; maker = 0; piece = 0; rank = 0 }
 
 -- which of two goes off first
 
-delay_told : (names : Names) (h : List Record) (x : SetTimeout) → NamesAre names h → IsSet names x → delay_of h x.timeout ≡ Some x.delay
-delay_told names h x stands is = told_field (λ s. s.delay) _ h x stands.tables.timeouts is
+delay_told : (claimed : Claimed) (h : List Record) (x : SetTimeout) → ClaimedAre claimed h → IsSet claimed x → delay_of h x.timeout ≡ Some x.delay
+delay_told claimed h x stands is = told_field (λ s. s.delay) _ h x stands.tables.timeouts is
 
-rank_told : (names : Names) (x : SetTimeout) → IsSet names x → option_map rank_of (found names.tables.timeouts x.timeout) ≡ Some x.rank
-rank_told names x is = by (found names.tables.timeouts x.timeout) is
+rank_told : (claimed : Claimed) (x : SetTimeout) → IsSet claimed x → option_map rank_of (found claimed.tables.timeouts x.timeout) ≡ Some x.rank
+rank_told claimed x is = by (found claimed.tables.timeouts x.timeout) is
   where
     by : (o : Option Timeout) → option_map (numbered x.timeout) o ≡ Some x → option_map rank_of o ≡ Some x.rank
     by None e = absurd (cc)
     by (Some y) e = ap (option_map (λ (z : SetTimeout). z.rank)) e
 
-pub off_is : (names : Names) (h : List Record) (x y : SetTimeout) → NamesAre names h → IsSet names x → IsSet names y → goes_off_first h x.timeout y.timeout ≡ (nat_lt x.rank y.rank && nat_le x.delay y.delay)
-off_is names h x y stands one two =
-    (λ i. before (ranked.places x.timeout i) (ranked.places y.timeout i) && is_no_longer (delay_told names h x stands one i) (delay_told names h y stands two i))
+pub off_is : (claimed : Claimed) (h : List Record) (x y : SetTimeout) → ClaimedAre claimed h → IsSet claimed x → IsSet claimed y → goes_off_first h x.timeout y.timeout ≡ (nat_lt x.rank y.rank && nat_le x.delay y.delay)
+off_is claimed h x y stands one two =
+    (λ i. before (ranked.places x.timeout i) (ranked.places y.timeout i) && is_no_longer (delay_told claimed h x stands one i) (delay_told claimed h y stands two i))
     ∙ ap (λ b. b && nat_le x.delay y.delay)
     (sym (ranked.order x.timeout y.timeout)
     ∙ ((λ i. before (sym (ranked.ranks x.timeout) i) (sym (ranked.ranks y.timeout) i))
-    ∙ (λ i. before (rank_told names x one i) (rank_told names y two i))))
+    ∙ (λ i. before (rank_told claimed x one i) (rank_told claimed y two i))))
   where
-    ranked : IsRankedByPlace (found names.tables.timeouts) names.tables.timeouts.count h
+    ranked : IsRankedByPlace (found claimed.tables.timeouts) claimed.tables.timeouts.count h
     ranked = stands.tables.ranked
 
 -- in each version the one must go off first
@@ -123,8 +123,8 @@ not_first x y (inr later) = ap (λ b. b && nat_le x.delay y.delay) (not_lt later
     not_lt : y.rank ≤ x.rank → nat_lt x.rank y.rank ≡ false
     not_lt le = grind (arith, nat_tests)
 
-pub misses_not_before : (v : Version) (names : Names) (h : List Record) (x y : SetTimeout) → NamesAre names h → IsSet names x → IsSet names y → Misses x y → goes_before v h x.timeout y.timeout ≡ false
-misses_not_before v names h x y stands one two miss = before_needs v h x.timeout y.timeout (off_is names h x y stands one two ∙ not_first x y miss)
+pub misses_not_before : (v : Version) (claimed : Claimed) (h : List Record) (x y : SetTimeout) → ClaimedAre claimed h → IsSet claimed x → IsSet claimed y → Misses x y → goes_before v h x.timeout y.timeout ≡ false
+misses_not_before v claimed h x y stands one two miss = before_needs v h x.timeout y.timeout (off_is claimed h x y stands one two ∙ not_first x y miss)
 
 -- where both were set in one piece, the version asks no more
 before_as : (v : Version) (h : List Record) (s t p : ℕ) → setting_piece h s ≡ Some p → setting_piece h t ≡ Some p → path (rules v) h p p ≡ true → goes_off_first h s t ≡ true → goes_before v h s t ≡ true
@@ -132,8 +132,8 @@ before_as One h s t p one two joined first = first
 before_as Two h s t p one two joined first = both (goes_off_first h s t) _ first ((λ i. is_joined (path (rules Two) h) (one i) (two i)) ∙ joined)
 before_as Three h s t p one two joined first = both (goes_off_first h s t) _ first ((λ i. is_joined (path (rules Three) h) (one i) (two i)) ∙ joined)
 
-piece_stands : (v : Version) (names : Names) (h : List Record) (x : SetTimeout) → NamesAre names h → IsSet names x → path (rules v) h x.piece x.piece ≡ true
-piece_stands v names h x stands is = by (timeout_made h x.timeout) refl (piece_told names h x stands is)
+piece_stands : (v : Version) (claimed : Claimed) (h : List Record) (x : SetTimeout) → ClaimedAre claimed h → IsSet claimed x → path (rules v) h x.piece x.piece ≡ true
+piece_stands v claimed h x stands is = by (timeout_made h x.timeout) refl (piece_told claimed h x stands is)
   where
     by : (o : Option history.Timeout) → timeout_made h x.timeout ≡ o → option_map (λ (m : history.Timeout). m.piece) o ≡ Some x.piece → path (rules v) h x.piece x.piece ≡ true
     by None e same = absurd (cc)
@@ -143,10 +143,10 @@ piece_stands v names h x stands is = by (timeout_made h x.timeout) refl (piece_t
         let action = number_taken (told h).actions x.piece (actions_are_numbered h) (omega (arith, below, piece)) in
         subst (λ n. path (rules v) h n n ≡ true) action.2 (action_stands (rules v) h action.0 action.1)
 
-pub goes_on_before : (v : Version) (names : Names) (h : List Record) (x y : SetTimeout) → NamesAre names h → IsSet names x → IsSet names y → GoesOn x y → goes_before v h x.timeout y.timeout ≡ true
-goes_on_before v names h x y stands one two on =
-    before_as v h x.timeout y.timeout x.piece (piece_told names h x stands one) (piece_told names h y stands two ∙ ap (λ n. Some n) (sym on.0)) (piece_stands v names h x stands one)
-    (off_is names h x y stands one two ∙ both (nat_lt x.rank y.rank) (nat_le x.delay y.delay) (less_is x.rank y.rank on.2) (le_is on.1))
+pub goes_on_before : (v : Version) (claimed : Claimed) (h : List Record) (x y : SetTimeout) → ClaimedAre claimed h → IsSet claimed x → IsSet claimed y → GoesOn x y → goes_before v h x.timeout y.timeout ≡ true
+goes_on_before v claimed h x y stands one two on =
+    before_as v h x.timeout y.timeout x.piece (piece_told claimed h x stands one) (piece_told claimed h y stands two ∙ ap (λ n. Some n) (sym on.0)) (piece_stands v claimed h x stands one)
+    (off_is claimed h x y stands one two ∙ both (nat_lt x.rank y.rank) (nat_le x.delay y.delay) (less_is x.rank y.rank on.2) (le_is on.1))
   where
     le_is : x.delay ≤ y.delay → nat_le x.delay y.delay ≡ true
     le_is le = grind (arith, nat_tests)

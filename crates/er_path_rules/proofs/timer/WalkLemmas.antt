@@ -16,11 +16,11 @@ use Rattle.er_history.specs.Rules.{rules}
 use Rattle.er_history.specs.Edges.{path}
 use Rattle.er_history.specs.Latest.{latest_of}
 use Rattle.er_history.specs.LookUps.{timer_event}
-use Rattle.er_names.specs.declared.names.FiredTimeout.{FiredTimeout}
-use Rattle.er_names.specs.declared.names.Names.{Names}
-use Rattle.er_names.specs.declared.names.SetTimeout.{SetTimeout}
-use Rattle.er_names.specs.Fired.{AreCounted, GoesOn, IsCounted, StandSo, number_of, set_in, sets}
-use Rattle.er_names.specs.Names.{IsSet, NamesAre}
+use Rattle.er_claims.specs.declared.claimed.FiredTimeout.{FiredTimeout}
+use Rattle.er_claims.specs.declared.claimed.Claimed.{Claimed}
+use Rattle.er_claims.specs.declared.claimed.SetTimeout.{SetTimeout}
+use Rattle.er_claims.specs.Fired.{AreCounted, GoesOn, IsCounted, StandSo, number_of, set_in, sets}
+use Rattle.er_claims.specs.Claimed.{IsSet, ClaimedAre}
 use Rattle.er_page.specs.declared.page.Page.{Page}
 use Rattle.er_page.specs.Page.{IsSomePage}
 use Rattle.er_pieces.specs.Contract.{GrewBy, GrewInPart}
@@ -46,9 +46,9 @@ stands xs i d lt = (lt, get_or_default xs i (get_or xs i d) d lt)
 one_stands : (xs : List FiredTimeout) (i : ℕ) (x y : FiredTimeout) → StandsAt xs i x → StandsAt xs i y → x ≡ y
 one_stands xs i x y here also = sym here.1 ∙ (get_or_default xs i x y here.0 ∙ also.1)
 
-pub set_at : (names : Names) (xs : List FiredTimeout) (i : ℕ) (x : FiredTimeout) → All (IsSet names) (sets xs) → StandsAt xs i x → IsSet names x.set
-set_at names xs i x all there =
-    subst (IsSet names) (get_or-map set_in xs i x no_timeout there.0 ∙ ap set_in there.1) (all i no_timeout (omega (arith, there.0, length-map xs set_in)))
+pub set_at : (claimed : Claimed) (xs : List FiredTimeout) (i : ℕ) (x : FiredTimeout) → All (IsSet claimed) (sets xs) → StandsAt xs i x → IsSet claimed x.set
+set_at claimed xs i x all there =
+    subst (IsSet claimed) (get_or-map set_in xs i x no_timeout there.0 ∙ ap set_in there.1) (all i no_timeout (omega (arith, there.0, length-map xs set_in)))
 
 pub counted_at : (xs : List FiredTimeout) (i : ℕ) (x : FiredTimeout) → AreCounted xs → StandsAt xs i x → IsCounted xs i x
 counted_at xs i x are there = subst (IsCounted xs i) there.1 (are.each i x there.0)
@@ -230,29 +230,29 @@ on_err (Ok a) p = tt
 on_err (Err e) p = p
 
 -- the timeout that was handed last is as it was set
-pub last_set : (v : Version) (names : Names) (h : List Record) (xs : List FiredTimeout) (left : ℕ) (handed : List ℕ) (o : Option SetTimeout) → All (IsSet names) (sets xs) → IfSome o (IsHanded v h xs left handed) → IfSome o (IsSet names)
-last_set v names h xs left handed None all is = tt
-last_set v names h xs left handed (Some x) all is = subst (IsSet names) is.is (set_at names xs is.place is.found all is.there)
+pub last_set : (v : Version) (claimed : Claimed) (h : List Record) (xs : List FiredTimeout) (left : ℕ) (handed : List ℕ) (o : Option SetTimeout) → All (IsSet claimed) (sets xs) → IfSome o (IsHanded v h xs left handed) → IfSome o (IsSet claimed)
+last_set v claimed h xs left handed None all is = tt
+last_set v claimed h xs left handed (Some x) all is = subst (IsSet claimed) is.is (set_at claimed xs is.place is.found all is.there)
 
 -- as the timeouts stand
 
-pub is_run : (v : Version) (names : Names) (h : List Record) (xs : List FiredTimeout) (p : ℕ) (x : FiredTimeout) → NamesAre names h → AreFired names xs → StandsAt xs p x → IsRun v h xs p x
-is_run v names h xs p x are fired there j y lt from at =
-    goes_on_before v names h y.set x.set are (set_at names xs j y fired.set at) (set_at names xs p x fired.set there)
+pub is_run : (v : Version) (claimed : Claimed) (h : List Record) (xs : List FiredTimeout) (p : ℕ) (x : FiredTimeout) → ClaimedAre claimed h → AreFired claimed xs → StandsAt xs p x → IsRun v h xs p x
+is_run v claimed h xs p x are fired there j y lt from at =
+    goes_on_before v claimed h y.set x.set are (set_at claimed xs j y fired.set at) (set_at claimed xs p x fired.set there)
     (stand_at GoesOn xs p x.set x.run j y (counted_at xs p x fired.counted there).run lt from at)
 
-pub not_before : (v : Version) (names : Names) (h : List Record) (xs : List FiredTimeout) (p : ℕ) (x : FiredTimeout) (next : SetTimeout) (count : ℕ) → NamesAre names h → AreFired names xs → StandsAt xs p x → IsSet names next
+pub not_before : (v : Version) (claimed : Claimed) (h : List Record) (xs : List FiredTimeout) (p : ℕ) (x : FiredTimeout) (next : SetTimeout) (count : ℕ) → ClaimedAre claimed h → AreFired claimed xs → StandsAt xs p x → IsSet claimed next
     → StandSo Misses xs p next count → goes_before v h x.set.timeout next.timeout ≡ false
     → (j : ℕ) (y : FiredTimeout) → j < p + 1 → p ≤ j + count → StandsAt xs j y → goes_before v h y.set.timeout next.timeout ≡ false
-not_before v names h xs p x next count are fired there set miss fails j y lt from at = elim (last_or_before j p lt) [
-  | inl before ↦ misses_not_before v names h y.set next are (set_at names xs j y fired.set at) set (stand_at Misses xs p next count j y miss before from at)
+not_before v claimed h xs p x next count are fired there set miss fails j y lt from at = elim (last_or_before j p lt) [
+  | inl before ↦ misses_not_before v claimed h y.set next are (set_at claimed xs j y fired.set at) set (stand_at Misses xs p next count j y miss before from at)
   | inr is ↦ subst (λ (z : FiredTimeout). goes_before v h z.set.timeout next.timeout ≡ false) (one_stands xs p x y there (subst (λ n. StandsAt xs n y) is at)) fails
 ]
 
 -- they are joined
 
-pub are_joined : (v : Version) (names : Names) (h : List Record) (u : ℕ) (xs : List FiredTimeout) → IsNamed h → map number_of (sets xs) ≡ fired_before v h u → AreJoined v h xs
-are_joined v names h u xs named numbers i j x y lt here there goes =
+pub are_joined : (v : Version) (claimed : Claimed) (h : List Record) (u : ℕ) (xs : List FiredTimeout) → IsNamed h → map number_of (sets xs) ≡ fired_before v h u → AreJoined v h xs
+are_joined v claimed h u xs named numbers i j x y lt here there goes =
     callbacks_join v h named u i j lt (omega (arith, there.0, ap length numbers, length-map (sets xs) number_of, length-map xs set_in)) x.set.timeout y.set.timeout (at i x here) (at j y there) goes
   where
     at : (n : ℕ) (z : FiredTimeout) → StandsAt xs n z → get_or (fired_before v h u) n 0 ≡ z.set.timeout

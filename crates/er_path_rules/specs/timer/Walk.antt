@@ -9,11 +9,11 @@ use Rattle.er_history.specs.Rules.{rules}
 use Rattle.er_history.specs.Edges.{path}
 use Rattle.er_history.specs.Latest.{latest_of}
 use Rattle.er_history.specs.LookUps.{timer_event}
-use Rattle.er_names.specs.declared.names.FiredTimeout.{FiredTimeout}
-use Rattle.er_names.specs.declared.names.Names.{Names}
-use Rattle.er_names.specs.declared.names.SetTimeout.{SetTimeout}
-use Rattle.er_names.specs.Fired.{AreCounted, number_of, sets}
-use Rattle.er_names.specs.Names.{IsSet}
+use Rattle.er_claims.specs.declared.claimed.FiredTimeout.{FiredTimeout}
+use Rattle.er_claims.specs.declared.claimed.Claimed.{Claimed}
+use Rattle.er_claims.specs.declared.claimed.SetTimeout.{SetTimeout}
+use Rattle.er_claims.specs.Fired.{AreCounted, number_of, sets}
+use Rattle.er_claims.specs.Claimed.{IsSet}
 use Rattle.er_path_rules.specs.declared.timer.fired.Walk.{Walk}
 use Rattle.er_path_rules.specs.timer.Fired.{goes_before, handed_for_each}
 use Rattle.er_path_rules.specs.timer.Grown.{Suffice}
@@ -32,8 +32,8 @@ abbrev pub StandsAt : List FiredTimeout → ℕ → FiredTimeout → Type 0
 StandsAt xs i x = (i < length xs) × (get_or xs i x ≡ x)
 
 -- they are as they were set, and count those before them
-pub record AreFired (names : Names) (xs : List FiredTimeout) : Type 0 where
-  pub set : All (IsSet names) (sets xs)
+pub record AreFired (claimed : Claimed) (xs : List FiredTimeout) : Type 0 where
+  pub set : All (IsSet claimed) (sets xs)
   pub counted : AreCounted xs
 
 -- a path leads from each piece that is handed of the timeout to one of these

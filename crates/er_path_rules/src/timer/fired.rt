@@ -4,9 +4,9 @@ ghost use Rattle.std.specs.Prelude.{◌≡◌, ℕ, ◌<◌, ◌≤◌, List, le
 ghost use Rattle.er_trace.specs.declared.record.Record.{Record};
 ghost use Rattle.er_clocks.specs.Clock.{Tells};
 ghost use Rattle.er_paths.specs.Paths.{joins};
-ghost use Rattle.er_names.specs.declared.names.FiredTimeout.{FiredTimeout};
-ghost use Rattle.er_names.specs.Fired.{IsCounted, StandSo, number_of, sets};
-ghost use Rattle.er_names.specs.Names.{IsSet};
+ghost use Rattle.er_claims.specs.declared.claimed.FiredTimeout.{FiredTimeout};
+ghost use Rattle.er_claims.specs.Fired.{IsCounted, StandSo, number_of, sets};
+ghost use Rattle.er_claims.specs.Claimed.{IsSet};
 ghost use Rattle.er_page.specs.declared.page.Page.{Page};
 ghost use Rattle.er_page.specs.Page.{IsPage, IsSomePage};
 ghost use Rattle.er_path_rules.specs.timer.Fired as says;
@@ -16,9 +16,9 @@ ghost use Rattle.er_path_rules.specs.timer.Timed.{IsTimed};
 ghost use Rattle.er_path_rules.specs.timer.Walk as walks;
 ghost use Rattle.er_path_rules.specs.timer.Walk.{AreFired, AreJoined, Misses, WalksOn};
 
+use er_claims::claimed::{FiredTimeout, SetTimeout};
 use er_clocks::Clocks;
 use er_io::NoMemory;
-use er_names::names::{FiredTimeout, SetTimeout};
 use er_page::handing::hand_latest;
 use er_page::page::Page;
 use er_trace::version::Version;
@@ -34,7 +34,7 @@ pub(crate) struct Walk {
 /// Whether the first was set first, with no greater delay.
 fn goes_off_first(first: SetTimeout, second: SetTimeout) -> bool
     ensures { (page : Page) (h : List Record) → IsPage page h
-        → IsSet page.names first → IsSet page.names second
+        → IsSet page.claimed first → IsSet page.claimed second
         → result ≡ says.goes_off_first h first.timeout second.timeout }
 {
     first.delay <= second.delay && first.rank < second.rank
@@ -43,7 +43,7 @@ fn goes_off_first(first: SetTimeout, second: SetTimeout) -> bool
 /// Whether the callback of the earlier timeout comes before that of the next, where rule 19 of the version says so.
 fn goes_before(clocks: &Clocks, version: Version, earlier: SetTimeout, next: SetTimeout) -> bool
     ensures { (page : Page) (h : List Record) → IsTimed version page clocks.now h
-        → IsSet page.names earlier → IsSet page.names next
+        → IsSet page.claimed earlier → IsSet page.claimed next
         → result ≡ says.goes_before version h earlier.timeout next.timeout }
 {
     if !goes_off_first(earlier, next) {
@@ -74,7 +74,7 @@ fn is_covered(
     handed: Option<SetTimeout>,
 ) -> bool
     ensures { (page : Page) (h : List Record) → IsTimed version page clocks.now h
-        → IsSet page.names earlier → IfSome handed (IsSet page.names)
+        → IsSet page.claimed earlier → IfSome handed (IsSet page.claimed)
         → result ≡ walks.is_covered version h earlier handed }
 {
     match handed {
@@ -112,8 +112,8 @@ fn walk_on(
     requires some { 0 < walk.left }
     requires within { walk.left ≤ length fired.now }
     requires page { ∥ IsSomePage page.now ∥₁ }
-    requires next { IsSet page.now.names next }
-    requires fired { (h : List Record) → IsPage page.now h → AreFired page.now.names fired.now }
+    requires next { IsSet page.now.claimed next }
+    requires fired { (h : List Record) → IsPage page.now h → AreFired page.now.claimed fired.now }
     requires joined { (h : List Record) → IsTimed version page.now clocks.now h
         → AreJoined version h fired.now }
     ensures less { IfOk result (λ on. on.left < walk.left) }
@@ -152,8 +152,8 @@ pub(crate) fn hand_fired(
     out: &mut SmallVec<u32, 8>,
 ) -> Result<(), NoMemory>
     requires page { ∥ IsSomePage page.now ∥₁ }
-    requires next { IsSet page.now.names next }
-    requires fired { (h : List Record) → IsPage page.now h → AreFired page.now.names fired.now }
+    requires next { IsSet page.now.claimed next }
+    requires fired { (h : List Record) → IsPage page.now h → AreFired page.now.claimed fired.now }
     requires joined { (h : List Record) → IsTimed version page.now clocks.now h
         → AreJoined version h fired.now }
     ensures whole { OnOk result (GrewEnoughFor version page.now clocks.now

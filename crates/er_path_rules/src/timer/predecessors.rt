@@ -4,8 +4,8 @@ ghost use Rattle.std.specs.Prelude.{◌≡◌, List, [], ◌∷◌, ◌++◌, le
 ghost use Rattle.er_trace.specs.declared.record.Record.{Record};
 ghost use Rattle.er_history.specs.History.{told};
 ghost use Rattle.er_history.specs.Latest.{latest_of_event};
-ghost use Rattle.er_names.specs.Fired.{number_of, sets};
-ghost use Rattle.er_names.specs.Names.{IsSet};
+ghost use Rattle.er_claims.specs.Fired.{number_of, sets};
+ghost use Rattle.er_claims.specs.Claimed.{IsSet};
 ghost use Rattle.er_page.specs.Page.{IsPage, IsSomePage};
 ghost use Rattle.er_pieces.specs.Contract.{GrewForEach, GrewInPartForEach, HandsFew};
 ghost use Rattle.er_pieces.specs.Counts.{most_timer};
@@ -18,9 +18,9 @@ ghost use Rattle.er_path_rules.specs.timer.Timed.{IsTimed, IsSomeTimed};
 ghost use Rattle.er_path_rules.specs.timer.Walk.{AreFired};
 
 use crate::timer::fired::hand_fired;
+use er_claims::claimed::{FiredTimeout, SetTimeout};
 use er_clocks::Clocks;
 use er_io::NoMemory;
-use er_names::names::{FiredTimeout, SetTimeout};
 use er_page::handing::hand_latest;
 use er_page::page::Page;
 use er_trace::record::Record;
@@ -98,7 +98,7 @@ fn hand_for_timer(
 fn fired_before(page: &Page, version: Version, setter: u32) -> &[FiredTimeout]
     ensures numbers { (h : List Record) → IsPage page.now h
         → map number_of (sets result.now) ≡ says.fired_before version h setter }
-    ensures fired { (h : List Record) → IsPage page.now h → AreFired page.now.names result.now }
+    ensures fired { (h : List Record) → IsPage page.now h → AreFired page.now.claimed result.now }
 {
     match version {
         Version::One => page.fired_timeouts_with(setter),
@@ -116,7 +116,7 @@ fn hand_set_by(
     out: &mut SmallVec<u32, 8>,
 ) -> Result<(), NoMemory>
     requires some { ∥ IsSomePage page.now ∥₁ }
-    requires next { IsSet page.now.names next }
+    requires next { IsSet page.now.claimed next }
     requires events { ∥ HasEvents page.now (next.maker ∷ []) ∥₁ }
     ensures whole { OnOk result (GrewEnoughFor version page.now clocks.now
         (λ h. latest_of_event next.maker (told h).actions

@@ -9,7 +9,7 @@ use Rattle.er_page.proofs.page.Page.apply.Goals as goal
 pub begin-requires : goal.begin-requires
 begin-requires c = record {
   next = next_kept c.args.self.now c.make_room.new.self c.args.rec.now c.in_ok-make_room.ensures.kept c.requires.next;
-  names = c.in_ok-make_room.ensures.names;
+  claimed = c.in_ok-make_room.ensures.claimed;
   tasks = c.in_ok-make_room.ensures.tasks;
 }
 

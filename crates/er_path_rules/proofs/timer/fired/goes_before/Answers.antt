@@ -18,5 +18,5 @@ pub returns : goal.returns
 returns c = λ page h is one two.
     before_joined c.args.version h c.args.earlier.timeout c.args.next.timeout c.goes_off_first.result c.joined.result c.args.earlier.piece c.args.next.piece
     (asked c.args.version h c.args.earlier.timeout c.args.next.timeout (sym c.asks_for_path.ensures ∙ c.if-not-asks_for_path.false))
-    (c.goes_off_first.ensures page h is.page one two) c.if-not-goes_off_first.false (piece_told page.names h c.args.earlier is.page.names one) (piece_told page.names h c.args.next is.page.names two)
+    (c.goes_off_first.ensures page h is.page one two) c.if-not-goes_off_first.false (piece_told page.claimed h c.args.earlier is.page.claimed one) (piece_told page.claimed h c.args.next is.page.claimed two)
     (c.joined.ensures (edges (rules c.args.version) (told h).actions) is.clocks)

@@ -15,11 +15,11 @@ returns-then-is_covered-clause-walked c = λ h timed start is.
     let x = get_or xs p no_fired in
     let there = stands xs p no_fired (omega (arith, c.requires.some, c.requires.within)) in
     let fired = c.requires.fired h timed.page in
-    let names = c.args.page.now.names in
-    let covered = c.is_covered.ensures c.args.page.now h timed (set_at names xs p x fired.set there) (last_set c.args.version names h xs c.args.walk.left is.handed c.args.walk.handed fired.set is.last) in
+    let claimed = c.args.page.now.claimed in
+    let covered = c.is_covered.ensures c.args.page.now h timed (set_at claimed xs p x fired.set there) (last_set c.args.version claimed h xs c.args.walk.left is.handed c.args.walk.handed fired.set is.last) in
     subst (λ n. IsWalk c.args.version h c.args.next.timeout xs (record { left = n; handed = c.args.walk.handed }) start c.args.out.now.items) (sym c.saturating_sub.ensures)
     (walk_covered c.args.version h c.args.next.timeout xs c.args.walk start c.args.out.now.items p x there (omega (arith, c.requires.some)) (c.requires.joined h timed)
-    (is_run c.args.version names h xs p x timed.page.names fired there) (sym covered ∙ c.if-is_covered.true) is)
+    (is_run c.args.version claimed h xs p x timed.page.claimed fired there) (sym covered ∙ c.if-is_covered.true) is)
 
 pub returns-then-not-goes_before-clause-walked : goal.returns-then-not-goes_before-clause-walked
 returns-then-not-goes_before-clause-walked c = λ h timed start is.
@@ -28,11 +28,11 @@ returns-then-not-goes_before-clause-walked c = λ h timed start is.
     let x = get_or xs p no_fired in
     let there = stands xs p no_fired (omega (arith, c.requires.some, c.requires.within)) in
     let fired = c.requires.fired h timed.page in
-    let names = c.args.page.now.names in
-    let goes = c.goes_before.ensures c.args.page.now h timed (set_at names xs p x fired.set there) c.requires.next in
+    let claimed = c.args.page.now.claimed in
+    let goes = c.goes_before.ensures c.args.page.now h timed (set_at claimed xs p x fired.set there) c.requires.next in
     subst (λ n. IsWalk c.args.version h c.args.next.timeout xs (record { left = n; handed = c.args.walk.handed }) start c.args.out.now.items) (sym c.saturating_sub-then-not-goes_before.ensures)
     (walk_missed c.args.version h c.args.next.timeout xs c.args.walk start c.args.out.now.items p c.missed.result there.0 (omega (arith, c.requires.some))
-    (not_before c.args.version names h xs p x c.args.next c.missed.result timed.page.names fired there c.requires.next (c.missed.ensures xs p (counted_at xs p x fired.counted there)) (sym goes ∙ c.if-not-goes_before.true)) is)
+    (not_before c.args.version claimed h xs p x c.args.next c.missed.result timed.page.claimed fired there c.requires.next (c.missed.ensures xs p (counted_at xs p x fired.counted there)) (sym goes ∙ c.if-not-goes_before.true)) is)
 
 pub hand_latest-requires : goal.hand_latest-requires
 hand_latest-requires c = record { events = made_events c.args.page.now (fires_timeout (get_or c.args.fired.now (c.args.walk.left - 1) no_fired).set.timeout) c.timer_event.result c.requires.page c.timer_event.ensures }
@@ -47,9 +47,9 @@ returns-clause-walked c = λ h timed start is.
     let x = get_or xs p no_fired in
     let there = stands xs p no_fired (omega (arith, c.requires.some, c.requires.within)) in
     let fired = c.requires.fired h timed.page in
-    let names = c.args.page.now.names in
-    let goes = c.goes_before.ensures c.args.page.now h timed (set_at names xs p x fired.set there) c.requires.next in
+    let claimed = c.args.page.now.claimed in
+    let goes = c.goes_before.ensures c.args.page.now h timed (set_at claimed xs p x fired.set there) c.requires.next in
     let grew = subst (λ o. GrewBy c.args.out.now.items (latest_of o (told h).actions) c.hand_latest.new.out.items) (c.timer_event.ensures h timed.page) (c.in_ok-hand_latest.ensures.whole h timed.page) in
     subst (λ n. IsWalk c.args.version h c.args.next.timeout xs (record { left = n; handed = Some x.set }) start c.hand_latest.new.out.items) (sym c.saturating_sub-2.ensures)
     (walk_handed c.args.version h c.args.next.timeout xs c.args.walk start c.args.out.now.items c.hand_latest.new.out.items p x there (omega (arith, c.requires.some)) (c.requires.joined h timed)
-    (is_run c.args.version names h xs p x timed.page.names fired there) (sym goes ∙ c.if-not-goes_before.false) grew is)
+    (is_run c.args.version claimed h xs p x timed.page.claimed fired there) (sym goes ∙ c.if-not-goes_before.false) grew is)

@@ -2,7 +2,7 @@ use Rattle.std.proofs.Common.{◌++◌, reverse, Some}
 use Rattle.std.specs.Prelude.{map}
 use Rattle.er_history.specs.History.{told}
 use Rattle.er_history.specs.Latest.{latest_of_event}
-use Rattle.er_names.specs.Fired.{number_of, sets}
+use Rattle.er_claims.specs.Fired.{number_of, sets}
 use Rattle.er_page.proofs.HandingLemmas.{named_list}
 use Rattle.er_path_rules.specs.timer.Fired.{handed_for_each, fired_handed}
 use Rattle.er_path_rules.proofs.timer.GrownLemmas.{grew_all, grew_front, enough_then, some_then, some_at_first}
@@ -18,7 +18,7 @@ hand_fired-requires c = record {
   page = c.requires.some;
   next = c.requires.next;
   fired = c.fired_before-fired.ensures.fired;
-  joined = λ h timed. are_joined c.args.version c.args.page.now.names h c.args.next.maker c.fired_before-fired.result.now (named_list h timed.page.accepted) (c.fired_before-fired.ensures.numbers h timed.page);
+  joined = λ h timed. are_joined c.args.version c.args.page.now.claimed h c.args.next.maker c.fired_before-fired.result.now (named_list h timed.page.accepted) (c.fired_before-fired.ensures.numbers h timed.page);
 }
 
 pub returns-in_err-hand_latest-clause-part : goal.returns-in_err-hand_latest-clause-part

@@ -1,4 +1,0 @@
-use Rattle.er_names.proofs.names.Names.new.Goals as goal
-
-pub returns : goal.returns
-returns c = record { tables = c.new.ensures; fired = c.new-2.ensures.fired; found = c.new-2.ensures.found _ }
