@@ -31,9 +31,9 @@ use Rattle.er_page.specs.Page as pages
 use Rattle.er_page.specs.Page.{IsPage, IsSomePage}
 use Rattle.er_path_rules.specs.timer.Timed.{IsTimed, IsSomeTimed}
 use Rattle.er_history.specs.Rules.{Rule, rules}
-use Rattle.er_graph.specs.Again.{runs_again}
+use Rattle.er_graph.specs.Again.{is_peer_of_newest}
 use Rattle.er_graph.specs.Next.{ComesAfter, ComesNow, TimedMore, StandForSome, StandsForAgain}
-use Rattle.er_graph.proofs.AgainLemmas.{runs_again_is, some_runs}
+use Rattle.er_graph.proofs.AgainLemmas.{peer_of_newest, some_runs}
 use Rattle.er_graph.proofs.RunLemmas.{runs_have_one_list}
 use Rattle.er_graph.specs.Accepted.{Accepted, AreOf, records, lines_of, cause_now, IsTold, AreTimed, IsNext, IsSomeGraph}
 
@@ -126,12 +126,12 @@ clocks_room v page links x some begin = ∥∥₁_elim some (hlevel props) (λ n
 pub some_clocks : (v : Version) (page : Page) (links : List (List ℕ)) (x : Record) → ∥ ComesNow v page links x ∥₁ → ∥ StandForSome links ∥₁
 some_clocks v page links x some = ∥∥₁_map some (λ now. record { lists = edges (rules v) (told now.list).actions; stand = now.comes.timed.clocks })
 
--- where a handler runs like the newest, there is a newest action
-pub clocks_begun : (v : Version) (page : Page) (links : List (List ℕ)) (x : Record) → ∥ ComesNow v page links x ∥₁ → ((h : List Record) → IsPage page h → runs_again h x ≡ true) → 0 < length links
+-- where a handler runs behind a peer, there is a newest action
+pub clocks_begun : (v : Version) (page : Page) (links : List (List ℕ)) (x : Record) → ∥ ComesNow v page links x ∥₁ → ((h : List Record) → IsPage page h → is_peer_of_newest h x ≡ true) → 0 < length links
 clocks_begun v page links x some again = ∥∥₁_elim some (hlevel props) (λ now. begun now.list now.comes)
   where
     begun : (h : List Record) → ComesAfter v page links x h → 0 < length links
-    begun h is = omega (arith, clocks_long v page links x h is, some_runs h x (runs_again_is h x (again h is.timed.page)))
+    begun h is = omega (arith, clocks_long v page links x h is, some_runs h x (peer_of_newest h x (again h is.timed.page)))
 
 -- handed from the start
 pub from_nothing : (table : List (ℕ × Rule)) (joined : ℕ → ℕ → Bool) (h : History) (x : Record) (new : List ℕ) → HasHandedPieces table joined h x [] new → ArePiecesHanded table joined h x new
@@ -183,9 +183,9 @@ timed_more v page links more x found passed begin handed same pushed h is =
     (subst (λ (l : List ℕ). StandsFor more (l ∷ old)) same (pushed old is.timed.clocks))
 
 -- and so is one before which the same actions come as before the newest
-pub timed_again : (v : Version) (page : Page) (links more : List (List ℕ)) (x : Record) → ((h : List Record) → IsPage page h → runs_again h x ≡ true) → StandsForAgain links more → TimedMore v page links x more
+pub timed_again : (v : Version) (page : Page) (links more : List (List ℕ)) (x : Record) → ((h : List Record) → IsPage page h → is_peer_of_newest h x ≡ true) → StandsForAgain links more → TimedMore v page links x more
 timed_again v page links more x again pushed h is =
-    let one = runs_have_one_list v h x (sound_lists_are_named (rules v) h is.sound) (no_cause (rules v) h x is.legal).named (runs_again_is h x (again h is.timed.page)) in
+    let one = runs_have_one_list v h x (sound_lists_are_named (rules v) h is.sound) (no_cause (rules v) h x is.legal).named (peer_of_newest h x (again h is.timed.page)) in
     subst (StandsFor more) (sym one.next) (pushed one.list one.older one.below (subst (StandsFor links) one.newest is.timed.clocks))
 
 -- another record changes no edge

@@ -22,7 +22,7 @@ use Rattle.er_history.proofs.NamedLemmas.{none_holds}
 use Rattle.er_history.proofs.ExactLemmas.{facts_are_exact}
 use Rattle.er_pieces.proofs.StackLemmas.{top_is}
 use Rattle.er_pieces.proofs.CallerLemmas.{among_cases}
-use Rattle.er_graph.proofs.AgainLemmas.{RunsAgain}
+use Rattle.er_graph.proofs.AgainLemmas.{FollowsPeer}
 
 -- what the rules ask
 
@@ -270,7 +270,7 @@ pub record HaveOneList (v : Version) (h : List Record) (x : Record) : Type 0 whe
   pub below : (k : ℕ) → is_among k list ≡ true → k < length older
   pub next : edges (rules v) (told (x ∷ h)).actions ≡ list ∷ list ∷ older
 
-pub runs_have_one_list : (v : Version) (h : List Record) (x : Record) → IsNamed h → naming h x ≡ None → RunsAgain h x → HaveOneList v h x
+pub runs_have_one_list : (v : Version) (h : List Record) (x : Record) → IsNamed h → naming h x ≡ None → FollowsPeer h x → HaveOneList v h x
 runs_have_one_list v h x named legal is =
     let a : Action = is.newest in
     let p = is.dispatch in

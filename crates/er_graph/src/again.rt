@@ -5,7 +5,7 @@ ghost use Rattle.er_trace.specs.declared.record.Record.{Record};
 ghost use Rattle.er_trace.specs.declared.record.Record.TheVariants.{Run};
 ghost use Rattle.er_paths.specs.Limits.{most_actions};
 ghost use Rattle.er_page.specs.Page.{IsPage, IsSomePage};
-ghost use Rattle.er_graph.specs.Again.{is_one, runs_alike, runs_again as says_again};
+ghost use Rattle.er_graph.specs.Again.{is_same_maker, are_peers, is_peer_of_newest};
 ghost use Rattle.er_graph.specs.Next.{StandForSome, StandsForAgain};
 
 use er_clocks::{Clocks, Paths};
@@ -15,34 +15,34 @@ use er_trace::record::Record;
 use std::alloc::Global;
 
 /// Whether the record runs a handler in the group in which the newest action runs one, and one event registered both. It takes no memory.
-pub(crate) fn runs_again(page: &Page, rec: &Record) -> bool
+pub(crate) fn follows_peer(page: &Page, rec: &Record) -> bool
     requires some { ∥ IsSomePage page.now ∥₁ }
-    ensures { (h : List Record) → IsPage page.now h → result ≡ says_again h rec.now }
+    ensures { (h : List Record) → IsPage page.now h → result ≡ is_peer_of_newest h rec.now }
 {
     let Some(newest) = page.running() else {
         return false;
     };
-    are_alike(page, page.begin_of(newest), rec)
+    run_peers(page, page.begin_of(newest), rec)
 }
 
 /// Whether both run a handler of one group of one dispatch, and one event registered these.
-fn are_alike(page: &Page, first: &Record, second: &Record) -> bool
+fn run_peers(page: &Page, first: &Record, second: &Record) -> bool
     ensures { (h : List Record) → IsPage page.now h
-        → result ≡ runs_alike h first.now second.now }
+        → result ≡ are_peers h first.now second.now }
 {
     match first {
         Record::Run {
             dispatch,
             group,
             handler,
-        } => is_like(page, *dispatch, *group, *handler, second),
+        } => is_peer_of(page, *dispatch, *group, *handler, second),
         _ => false,
     }
 }
 
-fn is_like(page: &Page, dispatch: u32, group: u32, handler: u32, second: &Record) -> bool
+fn is_peer_of(page: &Page, dispatch: u32, group: u32, handler: u32, second: &Record) -> bool
     ensures { (h : List Record) → IsPage page.now h
-        → result ≡ runs_alike h (Run dispatch group handler) second.now }
+        → result ≡ are_peers h (Run dispatch group handler) second.now }
 {
     match second {
         Record::Run {
@@ -52,14 +52,14 @@ fn is_like(page: &Page, dispatch: u32, group: u32, handler: u32, second: &Record
         } => {
             let maker = page.maker_of_handler(handler);
             let maker_of_next = page.maker_of_handler(*next);
-            (dispatch == *other) & (group == *level) & is_one_event(maker, maker_of_next)
+            (dispatch == *other) & (group == *level) & have_same_maker(maker, maker_of_next)
         }
         _ => false,
     }
 }
 
-fn is_one_event(first: Option<u32>, second: Option<u32>) -> bool
-    ensures { result ≡ is_one first second }
+fn have_same_maker(first: Option<u32>, second: Option<u32>) -> bool
+    ensures { result ≡ is_same_maker first second }
 {
     match (first, second) {
         (Some(first), Some(second)) => first == second,

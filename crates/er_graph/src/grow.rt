@@ -6,7 +6,7 @@ ghost use Rattle.er_history.specs.History as history;
 ghost use Rattle.er_graph.specs.Accepted.{Accepted, cause_now, IsTold, AreTimed, IsNext};
 ghost use Rattle.er_graph.specs.Next.{ComesNow, TimedMore};
 
-use crate::again::{push_again, runs_again};
+use crate::again::{follows_peer, push_again};
 use crate::order::sources;
 use er_clocks::Clocks;
 use er_io::NoMemory;
@@ -95,7 +95,7 @@ fn push(
     requires begins { history.begins rec.now ≡ true }
     ensures { OnOk result (TimedMore version page.now clocks.old rec.now clocks.new) }
 {
-    if runs_again(page, rec) {
+    if follows_peer(page, rec) {
         return push_again(alloc, clocks);
     }
     let sources = sources(alloc, page, clocks, version, rec)?;

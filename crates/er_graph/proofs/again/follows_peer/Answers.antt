@@ -1,7 +1,7 @@
 use Rattle.std.proofs.Common.{◌∙◌}
 use Rattle.std.proofs.Math.Logic.{∥∥₁_map}
-use Rattle.er_graph.proofs.AgainLemmas.{newest_begun, none_again, asked_again}
-use Rattle.er_graph.proofs.again.runs_again.Goals as goal
+use Rattle.er_graph.proofs.AgainLemmas.{newest_begun, none_newest, asked_of_newest}
+use Rattle.er_graph.proofs.again.follows_peer.Goals as goal
 
 pub begin_of-requires : goal.begin_of-requires
 begin_of-requires c = record {
@@ -9,7 +9,7 @@ begin_of-requires c = record {
 }
 
 pub returns-in_default : goal.returns-in_default
-returns-in_default c = λ h page. none_again h c.args.rec.now (c.in_default.ensures h page)
+returns-in_default c = λ h page. none_newest h c.args.rec.now (c.in_default.ensures h page)
 
 pub returns : goal.returns
-returns c = λ h page. c.are_alike.ensures h page ∙ asked_again h c.in-Some.newest c.begin_of.result.now c.args.rec.now (c.in-Some.ensures h page) (c.begin_of.ensures h page)
+returns c = λ h page. c.run_peers.ensures h page ∙ asked_of_newest h c.in-Some.newest c.begin_of.result.now c.args.rec.now (c.in-Some.ensures h page) (c.begin_of.ensures h page)
