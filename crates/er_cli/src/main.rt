@@ -9,11 +9,10 @@ ghost use Rattle.er_cli.specs.Ended.{EndsWith, LacksWords, line_printed, outside
 
 mod printed;
 
-use er_clocks::Meter;
 use er_io::{Sink, Source};
 use er_io_system::{FromRead, ToWrite};
 use er_run::outcome::Outcome;
-use er_run::run;
+use er_run::{Host, Meters, run};
 use er_shard::FreeGate;
 use printed::{Printed, print};
 use std::alloc::{AllocError, Global};
@@ -99,18 +98,13 @@ fn judge<R: Threads + Sync + Eprint, S: Source, K: Sink>(
         (outside (S.left source.new) (K.got sink.new) (S.faults source.new) (K.faults sink.new))
         (line_printed result.line) (exit_status result.code) }
 {
-    let mut compares = Meter::new();
-    let mut tests = Meter::new();
-    let outcome = run(
+    let host = Host {
         rt,
         alloc,
-        words,
-        source,
-        sink,
-        &mut compares,
-        &mut tests,
-        &FreeGate,
-    );
+        gate: &FreeGate,
+    };
+    let mut meters = Meters::new();
+    let outcome = run(&host, words, source, sink, &mut meters);
     finish(rt, outcome)
 }
 

@@ -55,7 +55,7 @@ asked_race words found k is asks =
     let there : Asks words (with_command (Schedule k)) = subst (λ c. Asks words (with_command c)) is asks in
     race_given _ k there.1.0.1.0
 
-pub askable : (words : List (List ℕ)) (found : Asked) → Asks words found → IsAskable found
+pub askable : (words : List (List ℕ)) (found : Asked) → Asks words found → IsAskable found.shards found.command
 askable words found asks =
     let split = split_within words found asks in
     record { least = split.0; most = split.1; race = λ k is. asked_race words found k is asks }

@@ -18,7 +18,6 @@ use Rattle.er_lines.specs.Format.{Format}
 use Rattle.er_words.specs.declared.commands.Input.{Input}
 use Rattle.er_words.specs.declared.commands.Command.{Command}
 use Rattle.er_words.specs.declared.commands.Command.TheVariants.{Check, Gen, Schedule, Explain}
-use Rattle.er_words.specs.declared.commands.Asked.{Asked}
 use Rattle.er_trace.specs.Limits.{most_shards}
 use Rattle.er_run.specs.Report.{refusal_for}
 use Rattle.er_run.specs.Answer.{IsLegalTrace, FirstIllegal, outcome_for}
@@ -127,10 +126,10 @@ abbrev pub IsListFault : Version → List Record → FeedFault → Type 0
 IsListFault v h fault = (other : Option Cause) → IsEndFault (listing_cause v h other) h fault
 
 -- what the words can ask for: 1 to 64 shards, and races from number 1
-pub record IsAskable (asked : Asked) : Type 0 where
-  pub least : 1 ≤ asked.shards
-  pub most : asked.shards ≤ most_shards
-  pub race : (k : ℕ) → asked.command ≡ Schedule k → 1 ≤ k
+pub record IsAskable (shards : ℕ) (command : Command) : Type 0 where
+  pub least : 1 ≤ shards
+  pub most : shards ≤ most_shards
+  pub race : (k : ℕ) → command ≡ Schedule k → 1 ≤ k
 
 -- what came of writing the text that is due for these records, newest first
 abbrev pub ReportsOf : Command → Version → List Record → List ℕ → Outcome → Option (List ℕ)

@@ -8,3 +8,4 @@ pub mod Report
 pub mod Session
 pub mod Status
 pub mod Laws
+pub mod Meters

@@ -6,11 +6,13 @@ ghost use Rattle.er_trace.specs.declared.version.Version.{Version};
 ghost use Rattle.er_trace.specs.Limits.{most_shards};
 ghost use Rattle.er_words.specs.declared.commands.Input.{Input};
 ghost use Rattle.er_run.specs.Legal.{end_cause_for, end_cause, schedule_cause, explain_cause};
+ghost use Rattle.er_run.specs.Meters.{HaveRoom, Rise};
 ghost use Rattle.er_run.specs.Session.{IsSessionOf};
 ghost use Rattle.er_run.specs.Accepted.{IsAskable, IsReportable, AreListed, AreGrouped, AreOrdersOf, IsListing, IsFound, IsJudged};
 ghost use Rattle.er_run.specs.Accepted.{IsCompared, IsTested, IsComparedFor, IsTestedFor, IsEndFault, IsListFault};
 
 use crate::findings::{Found, Listing};
+use crate::meters::Meters;
 use crate::session::Session;
 use er_clocks::Meter;
 use er_cover::{CoverFault, Groups};
@@ -18,10 +20,10 @@ use er_explain::explain;
 use er_io::NoMemory;
 use er_races::{ListFault, Race};
 use er_schedule::{Schedules, make_schedules};
-use er_shard::{Gate, group_shards, list_shards};
+use er_shard::{Gate, Work, group_shards, list_shards};
 use er_text::Cause;
 use er_trace::fault::FeedFault;
-use er_words::{Asked, Command};
+use er_words::Command;
 use std::alloc::Global;
 use std::thread::Threads;
 
@@ -30,46 +32,39 @@ const MOST_PAIRS: u64 = 16_777_216;
 
 /// Finds what is asked for, unless there is a cause against the `end` line behind the records.
 pub(crate) fn found_within<R: Threads + Sync, G: Gate + Sync>(
-    rt: &R,
-    alloc: Global,
-    asked: Asked,
+    work: &Work<'_, R, G>,
+    command: Command,
     session: &Session,
-    compares: &mut Meter,
-    tests: &mut Meter,
-    gate: &G,
+    meters: &mut Meters,
 ) -> Result<Found, FeedFault>
-    requires asked { IsAskable asked }
+    requires asked { IsAskable work.now.shards command }
     requires some { IsReportable session.now }
-    requires compares { compares.old < 2 ^ 60 }
-    requires tests { tests.old < 2 ^ 60 }
+    requires room { HaveRoom meters.old }
     ensures found { IfOk result (λ found. (h : List Record) → IsSessionOf session.now h
-        → IsJudged asked.command session.now found h) }
+        → IsJudged command session.now found h) }
     ensures compared { OnOk result
-        (IsComparedFor asked.command session.now compares.old compares.new) }
-    ensures tested { OnOk result (IsTestedFor asked.command session.now tests.old tests.new) }
+        (IsComparedFor command session.now meters.old.compares meters.new.compares) }
+    ensures tested { OnOk result
+        (IsTestedFor command session.now meters.old.tests meters.new.tests) }
     ensures refused { IfErr result (λ fault. (h : List Record) → IsSessionOf session.now h
-        → IsEndFault (end_cause_for asked.command session.now.graph.version h) h fault) }
-    ensures compares_rise { compares.old ≤ compares.new }
-    ensures tests_rise { tests.old ≤ tests.new }
+        → IsEndFault (end_cause_for command session.now.graph.version h) h fault) }
+    ensures rise { Rise meters.old meters.new }
 {
-    let shards = asked.shards;
-    match asked.command {
+    match command {
         Command::Check { json, input: _ } => {
-            match listing_within(rt, alloc, session, compares, tests, shards, gate) {
+            match listing_within(work, session, meters) {
                 Ok(listing) => Ok(for_text(json, listing)),
                 Err(fault) => Err(fault),
             }
         }
         Command::Gen { number } => {
-            match listing_within(rt, alloc, session, compares, tests, shards, gate) {
+            match listing_within(work, session, meters) {
                 Ok(listing) => Ok(Found::Summary { number, listing }),
                 Err(fault) => Err(fault),
             }
         }
-        Command::Schedule { race } => {
-            orders_within(rt, alloc, session, race, compares, shards, gate)
-        }
-        Command::Explain { from, to } => steps_within(alloc, session, from, to),
+        Command::Schedule { race } => orders_within(work, session, race, &mut meters.compares),
+        Command::Explain { from, to } => steps_within(work.alloc, session, from, to),
     }
 }
 
@@ -87,32 +82,27 @@ fn for_text(json: bool, listing: Listing) -> Found
 
 /// Lists the races and groups them, unless they or the pairs or the classes are over their limit.
 fn listing_within<R: Threads + Sync, G: Gate + Sync>(
-    rt: &R,
-    alloc: Global,
+    work: &Work<'_, R, G>,
     session: &Session,
-    compares: &mut Meter,
-    tests: &mut Meter,
-    shards: u32,
-    gate: &G,
+    meters: &mut Meters,
 ) -> Result<Listing, FeedFault>
-    requires split { (1 ≤ shards) × (shards ≤ most_shards) }
+    requires split { (1 ≤ work.now.shards) × (work.now.shards ≤ most_shards) }
     requires some { IsReportable session.now }
-    requires compares { compares.old < 2 ^ 60 }
-    requires tests { tests.old < 2 ^ 60 }
+    requires room { HaveRoom meters.old }
     ensures listed { IfOk result (λ listing. (h : List Record) → IsSessionOf session.now h
         → IsListing session.now.graph.version listing h) }
-    ensures compared { OnOk result (IsCompared session.now compares.old compares.new) }
-    ensures tested { OnOk result (IsTested session.now tests.old tests.new) }
+    ensures compared { OnOk result
+        (IsCompared session.now meters.old.compares meters.new.compares) }
+    ensures tested { OnOk result (IsTested session.now meters.old.tests meters.new.tests) }
     ensures refused { IfErr result (λ fault. (h : List Record) → IsSessionOf session.now h
         → IsEndFault (end_cause session.now.graph.version h) h fault) }
-    ensures compares_rise { compares.old ≤ compares.new }
-    ensures tests_rise { tests.old ≤ tests.new }
+    ensures rise { Rise meters.old meters.new }
 {
-    let races = match races_within(rt, alloc, session, compares, shards, gate) {
+    let races = match races_within(work, session, &mut meters.compares) {
         Ok(races) => races,
         Err(fault) => return Err(fault),
     };
-    match groups_within(rt, alloc, session, races.as_slice(), tests, shards, gate) {
+    match groups_within(work, session, races.as_slice(), &mut meters.tests) {
         Ok(groups) => Ok(Listing { races, groups }),
         Err(fault) => Err(fault),
     }
@@ -121,15 +111,12 @@ fn listing_within<R: Threads + Sync, G: Gate + Sync>(
 /// The two orders for the race of this number, unless there is none, or the races or the pairs are over
 /// their limit.
 fn orders_within<R: Threads + Sync, G: Gate + Sync>(
-    rt: &R,
-    alloc: Global,
+    work: &Work<'_, R, G>,
     session: &Session,
     race: u32,
     compares: &mut Meter,
-    shards: u32,
-    gate: &G,
 ) -> Result<Found, FeedFault>
-    requires split { (1 ≤ shards) × (shards ≤ most_shards) }
+    requires split { (1 ≤ work.now.shards) × (work.now.shards ≤ most_shards) }
     requires first { 1 ≤ race }
     requires some { IsReportable session.now }
     requires room { compares.old < 2 ^ 60 }
@@ -140,7 +127,7 @@ fn orders_within<R: Threads + Sync, G: Gate + Sync>(
         → IsEndFault (schedule_cause race session.now.graph.version h) h fault) }
     ensures rises { compares.old ≤ compares.new }
 {
-    let races = match races_within(rt, alloc, session, compares, shards, gate) {
+    let races = match races_within(work, session, compares) {
         Ok(races) => races,
         Err(fault) => return Err(fault),
     };
@@ -150,7 +137,7 @@ fn orders_within<R: Threads + Sync, G: Gate + Sync>(
             cause: Cause::NoRace,
         });
     }
-    match orders_of(alloc, session, races.as_slice(), race) {
+    match orders_of(work.alloc, session, races.as_slice(), race) {
         Ok(orders) => Ok(Found::Orders {
             race,
             races,
@@ -204,14 +191,11 @@ fn steps_within(alloc: Global, session: &Session, from: u32, to: u32) -> Result<
 
 /// Lists the races, unless the pairs or the races are over their limit.
 fn races_within<R: Threads + Sync, G: Gate + Sync>(
-    rt: &R,
-    alloc: Global,
+    work: &Work<'_, R, G>,
     session: &Session,
     compares: &mut Meter,
-    shards: u32,
-    gate: &G,
 ) -> Result<Vec<Race>, FeedFault>
-    requires split { (1 ≤ shards) × (shards ≤ most_shards) }
+    requires split { (1 ≤ work.now.shards) × (work.now.shards ≤ most_shards) }
     requires some { IsReportable session.now }
     requires room { compares.old < 2 ^ 60 }
     ensures listed { IfOk result (λ races. (h : List Record) → IsSessionOf session.now h
@@ -228,15 +212,7 @@ fn races_within<R: Threads + Sync, G: Gate + Sync>(
             cause: Cause::TooManyPairs,
         });
     }
-    match list_shards(
-        rt,
-        alloc,
-        &session.kept,
-        session.graph.clocks(),
-        shards,
-        gate,
-        compares,
-    ) {
+    match list_shards(work, &session.kept, session.graph.clocks(), compares) {
         Ok(races) => Ok(races),
         Err(ListFault::TooManyRaces) => Err(FeedFault::Refused {
             line,
@@ -248,15 +224,12 @@ fn races_within<R: Threads + Sync, G: Gate + Sync>(
 
 /// Groups the races, unless the classes are over their limit.
 fn groups_within<R: Threads + Sync, G: Gate + Sync>(
-    rt: &R,
-    alloc: Global,
+    work: &Work<'_, R, G>,
     session: &Session,
     races: &[Race],
     tests: &mut Meter,
-    shards: u32,
-    gate: &G,
 ) -> Result<Groups, FeedFault>
-    requires split { (1 ≤ shards) × (shards ≤ most_shards) }
+    requires split { (1 ≤ work.now.shards) × (work.now.shards ≤ most_shards) }
     requires some { IsReportable session.now }
     requires listed { (h : List Record) → IsSessionOf session.now h
         → AreListed session.now.graph.version races.now h }
@@ -268,16 +241,7 @@ fn groups_within<R: Threads + Sync, G: Gate + Sync>(
         → IsEndFault (end_cause session.now.graph.version h) h fault) }
     ensures rises { tests.old ≤ tests.new }
 {
-    match group_shards(
-        rt,
-        alloc,
-        races,
-        &session.kept,
-        session.graph.clocks(),
-        shards,
-        gate,
-        tests,
-    ) {
+    match group_shards(work, races, &session.kept, session.graph.clocks(), tests) {
         Ok(groups) => Ok(groups),
         Err(CoverFault::TooManyClasses) => Err(FeedFault::Refused {
             line: session.next_line(),

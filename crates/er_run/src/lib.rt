@@ -1,32 +1,36 @@
 //! The top call: from the words of the command and the bytes of a trace to the text that is due.
 #![tactic(auto)]
 
-ghost use Rattle.std.specs.Prelude.{◌≡◌, ◌≢◌, ◌⊎◌, ℕ, ◌<◌, ◌≤◌, ◌^◌, List, map, string_bytes};
+ghost use Rattle.std.specs.Prelude.{◌≡◌, ◌≢◌, ◌⊎◌, ℕ, ◌≤◌, List, map, string_bytes};
 ghost use Rattle.er_io.specs.Ends.{Rose, one_more};
 ghost use Rattle.er_words.specs.Words.{Asks};
 ghost use Rattle.er_run.specs.Answer.{Answers, format_of};
+ghost use Rattle.er_run.specs.Meters.{HaveRoom, Rise};
 ghost use Rattle.er_run.specs.Promise.{IsAnswer, IsAnswered, IsCutShort, IsSilent, Holds, NoReadFailed, seen};
 
 use crate::modes::{judge_generated, judge_input};
 use crate::outcome::Outcome;
-use er_clocks::Meter;
 use er_io::{Sink, Source};
 use er_shard::Gate;
 use er_words::{Asked, Command, WordsFault, read_words};
-use std::alloc::Global;
 use std::thread::Threads;
 
 mod accept;
 mod answer;
 mod end;
 mod findings;
+mod host;
 mod input;
 pub mod laws;
+mod meters;
 mod modes;
 pub mod outcome;
 mod session;
 pub mod sure;
 mod tell;
+
+pub use host::Host;
+pub use meters::Meters;
 
 /// Does what the words ask for: reads the trace that the source gives, at most 4,096 bytes at a time, to its
 /// end or to the chunk that decides a refusal. It writes the report of its races, two orders for one of
@@ -34,28 +38,24 @@ mod tell;
 /// trace.
 ///
 /// The words are those of the command, without the program's own name. Each candidate pair of accesses is
-/// compared once, and `compares` counts these comparisons; `tests` counts those that group the races.
+/// compared once, which `compares` of the meters counts; `tests` counts the comparisons that group the races.
 /// The races are listed and grouped by as many shards as the words ask for, each in a thread where one can
 /// be made; each passes the gate before its first comparison. The answer is the same for any number of them.
 pub fn run<R: Threads + Sync, S: Source, K: Sink, G: Gate + Sync>(
-    rt: &R,
-    alloc: Global,
+    host: &Host<'_, R, G>,
     words: &[String],
     source: &mut S,
     sink: &mut K,
-    compares: &mut Meter,
-    tests: &mut Meter,
-    gate: &G,
+    meters: &mut Meters,
 ) -> Outcome
-    requires compares { compares.old < 2 ^ 60 }
-    requires tests { tests.old < 2 ^ 60 }
+    requires room { HaveRoom meters.old }
     // The input of the command answers the outcome, the text that is due was written, and with a report
     // `compares` rose by exactly the number of candidate pairs, `tests` by at most four for each pair of a
     // class and a group.
     ensures answered { (asked : Asked) → Asks (map string_bytes words.now) asked → IsAnswer result
         → IsAnswered (format_of asked.command) asked.command
-        (seen (S.left source.old) (K.got sink.old) compares.old tests.old)
-        (seen (S.left source.new) (K.got sink.new) compares.new tests.new) result }
+        (seen (S.left source.old) (K.got sink.old) meters.old.compares meters.old.tests)
+        (seen (S.left source.new) (K.got sink.new) meters.new.compares meters.new.tests) result }
     // Words that ask for a command are no wrong usage; others give that, or out of memory.
     ensures usage { result ≡ Outcome.Usage
         → (asked : Asked) → ¬ Asks (map string_bytes words.now) asked }
@@ -79,8 +79,8 @@ pub fn run<R: Threads + Sync, S: Source, K: Sink, G: Gate + Sync>(
     ensures cut_short { (asked : Asked) → Asks (map string_bytes words.now) asked
         → result ≡ Outcome.WriteFault
         → IsCutShort (format_of asked.command) asked.command
-        (seen (S.left source.old) (K.got sink.old) compares.old tests.old)
-        (seen (S.left source.new) (K.got sink.new) compares.new tests.new) }
+        (seen (S.left source.old) (K.got sink.old) meters.old.compares meters.old.tests)
+        (seen (S.left source.new) (K.got sink.new) meters.new.compares meters.new.tests) }
     // No answer comes over a fault.
     ensures no_fault { IsAnswer result
         → (S.faults source.new ≡ S.faults source.old) × (K.faults sink.new ≡ K.faults sink.old) }
@@ -101,22 +101,20 @@ pub fn run<R: Threads + Sync, S: Source, K: Sink, G: Gate + Sync>(
     ensures reads { S.faults source.old ≤ S.faults source.new }
     ensures writes { K.faults sink.old ≤ K.faults sink.new }
     // Whatever the outcome, no comparison and no test is forgotten.
-    ensures compares_rise { compares.old ≤ compares.new }
-    ensures tests_rise { tests.old ≤ tests.new }
+    ensures rise { Rise meters.old meters.new }
 {
-    match read_words(alloc, words) {
+    match read_words(host.alloc, words) {
         Ok(asked) => match asked.command {
-            Command::Gen { number } => judge_generated(
-                rt,
-                alloc,
-                number,
+            Command::Gen { number } => {
+                judge_generated(&host.in_shards(asked.shards), number, sink, meters)
+            }
+            _ => judge_input(
+                &host.in_shards(asked.shards),
+                asked.command,
+                source,
                 sink,
-                compares,
-                tests,
-                asked.shards,
-                gate,
+                meters,
             ),
-            _ => judge_input(rt, alloc, asked, source, sink, compares, tests, gate),
         },
         Err(WordsFault::Usage) => Outcome::Usage,
         Err(WordsFault::NoMemory) => Outcome::NoMemory,

@@ -1,6 +1,6 @@
 //! What a mode judges: the trace that is read, or a generated one.
 
-ghost use Rattle.std.specs.Prelude.{◌≡◌, ◌≢◌, ◌⊎◌, ℕ, ◌<◌, ◌≤◌, ◌^◌, List, Some};
+ghost use Rattle.std.specs.Prelude.{◌≡◌, ◌≢◌, ◌⊎◌, ℕ, ◌≤◌, List, Some};
 ghost use Rattle.er_io.specs.Ends.{Rose, one_more};
 ghost use Rattle.er_trace.specs.Trace.{text};
 ghost use Rattle.er_trace.specs.declared.version.Version.TheVariants.{One};
@@ -10,41 +10,37 @@ ghost use Rattle.er_lines.specs.Text.{text as text_lines};
 ghost use Rattle.er_run.specs.Answer.{Answers, format_of, lines_asked};
 ghost use Rattle.er_run.specs.Promise.{IsAnswer, IsAnswered, IsCutShort, IsGiven, IsPartGiven, IsSilent, Compares, CountsWrites, Tests, seen};
 ghost use Rattle.er_run.specs.Accepted.{IsAskable};
+ghost use Rattle.er_run.specs.Meters.{HaveRoom, Rise};
 
 use crate::accept::{accept_generated, accept_input};
 use crate::answer::answer;
 use crate::input::InputFault;
+use crate::meters::Meters;
 use crate::outcome::Outcome;
-use er_clocks::Meter;
 use er_io::{Sink, Source};
 use er_jsonl::JsonLines;
 use er_lines::format::Lines;
 use er_lines::text::TextLines;
-use er_shard::Gate;
+use er_shard::{Gate, Work};
 use er_trace::fault::FeedFault;
-use er_words::{Asked, Command, Input};
-use std::alloc::Global;
+use er_words::{Command, Input};
 use std::thread::Threads;
 
 /// Judges the trace that the source gives, in lines as the command has them, and writes what is asked for.
 pub(crate) fn judge_input<R: Threads + Sync, S: Source, K: Sink, G: Gate + Sync>(
-    rt: &R,
-    alloc: Global,
-    asked: Asked,
+    work: &Work<'_, R, G>,
+    command: Command,
     source: &mut S,
     sink: &mut K,
-    compares: &mut Meter,
-    tests: &mut Meter,
-    gate: &G,
+    meters: &mut Meters,
 ) -> Outcome
-    requires asked { IsAskable asked }
-    requires reads { (n : ℕ) → asked.command ≢ Command.Gen n }
-    requires compares { compares.old < 2 ^ 60 }
-    requires tests { tests.old < 2 ^ 60 }
+    requires asked { IsAskable work.now.shards command }
+    requires reads { (n : ℕ) → command ≢ Command.Gen n }
+    requires room { HaveRoom meters.old }
     ensures answered { IsAnswer result
-        → IsAnswered (format_of asked.command) asked.command
-        (seen (S.left source.old) (K.got sink.old) compares.old tests.old)
-        (seen (S.left source.new) (K.got sink.new) compares.new tests.new) result }
+        → IsAnswered (format_of command) command
+        (seen (S.left source.old) (K.got sink.old) meters.old.compares meters.old.tests)
+        (seen (S.left source.new) (K.got sink.new) meters.new.compares meters.new.tests) result }
     ensures no_usage { result ≢ Outcome.Usage }
     ensures read_fault { result ≡ Outcome.ReadFault
         → Rose (S.faults source.old) (S.faults source.new) }
@@ -53,27 +49,22 @@ pub(crate) fn judge_input<R: Threads + Sync, S: Source, K: Sink, G: Gate + Sync>
     ensures read_stands { result ≢ Outcome.ReadFault
         → S.faults source.new ≡ S.faults source.old }
     ensures cut_short { result ≡ Outcome.WriteFault
-        → IsCutShort (format_of asked.command) asked.command
-        (seen (S.left source.old) (K.got sink.old) compares.old tests.old)
-        (seen (S.left source.new) (K.got sink.new) compares.new tests.new) }
+        → IsCutShort (format_of command) command
+        (seen (S.left source.old) (K.got sink.old) meters.old.compares meters.old.tests)
+        (seen (S.left source.new) (K.got sink.new) meters.new.compares meters.new.tests) }
     ensures unwritten { IsSilent result → sink.new ≡ sink.old }
     ensures complete { ¬ Rose (S.faults source.old) (S.faults source.new)
         → ¬ Rose (K.faults sink.old) (K.faults sink.new)
         → (bytes : List ℕ) → S.left source.old ≡ Some bytes
         → (result ≡ Outcome.NoMemory)
-        ⊎ ((due : List ℕ) × Answers (format_of asked.command) asked.command bytes result due) }
+        ⊎ ((due : List ℕ) × Answers (format_of command) command bytes result due) }
     ensures reads { S.faults source.old ≤ S.faults source.new }
     ensures faults { CountsWrites result (K.faults sink.old) (K.faults sink.new) }
-    ensures compares_rise { compares.old ≤ compares.new }
-    ensures tests_rise { tests.old ≤ tests.new }
+    ensures rise { Rise meters.old meters.new }
 {
-    match input_of(asked.command) {
-        Input::Text => judge_lines::<TextLines, R, S, K, G>(
-            rt, alloc, asked, source, sink, compares, tests, gate,
-        ),
-        Input::Json => judge_lines::<JsonLines, R, S, K, G>(
-            rt, alloc, asked, source, sink, compares, tests, gate,
-        ),
+    match input_of(command) {
+        Input::Text => judge_lines::<TextLines, R, S, K, G>(work, command, source, sink, meters),
+        Input::Json => judge_lines::<JsonLines, R, S, K, G>(work, command, source, sink, meters),
     }
 }
 
@@ -89,23 +80,19 @@ fn input_of(command: Command) -> Input
 
 /// Judges the trace that the source gives, in lines that are read so, and writes what is asked for.
 fn judge_lines<L: Lines, R: Threads + Sync, S: Source, K: Sink, G: Gate + Sync>(
-    rt: &R,
-    alloc: Global,
-    asked: Asked,
+    work: &Work<'_, R, G>,
+    command: Command,
     source: &mut S,
     sink: &mut K,
-    compares: &mut Meter,
-    tests: &mut Meter,
-    gate: &G,
+    meters: &mut Meters,
 ) -> Outcome
-    requires asked { IsAskable asked }
-    requires reads { (n : ℕ) → asked.command ≢ Command.Gen n }
-    requires compares { compares.old < 2 ^ 60 }
-    requires tests { tests.old < 2 ^ 60 }
+    requires asked { IsAskable work.now.shards command }
+    requires reads { (n : ℕ) → command ≢ Command.Gen n }
+    requires room { HaveRoom meters.old }
     ensures answered { IsAnswer result
-        → IsAnswered L.format asked.command
-        (seen (S.left source.old) (K.got sink.old) compares.old tests.old)
-        (seen (S.left source.new) (K.got sink.new) compares.new tests.new) result }
+        → IsAnswered L.format command
+        (seen (S.left source.old) (K.got sink.old) meters.old.compares meters.old.tests)
+        (seen (S.left source.new) (K.got sink.new) meters.new.compares meters.new.tests) result }
     ensures no_usage { result ≢ Outcome.Usage }
     ensures read_fault { result ≡ Outcome.ReadFault
         → Rose (S.faults source.old) (S.faults source.new) }
@@ -114,22 +101,20 @@ fn judge_lines<L: Lines, R: Threads + Sync, S: Source, K: Sink, G: Gate + Sync>(
     ensures read_stands { result ≢ Outcome.ReadFault
         → S.faults source.new ≡ S.faults source.old }
     ensures cut_short { result ≡ Outcome.WriteFault
-        → IsCutShort L.format asked.command
-        (seen (S.left source.old) (K.got sink.old) compares.old tests.old)
-        (seen (S.left source.new) (K.got sink.new) compares.new tests.new) }
+        → IsCutShort L.format command
+        (seen (S.left source.old) (K.got sink.old) meters.old.compares meters.old.tests)
+        (seen (S.left source.new) (K.got sink.new) meters.new.compares meters.new.tests) }
     ensures unwritten { IsSilent result → sink.new ≡ sink.old }
     ensures complete { ¬ Rose (S.faults source.old) (S.faults source.new)
         → ¬ Rose (K.faults sink.old) (K.faults sink.new)
         → (bytes : List ℕ) → S.left source.old ≡ Some bytes
         → (result ≡ Outcome.NoMemory)
-        ⊎ ((due : List ℕ) × Answers L.format asked.command bytes result due) }
+        ⊎ ((due : List ℕ) × Answers L.format command bytes result due) }
     ensures reads { S.faults source.old ≤ S.faults source.new }
     ensures faults { CountsWrites result (K.faults sink.old) (K.faults sink.new) }
-    ensures compares_rise { compares.old ≤ compares.new }
-    ensures tests_rise { tests.old ≤ tests.new }
+    ensures rise { Rise meters.old meters.new }
 {
-    let command = asked.command;
-    match accept_input::<L, R, S, G>(rt, alloc, asked, source, compares, tests, gate) {
+    match accept_input::<L, R, S, G>(work, command, source, meters) {
         Ok(judged) => answer::<L, K>(command, Ok(judged), sink),
         Err(InputFault::Refused { line, cause }) => {
             answer::<L, K>(command, Err(FeedFault::Refused { line, cause }), sink)
@@ -141,27 +126,22 @@ fn judge_lines<L: Lines, R: Threads + Sync, S: Source, K: Sink, G: Gate + Sync>(
 
 /// Judges the generated trace of so many rounds.
 pub(crate) fn judge_generated<R: Threads + Sync, K: Sink, G: Gate + Sync>(
-    rt: &R,
-    alloc: Global,
+    work: &Work<'_, R, G>,
     number: u32,
     sink: &mut K,
-    compares: &mut Meter,
-    tests: &mut Meter,
-    shards: u32,
-    gate: &G,
+    meters: &mut Meters,
 ) -> Outcome
-    requires split { (1 ≤ shards) × (shards ≤ most_shards) }
+    requires split { (1 ≤ work.now.shards) × (work.now.shards ≤ most_shards) }
     requires least { 1 ≤ number }
     requires most { number ≤ most_rounds }
-    requires compares { compares.old < 2 ^ 60 }
-    requires tests { tests.old < 2 ^ 60 }
+    requires room { HaveRoom meters.old }
     ensures answered { IsAnswer result
         → IsGiven text_lines (Command.Gen number) (text One (generated number)) result
         (K.got sink.old) (K.got sink.new) }
     ensures compared { Compares text_lines (Command.Gen number) (text One (generated number)) result
-        compares.old compares.new }
+        meters.old.compares meters.new.compares }
     ensures tested { Tests text_lines (Command.Gen number) (text One (generated number)) result
-        tests.old tests.new }
+        meters.old.tests meters.new.tests }
     ensures no_usage { result ≢ Outcome.Usage }
     ensures no_read_fault { result ≢ Outcome.ReadFault }
     ensures cut_short { result ≡ Outcome.WriteFault
@@ -169,11 +149,9 @@ pub(crate) fn judge_generated<R: Threads + Sync, K: Sink, G: Gate + Sync>(
         (K.got sink.old) (K.got sink.new) }
     ensures kept { result ≡ Outcome.NoMemory → sink.new ≡ sink.old }
     ensures faults { CountsWrites result (K.faults sink.old) (K.faults sink.new) }
-    ensures compares_rise { compares.old ≤ compares.new }
-    ensures tests_rise { tests.old ≤ tests.new }
+    ensures rise { Rise meters.old meters.new }
 {
     let command = Command::Gen { number };
-    let asked = Asked { command, shards };
-    let verdict = accept_generated(rt, alloc, asked, number, compares, tests, gate);
+    let verdict = accept_generated(work, command, number, meters);
     answer::<TextLines, K>(command, verdict, sink)
 }

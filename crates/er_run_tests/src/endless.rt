@@ -2,10 +2,9 @@
 
 ghost use Rattle.er_io.specs.Ends.{untold};
 
-use er_clocks::Meter;
 use er_io::{Failed, Source};
 use er_io_system::MemorySink;
-use er_run::run;
+use er_run::{Host, Meters, run};
 use er_shard::FreeGate;
 use std::alloc::Global;
 use std::thread::Threads;
@@ -90,18 +89,12 @@ fn status_between(
     source: &mut Endless,
     sink: &mut MemorySink,
 ) -> u8 {
-    let mut compares = Meter::new();
-    let mut tests = Meter::new();
-    let outcome = run(
+    let host = Host {
         rt,
         alloc,
-        &[],
-        source,
-        sink,
-        &mut compares,
-        &mut tests,
-        &FreeGate,
-    );
+        gate: &FreeGate,
+    };
+    let outcome = run(&host, &[], source, sink, &mut Meters::new());
     outcome.status()
 }
 

@@ -10,7 +10,7 @@ use er_clocks::{Clocks, Meter, Paths};
 use er_cover::{CoverFault, Groups};
 use er_graph::Graph;
 use er_races::list;
-use er_shard::{Gate, group_shards};
+use er_shard::{Gate, Work, group_shards};
 use er_syntax::parse::parse_record;
 use er_trace::fault::LineFault;
 use er_trace::record::Record;
@@ -99,7 +99,13 @@ impl Kept {
             return Err(CoverFault::NoMemory);
         }
         let mut tests = Meter::new();
-        match group_shards(rt, alloc, &races, &self.table, clocks, 2, gate, &mut tests) {
+        let work = Work {
+            rt,
+            alloc,
+            shards: 2,
+            gate,
+        };
+        match group_shards(&work, &races, &self.table, clocks, &mut tests) {
             Ok(groups) => names_of(alloc, &groups, races.len() as u32),
             Err(fault) => Err(fault),
         }

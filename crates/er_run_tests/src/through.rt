@@ -1,10 +1,9 @@
 //! One call of `run` over ends in memory, asked against the text that is due.
 
-use er_clocks::Meter;
 use er_io::NoMemory;
 use er_io_system::{MemorySink, MemorySource};
 use er_run::outcome::Outcome;
-use er_run::run;
+use er_run::{Host, Meters, run};
 use er_shard::{FreeGate, Gate};
 use std::alloc::{AllocError, Global};
 use std::thread::Threads;
@@ -143,35 +142,24 @@ pub(crate) fn through_gate<R: Threads + Sync, G: Gate + Sync>(
     let words = words_of(alloc, call.words)?;
     let mut source = source_of(alloc, call)?;
     let mut sink = sink_of(alloc, call)?;
-    Ok(between(rt, alloc, &words, &mut source, &mut sink, due, gate))
+    let host = Host { rt, alloc, gate };
+    Ok(between(&host, &words, &mut source, &mut sink, due))
 }
 
 /// The call itself.
 fn between<R: Threads + Sync, G: Gate + Sync>(
-    rt: &R,
-    alloc: Global,
+    host: &Host<'_, R, G>,
     words: &[String],
     source: &mut MemorySource,
     sink: &mut MemorySink,
     due: &str,
-    gate: &G,
 ) -> Done {
-    let mut compares = Meter::new();
-    let mut tests = Meter::new();
-    let outcome = run(
-        rt,
-        alloc,
-        words,
-        source,
-        sink,
-        &mut compares,
-        &mut tests,
-        gate,
-    );
+    let mut meters = Meters::new();
+    let outcome = run(host, words, source, sink, &mut meters);
     Done {
         outcome,
-        compares: compares.made(),
-        tests: tests.made(),
+        compares: meters.compares.made(),
+        tests: meters.tests.made(),
         written: written_of(sink.bytes(), due.as_bytes()),
         calls: (source.calls(), sink.calls()),
         faults: (source.fault_count(), sink.fault_count()),

@@ -11,7 +11,7 @@ use Rattle.er_races.specs.declared.race.Race.{Race}
 use Rattle.er_races.specs.Listing.{candidate, race, part}
 use Rattle.er_races.specs.Races.{most_races}
 
--- the number of the location leaves a rest that is not below `from`, and below `to`
+-- location k is that of the shard `k % shards`, which is not below `from`, and below `to`
 abbrev pub is_between : ℕ → ℕ → ℕ → ℕ → Bool
 is_between shards from to k = nat_le from (k % shards) && nat_lt (k % shards) to
 

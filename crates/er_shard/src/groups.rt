@@ -11,30 +11,26 @@ ghost use Rattle.er_cover.specs.Parts.{IsOver, once_of};
 ghost use Rattle.er_cover.specs.Passes.{IsKnown};
 ghost use Rattle.er_shard.specs.Named.{IsNamed};
 
-use crate::Gate;
 use crate::names::{Names, begin, together};
+use crate::{Gate, Work};
 use er_access::Table;
 use er_clocks::{Clocks, Meter};
 use er_cover::{Classes, CoverFault, Groups, gather, make_classes, name_part};
 use er_races::Race;
-use std::alloc::Global;
 use std::thread::{Threads, join};
 
-/// Groups the races of a table, as `group` of er_cover does, where so many shards name the covers.
+/// Groups the races of a table, as `group` of er_cover does, where the shards of the work name the covers.
 ///
 /// Each shard passes the gate before its first comparison.
 pub fn group_shards<R: Threads + Sync, G: Gate + Sync>(
-    rt: &R,
-    alloc: Global,
+    work: &Work<'_, R, G>,
     races: &[Race],
     table: &Table,
     clocks: &Clocks,
-    shards: u32,
-    gate: &G,
     tests: &mut Meter,
 ) -> Result<Groups, CoverFault>
-    requires some { 1 ≤ shards }
-    requires most { shards ≤ most_shards }
+    requires some { 1 ≤ work.now.shards }
+    requires most { work.now.shards ≤ most_shards }
     requires known { All (λ x. x.action < length clocks.now) table.now }
     requires races { races.now ≡ races_of (joins clocks.now) table.now }
     requires few { length races.now ≤ most_races }
@@ -47,15 +43,15 @@ pub fn group_shards<R: Threads + Sync, G: Gate + Sync>(
     ensures bound { tests.new ≤ tests.old + most_tests (joins clocks.now) table.now }
     ensures rises { tests.old ≤ tests.new }
 {
-    let classes = match make_classes(alloc, races, table, clocks, tests) {
+    let classes = match make_classes(work.alloc, races, table, clocks, tests) {
         Ok(classes) => classes,
         Err(fault) => return Err(fault),
     };
-    let all = name_between(rt, alloc, &classes, clocks, shards, 0, shards, gate);
+    let all = name_between(work, &classes, clocks, 0, work.shards);
     let Names { names, meter } = all;
     tests.absorb(meter);
     match names {
-        Ok(names) => match gather(alloc, classes, &names) {
+        Ok(names) => match gather(work.alloc, classes, &names) {
             Ok(groups) => Ok(groups),
             Err(_) => Err(CoverFault::NoMemory),
         },
@@ -66,27 +62,26 @@ pub fn group_shards<R: Threads + Sync, G: Gate + Sync>(
 #[cycle(names)]
 /// What the classes of the shards from `from` on and below `to` name: one alone, or two halves, each in a thread.
 fn name_between<R: Threads + Sync, G: Gate + Sync>(
-    rt: &R,
-    alloc: Global,
+    work: &Work<'_, R, G>,
     classes: &Classes,
     clocks: &Clocks,
-    shards: u32,
     from: u32,
     to: u32,
-    gate: &G,
 ) -> Names
     requires some { from < to }
-    requires within { to ≤ shards }
+    requires within { to ≤ work.now.shards }
     requires over { IsOver (joins clocks.now) classes.now }
     requires known { All (IsKnown (length clocks.now)) classes.now.by_race }
     requires few { length (once_of classes.now) ≤ most_classes }
     requires few_groups { length classes.now.groups ≤ most_classes }
-    ensures { IsNamed shards from to (joins clocks.now) classes.now result.names result.meter }
+    ensures { IsNamed work.now.shards from to (joins clocks.now) classes.now
+        result.names result.meter }
 {
     if to - from == 1 {
-        return name_one(alloc, classes, clocks, shards, from, gate);
+        return name_one(work, classes, clocks, from);
     }
     let middle = from + (to - from) / 2;
+    let (rt, alloc, shards, gate) = (work.rt, work.alloc, work.shards, work.gate);
     let (left, right) = join(
         rt,
         || -> Names
@@ -97,7 +92,15 @@ fn name_between<R: Threads + Sync, G: Gate + Sync>(
                 × (length classes.now.groups ≤ most_classes) }
             ensures { IsNamed shards from middle (joins clocks.entry.now) classes.entry.now
                 result.names result.meter }
-        { name_between(rt, alloc, classes, clocks, shards, from, middle, gate) },
+        {
+            let half = Work {
+                rt,
+                alloc,
+                shards,
+                gate,
+            };
+            name_between(&half, classes, clocks, from, middle)
+        },
         || -> Names
             requires { IsSync R.row × (middle < to) × (to ≤ shards)
                 × IsOver (joins clocks.now) classes.now
@@ -106,31 +109,37 @@ fn name_between<R: Threads + Sync, G: Gate + Sync>(
                 × (length classes.now.groups ≤ most_classes) }
             ensures { IsNamed shards middle to (joins clocks.entry.now) classes.entry.now
                 result.names result.meter }
-        { name_between(rt, alloc, classes, clocks, shards, middle, to, gate) },
+        {
+            let half = Work {
+                rt,
+                alloc,
+                shards,
+                gate,
+            };
+            name_between(&half, classes, clocks, middle, to)
+        },
     );
     together(left, right)
 }
 
 /// What the classes of one shard name, once it has passed the gate.
-fn name_one<G: Gate>(
-    alloc: Global,
+fn name_one<R, G: Gate>(
+    work: &Work<'_, R, G>,
     classes: &Classes,
     clocks: &Clocks,
-    shards: u32,
     shard: u32,
-    gate: &G,
 ) -> Names
-    requires within { shard < shards }
+    requires within { shard < work.now.shards }
     requires over { IsOver (joins clocks.now) classes.now }
     requires known { All (IsKnown (length clocks.now)) classes.now.by_race }
-    ensures { IsNamed shards shard (shard + 1) (joins clocks.now) classes.now
+    ensures { IsNamed work.now.shards shard (shard + 1) (joins clocks.now) classes.now
         result.names result.meter }
 {
-    gate.enter(shard);
+    work.gate.enter(shard);
     let count = classes.count();
-    let from = begin(count, shards, shard);
-    let to = begin(count, shards, shard + 1);
+    let from = begin(count, work.shards, shard);
+    let to = begin(count, work.shards, shard + 1);
     let mut meter = Meter::new();
-    let names = name_part(alloc, classes, clocks, from, to, &mut meter);
+    let names = name_part(work.alloc, classes, clocks, from, to, &mut meter);
     Names { names, meter }
 }

@@ -7,7 +7,9 @@ mod names;
 mod part;
 mod shards;
 pub mod sharing;
+mod work;
 
 pub use gate::{FreeGate, Gate};
 pub use groups::group_shards;
 pub use shards::list_shards;
+pub use work::Work;

@@ -7,29 +7,25 @@ ghost use Rattle.er_trace.specs.Limits.{most_shards};
 ghost use Rattle.er_races.specs.Races.{races_of, races_by, most_pairs, most_races, AreTooMany};
 ghost use Rattle.er_shard.specs.Parts.{IsPart};
 
-use crate::Gate;
 use crate::part::{Part, together};
+use crate::{Gate, Work};
 use er_access::Table;
 use er_clocks::{Meter, Paths};
 use er_races::{ListFault, Race, list_part};
-use std::alloc::Global;
 use std::thread::{Threads, join};
 
-/// Lists the races in the order of their accesses, as `list` of er_races does, by so many shards.
+/// Lists the races in the order of their accesses, as `list` of er_races does, by all shards of the work.
 ///
-/// Shard s works on the locations whose number leaves the rest s, in a thread where one can be made, and
+/// A shard works on the locations k with `k % shards == shard`, in a thread where one can be made, and
 /// passes the gate before its first comparison.
 pub fn list_shards<R: Threads + Sync, P: Paths + Sync, G: Gate + Sync>(
-    rt: &R,
-    alloc: Global,
+    work: &Work<'_, R, G>,
     table: &Table,
     paths: &P,
-    shards: u32,
-    gate: &G,
     meter: &mut Meter,
 ) -> Result<Vec<Race>, ListFault>
-    requires some { 1 ≤ shards }
-    requires most { shards ≤ most_shards }
+    requires some { 1 ≤ work.now.shards }
+    requires most { work.now.shards ≤ most_shards }
     requires few { length (candidates_of table.now) ≤ most_pairs }
     requires known { All (λ x. x.action < P.actions paths.now) table.now }
     requires room { meter.old < 2 ^ 61 }
@@ -40,7 +36,7 @@ pub fn list_shards<R: Threads + Sync, P: Paths + Sync, G: Gate + Sync>(
     ensures at_most { meter.new ≤ meter.old + length (candidates_of table.now) }
     ensures rises { meter.old ≤ meter.new }
 {
-    let all = list_between(rt, alloc, table, paths, shards, 0, shards, gate);
+    let all = list_between(work, table, paths, 0, work.shards);
     let Part { races, meter: made } = all;
     meter.absorb(made);
     match races {
@@ -55,25 +51,24 @@ pub fn list_shards<R: Threads + Sync, P: Paths + Sync, G: Gate + Sync>(
 #[cycle(halves)]
 /// What the shards from `from` on and below `to` find: one alone, or two halves, each in a thread.
 fn list_between<R: Threads + Sync, P: Paths + Sync, G: Gate + Sync>(
-    rt: &R,
-    alloc: Global,
+    work: &Work<'_, R, G>,
     table: &Table,
     paths: &P,
-    shards: u32,
     from: u32,
     to: u32,
-    gate: &G,
 ) -> Part
     requires some { from < to }
-    requires within { to ≤ shards }
+    requires within { to ≤ work.now.shards }
     requires few { length (candidates_of table.now) ≤ most_pairs }
     requires known { All (λ x. x.action < P.actions paths.now) table.now }
-    ensures { IsPart shards from to (P.joins paths.now) table.now result.races result.meter }
+    ensures { IsPart work.now.shards from to (P.joins paths.now) table.now
+        result.races result.meter }
 {
     if to - from == 1 {
-        return list_one(alloc, table, paths, shards, from, gate);
+        return list_one(work, table, paths, from);
     }
     let middle = from + (to - from) / 2;
+    let (rt, alloc, shards, gate) = (work.rt, work.alloc, work.shards, work.gate);
     let (left, right) = join(
         rt,
         || -> Part
@@ -82,35 +77,49 @@ fn list_between<R: Threads + Sync, P: Paths + Sync, G: Gate + Sync>(
                 × All (λ x. x.action < P.actions paths.now) table.now }
             ensures { IsPart shards from middle (P.joins paths.entry.now) table.entry.now
                 result.races result.meter }
-        { list_between(rt, alloc, table, paths, shards, from, middle, gate) },
+        {
+            let half = Work {
+                rt,
+                alloc,
+                shards,
+                gate,
+            };
+            list_between(&half, table, paths, from, middle)
+        },
         || -> Part
             requires { IsSync R.row × (middle < to) × (to ≤ shards)
                 × (length (candidates_of table.now) ≤ most_pairs)
                 × All (λ x. x.action < P.actions paths.now) table.now }
             ensures { IsPart shards middle to (P.joins paths.entry.now) table.entry.now
                 result.races result.meter }
-        { list_between(rt, alloc, table, paths, shards, middle, to, gate) },
+        {
+            let half = Work {
+                rt,
+                alloc,
+                shards,
+                gate,
+            };
+            list_between(&half, table, paths, middle, to)
+        },
     );
     together(left, right)
 }
 
 /// What one shard finds, once it has passed the gate.
-fn list_one<P: Paths, G: Gate>(
-    alloc: Global,
+fn list_one<R, P: Paths, G: Gate>(
+    work: &Work<'_, R, G>,
     table: &Table,
     paths: &P,
-    shards: u32,
     shard: u32,
-    gate: &G,
 ) -> Part
-    requires within { shard < shards }
+    requires within { shard < work.now.shards }
     requires few { length (candidates_of table.now) ≤ most_pairs }
     requires known { All (λ x. x.action < P.actions paths.now) table.now }
-    ensures { IsPart shards shard (shard + 1) (P.joins paths.now) table.now
+    ensures { IsPart work.now.shards shard (shard + 1) (P.joins paths.now) table.now
         result.races result.meter }
 {
-    gate.enter(shard);
+    work.gate.enter(shard);
     let mut meter = Meter::new();
-    let races = list_part(alloc, table, shards, shard, paths, &mut meter);
+    let races = list_part(work.alloc, table, work.shards, shard, paths, &mut meter);
     Part { races, meter }
 }

@@ -4,14 +4,14 @@ use Rattle.er_cli.proofs.judge.Goals as goal
 pub returns : goal.returns
 returns g c = record {
   outcome = c.run-outcome.result;
-  compared = c.run-outcome.new.compares;
-  tested = c.run-outcome.new.tests;
+  compared = c.run-outcome.new.meters.compares;
+  tested = c.run-outcome.new.meters.tests;
   status_is = c.finish.ensures.status;
   line_is = c.finish.ensures.line;
   usage = c.run-outcome.ensures.usage;
   refused = c.run-outcome.ensures.refused;
-  answered = λ asked asks is. rw (c.new-compares.ensures, c.new-tests.ensures) at (c.run-outcome.ensures.answered asked asks is);
-  cut_short = λ asked asks is. rw (c.new-compares.ensures, c.new-tests.ensures) at (c.run-outcome.ensures.cut_short asked asks is);
+  answered = λ asked asks is. rw (c.new-meters.ensures.compares, c.new-meters.ensures.tests) at (c.run-outcome.ensures.answered asked asks is);
+  cut_short = λ asked asks is. rw (c.new-meters.ensures.compares, c.new-meters.ensures.tests) at (c.run-outcome.ensures.cut_short asked asks is);
   read_once = c.run-outcome.ensures.once;
   read_stands = c.run-outcome.ensures.read_stands;
   writes = record {

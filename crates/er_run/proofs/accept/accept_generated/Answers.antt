@@ -21,12 +21,12 @@ pub returns-in-Ok-clause-verdict : goal.returns-in-Ok-clause-verdict
 returns-in-Ok-clause-verdict g c =
     let stands : IsSessionOf c.in-Ok.session (reverse (generated c.args.number)) = rw c.new-generator.ensures at c.in-Ok.ensures.stands in
     let read : IsReading text_lines c.in-Ok.session.graph.version (text One (generated c.args.number)) (generated c.args.number) None = rw c.in-Ok.ensures.version (generated_read c.args.number c.requires.most) in
-    verdict_by text_lines c.args.asked.command (text One (generated c.args.number)) (generated c.args.number) c.in-Ok.session c.judge_end.result stands read c.judge_end.ensures.version c.judge_end.ensures.accepted c.judge_end.ensures.refused
+    verdict_by text_lines c.args.command (text One (generated c.args.number)) (generated c.args.number) c.in-Ok.session c.judge_end.result stands read c.judge_end.ensures.version c.judge_end.ensures.accepted c.judge_end.ensures.refused
 
 pub returns-in-Err-clause-verdict : goal.returns-in-Err-clause-verdict
 returns-in-Err-clause-verdict g c =
     let judged = rw c.new-generator.ensures at c.in-Err.ensures.refused in
-    refusal_judged text_lines c.args.asked.command One (text One (generated c.args.number)) (generated c.args.number) None c.in-Err.fault (generated_read c.args.number c.requires.most) judged
+    refusal_judged text_lines c.args.command One (text One (generated c.args.number)) (generated c.args.number) None c.in-Err.fault (generated_read c.args.number c.requires.most) judged
 
 pub judge_end-requires-clause-some : goal.judge_end-requires-clause-some
 judge_end-requires-clause-some g c κs within =

@@ -29,8 +29,8 @@ pub returns-in-Some-clause-refused : goal.returns-in-Some-clause-refused
 returns-in-Some-clause-refused g c = λ n cause is.
     let r = rw c.in-Some.is at c.in-Ok.ensures.read in
     let same : c.first_refusal.result ≡ Refused n cause = cc in
-    refused_input g.L.Lines.format g.met.L.Lines.is_format c.args.asked.command (g.S.Source.left c.args.source.now) (g.S.Source.left c.read.new.source) c.in-Ok.session c.in-Some.refusal n cause r
+    refused_input g.L.Lines.format g.met.L.Lines.is_format c.args.command (g.S.Source.left c.args.source.now) (g.S.Source.left c.read.new.source) c.in-Ok.session c.in-Some.refusal n cause r
     (c.first_refusal.ensures.refused n cause same (r.bytes ++ r.ends.chunk) r.ends.records r.ends.stands r.ends.reading)
 
 pub returns-in-Err-clause-refused : goal.returns-in-Err-clause-refused
-returns-in-Err-clause-refused g c = λ n cause is. refused_record g.L.Lines.format c.args.asked.command (g.S.Source.left c.args.source.now) (g.S.Source.left c.read.new.source) n cause (c.in-Err.ensures.refused n cause (cc))
+returns-in-Err-clause-refused g c = λ n cause is. refused_record g.L.Lines.format c.args.command (g.S.Source.left c.args.source.now) (g.S.Source.left c.read.new.source) n cause (c.in-Err.ensures.refused n cause (cc))

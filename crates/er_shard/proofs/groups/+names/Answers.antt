@@ -6,7 +6,7 @@ use Rattle.er_shard.proofs.groups.+names.Goals as goal
 
 pub returns : goal.returns
 returns g t c =
-    let shards = c.args.shards in
+    let shards = c.args.work.now.shards in
     let from = c.args.from in
     let to = c.args.to in
     let middle = from + (to - from) / 2 in
@@ -17,7 +17,7 @@ returns g t c =
 
 pub together-requires : goal.together-requires
 together-requires g t c =
-    let shards = c.args.shards in
+    let shards = c.args.work.now.shards in
     let from = c.args.from in
     let to = c.args.to in
     let middle = from + (to - from) / 2 in

@@ -4,7 +4,7 @@ use Rattle.er_shard.proofs.shards.+halves.Goals as goal
 
 pub together-requires : goal.together-requires
 together-requires g t c =
-    let shards = c.args.shards in
+    let shards = c.args.work.now.shards in
     let from = c.args.from in
     let to = c.args.to in
     let middle = from + (to - from) / 2 in
@@ -17,4 +17,4 @@ pub returns : goal.returns
 returns g t c =
     let from = c.args.from in
     let to = c.args.to in
-    c.together.ensures c.args.shards from (from + (to - from) / 2) to (g.P.Paths.joins c.args.paths.now) c.args.table.now (omega arith) (omega (arith, c.requires.some)) c.join-left.ensures.first c.join-left.ensures.second
+    c.together.ensures c.args.work.now.shards from (from + (to - from) / 2) to (g.P.Paths.joins c.args.paths.now) c.args.table.now (omega arith) (omega (arith, c.requires.some)) c.join-left.ensures.first c.join-left.ensures.second
