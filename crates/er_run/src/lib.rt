@@ -104,13 +104,18 @@ pub fn run<R: Threads + Sync, S: Source, K: Sink, G: Gate + Sync>(
     ensures rise { Rise meters.old meters.new }
 {
     match read_words(host.alloc, words) {
-        Ok(asked) => {
-            let work = host.in_shards(asked.shards);
-            match asked.command {
-                Command::Gen { number } => judge_generated(&work, number, sink, meters),
-                _ => judge_input(&work, asked.command, source, sink, meters),
+        Ok(asked) => match asked.command {
+            Command::Gen { number } => {
+                judge_generated(&host.in_shards(asked.shards), number, sink, meters)
             }
-        }
+            _ => judge_input(
+                &host.in_shards(asked.shards),
+                asked.command,
+                source,
+                sink,
+                meters,
+            ),
+        },
         Err(WordsFault::Usage) => Outcome::Usage,
         Err(WordsFault::NoMemory) => Outcome::NoMemory,
     }

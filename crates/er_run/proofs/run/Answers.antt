@@ -11,7 +11,7 @@ use Rattle.er_run.proofs.run.Goals as goal
 -- a trace that is read
 
 pub judge_input-requires-clause-asked : goal.judge_input-requires-clause-asked
-judge_input-requires-clause-asked g c κs within = rw c.in_shards-work.ensures (askable _ c.in-Ok.asked c.in-Ok.ensures.asked)
+judge_input-requires-clause-asked g c κs within = rw c.in_shards-in_default.ensures (askable _ c.in-Ok.asked c.in-Ok.ensures.asked)
 
 pub judge_input-requires-clause-reads : goal.judge_input-requires-clause-reads
 judge_input-requires-clause-reads g c κs within = c.in_default.not-Gen
@@ -42,7 +42,7 @@ returns-in_default-clause-complete g c = λ asked asks no_read no_write bytes he
 -- a generated trace
 
 pub judge_generated-requires-clause-split : goal.judge_generated-requires-clause-split
-judge_generated-requires-clause-split g c κs within = rw c.in_shards-work.ensures (split_within _ c.in-Ok.asked c.in-Ok.ensures.asked)
+judge_generated-requires-clause-split g c κs within = rw c.in_shards.ensures (split_within _ c.in-Ok.asked c.in-Ok.ensures.asked)
 
 pub judge_generated-requires-clause-least : goal.judge_generated-requires-clause-least
 judge_generated-requires-clause-least g c κs within = (asked_within _ _ c.in-Gen.number c.in-Gen.is c.in-Ok.ensures.asked).0
