@@ -5,7 +5,7 @@ use Rattle.er_run.proofs.input.read.Goals as goal
 
 pub loop-turn-init : goal.loop-turn-init
 loop-turn-init g c = record {
-  here = record { bytes = []; records = []; at = record { fed = c.new-feed.ensures.stands; stands = c.in-Ok.ensures.stands; by = λ v begins. absurd (none_begins g.L.Lines.format v begins) } };
+  here = record { bytes = []; records = []; at = record { fed = c.new-feed.ensures.stands; taken = refl; by = (λ v e. absurd (cc), λ e v begins. none_begins g.L.Lines.format v begins) } };
   ahead = none_open g.L.Lines.format [];
   gave = gives_nothing (g.S.Source.left c.args.source.now);
   going = c.new-feed.ensures.going;
