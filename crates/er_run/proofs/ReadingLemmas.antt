@@ -239,7 +239,7 @@ may_take f good mark new_mark kept new_kept fault new_fault session given bytes 
   taken = at.taken;
   goes_on = goes_on f good mark kept fault session given bytes chunk records at is;
   few = room_by f new_mark new_kept new_fault (bytes ++ chunk) records fresh fed;
-  given = came_given f good given new_mark new_kept new_fault (bytes ++ chunk) records fresh fed is;
+  of_version = came_given f good given new_mark new_kept new_fault (bytes ++ chunk) records fresh fed is;
 }
 
 final_record : (f : Format) (v : Version) (mark : Mark) (kept : List ℕ) (fault : Option FeedFault) (bytes : List ℕ) (records : List Record) (why : FeedFault) → HasNoOtherVersion f v bytes → Stands f mark kept fault bytes records → IsFaultOf v records why → IsFinalFault f bytes why

@@ -1,5 +1,5 @@
 -- How a session comes to stand for one record more.
-use Rattle.std.proofs.Common.{◌≡◌, ℕ, ◌+◌, ◌<◌, ◌≤◌, Bool, true, false, List, [], ◌∷◌, ◌++◌, append-nil, reverse, length, get_or, Option, Some, None, refl, sym, ap, subst, ◌∙◌, arith}
+use Rattle.std.proofs.Common.{◌≡◌, ℕ, ◌+◌, ◌<◌, ◌≤◌, Bool, true, false, List, [], ◌∷◌, ◌++◌, append-nil, reverse, length, get_or, Option, Some, None, is_some, refl, sym, ap, subst, ◌∙◌, arith}
 use Rattle.std.specs.Prelude.{◌≢◌, nat_lt, if◌then◌else◌}
 use Rattle.std.specs.List.{list_all}
 use Rattle.std.proofs.lemmas.Bool.Decides.{nat_tests}
@@ -26,7 +26,7 @@ use Rattle.er_access.specs.Kept.{Kept, most_accesses}
 use Rattle.er_run.specs.declared.session.Session.{Session}
 use Rattle.er_run.specs.Legal as legality
 use Rattle.er_run.specs.Races.{kept, access_in, without_repeats}
-use Rattle.er_run.specs.Session.{with_lines, IsSessionOf, HasTaken, GoesOnIn, AreGiven, version_of, IsFaultAfter, IsFaultOf, IsFaultIn, AreEarlier, AreKept, IsPastRoom, kept_with, is_access}
+use Rattle.er_run.specs.Session.{with_lines, IsSessionOf, HasTaken, AreGiven, version_of, IsFaultAfter, IsFaultOf, IsFaultIn, AreEarlier, AreKept, IsPastRoom, kept_with, is_access}
 use Rattle.er_run.proofs.AccessLemmas.{same_kept, kept_begun, kept_lines, kept_grow}
 
 -- records keep what they are when they have their lines
@@ -137,14 +137,9 @@ same_rules : (v w : Version) (h : List Record) → w ≡ v → legality.IsLegal 
 same_rules v w h same legal = subst (λ u. legality.IsLegal (rules u) h) (sym same) legal
 
 -- one is made before the first record
-pub made_first : (session : Option Session) (made : Session) (h : List Record) → session ≡ None → IsSessionOf made [] → HasTaken session h → IsSessionOf made h
+pub made_first : (session : Option Session) (made : Session) (h : List Record) → is_some session ≡ false → IsSessionOf made [] → HasTaken session h → IsSessionOf made h
 made_first None made h none stands taken = subst (IsSessionOf made) (sym taken) stands
 made_first (Some session) made h none stands taken = absurd (cc)
-
--- where it was made already, the version that was given is its own
-pub version_given : (session : Option Session) (given : Option Version) → session ≢ None → GoesOnIn session given → version_of session ≡ given
-version_given None given some goes_on = absurd (some refl)
-version_given (Some session) given some goes_on = sym (goes_on session.graph.version refl)
 
 -- the one that was made, and the version that was given
 

@@ -71,7 +71,7 @@ pub record MayTake (session : Option Session) (given : Option Version)
   pub taken : HasTaken session list
   pub goes_on : GoesOnIn session given
   pub few : length list + length records ≤ most_lines
-  pub given : AreGiven given records
+  pub of_version : AreGiven given records
 
 -- A record after the list is refused for the first cause against it, with its line; or memory ran out.
 abbrev pub IsFaultAfter : Version → List Record → Record → FeedFault → Type 0

@@ -1,6 +1,6 @@
 //! Reads a trace chunk by chunk, and judges each record as its line ends.
 
-ghost use Rattle.std.specs.Prelude.{◌≡◌, ◌≢◌, true, ℕ, ◌+◌, ◌<◌, ◌≤◌, List, [], ◌++◌, length, reverse, Option, Ok, Err, Some, None, IfOk, OnOk, IfErr, IsErrOf};
+ghost use Rattle.std.specs.Prelude.{◌≡◌, ℕ, ◌+◌, ◌<◌, List, ◌++◌, reverse, Option, Ok, Err, Some, None, IfOk, OnOk, IfErr};
 ghost use Rattle.er_lines.specs.Lines.{IsTraceOf};
 ghost use Rattle.er_lines.specs.Feed.{Stands};
 ghost use Rattle.er_trace.specs.declared.version.Version.{Version};
@@ -8,7 +8,7 @@ ghost use Rattle.er_run.specs.Session.{HasTaken, MayTake, IsFaultIn, version_of}
 ghost use Rattle.er_run.specs.Reading.{IsAt, HasNoOtherVersion, IsSomewhere, IsOpen, IsRead, IsReadTo, IsReading, GoesOn, Advances, Ends, IsRefusedBehind, IsFinalFault, CountsReads, fault_of};
 
 use crate::session::{Session, begin, or_empty};
-use er_io::{NoMemory, Source};
+use er_io::Source;
 use er_lines::feed::LineFeed;
 use er_lines::format::Lines;
 use er_text::Cause;
@@ -65,10 +65,10 @@ pub(crate) fn read<L: Lines, S: Source>(
         match read_chunk(alloc, source, &mut feed, &mut session, &mut came) {
             Ok(Step::GoesOn) => {}
             Ok(Step::Ended(refused)) => {
-                return match or_empty(alloc, session) {
-                    Ok(made) => Ok((made, refused)),
-                    Err(NoMemory) => Err(InputFault::NoMemory),
+                let Ok(made) = or_empty(alloc, session) else {
+                    return Err(InputFault::NoMemory);
                 };
+                return Ok((made, refused));
             }
             Err(fault) => return Err(fault),
         }
