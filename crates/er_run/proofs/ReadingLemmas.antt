@@ -8,6 +8,7 @@ use Rattle.er_text.specs.declared.causes.Cause.{Cause}
 use Rattle.er_text.specs.declared.causes.Cause.TheVariants.{NoEnd, AfterEnd, Unknown, Again, NotScript, Misplaced, OutOfOrder, TooManyActions, TooDeep, TooManyAccesses, TooManyPairs, TooManyRaces, TooManyClasses, NoRace, NoAction}
 use Rattle.er_trace.specs.declared.record.Record.{Record}
 use Rattle.er_trace.specs.declared.version.Version.{Version}
+use Rattle.er_trace.specs.declared.version.Version.TheVariants.{One}
 use Rattle.er_trace.specs.declared.fault.FeedFault.{FeedFault}
 use Rattle.er_trace.specs.declared.fault.FeedFault.TheVariants as faults
 use Rattle.er_trace.specs.Trace.{line, most_lines}
@@ -37,10 +38,11 @@ use Rattle.er_run.specs.declared.findings.Judged.{Judged}
 use Rattle.er_run.specs.Accepted.{IsAccepted, IsEndFault, IsJudged, IsReportable, IsVerdict}
 use Rattle.er_run.specs.declared.outcome.Outcome.TheVariants as outcomes
 use Rattle.er_run.specs.Promise.{chunk_bytes, IsFinal, IsJustRefused, IsDecided}
-use Rattle.er_run.specs.Session.{IsSessionOf, IsFaultOf, IsBegun, begun}
+use Rattle.er_run.specs.Session.{IsSessionOf, HasTaken, MayTake, GoesOnIn, AreGiven, IsFaultOf, IsFaultIn, version_of, version_or_first}
 use Rattle.er_io.specs.Ends.{Gives, IsSpent}
 use Rattle.er_io.proofs.Puts.{gives_again, gives_nothing_back}
-use Rattle.er_run.specs.Reading.{IsAt, HasNoOtherVersion, IsOpen, IsRead, IsReadTo, IsAcceptedInput, IsRefusedInput, IsReading, IsEnd, GoesOn, Ends, IsRefusedBehind, IsFinalFault, CountsReads, fault_of}
+use Rattle.er_run.specs.Reading.{IsAt, IsGiven, HasNoOtherVersion, IsOpen, IsRead, IsReadTo, IsAcceptedInput, IsRefusedInput, IsReading, IsEnd, GoesOn, Ends, IsRefusedBehind, IsFinalFault, CountsReads, fault_of}
+use Rattle.er_run.proofs.VersionLemmas.{came_of_version}
 use Rattle.er_run.proofs.AcceptLemmas.{few_before, few_read, illegal_before, legal_read, refused_line, refused_end, refused_fault, IsOf, place_of}
 
 -- a record is refused for no missing end
@@ -177,9 +179,6 @@ whole_reading f v bytes records trace by =
 
 -- the version that the first line gives, once it was read
 
-abbrev pub IsGiven : Format → Option Version → List ℕ → Type 0
-IsGiven f given bytes = ((v : Version) → given ≡ Some v → BeginsWith f v bytes) × (given ≡ None → (v : Version) → BeginsWith f v bytes → ⊥)
-
 begins_more : (f : Format) (v : Version) (bytes chunk : List ℕ) → BeginsWith f v bytes → BeginsWith f v (bytes ++ chunk)
 begins_more f v bytes chunk begins = record {
   first = begins.first;
@@ -189,46 +188,69 @@ begins_more f v bytes chunk begins = record {
   begins = ap (λ bs. bs ++ chunk) begins.begins ∙ append_assoc (line begins.first) begins.rest chunk;
 }
 
--- the session is then of that version
-pub by_given : (f : Format) → IsFormat f → (v : Version) (given : Option Version) (bytes chunk : List ℕ) → IsGiven f given (bytes ++ chunk) → HasNoOtherVersion f (begun v given) (bytes ++ chunk)
-by_given f good v None bytes chunk is = λ w begins. absurd (is.1 refl w begins)
-by_given f good v (Some u) bytes chunk is = λ w begins. one_beginning f good (bytes ++ chunk) u w (is.0 u refl) begins
+-- it gives no other version
+no_other : (f : Format) → IsFormat f → (v : Version) (bytes : List ℕ) → BeginsWith f v bytes → HasNoOtherVersion f v bytes
+no_other f good v bytes begins = λ w there. one_beginning f good bytes v w begins there
 
-given_is : (f : Format) → IsFormat f → (u w : Version) (given : Option Version) (bytes chunk : List ℕ) → IsGiven f given (bytes ++ chunk) → BeginsWith f w bytes → u ≡ w → begun u given ≡ u
-given_is f good u w None bytes chunk is begins same = refl
-given_is f good u w (Some x) bytes chunk is begins same = one_beginning f good (bytes ++ chunk) x w (is.0 x refl) (begins_more f w bytes chunk begins) ∙ sym same
+-- nor one than that of the session
+pub by_session : (f : Format) → IsFormat f → (session : Option Session) (bytes : List ℕ) → IsGiven f (version_of session) bytes → HasNoOtherVersion f (version_or_first session) bytes
+by_session f good None bytes is = λ w begins. absurd (is.1 refl w begins)
+by_session f good (Some session) bytes is = no_other f good session.graph.version bytes (is.0 session.graph.version refl)
 
-begun_at : (f : Format) → IsFormat f → (u : Version) (given : Option Version) (place : Place) (bytes chunk before rest : List ℕ) (records : List Record) → AreBefore f place before → bytes ≡ before ++ rest → records ≡ records_before place → HasNoOtherVersion f u bytes → IsGiven f given (bytes ++ chunk)
-    → IsBegun u given (reverse records)
-begun_at f good u given Start bytes chunk before rest records are begins listed by is = inr (ap reverse listed)
-begun_at f good u given (After w earlier) bytes chunk before rest records are begins listed by is =
-    let there : BeginsWith f w bytes = header_of f w bytes before rest earlier begins are in
-    inl (given_is f good u w given bytes chunk is there (by w there))
-begun_at f good u given (Ended w earlier) bytes chunk before rest records are begins listed by is =
-    let there : BeginsWith f w bytes = header_of_whole f w bytes before rest earlier begins are in
-    inl (given_is f good u w given bytes chunk is there (by w there))
+given_again : (f : Format) → IsFormat f → (v : Version) (given : Option Version) (bytes : List ℕ) → IsGiven f given bytes → BeginsWith f v bytes → given ≡ Some v
+given_again f good v None bytes is begins = absurd (is.1 refl v begins)
+given_again f good v (Some u) bytes is begins = ap Some (one_beginning f good bytes u v (is.0 u refl) begins)
 
--- no record came in another version
-pub begun_by : (f : Format) → IsFormat f → (mark : Mark) (kept : List ℕ) (fault : Option FeedFault) (session : Session) (given : Option Version) (bytes chunk : List ℕ) (records : List Record) → IsAt f mark kept fault session bytes records → IsGiven f given (bytes ++ chunk) → IsBegun session.graph.version given (reverse records)
-begun_by f good mark kept fault session given bytes chunk records at is =
-    begun_at f good session.graph.version given at.fed.place bytes chunk at.fed.before at.fed.rest records at.fed.are at.fed.begins at.fed.records_are at.by is
+-- the session goes on in the version that it has
+pub goes_on : (f : Format) → IsFormat f → (mark : Mark) (kept : List ℕ) (fault : Option FeedFault) (session : Option Session) (given : Option Version) (bytes chunk : List ℕ) (records : List Record) → IsAt f mark kept fault session bytes records → IsGiven f given (bytes ++ chunk) → GoesOnIn session given
+goes_on f good mark kept fault session given bytes chunk records at is = λ v made. given_again f good v given (bytes ++ chunk) is (begins_more f v bytes chunk (at.by.0 v made))
 
-pub on_by : (f : Format) (mark : Mark) (kept : List ℕ) (fault : Option FeedFault) (session : Session) (v : Version) (bytes : List ℕ) (records fresh : List Record) → IsFed f mark kept fault bytes records [] fresh → session.graph.version ≡ v → HasNoOtherVersion f v bytes → IsSessionOf session (reverse (records ++ fresh)) → GoesOn f mark kept fault session bytes records
-on_by f mark kept fault session v bytes records fresh fed is by stands =
-    (fed.0, record { fed = fed.1; stands = subst (λ l. IsSessionOf session (reverse (records ++ l))) fed.2 stands; by = subst (λ u. HasNoOtherVersion f u bytes) (sym is) by })
+-- before the first line no record came
 
-pub room_by : (f : Format) (mark : Mark) (kept : List ℕ) (fault : Option FeedFault) (bytes : List ℕ) (records fresh : List Record) (count : ℕ) → IsFed f mark kept fault bytes records [] fresh → count ≡ length (reverse records) → count + length fresh ≤ most_lines
-room_by f mark kept fault bytes records fresh count fed is =
+none_before : (f : Format) (place : Place) (bytes before rest : List ℕ) (records : List Record) → AreBefore f place before → bytes ≡ before ++ rest → records ≡ records_before place → ((v : Version) → BeginsWith f v bytes → ⊥) → records ≡ []
+none_before f Start bytes before rest records are begins listed none = listed
+none_before f (After w earlier) bytes before rest records are begins listed none = absurd (none w (header_of f w bytes before rest earlier begins are))
+none_before f (Ended w earlier) bytes before rest records are begins listed none = absurd (none w (header_of_whole f w bytes before rest earlier begins are))
+
+none_later : (earlier more : List Record) → earlier ++ more ≡ [] → more ≡ []
+none_later [] more is = is
+none_later (x ∷ earlier) more is = absurd (cc)
+
+-- what came with a chunk is of the version that was given
+pub came_given : (f : Format) → IsFormat f → (given : Option Version) (mark : Mark) (kept : List ℕ) (fault : Option FeedFault) (bytes : List ℕ) (earlier came : List Record) → IsFed f mark kept fault bytes earlier [] came → IsGiven f given bytes → AreGiven given came
+came_given f good None mark kept fault bytes earlier came fed is =
+    fed.2 ∙ none_later earlier fed.0 (none_before f fed.1.place bytes fed.1.before fed.1.rest (earlier ++ fed.0) fed.1.are fed.1.begins fed.1.records_are (is.1 refl))
+came_given f good (Some v) mark kept fault bytes earlier came fed is = came_of_version f good v mark kept fault bytes earlier came fed (no_other f good v bytes (is.0 v refl))
+
+pub on_by : (f : Format) (mark : Mark) (kept : List ℕ) (fault : Option FeedFault) (session : Option Session) (given : Option Version) (bytes : List ℕ) (records fresh : List Record) → IsFed f mark kept fault bytes records [] fresh → version_of session ≡ given → IsGiven f given bytes → HasTaken session (reverse (records ++ fresh)) → GoesOn f mark kept fault session bytes records
+on_by f mark kept fault session given bytes records fresh fed is by taken =
+    (fed.0, record { fed = fed.1; taken = subst (λ l. HasTaken session (reverse (records ++ l))) fed.2 taken; by = subst (λ u. IsGiven f u bytes) (sym is) by })
+
+room_by : (f : Format) (mark : Mark) (kept : List ℕ) (fault : Option FeedFault) (bytes : List ℕ) (records fresh : List Record) → IsFed f mark kept fault bytes records [] fresh → length (reverse records) + length fresh ≤ most_lines
+room_by f mark kept fault bytes records fresh fed =
     let few = few_fed f mark kept fault bytes (records ++ fed.0) fed.1 in
-    omega (arith, few, is, ap length fed.2, length-append records fed.0, length-reverse records)
+    omega (arith, few, ap length fed.2, length-append records fed.0, length-reverse records)
+
+-- so the session may take it
+pub may_take : (f : Format) → IsFormat f → (mark new_mark : Mark) (kept new_kept : List ℕ) (fault new_fault : Option FeedFault) (session : Option Session) (given : Option Version) (bytes chunk : List ℕ) (records fresh : List Record) → IsAt f mark kept fault session bytes records
+    → IsFed f new_mark new_kept new_fault (bytes ++ chunk) records [] fresh → IsGiven f given (bytes ++ chunk) → MayTake session given fresh
+may_take f good mark new_mark kept new_kept fault new_fault session given bytes chunk records fresh at fed is = record {
+  list = reverse records;
+  taken = at.taken;
+  goes_on = goes_on f good mark kept fault session given bytes chunk records at is;
+  few = room_by f new_mark new_kept new_fault (bytes ++ chunk) records fresh fed;
+  of_version = came_given f good given new_mark new_kept new_fault (bytes ++ chunk) records fresh fed is;
+}
 
 final_record : (f : Format) (v : Version) (mark : Mark) (kept : List ℕ) (fault : Option FeedFault) (bytes : List ℕ) (records : List Record) (why : FeedFault) → HasNoOtherVersion f v bytes → Stands f mark kept fault bytes records → IsFaultOf v records why → IsFinalFault f bytes why
 final_record f v mark kept fault bytes records (faults.Refused n c) by stands (at, is, legal, (x, there, why)) =
     (λ asked. subst (λ k. FirstIllegal f asked bytes k c) (sym is) (illegal_before f asked v bytes stands.place stands.before stands.rest records (place_of f v bytes stands.place stands.before stands.rest stands.are stands.begins by) stands.are stands.few stands.begins stands.records_are at x c there legal why), record_cause v (reverse (take at records)) x c why)
 final_record f v mark kept fault bytes records faults.NoMemory by stands why = tt
 
-pub final_by : (f : Format) (v : Version) (mark : Mark) (kept : List ℕ) (fault : Option FeedFault) (bytes : List ℕ) (records fresh : List Record) (why : FeedFault) → IsFed f mark kept fault bytes records [] fresh → HasNoOtherVersion f v bytes → IsFaultOf v (records ++ fresh) why → IsFinalFault f bytes why
-final_by f v mark kept fault bytes records fresh why fed by refused = final_record f v mark kept fault bytes (records ++ fed.0) why by fed.1 (subst (λ l. IsFaultOf v (records ++ l) why) fed.2 refused)
+pub final_by : (f : Format) → IsFormat f → (given : Option Version) (mark : Mark) (kept : List ℕ) (fault : Option FeedFault) (bytes : List ℕ) (records fresh : List Record) (why : FeedFault) → IsFed f mark kept fault bytes records [] fresh → IsGiven f given bytes → IsFaultIn given (records ++ fresh) why → IsFinalFault f bytes why
+final_by f good None mark kept fault bytes records fresh why fed is refused = subst (IsFinalFault f bytes) (sym refused) tt
+final_by f good (Some v) mark kept fault bytes records fresh why fed is refused =
+    final_record f v mark kept fault bytes (records ++ fed.0) why (no_other f good v bytes (is.0 v refl)) fed.1 (subst (λ l. IsFaultOf v (records ++ l) why) fed.2 refused)
 
 -- what came of a chunk
 
@@ -240,31 +262,44 @@ pub few_taken : (n : ℕ) (buffer : List ℕ) → n ≤ length buffer → length
 few_taken n buffer within few = omega (arith, within, few, length-take-le n buffer within)
 
 -- none came: the source is at its end
-pub ends_spent : (f : Format) (left_old left_new : Option (List ℕ)) (mark : Mark) (kept : List ℕ) (fault : Option FeedFault) (session : Session) (bytes buffer : List ℕ) (n : ℕ) (records : List Record) (refused : Option LineRefusal) → Gives left_old (take n buffer) left_new → n ≡ 0 → IsSpent left_new
-    → IsAt f mark kept fault session bytes records → IsReading f session.graph.version bytes records refused → Ends f left_old left_new session refused bytes
+pub ends_spent : (f : Format) (left_old left_new : Option (List ℕ)) (mark : Mark) (kept : List ℕ) (fault : Option FeedFault) (session : Option Session) (bytes buffer : List ℕ) (n : ℕ) (records : List Record) (refused : Option LineRefusal) → Gives left_old (take n buffer) left_new → n ≡ 0 → IsSpent left_new
+    → IsAt f mark kept fault session bytes records → IsReading f (version_or_first session) bytes records refused → Ends f left_old left_new session refused bytes
 ends_spent f left_old left_new mark kept fault session bytes buffer zero records refused gave none spent at reading = record {
   chunk = [];
   records = records;
   gave = gave;
   few = omega arith;
-  stands = at.stands;
-  reading = subst (λ bs. IsReading f session.graph.version bs records refused) (sym (append-nil bytes)) reading;
+  stands = at.taken;
+  reading = subst (λ bs. IsReading f (version_or_first session) bs records refused) (sym (append-nil bytes)) reading;
   end = spent_end left_new refused spent;
 }
 ends_spent f left_old left_new mark kept fault session bytes buffer (suc n) records refused gave none spent at reading = absurd (cc)
 
 -- a line of it is refused
-pub ends_refused : (f : Format) (left_old left_new : Option (List ℕ)) (mark : Mark) (kept : List ℕ) (fault : Option FeedFault) (session : Session) (bytes chunk : List ℕ) (records : List Record) (r : LineRefusal) → Gives left_old chunk left_new → length chunk ≤ chunk_bytes
+pub ends_refused : (f : Format) → IsFormat f → (left_old left_new : Option (List ℕ)) (mark : Mark) (kept : List ℕ) (fault : Option FeedFault) (session : Option Session) (bytes chunk : List ℕ) (records : List Record) (r : LineRefusal) → Gives left_old chunk left_new → length chunk ≤ chunk_bytes
     → GoesOn f mark kept fault session (bytes ++ chunk) records → fault ≡ fault_of (Some r) → Ends f left_old left_new session (Some r) bytes
-ends_refused f left_old left_new mark kept fault session bytes chunk records r gave few on is =
-    let reading = refused_reading f session.graph.version mark kept fault (bytes ++ chunk) (records ++ on.0) r is on.1.fed on.1.by in
-    record { chunk = chunk; records = records ++ on.0; gave = gave; few = few; stands = on.1.stands; reading = reading.0; end = inr reading.1 }
+ends_refused f good left_old left_new mark kept fault session bytes chunk records r gave few on is =
+    let reading = refused_reading f (version_or_first session) mark kept fault (bytes ++ chunk) (records ++ on.0) r is on.1.fed (by_session f good session (bytes ++ chunk) on.1.by) in
+    record { chunk = chunk; records = records ++ on.0; gave = gave; few = few; stands = on.1.taken; reading = reading.0; end = inr reading.1 }
 
 -- the `end` line is its last one
-pub ends_whole : (f : Format) (left_old left_new : Option (List ℕ)) (mark : Mark) (kept : List ℕ) (fault : Option FeedFault) (session : Session) (bytes chunk : List ℕ) (records : List Record) → Gives left_old chunk left_new → length chunk ≤ chunk_bytes
-    → (on : GoesOn f mark kept fault session (bytes ++ chunk) records) → IsReading f session.graph.version (bytes ++ chunk) (records ++ on.0) None → Ends f left_old left_new session None bytes
+pub ends_whole : (f : Format) (left_old left_new : Option (List ℕ)) (mark : Mark) (kept : List ℕ) (fault : Option FeedFault) (session : Option Session) (bytes chunk : List ℕ) (records : List Record) → Gives left_old chunk left_new → length chunk ≤ chunk_bytes
+    → (on : GoesOn f mark kept fault session (bytes ++ chunk) records) → IsReading f (version_or_first session) (bytes ++ chunk) (records ++ on.0) None → Ends f left_old left_new session None bytes
 ends_whole f left_old left_new mark kept fault session bytes chunk records gave few on reading =
-    record { chunk = chunk; records = records ++ on.0; gave = gave; few = few; stands = on.1.stands; reading = reading; end = tt }
+    record { chunk = chunk; records = records ++ on.0; gave = gave; few = few; stands = on.1.taken; reading = reading; end = tt }
+
+-- and the session that was made of it is the one that is judged
+pub ends_made : (f : Format) (left_old left_new : Option (List ℕ)) (session : Option Session) (made : Session) (refused : Option LineRefusal) (bytes : List ℕ) → ((h : List Record) → HasTaken session h → IsSessionOf made h) → made.graph.version ≡ version_or_first session
+    → Ends f left_old left_new session refused bytes → Ends f left_old left_new (Some made) refused bytes
+ends_made f left_old left_new session made refused bytes stands same ends = record {
+  chunk = ends.chunk;
+  records = ends.records;
+  gave = ends.gave;
+  few = ends.few;
+  stands = stands (reverse ends.records) ends.stands;
+  reading = subst (λ v. IsReading f v (bytes ++ ends.chunk) ends.records refused) (sym same) ends.reading;
+  end = ends.end;
+}
 
 -- a record of it is refused
 pub refused_by : (f : Format) (left_old left_new : Option (List ℕ)) (n : ℕ) (c : Cause) (bytes chunk : List ℕ) (fault : FeedFault) → fault ≡ faults.Refused n c → Gives left_old chunk left_new → length chunk ≤ chunk_bytes → IsFinalFault f (bytes ++ chunk) fault
@@ -285,11 +320,16 @@ undecided_at f good asked v (Ended w earlier) bytes before rest records of are f
     let trace : IsTrace f w before earlier = record { whole = are; few = omega (arith, few) } in
     ahead (subst (λ bs. IsTraceOf f bs records) whole (subst (λ rs. IsTraceOf f before rs) (sym same) (w, trace)))
 
-pub undecided : (f : Format) → IsFormat f → (asked : Command) (mark : Mark) (kept : List ℕ) (fault : Option FeedFault) (session : Session) (bytes : List ℕ) (records : List Record) → IsAt f mark kept fault session bytes records → fault ≡ None → IsOpen f bytes records → IsFinal f asked bytes → ⊥
+legal_taken : (session : Option Session) (h : List Record) → HasTaken session h → IsLegal (rules (version_or_first session)) h
+legal_taken None h taken = subst (IsLegal (rules One)) (sym taken) tt
+legal_taken (Some session) h taken = taken.legal
+
+pub undecided : (f : Format) → IsFormat f → (asked : Command) (mark : Mark) (kept : List ℕ) (fault : Option FeedFault) (session : Option Session) (bytes : List ℕ) (records : List Record) → IsAt f mark kept fault session bytes records → fault ≡ None → IsOpen f bytes records → IsFinal f asked bytes → ⊥
 undecided f good asked mark kept fault session bytes records at going ahead final =
     let stands = at.fed in
-    undecided_at f good asked session.graph.version stands.place bytes stands.before stands.rest records (place_of f session.graph.version bytes stands.place stands.before stands.rest stands.are stands.begins at.by) stands.are stands.few stands.begins stands.records_are
-    (kept_line f fault stands.place stands.rest kept going stands.kept) at.stands.legal ahead final
+    let v = version_or_first session in
+    undecided_at f good asked v stands.place bytes stands.before stands.rest records (place_of f v bytes stands.place stands.before stands.rest stands.are stands.begins (by_session f good session bytes at.by)) stands.are stands.few stands.begins stands.records_are
+    (kept_line f fault stands.place stands.rest kept going stands.kept) (legal_taken session (reverse records) at.taken) ahead final
 
 -- where a line is refused, and not for its missing end, no further byte changes the answer
 

@@ -1,7 +1,9 @@
 -- How a session comes to stand for one record more.
-use Rattle.std.proofs.Common.{◌≡◌, ℕ, ◌+◌, ◌<◌, ◌≤◌, Bool, true, false, List, [], ◌∷◌, length, get_or, Option, Some, None, refl, sym, ap, subst, ◌∙◌, arith, inl, inr}
+use Rattle.std.proofs.Common.{◌≡◌, ℕ, ◌+◌, ◌<◌, ◌≤◌, Bool, true, false, List, [], ◌∷◌, ◌++◌, append-nil, reverse, length, get_or, Option, Some, None, is_some, refl, sym, ap, subst, ◌∙◌, arith}
 use Rattle.std.specs.Prelude.{◌≢◌, nat_lt, if◌then◌else◌}
+use Rattle.std.specs.List.{list_all}
 use Rattle.std.proofs.lemmas.Bool.Decides.{nat_tests}
+use Rattle.er_trace.specs.Versions.{has_record}
 use Rattle.er_text.specs.declared.causes.Cause.{Cause}
 use Rattle.er_text.specs.declared.causes.Cause.TheVariants.{TooManyAccesses}
 use Rattle.er_trace.specs.declared.record.Record.{Record}
@@ -24,7 +26,7 @@ use Rattle.er_access.specs.Kept.{Kept, most_accesses}
 use Rattle.er_run.specs.declared.session.Session.{Session}
 use Rattle.er_run.specs.Legal as legality
 use Rattle.er_run.specs.Races.{kept, access_in, without_repeats}
-use Rattle.er_run.specs.Session.{with_lines, IsSessionOf, IsBegun, IsFaultAfter, AreEarlier, AreKept, IsPastRoom, kept_with, is_access}
+use Rattle.er_run.specs.Session.{with_lines, IsSessionOf, HasTaken, AreGiven, version_of, IsFaultAfter, IsFaultOf, IsFaultIn, AreEarlier, AreKept, IsPastRoom, kept_with, is_access}
 use Rattle.er_run.proofs.AccessLemmas.{same_kept, kept_begun, kept_lines, kept_grow}
 
 -- records keep what they are when they have their lines
@@ -134,15 +136,38 @@ earlier old graph page h x line stands e accepts is =
 same_rules : (v w : Version) (h : List Record) → w ≡ v → legality.IsLegal (rules v) h → legality.IsLegal (rules w) h
 same_rules v w h same legal = subst (λ u. legality.IsLegal (rules u) h) (sym same) legal
 
--- in another version it begins before the first record
-pub begun_first : (old new : Session) (v : Version) (h : List Record) → IsSessionOf old h → IsBegun old.graph.version (Some v) h → (old.graph.version ≡ v → ⊥) → IsGraph new.graph [] → new.kept ≡ old.kept → new.records ≡ old.records → IsSessionOf new h
-begun_first old new v h stands begins other graph accesses count = elim begins [
-  | inl same ↦ absurd (other (sym same))
-  | inr none ↦
-      let first : IsSessionOf old [] = subst (IsSessionOf old) none stands in
-      let now : IsSessionOf new [] = record { graph = graph; accesses = accesses ∙ first.accesses; count = count ∙ first.count; legal = tt } in
-      subst (IsSessionOf new) (sym none) now
-]
+-- one is made before the first record
+pub made_first : (session : Option Session) (made : Session) (h : List Record) → is_some session ≡ false → IsSessionOf made [] → HasTaken session h → IsSessionOf made h
+made_first None made h none stands taken = subst (IsSessionOf made) (sym taken) stands
+made_first (Some session) made h none stands taken = absurd (cc)
+
+-- the one that was made, and the version that was given
+
+made_in : (session : Option Session) (made : Session) (given : Option Version) → session ≡ Some made → version_of session ≡ given → given ≡ Some made.graph.version
+made_in session made given is same = sym same ∙ ap version_of is
+
+pub taken_by : (session : Option Session) (made : Session) (h : List Record) → session ≡ Some made → HasTaken session h → IsSessionOf made h
+taken_by session made h is taken = subst (λ s. HasTaken s h) is taken
+
+pub of_its_version : (session : Option Session) (made : Session) (given : Option Version) (records : List Record) → session ≡ Some made → version_of session ≡ given → AreGiven given records → list_all (has_record made.graph.version) records ≡ true
+of_its_version session made given records is same are = subst (λ g. AreGiven g records) (made_in session made given is same) are
+
+pub still_in : (session : Option Session) (made next : Session) (given : Option Version) → session ≡ Some made → version_of session ≡ given → next.graph.version ≡ made.graph.version → version_of (Some next) ≡ given
+still_in session made next given is same kept = ap Some kept ∙ sym (made_in session made given is same)
+
+pub refused_in : (session : Option Session) (made : Session) (given : Option Version) (records : List Record) (fault : FeedFault) → session ≡ Some made → version_of session ≡ given → IsFaultOf made.graph.version records fault → IsFaultIn given records fault
+refused_in session made given records fault is same refused = subst (λ g. IsFaultIn g records fault) (sym (made_in session made given is same)) refused
+
+pub no_memory_in : (given : Option Version) (records : List Record) → IsFaultIn given records NoMemory
+no_memory_in None records = refl
+no_memory_in (Some v) records = tt
+
+-- without one there is no record to take
+pub nothing_taken : (session : Option Session) (given : Option Version) (earlier records : List Record) → session ≡ None → version_of session ≡ given → AreGiven given records → HasTaken session (reverse earlier) → HasTaken session (reverse (earlier ++ records))
+nothing_taken session given earlier records is same are taken =
+    let none : given ≡ None = sym same ∙ ap version_of is in
+    let empty : records ≡ [] = subst (λ g. AreGiven g records) none are in
+    subst (λ rs. HasTaken session (reverse (earlier ++ rs))) (sym empty) (subst (λ l. HasTaken session (reverse l)) (sym (append-nil earlier)) taken)
 
 -- one record more
 

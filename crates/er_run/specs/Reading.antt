@@ -21,11 +21,16 @@ use Rattle.er_run.specs.declared.findings.Judged.{Judged}
 use Rattle.er_run.specs.Accepted.{IsAccepted}
 use Rattle.er_run.specs.declared.outcome.Outcome.TheVariants.{Refused}
 use Rattle.er_run.specs.Promise.{chunk_bytes, IsFinal, IsDecided}
-use Rattle.er_run.specs.Session.{IsSessionOf}
+use Rattle.er_run.specs.Session.{HasTaken, version_of, version_or_first}
 
 -- the first line gives no other version
 abbrev pub HasNoOtherVersion : Format → Version → List ℕ → Type 0
 HasNoOtherVersion f v bytes = (w : Version) → BeginsWith f w bytes → v ≡ w
+
+-- it is the version that the first line gives, where that line was read
+abbrev pub IsGiven : Format → Option Version → List ℕ → Type 0
+IsGiven f given bytes = ((v : Version) → given ≡ Some v → BeginsWith f v bytes)
+    × (given ≡ None → (v : Version) → ¬ BeginsWith f v bytes)
 
 -- the records before the first line that has a cause, with that line; or those of the whole trace
 abbrev pub IsReading : Format → Version → List ℕ → List Record → Option LineRefusal → Type 0
@@ -36,21 +41,21 @@ IsReading f v bytes records (Some refused) = (place : Place) × Refuses f bytes 
 
 -- what a feed keeps and the session stand for these bytes and for the records of their whole lines
 pub record IsAt (f : Format) (mark : Mark) (kept : List ℕ) (fault : Option FeedFault)
-    (session : Session) (bytes : List ℕ) (records : List Record) : Type 0 where
+    (session : Option Session) (bytes : List ℕ) (records : List Record) : Type 0 where
   pub fed : Stands f mark kept fault bytes records
-  pub stands : IsSessionOf session (reverse records)
-  pub by : HasNoOtherVersion f session.graph.version bytes
+  pub taken : HasTaken session (reverse records)
+  pub by : IsGiven f (version_of session) bytes
 
 -- they stand for some bytes, and for the records of their whole lines
 pub record IsSomewhere (f : Format) (mark : Mark) (kept : List ℕ) (fault : Option FeedFault)
-    (session : Session) : Type 0 where
+    (session : Option Session) : Type 0 where
   pub bytes : List ℕ
   pub records : List Record
   pub at : IsAt f mark kept fault session bytes records
 
 -- they stand for these bytes, and for more records
-abbrev pub GoesOn : Format → Mark → List ℕ → Option FeedFault → Session → List ℕ → List Record
-    → Type 0
+abbrev pub GoesOn : Format → Mark → List ℕ → Option FeedFault → Option Session → List ℕ
+    → List Record → Type 0
 GoesOn f mark kept fault session bytes records =
     (more : List Record) × IsAt f mark kept fault session bytes (records ++ more)
 
@@ -72,7 +77,7 @@ IsEnd left (Some refused) = IsSpent left ⊎ (refused.cause ≢ NoEnd)
 
 -- A chunk was read, and behind the bytes before it the feed and the session stand for it too.
 pub record Advances (f : Format) (left_old left_new : Option (List ℕ)) (mark : Mark)
-    (kept : List ℕ) (fault : Option FeedFault) (session : Session) (bytes : List ℕ)
+    (kept : List ℕ) (fault : Option FeedFault) (session : Option Session) (bytes : List ℕ)
     (records : List Record) : Type 0 where
   pub chunk : List ℕ
   pub some : 0 < length chunk
@@ -84,14 +89,14 @@ abbrev pub IsOpen : Format → List ℕ → List Record → Type 0
 IsOpen f bytes records = ¬ IsTraceOf f bytes records
 
 -- With the chunk that was read behind these bytes the reading is at its end, and the session stands for its records.
-pub record Ends (f : Format) (left_old left_new : Option (List ℕ)) (session : Session)
+pub record Ends (f : Format) (left_old left_new : Option (List ℕ)) (session : Option Session)
     (refused : Option LineRefusal) (bytes : List ℕ) : Type 0 where
   pub chunk : List ℕ
   pub records : List Record
   pub gave : Gives left_old chunk left_new
   pub few : length chunk ≤ chunk_bytes
-  pub stands : IsSessionOf session (reverse records)
-  pub reading : IsReading f session.graph.version (bytes ++ chunk) records refused
+  pub stands : HasTaken session (reverse records)
+  pub reading : IsReading f (version_or_first session) (bytes ++ chunk) records refused
   pub end : IsEnd left_new refused
 
 -- With the chunk that was read behind these bytes a record is refused.
@@ -121,7 +126,7 @@ pub record IsRead (f : Format) (left_old left_new : Option (List ℕ)) (session 
   pub bytes : List ℕ
   pub left : Option (List ℕ)
   pub before : IsUndecided f left_old left bytes
-  pub ends : Ends f left left_new session refused bytes
+  pub ends : Ends f left left_new (Some session) refused bytes
 
 -- A trace was read to a chunk with a record that is refused.
 pub record IsReadTo (f : Format) (left_old left_new : Option (List ℕ)) (n : ℕ)

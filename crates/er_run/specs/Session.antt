@@ -1,7 +1,11 @@
 -- What a session stands for, and what a judgement promises. Lists of records stand newest first.
-use Rattle.std.specs.Prelude.{[], ℕ, ◌+◌, Bool, true, false, ◌∷◌, ◌≡◌, ◌≢◌, ◌<◌, All, List, reverse, length, take, slice_get, Option, Some, None, ◌⊎◌}
+use Rattle.std.specs.Prelude.{[], ℕ, ◌+◌, Bool, true, false, ◌∷◌, ◌≡◌, ◌≢◌, ◌<◌, ◌≤◌, All, List, reverse, length, take, slice_get, Option, Some, None}
+use Rattle.std.specs.List.{list_all}
 use Rattle.er_trace.specs.declared.record.Record.{Record}
 use Rattle.er_trace.specs.declared.version.Version.{Version}
+use Rattle.er_trace.specs.declared.version.Version.TheVariants.{One}
+use Rattle.er_trace.specs.Trace.{most_lines}
+use Rattle.er_trace.specs.Versions.{has_record}
 use Rattle.er_trace.specs.declared.record.Record.TheVariants.{Access}
 use Rattle.er_trace.specs.declared.record.Mode.{Mode}
 use Rattle.er_trace.specs.declared.record.Loc.{Loc}
@@ -36,20 +40,38 @@ pub record IsSession (session : Session) : Type 0 where
   pub list : List Record
   pub stands : IsSessionOf session list
 
--- the version that it has once the first line was read
-abbrev pub begun : Version → Option Version → Version
-begun v None = v
-begun v (Some w) = w
+-- there is one once the first line was read: before, no record came
+abbrev pub HasTaken : Option Session → List Record → Type 0
+HasTaken None h = h ≡ []
+HasTaken (Some session) h = IsSessionOf session h
 
--- it is the version that it had, or no record came before
-abbrev pub IsBegun : Version → Option Version → List Record → Type 0
-IsBegun old given h = (begun old given ≡ old) ⊎ (h ≡ [])
+-- the version in which it was made
+abbrev pub version_of : Option Session → Option Version
+version_of None = None
+version_of (Some session) = Some session.graph.version
 
--- it stands for some list, and may begin in the version that was given
-pub record IsReady (session : Session) (given : Option Version) : Type 0 where
+-- that version, or the first one
+abbrev pub version_or_first : Option Session → Version
+version_or_first None = One
+version_or_first (Some session) = session.graph.version
+
+-- where it was made, it is of the version that the first line gives
+abbrev pub GoesOnIn : Option Session → Option Version → Type 0
+GoesOnIn session given = (v : Version) → version_of session ≡ Some v → given ≡ Some v
+
+-- where no version was given there are no records, and else they are of it
+abbrev pub AreGiven : Option Version → List Record → Type 0
+AreGiven None records = records ≡ []
+AreGiven (Some v) records = list_all (has_record v) records ≡ true
+
+-- it has taken some list, and may take these records in the version that was given
+pub record MayTake (session : Option Session) (given : Option Version)
+    (records : List Record) : Type 0 where
   pub list : List Record
-  pub stands : IsSessionOf session list
-  pub begins : IsBegun session.graph.version given list
+  pub taken : HasTaken session list
+  pub goes_on : GoesOnIn session given
+  pub few : length list + length records ≤ most_lines
+  pub of_version : AreGiven given records
 
 -- A record after the list is refused for the first cause against it, with its line; or memory ran out.
 abbrev pub IsFaultAfter : Version → List Record → Record → FeedFault → Type 0
@@ -64,6 +86,11 @@ IsFaultOf v records (Refused line cause) =
     × ((x : Record) × (slice_get records at ≡ Some x)
     × (legality.cause (rules v) (reverse (take at records)) x ≡ Some cause))
 IsFaultOf v records NoMemory = Unit {0}
+
+-- the same in the version that was given
+abbrev pub IsFaultIn : Option Version → List Record → FeedFault → Type 0
+IsFaultIn None records fault = fault ≡ NoMemory
+IsFaultIn (Some v) records fault = IsFaultOf v records fault
 
 -- the page stands for some list, and the accesses are of earlier lines and of actions that have begun
 pub record AreEarlier (page : Page) (line : ℕ) (accesses : List Kept) : Type 0 where

@@ -1,16 +1,13 @@
 //! Reads a trace chunk by chunk, and judges each record as its line ends.
 
-ghost use Rattle.std.specs.Prelude.{◌≡◌, ◌≢◌, true, ℕ, ◌+◌, ◌<◌, ◌≤◌, List, [], ◌++◌, length, reverse, Option, Ok, Err, Some, None, IfOk, OnOk, IfErr, IsErrOf};
-ghost use Rattle.std.specs.List.{list_all};
-ghost use Rattle.er_trace.specs.Trace.{most_lines};
-ghost use Rattle.er_trace.specs.Versions.{has_record};
+ghost use Rattle.std.specs.Prelude.{◌≡◌, ℕ, ◌+◌, ◌<◌, List, ◌++◌, reverse, Option, Ok, Err, Some, None, IfOk, OnOk, IfErr};
 ghost use Rattle.er_lines.specs.Lines.{IsTraceOf};
 ghost use Rattle.er_lines.specs.Feed.{Stands};
 ghost use Rattle.er_trace.specs.declared.version.Version.{Version};
-ghost use Rattle.er_run.specs.Session.{IsSessionOf, IsReady, IsFaultOf, IsBegun, begun};
+ghost use Rattle.er_run.specs.Session.{HasTaken, MayTake, IsFaultIn, version_of};
 ghost use Rattle.er_run.specs.Reading.{IsAt, HasNoOtherVersion, IsSomewhere, IsOpen, IsRead, IsReadTo, IsReading, GoesOn, Advances, Ends, IsRefusedBehind, IsFinalFault, CountsReads, fault_of};
 
-use crate::session::Session;
+use crate::session::{Session, begin, or_empty};
 use er_io::Source;
 use er_lines::feed::LineFeed;
 use er_lines::format::Lines;
@@ -60,16 +57,19 @@ pub(crate) fn read<L: Lines, S: Source>(
         → IsReadTo L.format (S.left source.old) (S.left source.new) n c }
     ensures reads { CountsReads result (S.faults source.old) (S.faults source.new) }
 {
-    let Ok(mut session) = Session::new(alloc, Version::One) else {
-        return Err(InputFault::NoMemory);
-    };
+    let mut session: Option<Session> = None;
     let mut feed: LineFeed<L> = LineFeed::new(alloc);
     let mut came = Vec::new(alloc);
     // Each turn reads a byte at least, and as long as no line is refused fewer bytes come than turns may.
     for turn in 0..u64::MAX {
         match read_chunk(alloc, source, &mut feed, &mut session, &mut came) {
             Ok(Step::GoesOn) => {}
-            Ok(Step::Ended(refused)) => return Ok((session, refused)),
+            Ok(Step::Ended(refused)) => {
+                let Ok(made) = or_empty(alloc, session) else {
+                    return Err(InputFault::NoMemory);
+                };
+                return Ok((made, refused));
+            }
             Err(fault) => return Err(fault),
         }
     }
@@ -81,7 +81,7 @@ fn read_chunk<L: Lines, S: Source>(
     alloc: Global,
     source: &mut S,
     feed: &mut LineFeed<L>,
-    session: &mut Session,
+    session: &mut Option<Session>,
     came: &mut Vec<Record>,
 ) -> Result<Step, InputFault>
     requires some { IsSomewhere L.format feed.old.mark feed.old.line.items feed.old.fault
@@ -159,7 +159,7 @@ fn line_at_end<L: Lines>(feed: &LineFeed<L>) -> Option<LineRefusal>
 fn take_chunk<L: Lines>(
     alloc: Global,
     feed: &mut LineFeed<L>,
-    session: &mut Session,
+    session: &mut Option<Session>,
     came: &mut Vec<Record>,
     chunk: &[u8],
 ) -> Result<Option<LineRefusal>, FeedFault>
@@ -192,29 +192,26 @@ fn take_chunk<L: Lines>(
 }
 
 /// Takes the records one after the other, to the first that is refused, in the version that the first line
-/// gave. They are of that version.
+/// gave. Before that line there are none.
 fn judge_all(
     alloc: Global,
-    session: &mut Session,
+    session: &mut Option<Session>,
     given: Option<Version>,
     records: &[Record],
 ) -> Result<(), FeedFault>
-    requires some { IsReady session.old given }
-    requires room { session.old.records + length records.now ≤ most_lines }
-    requires of_version { list_all (has_record (begun session.old.graph.version given)) records.now
-        ≡ true }
-    ensures taken { OnOk result ((earlier : List Record) → IsSessionOf session.old (reverse earlier)
-        → IsBegun session.old.graph.version given (reverse earlier)
-        → IsSessionOf session.new (reverse (earlier ++ records.now))) }
-    ensures version { OnOk result
-        (session.new.graph.version ≡ begun session.old.graph.version given) }
+    requires { MayTake session.old given records.now }
+    ensures taken { OnOk result ((earlier : List Record) → HasTaken session.old (reverse earlier)
+        → HasTaken session.new (reverse (earlier ++ records.now))) }
+    ensures version { OnOk result (version_of session.new ≡ given) }
     ensures refused { IfErr result (λ fault. (earlier : List Record)
-        → IsSessionOf session.old (reverse earlier)
-        → IsBegun session.old.graph.version given (reverse earlier)
-        → IsFaultOf (begun session.old.graph.version given) (earlier ++ records.now) fault) }
+        → HasTaken session.old (reverse earlier)
+        → IsFaultIn given (earlier ++ records.now) fault) }
 {
-    let Ok(()) = session.begin(alloc, given) else {
+    let Ok(()) = begin(alloc, session, given) else {
         return Err(FeedFault::NoMemory);
     };
-    session.take_all(records)
+    match session {
+        Some(made) => made.take_all(records),
+        None => Ok(()),
+    }
 }

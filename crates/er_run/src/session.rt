@@ -1,12 +1,12 @@
 //! What the accepted records say and access, and which record comes next.
 
-ghost use Rattle.std.specs.Prelude.{◌≡◌, ◌≢◌, true, false, ℕ, ◌+◌, ◌<◌, ◌≤◌, List, [], ◌∷◌, ◌++◌, reverse, length, Err, OnOk, IfOk, IfErr};
+ghost use Rattle.std.specs.Prelude.{◌≡◌, true, ℕ, ◌+◌, ◌<◌, ◌≤◌, List, [], ◌∷◌, ◌++◌, reverse, length, Err, OnOk, IfOk, IfErr};
 ghost use Rattle.std.specs.List.{list_all};
 ghost use Rattle.er_trace.specs.declared.record.Record.{Record};
 ghost use Rattle.er_trace.specs.Trace.{most_lines};
 ghost use Rattle.er_trace.specs.Versions.{has_record};
 ghost use Rattle.er_page.specs.Page.{IsPage};
-ghost use Rattle.er_run.specs.Session.{IsSessionOf, IsSession, IsFaultAfter, IsFaultOf, IsBegun, begun, AreEarlier, AreKept, IsPastRoom, kept_with};
+ghost use Rattle.er_run.specs.Session.{IsSessionOf, IsSession, IsFaultAfter, IsFaultOf, HasTaken, GoesOnIn, version_of, version_or_first, AreEarlier, AreKept, IsPastRoom, kept_with};
 
 use er_access::{AddFault, Table};
 use er_gen::Generator;
@@ -73,24 +73,6 @@ impl Session {
         ensures { result ≡ self.now.records + 2 }
     {
         self.records + 2
-    }
-
-    /// Is of the version that the first line gave, where it was read. No record came before it.
-    pub(crate) fn begin(&mut self, alloc: Global, given: Option<Version>) -> Result<(), NoMemory>
-        ensures begun { OnOk result ((h : List Record) → IsSessionOf self.old h
-            → IsBegun self.old.graph.version given h → IsSessionOf self.new h) }
-        ensures version { OnOk result
-            (self.new.graph.version ≡ begun self.old.graph.version given) }
-        ensures count { self.new.records ≡ self.old.records }
-    {
-        let Some(version) = given else {
-            return Ok(());
-        };
-        if is_same(self.graph.version(), version) {
-            return Ok(());
-        }
-        self.graph = Graph::new(alloc, version)?;
-        Ok(())
     }
 
     /// Takes the records one after the other, to the first that is refused. They are of its version. After
@@ -187,16 +169,35 @@ impl Session {
     }
 }
 
-/// Whether they are one version.
-fn is_same(one: Version, other: Version) -> bool
-    ensures same { result ≡ true → one ≡ other }
-    ensures other { result ≡ false → one ≢ other }
+/// Makes the session once the first line gave a version.
+pub(crate) fn begin(
+    alloc: Global,
+    session: &mut Option<Session>,
+    given: Option<Version>,
+) -> Result<(), NoMemory>
+    requires { GoesOnIn session.old given }
+    ensures taken { OnOk result
+        ((h : List Record) → HasTaken session.old h → HasTaken session.new h) }
+    ensures version { OnOk result (version_of session.new ≡ given) }
 {
-    match (one, other) {
-        (Version::One, Version::One) => true,
-        (Version::Two, Version::Two) => true,
-        (Version::Three, Version::Three) => true,
-        _ => false,
+    let Some(version) = given else {
+        return Ok(());
+    };
+    if session.is_none() {
+        *session = Some(Session::new(alloc, version)?);
+    }
+    Ok(())
+}
+
+/// The session; where none was made, one of no records.
+pub(crate) fn or_empty(alloc: Global, session: Option<Session>) -> Result<Session, NoMemory>
+    ensures stands { IfOk result (λ made. (h : List Record) → HasTaken session h
+        → IsSessionOf made h) }
+    ensures version { IfOk result (λ made. made.graph.version ≡ version_or_first session) }
+{
+    match session {
+        Some(session) => Ok(session),
+        None => Session::new(alloc, Version::One),
     }
 }
 

@@ -1,11 +1,11 @@
 use Rattle.std.proofs.Common.{[], ◌++◌, refl, sym, ◌∙◌, arith, length-append}
 use Rattle.er_io.proofs.Puts.{gives_again, gives_nothing}
-use Rattle.er_run.proofs.ReadingLemmas.{none_begins, none_open, going_short, reads_stand, undecided}
+use Rattle.er_run.proofs.ReadingLemmas.{none_begins, none_open, ends_made, going_short, reads_stand, undecided}
 use Rattle.er_run.proofs.input.read.Goals as goal
 
 pub loop-turn-init : goal.loop-turn-init
 loop-turn-init g c = record {
-  here = record { bytes = []; records = []; at = record { fed = c.new-feed.ensures.stands; stands = c.in-Ok.ensures.stands; by = λ v begins. absurd (none_begins g.L.Lines.format v begins) } };
+  here = record { bytes = []; records = []; at = record { fed = c.new-feed.ensures.stands; taken = refl; by = (λ v e. absurd (cc), λ e v begins. none_begins g.L.Lines.format v begins) } };
   ahead = none_open g.L.Lines.format [];
   gave = gives_nothing (g.S.Source.left c.args.source.now);
   going = c.new-feed.ensures.going;
@@ -34,7 +34,7 @@ returns-in-Ok-Ended-clause-read g c =
       bytes = i.here.bytes;
       left = g.S.Source.left c.loop-turn.source;
       before = record { gave = i.gave; fresh = λ asked. undecided g.L.Lines.format g.met.L.Lines.is_format asked c.loop-turn.feed.mark c.loop-turn.feed.line.items c.loop-turn.feed.fault c.loop-turn.session i.here.bytes i.here.records i.here.at i.going i.ahead };
-      ends = c.in-Ok-Ended.ensures.ended c.in-Ok-Ended.refused (cc) i.here.bytes i.here.records i.here.at;
+      ends = ends_made g.L.Lines.format (g.S.Source.left c.loop-turn.source) (g.S.Source.left c.read_chunk.new.source) c.read_chunk.new.session c.in-Ok.made c.in-Ok-Ended.refused i.here.bytes c.in-Ok.ensures.stands c.in-Ok.ensures.version (c.in-Ok-Ended.ensures.ended c.in-Ok-Ended.refused (cc) i.here.bytes i.here.records i.here.at);
     }
 
 pub returns-in-Err-clause-refused : goal.returns-in-Err-clause-refused
@@ -49,6 +49,9 @@ returns-in-Err-clause-refused g c = λ n cause is.
 
 pub returns-in-Ok-Ended-clause-reads : goal.returns-in-Ok-Ended-clause-reads
 returns-in-Ok-Ended-clause-reads g c = reads_stand _ _ _ (λ e. cc) (c.in-Ok-Ended.ensures.reads.stands (λ e. cc) ∙ c.loop-turn.invariant.stands)
+
+pub returns-in_default-clause-reads : goal.returns-in_default-clause-reads
+returns-in_default-clause-reads g c = reads_stand _ _ _ (λ e. cc) (c.in-Ok-Ended.ensures.reads.stands (λ e. cc) ∙ c.loop-turn.invariant.stands)
 
 pub returns-in-Err-clause-reads : goal.returns-in-Err-clause-reads
 returns-in-Err-clause-reads g c =

@@ -1,55 +1,42 @@
-use Rattle.std.proofs.Common.{◌++◌, reverse}
-use Rattle.er_run.proofs.ReadingLemmas.{on_by, room_by, final_by, IsGiven, by_given, begun_by}
-use Rattle.er_run.proofs.VersionLemmas.{came_of_version}
-use Rattle.er_run.specs.Session.{begun}
+use Rattle.std.proofs.Common.{◌++◌}
+use Rattle.er_run.specs.Reading.{IsGiven}
+use Rattle.er_run.proofs.ReadingLemmas.{may_take, on_by, final_by}
 use Rattle.er_run.proofs.input.take_chunk.Goals as goal
 
 pub judge_all-requires : goal.judge_all-requires
 judge_all-requires g c =
-    let here = c.requires.at in
-    let fed = rw c.clear.ensures.items at (c.feed.ensures.fed (λ e. cc) c.requires.bytes c.requires.records here.fed) in
-    record {
-      some = record { list = reverse c.requires.records; stands = here.stands; begins = begun_by g.L.Lines.format g.met.L.Lines.is_format c.args.feed.now.mark c.args.feed.now.line.items c.args.feed.now.fault c.args.session.now c.version.result c.requires.bytes c.args.chunk.now c.requires.records here (λ v e. c.version.ensures.given v e (c.requires.bytes ++ c.args.chunk.now) (c.requires.records ++ fed.0) fed.1, λ e v. c.version.ensures.none e (c.requires.bytes ++ c.args.chunk.now) (c.requires.records ++ fed.0) fed.1 v) };
-      room = rw c.as_slice.ensures.value (room_by g.L.Lines.format c.feed.new.self.mark c.feed.new.self.line.items c.feed.new.self.fault (c.requires.bytes ++ c.args.chunk.now) c.requires.records c.feed.new.out.items c.args.session.now.records fed here.stands.count);
-      of_version = rw c.as_slice.ensures.value (came_of_version g.L.Lines.format g.met.L.Lines.is_format (begun c.args.session.now.graph.version c.version.result) c.feed.new.self.mark c.feed.new.self.line.items c.feed.new.self.fault (c.requires.bytes ++ c.args.chunk.now) c.requires.records c.feed.new.out.items fed
-          (by_given g.L.Lines.format g.met.L.Lines.is_format c.args.session.now.graph.version c.version.result c.requires.bytes c.args.chunk.now (λ v e. c.version.ensures.given v e (c.requires.bytes ++ c.args.chunk.now) (c.requires.records ++ fed.0) fed.1, λ e v. c.version.ensures.none e (c.requires.bytes ++ c.args.chunk.now) (c.requires.records ++ fed.0) fed.1 v)));
-    }
+    let fed = rw c.clear.ensures.items at (c.feed.ensures.fed (λ e. cc) c.requires.bytes c.requires.records c.requires.at.fed) in
+    let given : IsGiven g.L.Lines.format c.version.result (c.requires.bytes ++ c.args.chunk.now) = (λ v e. c.version.ensures.given v e (c.requires.bytes ++ c.args.chunk.now) (c.requires.records ++ fed.0) fed.1, λ e v. c.version.ensures.none e (c.requires.bytes ++ c.args.chunk.now) (c.requires.records ++ fed.0) fed.1 v) in
+    rw c.as_slice.ensures.value (may_take g.L.Lines.format g.met.L.Lines.is_format c.args.feed.now.mark c.feed.new.self.mark c.args.feed.now.line.items c.feed.new.self.line.items c.args.feed.now.fault c.feed.new.self.fault c.args.session.now c.version.result c.requires.bytes c.args.chunk.now c.requires.records c.feed.new.out.items c.requires.at fed given)
 
 pub returns-in_default-clause-on : goal.returns-in_default-clause-on
 returns-in_default-clause-on g c = λ bytes records at.
     let fed = rw c.clear.ensures.items at (c.feed.ensures.fed (λ e. cc) bytes records at.fed) in
     let given : IsGiven g.L.Lines.format c.version.result (bytes ++ c.args.chunk.now) = (λ v e. c.version.ensures.given v e (bytes ++ c.args.chunk.now) (records ++ fed.0) fed.1, λ e v. c.version.ensures.none e (bytes ++ c.args.chunk.now) (records ++ fed.0) fed.1 v) in
-    on_by g.L.Lines.format c.feed.new.self.mark c.feed.new.self.line.items c.feed.new.self.fault c.judge_all.new.session (begun c.args.session.now.graph.version c.version.result) (bytes ++ c.args.chunk.now) records c.feed.new.out.items fed c.in_default.ensures.version (by_given g.L.Lines.format g.met.L.Lines.is_format c.args.session.now.graph.version c.version.result bytes c.args.chunk.now given) (rw c.as_slice.ensures.value at (c.in_default.ensures.taken records at.stands (begun_by g.L.Lines.format g.met.L.Lines.is_format c.args.feed.now.mark c.args.feed.now.line.items c.args.feed.now.fault c.args.session.now c.version.result bytes c.args.chunk.now records at given)))
+    on_by g.L.Lines.format c.feed.new.self.mark c.feed.new.self.line.items c.feed.new.self.fault c.judge_all.new.session c.version.result (bytes ++ c.args.chunk.now) records c.feed.new.out.items fed c.in_default.ensures.version given (rw c.as_slice.ensures.value at (c.in_default.ensures.taken records at.taken))
 
 pub returns-in-Err-clause-refused : goal.returns-in-Err-clause-refused
 returns-in-Err-clause-refused g c = λ bytes records at.
     let fed = rw c.clear.ensures.items at (c.feed.ensures.fed (λ e. cc) bytes records at.fed) in
     let given : IsGiven g.L.Lines.format c.version.result (bytes ++ c.args.chunk.now) = (λ v e. c.version.ensures.given v e (bytes ++ c.args.chunk.now) (records ++ fed.0) fed.1, λ e v. c.version.ensures.none e (bytes ++ c.args.chunk.now) (records ++ fed.0) fed.1 v) in
-    final_by g.L.Lines.format (begun c.args.session.now.graph.version c.version.result) c.feed.new.self.mark c.feed.new.self.line.items c.feed.new.self.fault (bytes ++ c.args.chunk.now) records c.feed.new.out.items c.in-Err.fault fed (by_given g.L.Lines.format g.met.L.Lines.is_format c.args.session.now.graph.version c.version.result bytes c.args.chunk.now given) (rw c.as_slice.ensures.value at (c.in-Err.ensures.refused records at.stands (begun_by g.L.Lines.format g.met.L.Lines.is_format c.args.feed.now.mark c.args.feed.now.line.items c.args.feed.now.fault c.args.session.now c.version.result bytes c.args.chunk.now records at given)))
+    final_by g.L.Lines.format g.met.L.Lines.is_format c.version.result c.feed.new.self.mark c.feed.new.self.line.items c.feed.new.self.fault (bytes ++ c.args.chunk.now) records c.feed.new.out.items c.in-Err.fault fed given (rw c.as_slice.ensures.value at (c.in-Err.ensures.refused records at.taken))
 
 -- a line of the chunk is refused
 
 pub judge_all-requires-in-Err-Refused : goal.judge_all-requires-in-Err-Refused
 judge_all-requires-in-Err-Refused g c =
-    let here = c.requires.at in
-    let fed = rw c.clear.ensures.items at (c.feed.ensures.fed (λ e. cc) c.requires.bytes c.requires.records here.fed) in
-    record {
-      some = record { list = reverse c.requires.records; stands = here.stands; begins = begun_by g.L.Lines.format g.met.L.Lines.is_format c.args.feed.now.mark c.args.feed.now.line.items c.args.feed.now.fault c.args.session.now c.version-in-Err-Refused.result c.requires.bytes c.args.chunk.now c.requires.records here (λ v e. c.version-in-Err-Refused.ensures.given v e (c.requires.bytes ++ c.args.chunk.now) (c.requires.records ++ fed.0) fed.1, λ e v. c.version-in-Err-Refused.ensures.none e (c.requires.bytes ++ c.args.chunk.now) (c.requires.records ++ fed.0) fed.1 v) };
-      room = rw c.as_slice-in-Err-Refused.ensures.value (room_by g.L.Lines.format c.feed.new.self.mark c.feed.new.self.line.items c.feed.new.self.fault (c.requires.bytes ++ c.args.chunk.now) c.requires.records c.feed.new.out.items c.args.session.now.records fed here.stands.count);
-      of_version = rw c.as_slice-in-Err-Refused.ensures.value (came_of_version g.L.Lines.format g.met.L.Lines.is_format (begun c.args.session.now.graph.version c.version-in-Err-Refused.result) c.feed.new.self.mark c.feed.new.self.line.items c.feed.new.self.fault (c.requires.bytes ++ c.args.chunk.now) c.requires.records c.feed.new.out.items fed
-          (by_given g.L.Lines.format g.met.L.Lines.is_format c.args.session.now.graph.version c.version-in-Err-Refused.result c.requires.bytes c.args.chunk.now (λ v e. c.version-in-Err-Refused.ensures.given v e (c.requires.bytes ++ c.args.chunk.now) (c.requires.records ++ fed.0) fed.1, λ e v. c.version-in-Err-Refused.ensures.none e (c.requires.bytes ++ c.args.chunk.now) (c.requires.records ++ fed.0) fed.1 v)));
-    }
+    let fed = rw c.clear.ensures.items at (c.feed.ensures.fed (λ e. cc) c.requires.bytes c.requires.records c.requires.at.fed) in
+    let given : IsGiven g.L.Lines.format c.version-in-Err-Refused.result (c.requires.bytes ++ c.args.chunk.now) = (λ v e. c.version-in-Err-Refused.ensures.given v e (c.requires.bytes ++ c.args.chunk.now) (c.requires.records ++ fed.0) fed.1, λ e v. c.version-in-Err-Refused.ensures.none e (c.requires.bytes ++ c.args.chunk.now) (c.requires.records ++ fed.0) fed.1 v) in
+    rw c.as_slice-in-Err-Refused.ensures.value (may_take g.L.Lines.format g.met.L.Lines.is_format c.args.feed.now.mark c.feed.new.self.mark c.args.feed.now.line.items c.feed.new.self.line.items c.args.feed.now.fault c.feed.new.self.fault c.args.session.now c.version-in-Err-Refused.result c.requires.bytes c.args.chunk.now c.requires.records c.feed.new.out.items c.requires.at fed given)
 
 pub returns-in_default-judge_all-clause-on : goal.returns-in_default-judge_all-clause-on
 returns-in_default-judge_all-clause-on g c = λ bytes records at.
     let fed = rw c.clear.ensures.items at (c.feed.ensures.fed (λ e. cc) bytes records at.fed) in
     let given : IsGiven g.L.Lines.format c.version-in-Err-Refused.result (bytes ++ c.args.chunk.now) = (λ v e. c.version-in-Err-Refused.ensures.given v e (bytes ++ c.args.chunk.now) (records ++ fed.0) fed.1, λ e v. c.version-in-Err-Refused.ensures.none e (bytes ++ c.args.chunk.now) (records ++ fed.0) fed.1 v) in
-    on_by g.L.Lines.format c.feed.new.self.mark c.feed.new.self.line.items c.feed.new.self.fault c.judge_all-in-Err-Refused.new.session (begun c.args.session.now.graph.version c.version-in-Err-Refused.result) (bytes ++ c.args.chunk.now) records c.feed.new.out.items fed c.in_default-judge_all.ensures.version (by_given g.L.Lines.format g.met.L.Lines.is_format c.args.session.now.graph.version c.version-in-Err-Refused.result bytes c.args.chunk.now given)
-    (rw c.as_slice-in-Err-Refused.ensures.value at (c.in_default-judge_all.ensures.taken records at.stands (begun_by g.L.Lines.format g.met.L.Lines.is_format c.args.feed.now.mark c.args.feed.now.line.items c.args.feed.now.fault c.args.session.now c.version-in-Err-Refused.result bytes c.args.chunk.now records at given)))
+    on_by g.L.Lines.format c.feed.new.self.mark c.feed.new.self.line.items c.feed.new.self.fault c.judge_all-in-Err-Refused.new.session c.version-in-Err-Refused.result (bytes ++ c.args.chunk.now) records c.feed.new.out.items fed c.in_default-judge_all.ensures.version given (rw c.as_slice-in-Err-Refused.ensures.value at (c.in_default-judge_all.ensures.taken records at.taken))
 
 pub returns-in-Err-judge_all-clause-refused : goal.returns-in-Err-judge_all-clause-refused
 returns-in-Err-judge_all-clause-refused g c = λ bytes records at.
     let fed = rw c.clear.ensures.items at (c.feed.ensures.fed (λ e. cc) bytes records at.fed) in
     let given : IsGiven g.L.Lines.format c.version-in-Err-Refused.result (bytes ++ c.args.chunk.now) = (λ v e. c.version-in-Err-Refused.ensures.given v e (bytes ++ c.args.chunk.now) (records ++ fed.0) fed.1, λ e v. c.version-in-Err-Refused.ensures.none e (bytes ++ c.args.chunk.now) (records ++ fed.0) fed.1 v) in
-    final_by g.L.Lines.format (begun c.args.session.now.graph.version c.version-in-Err-Refused.result) c.feed.new.self.mark c.feed.new.self.line.items c.feed.new.self.fault (bytes ++ c.args.chunk.now) records c.feed.new.out.items c.in-Err-judge_all.fault fed (by_given g.L.Lines.format g.met.L.Lines.is_format c.args.session.now.graph.version c.version-in-Err-Refused.result bytes c.args.chunk.now given)
-    (rw c.as_slice-in-Err-Refused.ensures.value at (c.in-Err-judge_all.ensures.refused records at.stands (begun_by g.L.Lines.format g.met.L.Lines.is_format c.args.feed.now.mark c.args.feed.now.line.items c.args.feed.now.fault c.args.session.now c.version-in-Err-Refused.result bytes c.args.chunk.now records at given)))
+    final_by g.L.Lines.format g.met.L.Lines.is_format c.version-in-Err-Refused.result c.feed.new.self.mark c.feed.new.self.line.items c.feed.new.self.fault (bytes ++ c.args.chunk.now) records c.feed.new.out.items c.in-Err-judge_all.fault fed given (rw c.as_slice-in-Err-Refused.ensures.value at (c.in-Err-judge_all.ensures.refused records at.taken))
