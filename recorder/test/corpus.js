@@ -1,8 +1,9 @@
 #!/usr/bin/env node
 'use strict';
-// corpus.js [--install] [--side-by-side N] [--most N] [--loads N] [--again] [--quiet] FOLDER [PACKAGE..]: the evaluation (docs/evaluation.md). Records the pages of
-// corpus.json, or of the packages that are named, each with five clicks and a slow network in two seeds, judges them, and runs the first problems of each
-// page again in the other order. Appends a line of JSON for each page to FOLDER/pages.jsonl when it is done, so it can be stopped, and goes on where it was.
+// corpus.js [--install] [--side-by-side N] [--most N] [--loads N] [--recordings] [--again] [--quiet] FOLDER [PACKAGE..]: the evaluation (docs/evaluation.md).
+// Records the pages of corpus.json, or of the packages that are named, each with five clicks and a slow network in two seeds, judges them, and runs the first
+// problems of each page again in the other order. Appends a line of JSON for each page to FOLDER/pages.jsonl when it is done, so it can be stopped, and goes
+// on where it was: of a page that is not done too, behind its two recordings.
 
 const { createHash } = require('node:crypto');
 const fs = require('node:fs');
@@ -10,6 +11,7 @@ const os = require('node:os');
 const path = require('node:path');
 const { withoutCommands } = require('../view/shown.js');
 const { programState } = require('../view/program.js');
+const { writeWhole } = require('../list/whole-file.js');
 const { run } = require('./cleanup.js');
 const { PageCalls } = require('./corpus/calls.js');
 const { readLines, appendLine, isQuiet } = require('./corpus/lines.js');
@@ -20,20 +22,21 @@ const USAGE = `usage: corpus.js [options] FOLDER [PACKAGE..]
   --install         fetches the packages that are missing, with apt-get, and unpacks them in FOLDER; else it is said which are missing, and nothing is done
   --side-by-side N  so many pages at once (1)
   --most N          so many problems of each page are run again in the other order (5)
-  --loads N         so many loads of each page with and without the recorder, for their times (3)
+  --loads N         so many loads of each page with and without the recorder, for their times (3); 0 where the machine is not quiet
+  --recordings      the two recordings of each page alone, which take no program; a later call goes on behind them
   --again           records the pages anew that failed before
   --quiet           records the pages anew that were recorded with other work on the machine`;
 const USAGE_STATUS = 2;
 const NUMBERS = { '--side-by-side': 'lanes', '--most': 'most', '--loads': 'loads' };
-const FLAGS = { '--install': 'installs', '--again': 'recordsFailed', '--quiet': 'recordsBusy' };
+const FLAGS = { '--install': 'installs', '--recordings': 'isRecordedAlone', '--again': 'recordsFailed', '--quiet': 'recordsBusy' };
 
 function optionsOf(words) {
-  const options = { lanes: 1, most: 5, loads: 3, installs: false, recordsFailed: false, recordsBusy: false };
+  const options = { lanes: 1, most: 5, loads: 3, installs: false, isRecordedAlone: false, recordsFailed: false, recordsBusy: false };
   const left = [...words];
   while (left[0]?.startsWith('--')) {
     const name = left.shift();
     if (FLAGS[name]) options[FLAGS[name]] = true;
-    else if (NUMBERS[name] && /^[1-9]\d{0,3}$/.test(left[0] || '')) options[NUMBERS[name]] = Number(left.shift());
+    else if (NUMBERS[name] && (name === '--loads' ? /^\d{1,4}$/ : /^[1-9]\d{0,3}$/).test(left[0] || '')) options[NUMBERS[name]] = Number(left.shift());
     else return null;
   }
   return left.length ? { ...options, folder: path.resolve(left[0]), only: left.slice(1) } : null;
@@ -64,24 +67,39 @@ async function install(entries, unpacked, { installs, folder }) {
 }
 
 const fileName = (page) => page.replace(/^\/usr\/share\//, '').replace(/[^\w.-]+/g, '-');
+const folderOf = ({ page }, { folder }) => path.join(folder, 'pages', fileName(page));
 
 /** What decides what times are worth. */
 function machineFacts(before, chromium, { lanes }) {
-  return { chromium, processors: os.cpus().length, sideBySide: lanes, loads: [before, os.loadavg()[0]] };
+  return { chromium, processors: os.cpus().length, sideBySide: lanes, loads: [...before, os.loadavg()[0]] };
 }
+
+/** The two recordings of a page, with how busy the machine was: new ones, or those of a call that was stopped behind them. */
+async function recordingsOf(calls) {
+  const file = path.join(calls.folder, 'recordings.json');
+  if (fs.existsSync(file)) return JSON.parse(fs.readFileSync(file, 'utf8'));
+  fs.rmSync(calls.folder, { recursive: true, force: true });
+  fs.mkdirSync(calls.folder, { recursive: true });
+  const before = os.loadavg()[0];
+  const recordings = { runs: await calls.runs(), loads: [before, os.loadavg()[0]] };
+  writeWhole(file, JSON.stringify(recordings));
+  return recordings;
+}
+
+const callsOf = (entry, unpacked, options) => new PageCalls(path.join(unpacked.root, entry.page), unpacked.root, folderOf(entry, options));
 
 /** Records one page, and answers its line. */
 async function recordPage(entry, unpacked, chromium, options) {
   const { needs, ...known } = entry;
-  const folder = path.join(options.folder, 'pages', fileName(entry.page));
-  const [begin, before] = [Date.now(), os.loadavg()[0]];
+  const begin = Date.now();
+  const before = [os.loadavg()[0]];
   const facts = () => ({ began: new Date(begin).toISOString(), seconds: (Date.now() - begin) / 1000, machine: machineFacts(before, chromium, options) });
   try {
     known.version = await unpacked.versionOf(entry.package);
-    fs.rmSync(folder, { recursive: true, force: true });
-    fs.mkdirSync(folder, { recursive: true });
-    const calls = new PageCalls(path.join(unpacked.root, entry.page), unpacked.root, folder);
-    const [runs, loads, replay] = [await calls.runs(), await calls.loads(options.loads), await calls.replay(options.most)];
+    const calls = callsOf(entry, unpacked, options);
+    const recordings = await recordingsOf(calls);
+    before.push(...recordings.loads);
+    const [{ runs }, loads, replay] = [recordings, await calls.loads(options.loads), await calls.replay(options.most)];
     const measured = await calls.measure();
     return lineOf(known, { runs, loads, replay, measured, costs: await calls.costs() }, facts());
   } catch (fault) {
@@ -99,11 +117,26 @@ function told({ page, failure, seconds, runs, problems, replay }) {
 /** Records pages one after another, until none is left. */
 async function recordLane(left, done, unpacked, chromium, options) {
   while (left.length) {
-    const line = await recordPage(left.shift(), unpacked, chromium, options);
-    appendLine(done.file, line);
-    done.count++;
-    console.log(withoutCommands(`${done.count} of ${done.of}: ${told(line)}`));
+    const entry = left.shift();
+    if (options.isRecordedAlone) {
+      await recordingsOf(callsOf(entry, unpacked, options));
+      console.log(withoutCommands(`${entry.page}: recorded`));
+    } else {
+      const line = await recordPage(entry, unpacked, chromium, options);
+      appendLine(done.file, line);
+      done.count++;
+      console.log(withoutCommands(`${done.count} of ${done.of}: ${told(line)}`));
+    }
   }
+}
+
+/** The pages that are not done. Of one that is recorded anew nothing of before is taken. */
+function entriesLeft(entries, file, options) {
+  const stays = (line) => !(line.failure && options.recordsFailed) && !(!isQuiet(line) && options.recordsBusy);
+  const lines = new Map(readLines(file).map((line) => [line.page, line]));
+  const left = entries.filter(({ page }) => !lines.has(page) || !stays(lines.get(page)));
+  left.filter(({ page }) => lines.has(page)).forEach((entry) => fs.rmSync(folderOf(entry, options), { recursive: true, force: true }));
+  return left;
 }
 
 async function main(words) {
@@ -112,7 +145,7 @@ async function main(words) {
     console.error(USAGE);
     return USAGE_STATUS;
   }
-  if (programState() !== 'built') {
+  if (!options.isRecordedAlone && programState() !== 'built') {
     console.error('corpus.js: nothing done: it takes the built program: ./er_cli --build, or ER_CLI names one');
     return USAGE_STATUS;
   }
@@ -120,9 +153,7 @@ async function main(words) {
   const entries = readCorpus(options.only);
   if (!await install(entries, unpacked, options)) return USAGE_STATUS;
   const file = path.join(options.folder, 'pages.jsonl');
-  const stays = (line) => !(line.failure && options.recordsFailed) && !(!isQuiet(line) && options.recordsBusy);
-  const before = new Set(readLines(file).filter(stays).map(({ page }) => page));
-  const left = entries.filter(({ page }) => !before.has(page));
+  const left = entriesLeft(entries, file, options);
   const { stdout } = await run(process.env.CHROMIUM || '/usr/bin/chromium', ['--version'], { longest: 60000 });
   const chromium = stdout.trim().split(' ').slice(0, 2).join(' ');
   const done = { file, count: entries.length - left.length, of: entries.length };

@@ -76,6 +76,7 @@ class PageCalls {
   /** er_page with its replays, in a folder of its own. */
   async replay(most) {
     const own = path.join(this.folder, 'replay');
+    fs.rmSync(own, { recursive: true, force: true });
     fs.mkdirSync(own, { recursive: true });
     const words = [this.page, '--root', this.root, ...RUNS[0], '--replay', '--most', String(most), '--json'];
     const { status, stdout, stderr, seconds } = await this.call(path.join(TOP, 'er_page'), words, LONGEST_REPLAY, own);
