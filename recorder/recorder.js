@@ -13,8 +13,9 @@ const { markAhead } = require('./instrument/ahead.js');
 const { warmUp } = require('./instrument/warm-up.js');
 const { Sources } = require('./sources.js');
 const { Intake } = require('./trace/intake.js');
-const { pageScript, SCRIPT_NAME } = require('./page-script.js');
-const { shown, withoutCommands } = require('./view/shown.js');
+const { errorText, consoleText } = require('./error-text.js');
+const { pageScript } = require('./page-script.js');
+const { shown } = require('./view/shown.js');
 
 const SIZE = { width: 1100, height: 800 };
 const POLL = 50;
@@ -215,8 +216,8 @@ class Recorder {
   listen() {
     const { tab } = this;
     tab.on('Runtime.bindingCalled', ({ name, payload }) => name === '__erSend' && this.take(payload));
-    tab.on('Runtime.exceptionThrown', ({ exceptionDetails }) => this.errors.push(errorOf(exceptionDetails, this.address)));
-    tab.on('Runtime.consoleAPICalled', ({ type, args }) => (type === 'error' || type === 'assert') && this.consoleErrors.push(textOf(args)));
+    tab.on('Runtime.exceptionThrown', ({ exceptionDetails }) => this.errors.push(errorText(exceptionDetails, this.address, this.sources)));
+    tab.on('Runtime.consoleAPICalled', ({ type, args }) => (type === 'error' || type === 'assert') && this.consoleErrors.push(consoleText(args, this.sources)));
     tab.on('Page.javascriptDialogOpening', ({ type, message }) => this.dialogs.push(`${type}: ${shown(message)}`));
     tab.on('Page.loadEventFired', () => { this.isLoaded = true; });
     if (this.answersDialogs()) tab.on('Page.javascriptDialogOpening', () => tab.send('Page.handleJavaScriptDialog', { accept: true }).catch(() => {}));
@@ -374,23 +375,6 @@ class Recorder {
     if (this.windows) lines.push(`windows that the page opened, closed at once: ${this.windows}`);
     return lines;
   }
-}
-
-/** An error's text has the code around it as the browser got it. */
-const withoutMarks = (text) => text.replace(/__er\.\w+\(\.\.\.\)/g, '…');
-const textOf = (values) => withoutCommands(withoutMarks(values.map(({ value, description, type }) => (value !== undefined ? String(value) : description || type)).join(' ').split('\n')[0]).slice(0, 300));
-
-/** Where an error is, outside of the recorder's own script; where nothing else ran, at the begin of the page, as without it. */
-function placeOfError({ url, lineNumber, stackTrace }, page) {
-  if (url !== SCRIPT_NAME) return { url: url || '', lineNumber };
-  return stackTrace?.callFrames.find((frame) => frame.url && frame.url !== SCRIPT_NAME) || { url: page || '', lineNumber: 0 };
-}
-
-function errorOf(details, page) {
-  const { exception, text } = details;
-  const { url, lineNumber } = placeOfError(details, page);
-  const message = (exception && exception.description ? exception.description.split('\n')[0] : text) || '';
-  return `${shown(withoutMarks(message))} (${shown(url.replace(/^.*\//, ''))}:${lineNumber + 1})`;
 }
 
 module.exports = { Recorder, RecordingFault, numberOfAct, LETTERS_OF_ACT };

@@ -74,11 +74,16 @@ class EditedText {
     return Math.min(this.originalStarts[piece] + changed - this.changedStarts[piece], next);
   }
 
+  /** The original offset of a line and column in the changed text. */
+  originalOffsetAt(line, column) {
+    this.changedLines = this.changedLines || new Lines(this.text);
+    return this.originalOffset(this.changedLines.offsetOf(line, column));
+  }
+
   /** The original line and column of a line and column in the changed text. */
   originalPlace(line, column) {
-    this.changedLines = this.changedLines || new Lines(this.text);
     this.originalLines = this.originalLines || new Lines(this.original);
-    return this.originalLines.placeOf(this.originalOffset(this.changedLines.offsetOf(line, column)));
+    return this.originalLines.placeOf(this.originalOffsetAt(line, column));
   }
 }
 
