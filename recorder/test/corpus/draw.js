@@ -12,6 +12,7 @@ const JUDGEMENTS = {
   impossible: "can't happen in a browser",
 };
 const NOT_JUDGED = 'not yet judged';
+const LONGEST_WHY = 400;
 
 const rankOf = (seed, { page, name }) => createHash('sha256').update(`${seed}\n${page}\n${name}`).digest('hex');
 const isSame = (one, other) => one.page === other.page && one.name === other.name;
@@ -77,7 +78,7 @@ function judgementsText({ problems, seed }) {
   const rows = Object.entries(JUDGEMENTS).map(([key, words]) => [words, judged.filter(({ judgement }) => judgement === key).length]);
   const rest = problems.length - judged.length;
   const sums = tableOf(['Of the problems that were drawn', 'Problems', 'Share'], [...rows, ...rest ? [[NOT_JUDGED, rest]] : []].map(([words, count]) => [words, count, percent(count, problems.length)]));
-  const each = judged.map(({ page, words, judgement, lost, why }) => [told(page.split('/').slice(-2).join('/')), told(words), JUDGEMENTS[judgement], told([why, lost].filter(Boolean).join(': '))]);
+  const each = judged.map(({ page, words, judgement, lost, why }) => [told(page.split('/').slice(-2).join('/')), told(words), JUDGEMENTS[judgement], told([why, lost].filter(Boolean).join(': '), LONGEST_WHY)]);
   return [sums, tableOf(['Page', 'Problem', 'Judged', 'Why'], each)].join('\n\n');
 }
 

@@ -14,7 +14,7 @@ const MOST_TOLD = 20;
 const LONGEST_TOLD = 160;
 
 /** A text of a page as it stands in a cell of Markdown: it is no mark-up, no tag, and ends no cell. */
-const told = (text) => withoutCommands(String(text).length > LONGEST_TOLD ? `${String(text).slice(0, LONGEST_TOLD)}…` : text)
+const told = (text, longest = LONGEST_TOLD) => withoutCommands(String(text).length > longest ? `${String(text).slice(0, longest)}…` : text)
   .replace(/[&<>|`*[\]\\~$]/g, (sign) => `&#${sign.codePointAt(0)};`);
 
 const row = (cells) => `| ${cells.join(' | ')} |`;
