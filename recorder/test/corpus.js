@@ -1,6 +1,6 @@
 #!/usr/bin/env node
 'use strict';
-// corpus.js [--install] [--side-by-side N] [--most N] [--loads N] [--recordings] [--again] [--quiet] FOLDER [PACKAGE..]: the evaluation (docs/evaluation.md).
+// corpus.js [--install] [--side-by-side N] [--most N] [--minutes N] [--loads N] [--recordings] [--again] [--quiet] FOLDER [PACKAGE..]: the evaluation (docs/evaluation.md).
 // Records the pages of corpus.json, or of the packages that are named, each with five clicks and a slow network in two seeds, judges them, and runs the first
 // problems of each page again in the other order. Appends a line of JSON for each page to FOLDER/pages.jsonl when it is done, so it can be stopped, and goes
 // on where it was: of a page that is not done too, behind its two recordings.
@@ -22,16 +22,17 @@ const USAGE = `usage: corpus.js [options] FOLDER [PACKAGE..]
   --install         fetches the packages that are missing, with apt-get, and unpacks them in FOLDER; else it is said which are missing, and nothing is done
   --side-by-side N  so many pages at once (1)
   --most N          so many problems of each page are run again in the other order (5)
+  --minutes N       for at most so long; what was found until then stays (60)
   --loads N         so many loads of each page with and without the recorder, for their times (3); 0 where the machine is not quiet
   --recordings      the two recordings of each page alone, which take no program; a later call goes on behind them
   --again           records the pages anew that failed before
   --quiet           records the pages anew that were recorded with other work on the machine`;
 const USAGE_STATUS = 2;
-const NUMBERS = { '--side-by-side': 'lanes', '--most': 'most', '--loads': 'loads' };
+const NUMBERS = { '--side-by-side': 'lanes', '--most': 'most', '--minutes': 'minutes', '--loads': 'loads' };
 const FLAGS = { '--install': 'installs', '--recordings': 'isRecordedAlone', '--again': 'recordsFailed', '--quiet': 'recordsBusy' };
 
 function optionsOf(words) {
-  const options = { lanes: 1, most: 5, loads: 3, installs: false, isRecordedAlone: false, recordsFailed: false, recordsBusy: false };
+  const options = { lanes: 1, most: 5, minutes: 60, loads: 3, installs: false, isRecordedAlone: false, recordsFailed: false, recordsBusy: false };
   const left = [...words];
   while (left[0]?.startsWith('--')) {
     const name = left.shift();
@@ -99,7 +100,7 @@ async function recordPage(entry, unpacked, chromium, options) {
     const calls = callsOf(entry, unpacked, options);
     const recordings = await recordingsOf(calls);
     before.push(...recordings.loads);
-    const [{ runs }, loads, replay] = [recordings, await calls.loads(options.loads), await calls.replay(options.most)];
+    const [{ runs }, loads, replay] = [recordings, await calls.loads(options.loads), await calls.replay(options)];
     const measured = await calls.measure();
     return lineOf(known, { runs, loads, replay, measured, costs: await calls.costs() }, facts());
   } catch (fault) {

@@ -8,7 +8,6 @@ const { run } = require('../cleanup.js');
 
 const TOP = path.join(__dirname, '..', '..', '..');
 const LONGEST_RECORDING = 900000;
-const LONGEST_REPLAY = 3600000;
 const LONGEST_MEASURE = 3600000;
 const LONGEST_ANSWER = 600000;
 /** Five clicks on a slow network, in two seeds: of each file the second one's delay is another too. */
@@ -73,13 +72,13 @@ class PageCalls {
     return loads;
   }
 
-  /** er_page with its replays, in a folder of its own. */
-  async replay(most) {
+  /** er_page with its replays, in a folder of its own. Behind its time it is stopped, and tells what it found until then. */
+  async replay({ most, minutes }) {
     const own = path.join(this.folder, 'replay');
     fs.rmSync(own, { recursive: true, force: true });
     fs.mkdirSync(own, { recursive: true });
     const words = [this.page, '--root', this.root, ...RUNS[0], '--replay', '--most', String(most), '--json'];
-    const { status, stdout, stderr, seconds } = await this.call(path.join(TOP, 'er_page'), words, LONGEST_REPLAY, own);
+    const { status, stdout, stderr, seconds } = await this.call(path.join(TOP, 'er_page'), words, minutes * 60000, own);
     fs.writeFileSync(path.join(own, 'listing.json'), stdout);
     return { status, seconds, ...status === 0 || status === 1 ? {} : { failure: faultOf(stderr) } };
   }
