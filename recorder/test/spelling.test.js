@@ -12,6 +12,12 @@ test('notes go to where they belong', () => {
   assert.deepStrictEqual(spell(lines, 1), ['parse 0 1 plain', 'every 3000000001 0', 'new 0 2 plain', 'new 0 4 plain', 'new 0 5 plain', 'parse 0 3 plain']);
 });
 
+test('what nothing that ran has made in a frame stands behind its document', () => {
+  const lines = ['parse 0 1 plain', 'early new 2 8 async', 'early new 0 9 plain', 'new 0 2 plain', 'parse 0 3 frame 1', 'beside 3 new 0 4 frame 2', 'beside 8 new 2 10 plain', 'exec 8'];
+  assert.deepStrictEqual(spell(lines, 3),
+    ['parse 0 1 plain', 'new 0 9 plain', 'new 0 2 plain', 'parse 0 3 frame 1', 'new 0 4 frame 2', 'new 2 8 async', 'new 2 10 plain', 'exec 8']);
+});
+
 test('a dispatch looks at each slot that was ever written', () => {
   const lines = ['parse 0 1 plain', 'look 1 click', 'w slot 1 click/7', 'w slot 1 a/b/8', 'look 1 a/b'];
   assert.deepStrictEqual(spell(lines, 1), ['parse 0 1 plain', 'r slot 1 click', 'r slot 1 click/7', 'w slot 1 click/7', 'w slot 1 a/b/8', 'r slot 1 a/b', 'r slot 1 a/b/8']);

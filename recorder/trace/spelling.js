@@ -3,8 +3,9 @@
 //
 // A line of the log is a record, or one of these. Behind it stand, after tabs, its place in the browser's copy (or the number of a mark), what an access found
 // or wrote (page/values.js), and, where code asks for something, the number of its stack: trace/names.js takes the first place in it outside of libraries.
-// - `early NOTE`: a note in the first action, as nothing recorded ran; `beside E NOTE`: behind the declaration of element E; `into A NOTE`: at the end of
-//   action A, which may be long over: the stand-in of an event that A has queued, the handler of what asked there.
+// - `early NOTE`: a note in the first action, as nothing recorded ran, or behind the declaration of the frame whose document it names; `beside E NOTE`: behind
+//   the declaration of element E; `into A NOTE`: at the end of action A, which may be long over: the stand-in of an event that A has queued, the handler of
+//   what asked there.
 // - `look E TYPE`: reads of all slots of E for the type that the log ever writes.
 // - `set T DELAY DOCUMENT`: `set`, or `every` where the timeouts of another window are the ones that are compared.
 // - `ask A`, `anim A`: so in version 3; before, `every` and `tick`.
@@ -29,6 +30,8 @@ const NEWEST_VERSION = 3;
 /** Numbers of intervals that stand for timeouts of other windows, and for runs of modules that nobody asked for. */
 const FIRST_FOREIGN_TIMEOUT = 3000000000;
 const FIRST_LONE_MODULE = 3500000000;
+/** The document of the page itself, which its first record declares. */
+const PAGE = '0';
 
 function addTo(lists, key, item) {
   if (!lists.has(key)) lists.set(key, []);
@@ -69,14 +72,15 @@ class Spelling {
 
   // ---- what a whole look at the log tells
 
-  /** Moves notes to where they belong: to the first action, into another one, or beside the declaration of an element. */
+  /** Moves notes to where they belong: to the first action, into another one, or beside the declaration of an element or of a frame's document. */
   placeNotes(entries) {
     const early = [];
     const moved = { beside: new Map(), into: new Map() };
     const rest = [];
     for (const entry of entries) {
       const words = entry.text.split(' ');
-      if (words[0] === 'early') early.push({ ...entry, text: entry.text.slice(6) });
+      if (words[0] === 'early' && words[1] === 'new' && words[2] !== PAGE) addTo(moved.beside, `frame ${words[2]}`, { ...entry, text: entry.text.slice(6) });
+      else if (words[0] === 'early') early.push({ ...entry, text: entry.text.slice(6) });
       else if (moved[words[0]]) addTo(moved[words[0]], words[1], { ...entry, text: words.slice(2).join(' ') });
       else rest.push(entry);
     }
@@ -101,7 +105,8 @@ class Spelling {
   besideOf({ text }, beside) {
     const words = text.split(' ');
     if (words[0] !== 'parse' && words[0] !== 'new') return [];
-    return (beside.get(words[2]) || []).flatMap((entry) => [entry, ...this.besideOf(entry, beside)]);
+    const inFrame = words[3] === 'frame' ? beside.get(`frame ${words[4]}`) || [] : [];
+    return [...beside.get(words[2]) || [], ...inFrame].flatMap((entry) => [entry, ...this.besideOf(entry, beside)]);
   }
 
   /** All slots that were ever written at an element for a type, as a dispatch looks at each of them. */
