@@ -2,6 +2,7 @@
 // The evaluation without a browser: how its pages are chosen, what its lines come to, and how problems are drawn.
 
 const assert = require('node:assert');
+const { spawnSync } = require('node:child_process');
 const fs = require('node:fs');
 const path = require('node:path');
 const { test } = require('node:test');
@@ -103,6 +104,12 @@ test('what a recording says is read', () => {
   const said = 'er_record: 5 actions in 1.0 s\n  not done: click:x\n  not recorded: frames: 2\n  load of the page: 0.25 s\n  error: E (a.js:1)\n';
   assert.deepStrictEqual(readSaid(said), { load: 0.25, errors: ['E (a.js:1)'], notRecorded: ['frames: 2'], notDone: [': click:x'] });
   assert.strictEqual(readSaid('').load, null);
+});
+
+test('what a command takes is told without what takes its time', () => {
+  const { stdout } = spawnSync(path.join(__dirname, 'corpus', 'costs.py'), ['cat', DOCUMENT], { encoding: 'utf8' });
+  const [seconds, kilobytes] = stdout.split(' ').map(Number);
+  assert.ok(seconds >= 0 && kilobytes > 0 && kilobytes < 8192, stdout); // Python alone has more
 });
 
 test('what a race is at', () => {

@@ -1,14 +1,21 @@
 #!/usr/bin/env python3
-"""Runs a command of the shell on a file, and tells its seconds of processor time and the most memory that one of its processes had, in KiB.
+"""Runs a command of the shell on a file, and tells its seconds of processor time and the most memory that it had, in KiB.
 
 Usage: costs.py COMMAND FILE
+
+The shell leaves the command behind and ends, and the command's end comes to this process: so what is told is of the command alone. The system counts what a
+process had before it became another program too, which of a child of this one would be more than most commands take.
 """
-import resource
+import ctypes
+import os
 import subprocess
 import sys
 
+PR_SET_CHILD_SUBREAPER = 36
+
 command, file = sys.argv[1:]
-with open(file, "rb") as given:
-    subprocess.run(["/bin/sh", "-c", command], stdin=given, stdout=subprocess.DEVNULL)
-used = resource.getrusage(resource.RUSAGE_CHILDREN)
+ctypes.CDLL(None).prctl(PR_SET_CHILD_SUBREAPER, 1, 0, 0, 0)
+shell = subprocess.Popen(["/bin/sh", "-c", f'{command} < "$0" > /dev/null &', file])
+shell.wait()
+_, _, used = os.wait3(0)
 print(used.ru_utime + used.ru_stime, used.ru_maxrss)
