@@ -7,7 +7,7 @@ const fs = require('node:fs');
 const path = require('node:path');
 const { test } = require('node:test');
 const { temporaryFolder } = require('./cleanup.js');
-const { readSaid } = require('./corpus/calls.js');
+const { readSaid, faultOf } = require('./corpus/calls.js');
 const { draw, withJudgements, faultsOf, judgementsText } = require('./corpus/draw.js');
 const { figuresOf, replaysOf, sumOf, troublesOf, worstOf, loadsOf, whyOf, median } = require('./corpus/figures.js');
 const { readLines, appendLine } = require('./corpus/lines.js');
@@ -104,6 +104,8 @@ test('what a recording says is read', () => {
   const said = 'er_record: 5 actions in 1.0 s\n  not done: click:x\n  not recorded: frames: 2\n  load of the page: 0.25 s\n  error: E (a.js:1)\n';
   assert.deepStrictEqual(readSaid(said), { load: 0.25, errors: ['E (a.js:1)'], notRecorded: ['frames: 2'], notDone: [': click:x'] });
   assert.strictEqual(readSaid('').load, null);
+  assert.strictEqual(faultOf('er_record: 5 actions in 1.0 s\nx\ner_page: stopped\ny\n', 'er_page'), 'er_page: stopped');
+  assert.deepStrictEqual(['a\ner_record: no page\nb', 'a\nTypeError: x\n  at b', 'a\nb\n'].map((text) => faultOf(text)), ['er_record: no page', 'TypeError: x', 'b']);
 });
 
 test('what a command takes is told without what takes its time', () => {

@@ -23,10 +23,11 @@ function readSaid(said) {
   return { load: load ? Number(load[1]) : null, errors: behind('  error: '), notRecorded: behind('  not recorded: '), notDone: behind('  not done') };
 }
 
-/** The line that says what went wrong: the first one of a command, or the one with the error that Node tells; else the last one. */
-function faultOf(text) {
+/** The line that says what went wrong: the first one of the command, else of one that it calls, or the one with the error that Node tells; else the last one. */
+function faultOf(text, name = 'er_') {
   const lines = text.trim().split('\n');
-  return (lines.find((line) => /^(\w*Error\b|er_\w+: )/.test(line)) || lines.pop()).slice(0, 300);
+  const begins = (begin) => lines.find((line) => line.startsWith(begin));
+  return (begins(`${name}: `) || lines.find((line) => /^(\w*Error\b|er_\w+: )/.test(line)) || lines.pop()).slice(0, 300);
 }
 
 /** The calls of one page. Its files stand in a folder of its own. */
@@ -80,7 +81,7 @@ class PageCalls {
     const words = [this.page, '--root', this.root, ...RUNS[0], '--replay', '--most', String(most), '--json'];
     const { status, stdout, stderr, seconds } = await this.call(path.join(TOP, 'er_page'), words, minutes * 60000, own);
     fs.writeFileSync(path.join(own, 'listing.json'), stdout);
-    return { status, seconds, ...status === 0 || status === 1 ? {} : { failure: faultOf(stderr) } };
+    return { status, seconds, ...status === 0 || status === 1 ? {} : { failure: faultOf(stderr, 'er_page') } };
   }
 
   /** What the recordings have (measure.js), read in a process of its own. */
@@ -98,4 +99,4 @@ class PageCalls {
   }
 }
 
-module.exports = { PageCalls, readSaid, RUNS };
+module.exports = { PageCalls, readSaid, faultOf, RUNS };
