@@ -147,10 +147,19 @@ class Globals {
 
   /** The value of a variable, without a call of the page's code. */
   valueOf(name) {
-    const descriptor = Object.getOwnPropertyDescriptor(this.page.window, name);
+    const descriptor = this.propertyOf(name);
     if (descriptor) return 'value' in descriptor ? descriptor.value : MISSING;
     const cell = this.lexicals.get(name);
     return cell === undefined ? MISSING : cell.now;
+  }
+
+  /** A property of the window; undefined where a page of another origin stands in the frame by now. */
+  propertyOf(name) {
+    try {
+      return Object.getOwnPropertyDescriptor(this.page.window, name);
+    } catch {
+      return undefined;
+    }
   }
 
   /** A write that was told is none that no mark saw. */
@@ -202,7 +211,7 @@ class Globals {
   /** The descriptor of a variable that has a value, else undefined. */
   descriptorOf(name) {
     if (this.builtins.has(name) || /^\d+$/.test(name)) return undefined;
-    const descriptor = Object.getOwnPropertyDescriptor(this.page.window, name);
+    const descriptor = this.propertyOf(name);
     return descriptor && 'value' in descriptor ? descriptor : undefined;
   }
 

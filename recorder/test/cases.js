@@ -583,6 +583,10 @@ exports.cases = [
     ],
   },
   {
+    page: 'frame-left.html', // its empty page is touched by code, and a page of another origin comes before this is told
+    due: ['new iframe#inside frame', 'w early', 'eload iframe#inside', 'load'],
+  },
+  {
     page: 'frame-lazy.html',
     due: [
       'parse iframe#inside plain', 'new iframe#inside frame', 'parse p#child plain', 'exec script', 'dcl', 'load', 'eload iframe#inside', 'run load', 'w whole',
