@@ -113,13 +113,14 @@ class Calls {
 
   /** What an element loads is set by a script. */
   replaceSources() {
-    const { window, elements } = this.page;
+    const { page } = this;
+    const { window } = page;
     for (const [owner, name] of SOURCES.map(([interfaceName, name]) => [window[interfaceName], name])) {
       replaceProperty(owner.prototype, name, (native) => ({
         set(value) {
-          elements.noteSource(this);
+          page.elements.noteSource(this);
           native.set.call(this, value);
-          elements.nameSource(this);
+          page.elements.nameSource(this);
         },
       }));
     }

@@ -35,9 +35,9 @@ class Elements {
     });
   }
 
-  start() {
+  start(maker = 'script') {
     const { document } = this.page;
-    if (document.documentElement) this.addTree(document.documentElement, 'script');
+    if (document.documentElement) this.addTree(document.documentElement, maker);
     this.watch(document);
   }
 
@@ -421,16 +421,17 @@ class Elements {
     return !this.has(element, 'src') && !this.page.scripts.hasRun.has(this.number(element));
   }
 
-  /** The document number for a page that a frame shows now. */
+  /** The document number for a page that a frame shows now; the empty page before its first one is passing. */
   numberOfInner(frame, isPassing) {
     const first = this.frameDocuments.get(frame); // a lazy frame has none
     const load = this.loads.get(frame);
     if (load && load.inner) return this.useOnce(load, 'inner');
     if (first && !first.isUsed && !isPassing) {
       first.isUsed = true;
+      if (load && load.isPassing) this.loads.delete(frame); // the empty page before it has had no load event
       return first.number;
     }
-    return this.furtherDocument(frame);
+    return this.furtherDocument(frame, isPassing);
   }
 
   /** What an element loads now. */
@@ -446,14 +447,14 @@ class Elements {
   }
 
   /** A further page in a frame, with no known asker: a frame element that stands for it is declared beside the frame's own. */
-  furtherDocument(frame) {
+  furtherDocument(frame, isPassing) {
     const number = this.declaredNumber(frame);
     const standIn = this.recording.next('element');
     const inner = this.recording.next('document');
     this.recording.noteBeside(number, `new ${this.page.number} ${standIn} frame ${inner}`);
     this.recording.log.name('element', standIn, { standsFor: number, why: 'a further page in the frame' });
     this.recording.log.name('document', inner, { frame: standIn });
-    this.loads.set(frame, { number: standIn, inner: 0 });
+    this.loads.set(frame, { number: standIn, inner: 0, isPassing });
     return inner;
   }
 }

@@ -15,6 +15,8 @@ class Globals {
   constructor(page) {
     this.page = page;
     this.recording = page.recording;
+    /** In locations the window has the number of its first document. */
+    this.number = page.number;
     this.builtins = new Set(['__er']);
     for (let owner = page.window; owner; owner = Object.getPrototypeOf(owner)) {
       Object.getOwnPropertyNames(owner).forEach((name) => this.builtins.add(name));
@@ -41,7 +43,7 @@ class Globals {
   }
 
   location(name) {
-    return `var ${this.page.number} ${spellName(name)}`;
+    return `var ${this.number} ${spellName(name)}`;
   }
 
   /** Whether the running piece of code has had this access already: most accesses of code that loops are such, and cost no more. */

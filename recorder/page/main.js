@@ -2,13 +2,11 @@
 
 class Page {
   constructor(window, recording, number, natives) {
-    Object.assign(this, { window, recording, number, natives });
-    this.document = window.document;
+    Object.assign(this, { window, recording, natives });
     this.EventTarget = window.EventTarget;
-    this.loading = new Loading(this);
-    this.elements = new Elements(this);
-    this.inOrder = new InOrder(this);
-    this.shadows = new Shadows(this);
+    this.takeDocument(number);
+    /** The empty page in which a frame begins. */
+    this.isFirstInFrame = number > 0 && this.document.URL === 'about:blank';
     this.globals = new Globals(this);
     this.imports = new Imports(this);
     this.dispatches = new Dispatches(this);
@@ -30,6 +28,16 @@ class Page {
     this.scripts = new Scripts(this);
   }
 
+  /** What is known of a document, and not of the window that shows it. */
+  takeDocument(number) {
+    this.number = number;
+    this.document = this.window.document;
+    this.loading = new Loading(this);
+    this.elements = new Elements(this);
+    this.inOrder = new InOrder(this);
+    this.shadows = new Shadows(this);
+  }
+
   start() {
     const { documents } = this.recording;
     documents.splice(0, documents.length, ...keep(documents, (page) => page.window !== this.window), this);
@@ -45,16 +53,37 @@ class Page {
     this.recording.steering.holdLoad(this);
   }
 
-  /** The first action of a document: a step that makes the document itself, and its window. */
+  /**
+   * An empty page that code has touched hands its window to the frame's next page, with all that stands in it, and no recorder starts there. So it is
+   * looked for as a task begins: what the next page has by then is the parser's.
+   */
+  lookForNextDocument() {
+    const { window, recording } = this;
+    const document = this.isFirstInFrame ? documentOf(window) : this.document;
+    if (document === this.document) return;
+    this.isFirstInFrame = false;
+    const isOfWindow = document && getPrototypeOf(document) === getPrototypeOf(this.document); // another window has prototypes of its own
+    const number = isOfWindow ? numberOfFrame(window, recording, false) : -1;
+    if (number < 0) return;
+    if (this.loading.hasBegunLoad) recording.elementNumbers.delete(window); // its load has looked for no handlers of the next page
+    this.takeDocument(number);
+    this.beginDocument();
+    this.dispatches.captureAgain();
+    this.elements.start('parser');
+    recording.steering.holdLoad(this);
+  }
+
+  /** The first action of a document: a step that makes the document itself, and its window where that is no other document's before. */
   beginDocument() {
     const { recording, document, elements } = this;
     elements.markDeclared(document, 'plain');
     const number = elements.number(document);
     if (recording.contexts.length) recording.note(`new ${this.number} ${number} plain`);
     else recording.beginParse(this.number, `${number} plain`);
+    recording.log.name('document', this.number, { address: String(document.URL).slice(0, 400) });
+    if (recording.declared.has(elements.number(this.window))) return;
     elements.markDeclared(this.window, 'plain');
     recording.log.line(`new ${this.number} ${elements.number(this.window)} plain`);
-    recording.log.name('document', this.number, { address: String(document.URL).slice(0, 400) });
   }
 
   /** A plain element of the document that stands for something which is no element. */
@@ -179,16 +208,27 @@ function frameOf(window) {
   }
 }
 
-/** The document number for a frame's page, or -1 where it is not recorded. */
-function numberOfFrame(window, recording) {
+/** The document that a window shows, or null where it is of another origin. */
+function documentOf(window) {
+  try {
+    return window.document;
+  } catch {
+    return null;
+  }
+}
+
+/**
+ * @param {boolean} mayPass whether it may be the empty page that a frame shows before that of its `src`
+ * @returns {number} the document number for a frame's page, or -1 where it is not recorded
+ */
+function numberOfFrame(window, recording, mayPass) {
   const frame = frameOf(window);
   const parent = frame && findItem(recording.documents, (page) => page.document === frame.ownerDocument);
   if (!parent) return -1;
-  if (!recording.contexts.length) recording.startTask();
-  else parent.elements.collect('script');
+  if (recording.contexts.length) parent.elements.collect('script');
   parent.elements.declaredNumber(frame);
   const source = parent.elements.attribute(frame, 'src');
-  const isPassing = window.location.href === 'about:blank' && !!source && source !== 'about:blank';
+  const isPassing = mayPass && window.location.href === 'about:blank' && !!source && source !== 'about:blank';
   return parent.elements.numberOfInner(frame, isPassing);
 }
 
@@ -199,7 +239,8 @@ function startRecorder(window) {
   const isTop = window.parent === window;
   if (FIXED) fixChance(window, FIXED);
   const recording = isTop ? new Recording(natives, send) : recordingOfParent(window);
-  const number = isTop ? 0 : recording ? numberOfFrame(window, recording) : -1;
+  if (recording && !isTop && !recording.contexts.length) recording.startTask();
+  const number = isTop ? 0 : recording ? numberOfFrame(window, recording, true) : -1;
   const isRecorded = number >= 0;
   const page = isRecorded ? new Page(window, recording, number, natives) : null;
   const helpers = isRecorded ? helpersOf(page) : idleHelpers();

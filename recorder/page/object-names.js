@@ -14,7 +14,7 @@ class ObjectNames {
 
   /** The number in locations; where it is the first time, the log says what has it. */
   numberOf(holder) {
-    if (holder.kind === WINDOW) return holder.object.number;
+    if (holder.kind === WINDOW) return holder.object.globals.number;
     if (holder.number) return holder.number;
     if (holder.kind === TREE) {
       holder.number = FIRST_FIELD + this.trees.number(holder.object);

@@ -197,6 +197,7 @@ class Recording {
       document.elements.writeJoining();
       document.elements.collect('parser');
     }
+    each(this.documents, (document) => document.lookForNextDocument());
     this.log.sendIfDue(this.natives.now());
   }
 

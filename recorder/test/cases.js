@@ -583,6 +583,21 @@ exports.cases = [
     ],
   },
   {
+    page: 'frame-in-place.html', // its empty page has a load event, and hands its window to the next one
+    due: [
+      'parse iframe#inside frame', 'load', 'eload iframe#inside', 'run fill', 'parse script sync', 'exec script', 'w given', 'parse p#shown plain',
+      'parse script inline', 'exec script', 'r given', 'w taken', 'dcl', 'load', 'run end', 'w ended', 'eload iframe#inside',
+    ],
+    races: [],
+  },
+  {
+    page: 'frame-touched.html', // its empty page is touched by code, and hands its window to the next one
+    due: [
+      'exec script', 'new iframe#inside frame', 'w early', 'parse script sync', 'exec script', 'w given', 'parse p#shown plain', 'parse script inline', 'exec script',
+      'r given', 'w taken', 'dcl', 'load', 'run end', 'r early', 'w ended', 'eload iframe#inside', 'load',
+    ],
+  },
+  {
     page: 'frame-left.html', // its empty page is touched by code, and a page of another origin comes before this is told
     due: ['new iframe#inside frame', 'w early', 'eload iframe#inside', 'load'],
   },
