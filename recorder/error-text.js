@@ -10,23 +10,30 @@ const LONGEST_CONSOLE = 300;
 const HIDDEN = '…';
 const MARK = /__er\.\w+(?:\(\.\.\.\))?/;
 const FAILED_CALL = /^(\w+: )([^]+)( is not a (?:function|constructor))$/;
-/** The first place in the description of an error: that of the code which failed, where it is thrown again by other code too. */
+/** The innermost place in an error's description: where it failed, also where other code has thrown it again. */
 const FIRST_FRAME = /^ +at (?:.*\()?(\S+):(\d+):(\d+)\)?$/m;
 
 const withoutMarks = (text) => text.replace(new RegExp(MARK, 'g'), HIDDEN);
 
-/** An error's first line, without marks. */
+/**
+ * @param {string} description of an error, with the places behind its message
+ * @param {import('./sources.js').Sources} [sources] the page's own texts, where they are known
+ * @returns {string} the first line, without marks
+ */
 function messageOf(description, sources) {
   const [line] = description.split('\n');
   if (!MARK.test(line)) return line;
   const [, before, told, after] = FAILED_CALL.exec(line) || [];
   const [, address, row, column] = FIRST_FRAME.exec(description) || [];
-  const place = told && address && sources?.markedNear(address, Number(row), Number(column));
+  const place = told && address && sources?.textBehind(address, Number(row), Number(column));
   const own = place ? ownCallSite(told, place) : null;
   return own === null ? withoutMarks(line) : `${before}${own}${after}`;
 }
 
-/** What stands on the console. */
+/**
+ * What stands on the console.
+ * @param {{value?: *, description?: string, type: string}[]} values as the browser tells them
+ */
 function consoleText(values, sources) {
   const texts = values.map(({ value, description, type }) => (value !== undefined ? String(value) : description ? messageOf(description, sources) : type));
   return withoutCommands(withoutMarks(texts.join(' ').split('\n')[0]).slice(0, LONGEST_CONSOLE));
@@ -38,7 +45,11 @@ function placeOfError({ url, lineNumber, stackTrace }, page) {
   return stackTrace?.callFrames.find((frame) => frame.url && frame.url !== SCRIPT_NAME) || { url: page || '', lineNumber: 0 };
 }
 
-/** An uncaught error with its place. */
+/**
+ * An uncaught error with its place.
+ * @param {object} details the browser's ExceptionDetails
+ * @param {string} page its address
+ */
 function errorText(details, page, sources) {
   const { url, lineNumber } = placeOfError(details, page);
   const message = messageOf(details.exception?.description || details.text || '', sources);

@@ -251,12 +251,14 @@ class Sources {
     return this.placeIn(source, source.edited.originalPlace(line, column));
   }
 
-  /** The text behind a position in the browser's copy, the offset for it, and where what is marked in this text begins; or null. */
-  markedNear(address, line, column) {
+  /**
+   * The text behind a position in the browser's copy, and the offset in it.
+   * @returns {{text: string, offset: number}|null}
+   */
+  textBehind(address, line, column) {
     const source = this.byAddress.get(address);
     if (!source || !source.edited) return null;
-    const starts = this.sites.filter((site) => site.source === source).map(({ offset, base, about }) => (about?.object ? base + about.object[0] : offset));
-    return { text: source.text, offset: source.edited.originalOffsetAt(line, column), starts };
+    return { text: source.text, offset: source.edited.originalOffsetAt(line, column) };
   }
 
   /**

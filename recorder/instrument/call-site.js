@@ -1,36 +1,35 @@
 'use strict';
-// How the browser tells the code of a call that fails, as in "$(...).menu is not a function": read from the page's own text, where the browser saw a copy with marks.
+// How the browser tells the code of a call that fails, as in "$(...).menu is not a function": read from the page's own text, where the browser saw a copy
+// with marks.
 
 const acorn = require('/usr/share/nodejs/acorn');
 
-/** What of a copy stands in the place of the page's own code: a mark, also with a name behind it, and what is kept for one. */
+/** What the browser tells of a mark: it stands for any words of the page's own. Behind one a name may stand, in brackets with it. */
 const OF_MARKS = /\(__er\.\w+(?:\(\.\.\.\))? , [\w$]+\)|__er\.\w+(?:\(\.\.\.\))?/;
-/** The call stands so far behind the begin of its object at the most. */
-const LONGEST_OBJECT = 2000;
-const CALLS = new Set(['CallExpression', 'NewExpression', 'TaggedTemplateExpression']);
+/** So many characters stand at the most between the begin of a chain of calls and members and its last call. */
+const LONGEST_CHAIN = 2000;
+const OPTIONS = { ecmaVersion: 'latest', sourceType: 'script', allowAwaitOutsideFunction: true, allowSuperOutsideMethod: true };
+const NAME = /[\p{ID_Start}$_][\p{ID_Continue}$]*/gu;
+/** What stands before a name with which no chain begins: it is a member's or a constructor's, or in a comment. */
+const NO_BEGIN = /(?:(?<!:)\/\/.*|\bnew\s+|(?<!\.)\.\s*)$/;
+/** How the browser tells an object that has no words of its own. */
+const UNTOLD = '(intermediate value)';
 
-/** A call, a member or a name, with all that stands before it in its chain; null where none begins there. */
-function parseChain(text, start) {
+/** What acorn reads at an offset; null where nothing of the kind stands there. */
+function parseAt(text, start, read) {
   try {
-    const parser = new acorn.Parser({ ecmaVersion: 'latest', sourceType: 'script', allowAwaitOutsideFunction: true, allowSuperOutsideMethod: true }, text, start);
+    const parser = new acorn.Parser(OPTIONS, text, start);
     parser.nextToken();
-    return parser.parseExprSubscripts();
+    return read(parser);
   } catch {
     return null;
   }
 }
 
-/** Where the browser says that a call is: at the name of a method or a function, else at the bracket. */
-function placeOfCall({ type, start, callee, quasi }, text) {
-  if (type === 'NewExpression') return start;
-  if (quasi) return quasi.start;
-  if (callee.type === 'MemberExpression' && !callee.computed) return callee.property.start;
-  return callee.type === 'Identifier' ? callee.start : text.indexOf('(', callee.end);
-}
-
 const WORDS = {
   Identifier: ({ name }) => name,
   ThisExpression: () => 'this',
+  NewExpression: () => UNTOLD,
   Literal: ({ value, raw }) => (typeof value === 'string' ? `"${value}"` : raw),
   ChainExpression: ({ expression }) => wordsOf(expression),
   CallExpression: ({ callee, optional }) => joined([callee], ([of]) => `${of}${optional ? '?.' : ''}(...)`),
@@ -52,10 +51,22 @@ function wordsOf(node) {
   return WORDS[node.type]?.(node) ?? null;
 }
 
-/** What is called at an offset, by the chain that begins at another one; null where this one has no call there. */
-function calledAt(text, offset, start) {
-  for (let node = parseChain(text, start); node; node = node.callee || node.object || node.tag || node.expression) {
-    if (CALLS.has(node.type) && placeOfCall(node, text) === offset) return wordsOf(node.callee || node.tag);
+/** The code before a call and the call itself, without what it hands over: so no more of the page is read than the chain. */
+function upToCall(text, offset) {
+  const before = text.slice(Math.max(0, offset - LONGEST_CHAIN), offset);
+  if (text[offset] === '`') return `${before}\`\``;
+  const [name] = /^[\p{ID_Continue}$]*/u.exec(text.slice(offset, offset + LONGEST_CHAIN));
+  return `${before}${name}()`;
+}
+
+/** What is called at an offset, by the chain that ends with the call; null where none does. */
+function calledAt(text, offset) {
+  if (/^new\b/.test(text.slice(offset, offset + 4))) return parseAt(text, offset, (parser) => parser.parseExprAtom())?.callee;
+  const code = upToCall(text, offset);
+  for (const { index } of [...code.matchAll(NAME)].reverse()) {
+    const chain = NO_BEGIN.test(code.slice(0, index)) ? null : parseAt(code, index, (parser) => parser.parseExprSubscripts());
+    const call = chain?.expression || chain;
+    if (call?.end === code.length) return call.callee || call.tag;
   }
   return null;
 }
@@ -67,13 +78,14 @@ const standsFor = (words, told) => new RegExp(`^${told.split(OF_MARKS).map(escap
 
 /**
  * @param {string} told what the browser told of the copy
- * @param {{text: string, offset: number, starts: number[]}} place of the call in the page's own text, and where what is marked begins
+ * @param {{text: string, offset: number}} place where it says that the call is, in the page's own text: at `new`, at a template, at the name of a method
+ *   or a function, else at the bracket
  * @returns {string|null} the same of the page's own text; null where it can't be told
  */
-function ownCallSite(told, { text, offset, starts }) {
-  const near = starts.filter((start) => start < offset && start > offset - LONGEST_OBJECT).sort((a, b) => b - a);
-  const all = [offset, ...near].map((start) => calledAt(text, offset, start));
-  return all.find((words) => words !== null && standsFor(words, told)) ?? null;
+function ownCallSite(told, { text, offset }) {
+  const called = calledAt(text, offset);
+  const words = called ? wordsOf(called) : null;
+  return words !== null && standsFor(words, told) ? words : null;
 }
 
 module.exports = { ownCallSite };

@@ -22,7 +22,7 @@ async function errorsOf(page, words) {
 
 test('errors with their places, one that a function of the browser hands on, and calls in their own words', { timeout: 150000 }, async () => {
   const plain = await errorsOf('errors.html', ['--raw']);
-  assert.strictEqual(plain.length, 15, plain.join('\n'));
+  assert.strictEqual(plain.length, 18, plain.join('\n'));
   assert.deepStrictEqual(await errorsOf('errors.html', []), plain);
   assert.deepStrictEqual(await errorsOf('errors.html', ['--depth', 'globals']), plain);
 });
