@@ -1,9 +1,9 @@
 #!/usr/bin/env node
 'use strict';
-// corpus.js [--install] [--side-by-side N] [--most N] [--minutes N] [--loads N] [--recordings] [--again] [--quiet] FOLDER [PACKAGE..]: the evaluation (docs/evaluation.md).
-// Records the pages of corpus.json, or of the packages that are named, each with five clicks and a slow network in two seeds, judges them, and runs the first
-// problems of each page again in the other order. Appends a line of JSON for each page to FOLDER/pages.jsonl when it is done, so it can be stopped, and goes
-// on where it was: of a page that is not done too, behind its two recordings.
+// corpus.js [--install] [--side-by-side N] [--most N] [--minutes N] [--loads N] [--recordings] [--again] [--quiet] FOLDER [PACKAGE..]: the evaluation
+// (docs/evaluation.md). Records the pages of corpus.json, or of the packages that are named, each with five clicks and a slow network in two seeds, judges
+// them, and runs the first problems of each page again in the other order. Appends a line of JSON for each page to FOLDER/pages.jsonl when it is done, so it
+// can be stopped, and goes on where it was: also behind the two recordings of a page that is not done.
 
 const { createHash } = require('node:crypto');
 const fs = require('node:fs');
@@ -22,22 +22,24 @@ const USAGE = `usage: corpus.js [options] FOLDER [PACKAGE..]
   --install         fetches the packages that are missing, with apt-get, and unpacks them in FOLDER; else it is said which are missing, and nothing is done
   --side-by-side N  so many pages at once (1)
   --most N          so many problems of each page are run again in the other order (5)
-  --minutes N       for at most so long; what was found until then stays (60)
+  --minutes N       for at most so many minutes a page (60); what was found until then stays
   --loads N         so many loads of each page with and without the recorder, for their times (3); 0 where the machine is not quiet
   --recordings      the two recordings of each page alone, which take no program; a later call goes on behind them
   --again           records the pages anew that failed before
   --quiet           records the pages anew that were recorded with other work on the machine`;
 const USAGE_STATUS = 2;
 const NUMBERS = { '--side-by-side': 'lanes', '--most': 'most', '--minutes': 'minutes', '--loads': 'loads' };
-const FLAGS = { '--install': 'installs', '--recordings': 'isRecordedAlone', '--again': 'recordsFailed', '--quiet': 'recordsBusy' };
+const FLAGS = { '--install': 'installs', '--recordings': 'recordsOnly', '--again': 'recordsFailed', '--quiet': 'recordsBusy' };
+
+const isNumberFor = (name, word) => /^\d{1,4}$/.test(word) && (name === '--loads' || Number(word) > 0);
 
 function optionsOf(words) {
-  const options = { lanes: 1, most: 5, minutes: 60, loads: 3, installs: false, isRecordedAlone: false, recordsFailed: false, recordsBusy: false };
+  const options = { lanes: 1, most: 5, minutes: 60, loads: 3, installs: false, recordsOnly: false, recordsFailed: false, recordsBusy: false };
   const left = [...words];
   while (left[0]?.startsWith('--')) {
     const name = left.shift();
     if (FLAGS[name]) options[FLAGS[name]] = true;
-    else if (NUMBERS[name] && (name === '--loads' ? /^\d{1,4}$/ : /^[1-9]\d{0,3}$/).test(left[0] || '')) options[NUMBERS[name]] = Number(left.shift());
+    else if (NUMBERS[name] && isNumberFor(name, left[0] || '')) options[NUMBERS[name]] = Number(left.shift());
     else return null;
   }
   return left.length ? { ...options, folder: path.resolve(left[0]), only: left.slice(1) } : null;
@@ -70,19 +72,26 @@ async function install(entries, unpacked, { installs, folder }) {
 const fileName = (page) => page.replace(/^\/usr\/share\//, '').replace(/[^\w.-]+/g, '-');
 const folderOf = ({ page }, { folder }) => path.join(folder, 'pages', fileName(page));
 
+/** How many processes want to run, on the average of the last minute. */
+const loadOfMachine = () => os.loadavg()[0];
+
 /** What decides what times are worth. */
-function machineFacts(before, chromium, { lanes }) {
-  return { chromium, processors: os.cpus().length, sideBySide: lanes, loads: [...before, os.loadavg()[0]] };
+function machineFacts(loads, chromium, { lanes }) {
+  return { chromium, processors: os.cpus().length, sideBySide: lanes, loads: [...loads, loadOfMachine()] };
 }
 
-/** The two recordings of a page, with how busy the machine was: new ones, or those of a call that was stopped behind them. */
+/**
+ * The two recordings of a page, with how busy the machine was: new ones, or those of a call that was stopped behind them.
+ * @param {PageCalls} calls
+ * @returns {Promise<{runs: object[], loads: number[]}>}
+ */
 async function recordingsOf(calls) {
   const file = path.join(calls.folder, 'recordings.json');
   if (fs.existsSync(file)) return JSON.parse(fs.readFileSync(file, 'utf8'));
   fs.rmSync(calls.folder, { recursive: true, force: true });
   fs.mkdirSync(calls.folder, { recursive: true });
-  const before = os.loadavg()[0];
-  const recordings = { runs: await calls.runs(), loads: [before, os.loadavg()[0]] };
+  const before = loadOfMachine();
+  const recordings = { runs: await calls.runs(), loads: [before, loadOfMachine()] };
   writeWhole(file, JSON.stringify(recordings));
   return recordings;
 }
@@ -93,16 +102,17 @@ const callsOf = (entry, unpacked, options) => new PageCalls(path.join(unpacked.r
 async function recordPage(entry, unpacked, chromium, options) {
   const { needs, ...known } = entry;
   const begin = Date.now();
-  const before = [os.loadavg()[0]];
-  const facts = () => ({ began: new Date(begin).toISOString(), seconds: (Date.now() - begin) / 1000, machine: machineFacts(before, chromium, options) });
+  const loadsOfMachine = [loadOfMachine()];
+  const facts = () => ({ began: new Date(begin).toISOString(), seconds: (Date.now() - begin) / 1000, machine: machineFacts(loadsOfMachine, chromium, options) });
   try {
     known.version = await unpacked.versionOf(entry.package);
     const calls = callsOf(entry, unpacked, options);
     const recordings = await recordingsOf(calls);
-    before.push(...recordings.loads);
-    const [{ runs }, loads, replay] = [recordings, await calls.loads(options.loads), await calls.replay(options)];
+    loadsOfMachine.push(...recordings.loads);
+    const loads = await calls.loads(options.loads);
+    const replay = await calls.replay(options);
     const measured = await calls.measure();
-    return lineOf(known, { runs, loads, replay, measured, costs: await calls.costs() }, facts());
+    return lineOf(known, { runs: recordings.runs, loads, replay, measured, costs: await calls.costs() }, facts());
   } catch (fault) {
     return failedLine(known, fault, facts());
   }
@@ -119,7 +129,7 @@ function told({ page, failure, seconds, runs, problems, replay }) {
 async function recordLane(left, done, unpacked, chromium, options) {
   while (left.length) {
     const entry = left.shift();
-    if (options.isRecordedAlone) {
+    if (options.recordsOnly) {
       await recordingsOf(callsOf(entry, unpacked, options));
       console.log(withoutCommands(`${entry.page}: recorded`));
     } else {
@@ -146,7 +156,7 @@ async function main(words) {
     console.error(USAGE);
     return USAGE_STATUS;
   }
-  if (!options.isRecordedAlone && programState() !== 'built') {
+  if (!options.recordsOnly && programState() !== 'built') {
     console.error('corpus.js: nothing done: it takes the built program: ./er_cli --build, or ER_CLI names one');
     return USAGE_STATUS;
   }

@@ -79,9 +79,11 @@ class Spelling {
     const rest = [];
     for (const entry of entries) {
       const words = entry.text.split(' ');
-      if (words[0] === 'early' && words[1] === 'new' && words[2] !== PAGE) addTo(moved.beside, `frame ${words[2]}`, { ...entry, text: entry.text.slice(6) });
-      else if (words[0] === 'early') early.push({ ...entry, text: entry.text.slice(6) });
-      else if (moved[words[0]]) addTo(moved[words[0]], words[1], { ...entry, text: words.slice(2).join(' ') });
+      if (words[0] === 'early') {
+        const note = { ...entry, text: words.slice(1).join(' ') };
+        if (words[1] === 'new' && words[2] !== PAGE) addTo(moved.beside, `frame ${words[2]}`, note);
+        else early.push(note);
+      } else if (moved[words[0]]) addTo(moved[words[0]], words[1], { ...entry, text: words.slice(2).join(' ') });
       else rest.push(entry);
     }
     const all = this.withNotes(rest, moved.into);

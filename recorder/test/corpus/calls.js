@@ -23,11 +23,15 @@ function readSaid(said) {
   return { load: load ? Number(load[1]) : null, errors: behind('  error: '), notRecorded: behind('  not recorded: '), notDone: behind('  not done') };
 }
 
-/** The line that says what went wrong: the first one of the command, else of one that it calls, or the one with the error that Node tells; else the last one. */
-function faultOf(text, name = 'er_') {
+/**
+ * The line that says what went wrong: the first one of the command, else the first one of any command or with an error that Node tells, else the last one.
+ * @param {string} text what was said on standard error
+ * @param {string} [command] the name of the command, where it calls other ones
+ */
+function faultOf(text, command) {
   const lines = text.trim().split('\n');
-  const begins = (begin) => lines.find((line) => line.startsWith(begin));
-  return (begins(`${name}: `) || lines.find((line) => /^(\w*Error\b|er_\w+: )/.test(line)) || lines.pop()).slice(0, 300);
+  const own = command && lines.find((line) => line.startsWith(`${command}: `));
+  return (own || lines.find((line) => /^(\w*Error\b|er_\w+: )/.test(line)) || lines.pop()).slice(0, 300);
 }
 
 /** The calls of one page. Its files stand in a folder of its own. */
