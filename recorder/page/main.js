@@ -6,6 +6,7 @@ class Page {
     this.document = window.document;
     this.EventTarget = window.EventTarget;
     this.loading = new Loading(this);
+    this.ready = new Ready(this);
     this.elements = new Elements(this);
     this.inOrder = new InOrder(this);
     this.shadows = new Shadows(this);
