@@ -15,9 +15,10 @@ class Elements {
     this.staticScripts = new Set();
     this.pendingDeferred = new Set();
     this.hasRunDeferred = false;
-    /** The element of the last parse step, and its number. */
+    /** The element of the last parse step, its number, and the moment of the step. */
     this.lastParsed = 0;
     this.lastParsedElement = null;
+    this.lastStep = null;
     this.frameDocuments = new WeakMap();
     this.loads = new WeakMap();
     this.makers = new WeakMap();
@@ -373,6 +374,7 @@ class Elements {
     this.recording.running.awaits = this.page;
     this.lastParsed = number;
     this.lastParsedElement = element;
+    this.lastStep = this.recording.lastMoment();
     if (element.localName === 'script' && kind !== 'plain') this.staticScripts.add(number);
     if (kind === 'defer') this.pendingDeferred.add(number);
     if (kind !== 'plain') this.staticLoads.add(number);

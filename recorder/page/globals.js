@@ -58,6 +58,7 @@ class Globals {
 
   read(name, site) {
     if (this.isRepeat(site) || !this.recording.mayAccess()) return;
+    this.page.ready.look(name);
     const isVariable = hasOwn(this.page.window, name) || this.lexicals.has(name);
     if (isVariable) this.note(site);
     if (this.builtins.has(name)) return;
@@ -207,7 +208,9 @@ class Globals {
 
   compareOne(name) {
     const descriptor = this.descriptorOf(name);
-    if (descriptor) this.compareValue(name, descriptor.value);
+    if (!descriptor) return;
+    this.page.ready.look(name);
+    this.compareValue(name, descriptor.value);
   }
 
   /** The descriptor of a variable that has a value, else undefined. */

@@ -83,6 +83,22 @@ class Loading {
     const { parsed } = this;
     this.parsed = [];
     this.page.joins.here(parsed, 'the end of parsing');
+    this.noteBehindParsing();
+  }
+
+  /**
+   * What the end of parsing is behind: the last step, and the run of a script that stands last. Nothing while the parser goes on.
+   * @returns {{action: number, event: object}[]}
+   */
+  endOfParsing() {
+    const { elements, natives, document } = this.page;
+    if (natives.readyState.call(document) === 'loading') return [];
+    return keep([elements.lastStep, this.lastRun.number === elements.lastParsed ? this.lastRun.end : null], Boolean);
+  }
+
+  /** A rule puts the running event behind the parsing (5, 6, 8, 10). */
+  noteBehindParsing() {
+    each(this.endOfParsing(), ({ event }) => this.recording.running.after.push(event));
   }
 
   /** The handlers of a dispatch come behind some ends. */
@@ -101,6 +117,7 @@ class Loading {
     } else this.comeBehind(dispatch, this.awaited, 'what load waits for');
     this.moment = dispatch;
     this.recording.begin(`${end} ${dispatch.number} ${this.page.number}`, 'begin');
+    this.noteBehindParsing();
     return true;
   }
 

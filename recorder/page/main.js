@@ -7,6 +7,7 @@ class Page {
     this.takeDocument(number);
     /** The empty page in which a frame begins. */
     this.isFirstInFrame = number > 0 && this.document.URL === 'about:blank';
+    this.ready = new Ready(this);
     this.globals = new Globals(this);
     this.imports = new Imports(this);
     this.dispatches = new Dispatches(this);

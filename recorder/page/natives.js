@@ -6,6 +6,7 @@ function takeNatives(window) {
     addEventListener: EventTarget.prototype.addEventListener,
     dispatchEvent: EventTarget.prototype.dispatchEvent,
     composedPath: Event.prototype.composedPath,
+    readyState: Object.getOwnPropertyDescriptor(Document.prototype, 'readyState').get,
     initEvent: Event.prototype.initEvent,
     getElementById: Document.prototype.getElementById,
     querySelectorAll: Element.prototype.querySelectorAll,
@@ -68,16 +69,23 @@ function taskPosterOfDocument(window) {
   };
 }
 
-/** Puts a function in place of another one; the page sees its name and the text of a native function. */
+/** Puts a function in place of another one. */
 function replaceMethod(owner, name, make) {
   const descriptor = Object.getOwnPropertyDescriptor(owner, name);
   if (!descriptor || typeof descriptor.value !== 'function') return;
   const native = descriptor.value;
   const replacement = make(native);
-  Object.defineProperty(replacement, 'name', { value: name, configurable: true });
-  Object.defineProperty(replacement, 'length', { value: native.length, configurable: true });
-  replacedFunctions.set(replacement, replacedFunctions.get(native) || native);
+  showAs(replacement, native);
   Object.defineProperty(owner, name, { ...descriptor, value: replacement });
+}
+
+/** The page finds the name, the length and the text of the function in whose place another one stands. */
+function showAs(replacement, native) {
+  each(['name', 'length'], (key) => {
+    const found = Object.getOwnPropertyDescriptor(native, key);
+    if (found) Object.defineProperty(replacement, key, found);
+  });
+  replacedFunctions.set(replacement, replacedFunctions.get(native) || native);
 }
 
 /** Puts a constructor in place of another one; `note` is told of each object that is made. */

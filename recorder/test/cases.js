@@ -126,6 +126,22 @@ exports.cases = [
       'close', 'on the end of parsing', 'exec script', 'inline the end of parsing behind', 'run the end of parsing', 'back', 'r states', 'dcl',
     ],
   },
+  {
+    page: 'ready-late.html',
+    words: CLICK,
+    due: [
+      'parse p#text plain', 'w #text', 'parse script inline', 'on the end of parsing', 'exec script', 'w tail', 'on the end of parsing', 'dcl', 'inline button click',
+      'set 0', 'timer', 'inline the end of parsing behind', 'run the end of parsing', 'run the end of parsing', 'close', 'back', 'r #text', 'r tail', 'w found',
+    ],
+    races: ['isReady of the closure of ?'], // the library's own: the click may come before DOMContentLoaded
+  },
+  {
+    page: 'ready-at-once.html',
+    words: CLICK,
+    due: ['dcl', 'set 0', 'timer', 'r #early', 'w found', 'inline button click', 'set 0', 'timer', 'r #late', 'w seen'],
+    never: ['inline the end of parsing behind'],
+    races: ['#late', 'isReady of the closure of ?'],
+  },
   { page: 'drawing.svg', due: ['parse svg plain', 'parse script plain', 'parse rect#part plain', 'load'], losses: [/^XML pages, as XHTML and SVG/] },
   {
     page: 'no-javascript.html',
