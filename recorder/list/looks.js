@@ -9,6 +9,8 @@ const USER_EVENTS = new Set(['click', 'dblclick', 'auxclick', 'contextmenu', 'mo
   'keydown', 'keypress', 'keyup', 'beforeinput', 'input', 'change', 'submit', 'wheel', 'select', 'selectionchange', 'selectstart']);
 const LETTERS_OF_ACT = 1000;
 const FIRST_FIELD = 1000000;
+/** Why an interval is asked for (scripts.js of the recorder). */
+const ADDRESS = 'a javascript: address';
 const LOSES = 'loses what a user does';
 const THROWS = 'may throw';
 const REST = 'other';
@@ -112,9 +114,10 @@ class Looks {
     }
   }
 
-  /** The act of the user in which an action stands, or 0. */
+  /** The act of the user in which an action stands, or 0. The run of a `javascript:` address is the default action of the click that asked for it. */
   actOf(number) {
-    const { words } = this.eventOf(number);
+    const { words, origins } = this.eventOf(number);
+    if (words[0] === 'tick' && this.names.intervals[words[1]]?.why === ADDRESS) return origins.length ? this.actOf(origins[0].action) : 0;
     if (words[0] !== 'fire' && words[0] !== 'wfire') return 0;
     const known = this.names.dispatches[words[1]]?.act;
     if (known) return Math.floor(known / LETTERS_OF_ACT);
