@@ -57,3 +57,12 @@ test('look-objects.html', { timeout: 150000 }, async () => {
     assert.deepStrictEqual(looks, [look], `${location}: ${JSON.stringify(found)}`);
   }
 });
+
+// The address runs in a task of its own, which no rule puts behind another act; the user's click asked for it all the same.
+test('look-address.html', { timeout: 150000 }, async () => {
+  const trace = await recordPage(browser, 'look-address.html', ['--do', 'click:#close', '--do', 'click:#open'], undefined, false);
+  const report = await judgeText(trace.text);
+  const problems = new Problems(trace.text, JSON.parse(trace.names.toJson({})), report);
+  const looks = report.races.map((race, k) => [problems.words.location(race.location).text, problems.ofRaces[k].look.name]);
+  assert.deepStrictEqual(looks.filter(([text]) => text === 'isClosed'), [['isClosed', 'act against act']]);
+});
