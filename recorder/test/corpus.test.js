@@ -8,7 +8,7 @@ const path = require('node:path');
 const { test } = require('node:test');
 const { temporaryFolder } = require('./cleanup.js');
 const { readSaid, faultOf } = require('./corpus/calls.js');
-const { draw, withJudgements, faultsOf, judgementsText } = require('./corpus/draw.js');
+const { draw, withJudgements, faultsOf, judgementTexts } = require('./corpus/draw.js');
 const { figuresOf, replaysOf, sumOf, troublesOf, worstOf, loadsOf, whyOf, median } = require('./corpus/figures.js');
 const { readLines, appendLine } = require('./corpus/lines.js');
 const { parsePackages, needsOf } = require('./corpus/packages.js');
@@ -18,7 +18,7 @@ const { KINDS, candidatesOf, kindOf, pagesOf } = require('./corpus/rule.js');
 const { scriptsOf } = require('./corpus/script-sizes.js');
 const { tablesOf, withTexts, told } = require('./corpus/tables.js');
 
-const DOCUMENT = path.join(__dirname, '..', '..', 'docs', 'evaluation.md');
+const DOCUMENTS = ['evaluation.md', 'evaluation-tables.md'].map((name) => path.join(__dirname, '..', '..', 'docs', name));
 const CORPUS = path.join(__dirname, 'corpus.json');
 
 // ---- choosing
@@ -50,7 +50,7 @@ test('the order of the candidates is that of a digest of their names, and large 
 });
 
 test('the document tells the kinds as the rule has them', () => {
-  const text = fs.readFileSync(DOCUMENT, 'utf8');
+  const text = fs.readFileSync(DOCUMENTS[0], 'utf8');
   KINDS.forEach(({ kind, most }) => assert.ok(text.includes(`\n| ${kind} | ${most} | `), kind));
 });
 
@@ -109,7 +109,7 @@ test('what a recording says is read', () => {
 });
 
 test('what a command takes is told without what takes its time', () => {
-  const { stdout } = spawnSync(path.join(__dirname, 'corpus', 'costs.py'), ['cat', DOCUMENT], { encoding: 'utf8' });
+  const { stdout } = spawnSync(path.join(__dirname, 'corpus', 'costs.py'), ['cat', DOCUMENTS[0]], { encoding: 'utf8' });
   const [seconds, kilobytes] = stdout.split(' ').map(Number);
   assert.ok(seconds >= 0 && kilobytes > 0 && kilobytes < 8192, stdout); // Python alone has more
 });
@@ -215,15 +215,15 @@ test('the tables add up, and take nothing of a page for mark-up', () => {
   assert.throws(() => tablesOf([FAILED]), /no page was recorded/);
 });
 
-test('the document takes them between its marks, and nothing else of it changes', () => {
-  const document = fs.readFileSync(DOCUMENT, 'utf8');
-  const texts = { ...tablesOf([LINE]), judgements: judgementsText({ problems: [], seed: 1 }) };
-  const renewed = withTexts(document, texts);
-  Object.values(texts).forEach((one) => assert.ok(renewed.includes(`\n\n${one}\n\n`), one));
+test('the documents take them between their marks, and nothing else of them changes', () => {
+  const documents = DOCUMENTS.map((one) => fs.readFileSync(one, 'utf8'));
+  const texts = { ...tablesOf([LINE]), ...judgementTexts({ problems: [], seed: 1 }) };
+  const renewed = withTexts(documents, texts);
+  Object.values(texts).forEach((one) => assert.ok(renewed.some((text) => text.includes(`\n\n${one}\n\n`)), one));
   const without = (text) => text.replace(/(<!-- (\w+): begin -->)[^]*?(<!-- \2: end -->)/g, '$1$3');
-  assert.strictEqual(without(renewed), without(document));
-  assert.strictEqual(withTexts(renewed, texts), renewed);
-  assert.throws(() => withTexts('none', { sums: '' }), /no marks/);
+  assert.deepStrictEqual(renewed.map(without), documents.map(without));
+  assert.deepStrictEqual(withTexts(renewed, texts), renewed);
+  assert.throws(() => withTexts(['none', 'none'], { sums: '' }), /no marks/);
 });
 
 // ---- drawing
@@ -257,7 +257,9 @@ test('a judgement has a reason, and an impossible race the order that is lost', 
   assert.deepStrictEqual(faultsOf(judged('impossible', 'timeouts of two windows', 'so'), 'lost: timeouts of two windows'), []);
   assert.deepStrictEqual(faultsOf(judged('impossible', 'no such', ''), 'lost: ..'), ['p, n: why is not said', 'p, n: it names no lost order that stands in docs/recording.md']);
   assert.deepStrictEqual(faultsOf(judged('bad', '', 'so'), ''), ['p, n: no judgement: bad']);
-  assert.match(judgementsText(judged('harmless', '', 'a | b')), /\| real and harmless \| 1 \| 100 % \|[^]*\| a &#124; b \|/);
-  assert.match(judgementsText(judged('', '', '')), /1 problems are drawn by the seed 7; none is judged yet/);
-  assert.strictEqual(judgementsText({ problems: [], seed: 7 }), 'None is drawn yet.');
+  const texts = judgementTexts(judged('harmless', '', 'a | b'));
+  assert.match(texts.judgements, /\| real and harmless \| 1 \| 100 % \|/);
+  assert.match(texts.judged, /\| a &#124; b \|/);
+  assert.match(judgementTexts(judged('', '', '')).judgements, /1 problems are drawn by the seed 7; none is judged yet/);
+  assert.strictEqual(judgementTexts({ problems: [], seed: 7 }).judgements, 'None is drawn yet.');
 });

@@ -71,15 +71,15 @@ function faultsOf({ problems }, document) {
 const percent = (part, all) => `${all ? Math.round((100 * part) / all) : 0} %`;
 
 /** The judgements in sum, and each with its sentence. */
-function judgementsText({ problems, seed }) {
-  if (!problems.length) return 'None is drawn yet.';
+function judgementTexts({ problems, seed }) {
   const judged = problems.filter(({ judgement }) => judgement);
-  if (!judged.length) return `${problems.length} problems are drawn by the seed ${seed}; none is judged yet.`;
+  const drawn = problems.length ? `${problems.length} problems are drawn by the seed ${seed}` : 'None is drawn yet';
+  if (!judged.length) return { judgements: `${drawn}${problems.length ? '; none is judged yet' : ''}.`, judged: 'None.' };
   const rows = Object.entries(JUDGEMENTS).map(([key, words]) => [words, judged.filter(({ judgement }) => judgement === key).length]);
   const rest = problems.length - judged.length;
-  const sums = tableOf(['Of the problems that were drawn', 'Problems', 'Share'], [...rows, ...rest ? [[NOT_JUDGED, rest]] : []].map(([words, count]) => [words, count, percent(count, problems.length)]));
+  const sums = [...rows, ...rest ? [[NOT_JUDGED, rest]] : []].map(([words, count]) => [words, count, percent(count, problems.length)]);
   const each = judged.map(({ page, words, judgement, lost, why }) => [told(page.split('/').slice(-2).join('/')), told(words), JUDGEMENTS[judgement], told([why, lost].filter(Boolean).join(': '), LONGEST_WHY)]);
-  return [sums, tableOf(['Page', 'Problem', 'Judged', 'Why'], each)].join('\n\n');
+  return { judgements: tableOf(['Of the problems that were drawn', 'Problems', 'Share'], sums), judged: tableOf(['Page', 'Problem', 'Judged', 'Why'], each) };
 }
 
-module.exports = { draw, withJudgements, faultsOf, judgementsText, JUDGEMENTS };
+module.exports = { draw, withJudgements, faultsOf, judgementTexts, JUDGEMENTS };

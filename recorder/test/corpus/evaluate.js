@@ -1,14 +1,15 @@
 #!/usr/bin/env node
 'use strict';
-// evaluate.js [--draw N --seed S] [--into DOCUMENT] [--worst N] FOLDER: what the lines of an evaluation come to (corpus.js): prints the tables of
-// docs/evaluation.md, or puts them between their marks in a document. With --draw as many problems are drawn by the seed, and written into judgements.json,
-// where each is judged by hand; what was judged before stays. With --worst the problems that do most harm in the other order are printed alone.
+// evaluate.js [--draw N --seed S] [--into DOCUMENT[,DOCUMENT]] [--worst N] FOLDER: what the lines of an evaluation come to (corpus.js): prints the tables of
+// docs/evaluation.md and docs/evaluation-tables.md, or puts them between their marks in these. With --draw as many problems are drawn by the seed, and
+// written into judgements.json, where each is judged by hand; what was judged before stays. With --worst the problems that do most harm in the other order
+// are printed alone.
 
 const fs = require('node:fs');
 const path = require('node:path');
 const { writeWhole } = require('../../list/whole-file.js');
 const { withoutCommands } = require('../../view/shown.js');
-const { draw, withJudgements, faultsOf, judgementsText } = require('./draw.js');
+const { draw, withJudgements, faultsOf, judgementTexts } = require('./draw.js');
 const { worstOf } = require('./figures.js');
 const { readLines } = require('./lines.js');
 const { tablesOf, withTexts } = require('./tables.js');
@@ -37,10 +38,15 @@ function drawInto(lines, { draw: count, seed }) {
   writeWhole(JUDGEMENTS, `${JSON.stringify(withJudgements(draw(lines, facts.count, facts.seed), facts, readJudgements()), null, 1)}\n`);
 }
 
+/** Puts the texts into the documents that have their marks. */
+function putInto(files, texts) {
+  withTexts(files.map((file) => fs.readFileSync(file, 'utf8')), texts).forEach((text, k) => writeWhole(files[k], text));
+}
+
 function main(words) {
   const options = optionsOf(words);
   if (!options) {
-    console.error('usage: evaluate.js [--draw N --seed S] [--into DOCUMENT] [--worst N] FOLDER');
+    console.error('usage: evaluate.js [--draw N --seed S] [--into DOCUMENT[,DOCUMENT]] [--worst N] FOLDER');
     return 2;
   }
   const lines = readLines(path.join(options.folder, 'pages.jsonl'));
@@ -52,8 +58,8 @@ function main(words) {
   const judged = readJudgements();
   const faults = faultsOf(judged, fs.readFileSync(RECORDING, 'utf8'));
   faults.forEach((fault) => console.error(`evaluate.js: ${fault}`));
-  const texts = { ...tablesOf(lines), judgements: judgementsText(judged) };
-  if (options.into) writeWhole(options.into, withTexts(fs.readFileSync(options.into, 'utf8'), texts));
+  const texts = { ...tablesOf(lines), ...judgementTexts(judged) };
+  if (options.into) putInto(options.into.split(','), texts);
   else console.log(Object.values(texts).join('\n\n'));
   return faults.length ? 1 : 0;
 }

@@ -144,13 +144,26 @@ function tablesOf(lines) {
 
 const markOf = (name, end) => `<!-- ${name}: ${end} -->`;
 
-/** A document with texts between their marks; nothing else of it changes. */
-function withTexts(document, texts) {
-  return Object.entries(texts).reduce((text, [name, own]) => {
-    const [begin, end] = ['begin', 'end'].map((one) => text.indexOf(markOf(name, one)));
-    if (begin < 0 || end < begin) throw new Error(`no marks in the document: ${markOf(name, 'begin')} and ${markOf(name, 'end')}`);
-    return `${text.slice(0, begin)}${markOf(name, 'begin')}\n\n${own}\n\n${text.slice(end)}`;
-  }, document);
+/** Where the marks of a text stand in a document, or null. */
+function marksIn(document, name) {
+  const [begin, end] = ['begin', 'end'].map((one) => document.indexOf(markOf(name, one)));
+  return begin < 0 || end < begin ? null : { begin, end };
+}
+
+/**
+ * Documents with texts between their marks; nothing else of them changes. Each text has its marks in one of the documents.
+ * @param {string[]} documents
+ * @param {Object<string, string>} texts by the names of their marks
+ */
+function withTexts(documents, texts) {
+  const renewed = [...documents];
+  for (const [name, own] of Object.entries(texts)) {
+    const k = renewed.findIndex((one) => marksIn(one, name));
+    if (k < 0) throw new Error(`no marks in the document: ${markOf(name, 'begin')} and ${markOf(name, 'end')}`);
+    const { begin, end } = marksIn(renewed[k], name);
+    renewed[k] = `${renewed[k].slice(0, begin)}${markOf(name, 'begin')}\n\n${own}\n\n${renewed[k].slice(end)}`;
+  }
+  return renewed;
 }
 
 module.exports = { tablesOf, withTexts, told, tableOf };
