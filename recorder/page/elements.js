@@ -42,6 +42,11 @@ class Elements {
     this.watch(document);
   }
 
+  /** The window shows another document: what was changed so far is taken, as its task has begun. */
+  stop() {
+    this.observer.disconnect();
+  }
+
   watch(root) {
     this.observer.observe(root, {
       childList: true, subtree: true, attributes: true, attributeOldValue: true,

@@ -2,8 +2,6 @@
 
 const FIRST_SITES = 4096;
 
-const { hasOwn } = Object;
-
 /** A longer list of numbers with the same begin, which has room for an index. */
 function enlarged(numbers, index) {
   const longer = new Uint32Array(2 * (index + 1));
@@ -37,7 +35,7 @@ class Globals {
   /** A script declares variables that have names of the browser's. A `var` of such a name is the page's where it can be written. */
   take(taken) {
     each(taken, ([name, isVar]) => {
-      const found = Object.getOwnPropertyDescriptor(this.page.window, name);
+      const found = this.propertyOf(name);
       if (!isVar || !found || found.set || found.writable) this.builtins.delete(name);
     });
   }
@@ -59,7 +57,7 @@ class Globals {
   read(name, site) {
     if (this.isRepeat(site) || !this.recording.mayAccess()) return;
     this.page.ready.look(name);
-    const isVariable = hasOwn(this.page.window, name) || this.lexicals.has(name);
+    const isVariable = !!this.propertyOf(name) || this.lexicals.has(name);
     if (isVariable) this.note(site);
     if (this.builtins.has(name)) return;
     this.touch(name, READ, site);
@@ -111,7 +109,7 @@ class Globals {
   }
 
   cellOf(name) {
-    if (hasOwn(this.page.window, name)) return null;
+    if (this.propertyOf(name)) return null;
     if (!this.lexicals.has(name)) this.lexicals.set(name, { now: MISSING });
     return this.lexicals.get(name);
   }

@@ -1,6 +1,6 @@
 // What kind of thing an object is, without a call of the page's code: by the prototypes of the browser that are known, and proxies by their making.
 
-const { getOwnPropertyDescriptor, getPrototypeOf } = Object;
+const { getOwnPropertyDescriptor, getPrototypeOf, hasOwn } = Object;
 const { isArray } = Array;
 const { isView } = ArrayBuffer;
 const functionText = Function.prototype.toString;

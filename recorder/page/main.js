@@ -67,6 +67,7 @@ class Page {
     const number = isOfWindow ? numberOfFrame(window, recording, false) : -1;
     if (number < 0) return;
     if (this.loading.hasBegunLoad) recording.elementNumbers.delete(window); // its load has looked for no handlers of the next page
+    this.elements.stop();
     this.takeDocument(number);
     this.beginDocument();
     this.dispatches.captureAgain();
@@ -228,7 +229,7 @@ function numberOfFrame(window, recording, mayPass) {
   if (!parent) return -1;
   if (recording.contexts.length) parent.elements.collect('script');
   parent.elements.declaredNumber(frame);
-  const source = parent.elements.attribute(frame, 'src');
+  const source = parent.elements.has(frame, 'srcdoc') ? 'about:srcdoc' : parent.elements.attribute(frame, 'src');
   const isPassing = mayPass && window.location.href === 'about:blank' && !!source && source !== 'about:blank';
   return parent.elements.numberOfInner(frame, isPassing);
 }

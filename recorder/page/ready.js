@@ -10,6 +10,8 @@ class Ready {
     this.page = page;
     this.recording = page.recording;
     this.functions = page.window.Function.prototype;
+    /** How many calls of `ready` are running. */
+    this.running = 0;
     /** The prototypes that were looked at: what the page puts in the place of their `ready` later is left alone. */
     this.seen = new WeakSet();
   }
@@ -40,30 +42,33 @@ class Ready {
     return objects !== null && objects.kinds.isLeftOut(object);
   }
 
+  /** A jQuery waits for the document that the window showed when it came: the frame's next page may get it with the window. */
   replace(methods) {
     const asked = this;
+    const { document } = this.page;
     replaceMethod(methods, 'ready', (own) => function ready(callback) {
       if (asked.recording.isOver || typeof callback !== 'function') return apply(own, this, arguments);
-      const call = { isRunning: true };
       const words = [...arguments];
-      words[0] = asked.wrap(callback, call);
+      words[0] = asked.wrap(callback, document);
+      asked.running++;
       try {
         return apply(own, this, words);
       } finally {
-        call.isRunning = false;
+        asked.running--;
       }
     });
   }
 
   /**
-   * What runs inside the call stands in the caller's event, and the rest of that is not behind the parsing in every order.
+   * What runs while a call does stands in the caller's event, and the rest of that is not behind the parsing in every order. What a callback hands over
+   * in such a call runs behind its own call, and still inside the first.
    * @param {Function} callback
-   * @param {{isRunning: boolean}} call of `ready`
+   * @param {Document} document for which its jQuery waits
    */
-  wrap(callback, call) {
+  wrap(callback, document) {
     const asked = this;
     const run = function run() {
-      if (!call.isRunning) asked.comeBehindParsing();
+      if (asked.running === 0 && document === asked.page.document) asked.comeBehindParsing();
       return apply(callback, this, arguments);
     };
     if (!this.isProxy(callback)) showAs(run, callback);

@@ -97,8 +97,8 @@ class Scripts {
 
   /** A script for which the parser or DOMContentLoaded waits has failed: an empty run says so. Answers whether it can. */
   runEmpty(element) {
+    this.recording.startTask(); // the page may have another document by it
     const { elements } = this.page;
-    this.recording.startTask();
     const number = elements.number(element);
     const kind = elements.kinds.get(number);
     const isDue = elements.staticScripts.has(number) && kind !== 'async' && !this.hasRun.has(number);
@@ -109,9 +109,9 @@ class Scripts {
 
   /** An error of the window that comes of a script which is no JavaScript: it belongs to the script's empty run. */
   runBroken({ filename, message }) {
-    const { document, elements, natives } = this.page;
     if (!/SyntaxError/.test(message)) return false;
     this.recording.startTask();
+    const { document, elements, natives } = this.page;
     const last = elements.lastParsedElement;
     const isInline = last && elements.kinds.get(elements.lastParsed) === 'inline' && filename === document.URL.replace(/#.*$/, '');
     const scripts = isInline ? [last] : natives.querySelectorAll.call(document.documentElement, 'script[src]');

@@ -138,9 +138,9 @@ exports.cases = [
   {
     page: 'ready-at-once.html',
     words: CLICK,
-    due: ['dcl', 'set 0', 'timer', 'r #early', 'w found', 'inline button click', 'set 0', 'timer', 'r #late', 'w seen'],
+    due: ['dcl', 'set 0', 'timer', 'r #early', 'w found', 'inline button click', 'set 0', 'timer', 'r #late', 'w seen', 'r #last', 'w last'],
     never: ['inline the end of parsing behind'],
-    races: ['#late', 'isReady of the closure of ?'],
+    races: ['#late', '#last', 'isReady of the closure of ?'],
   },
   { page: 'drawing.svg', due: ['parse svg plain', 'parse script plain', 'parse rect#part plain', 'load'], losses: [/^XML pages, as XHTML and SVG/] },
   {
@@ -616,6 +616,20 @@ exports.cases = [
   {
     page: 'frame-left.html', // its empty page is touched by code, and a page of another origin comes before this is told
     due: ['new iframe#inside frame', 'w early', 'eload iframe#inside', 'load'],
+  },
+  {
+    page: 'frame-function.html', // code of its empty page runs once a page of another origin stands in it
+    due: ['exec script', 'w given', 'eload script', 'eload iframe#inside', 'run other', 'r given', 'w answer'],
+  },
+  {
+    page: 'frame-former.html', // once the next page has its window, the document of its empty page changes, for which its jQuery waits
+    words: CLICK,
+    due: [
+      'new iframe#inside frame', 'w early', 'parse p#own plain', 'w #own', 'dcl', 'load', 'eload iframe#inside', 'run changed', 'w changes', 'load',
+      'inline button click', 'set 0', 'timer', 'r #own', 'w found',
+    ],
+    never: ['w #former', 'inline the end of parsing behind'],
+    races: ['#own'],
   },
   {
     page: 'frame-lazy.html',

@@ -24,7 +24,6 @@ function filesOfHelpers() {
 
 const HELPERS = `(function (window) { 'use strict';
   ${TAKES.join('\n')}
-  const { hasOwn } = Object;
   const FIRST_FIELD = 1000000;
   const KEEPS_ALL = true;
   const HOLDS = null;

@@ -1,0 +1,2 @@
+given = 1;
+function ofFrame() { return given; }
