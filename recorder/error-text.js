@@ -11,7 +11,7 @@ const HIDDEN = '…';
 const MARK = /__er\.\w+(?:\(\.\.\.\))?/;
 const FAILED_CALL = /^(\w+: )([^]+)( is not a (?:function|constructor))$/;
 /** The innermost place in an error's description: where it failed, also where other code has thrown it again. */
-const FIRST_FRAME = /^ +at (?:.*\()?(\S+):(\d+):(\d+)\)?$/m;
+const FIRST_FRAME = /^ +at (?:.* \()?(\S+):(\d+):(\d+)\)?$/m;
 
 const withoutMarks = (text) => text.replace(new RegExp(MARK, 'g'), HIDDEN);
 
@@ -33,6 +33,8 @@ function messageOf(description, sources) {
 /**
  * What stands on the console.
  * @param {{value?: *, description?: string, type: string}[]} values as the browser tells them
+ * @param {import('./sources.js').Sources} [sources]
+ * @returns {string}
  */
 function consoleText(values, sources) {
   const texts = values.map(({ value, description, type }) => (value !== undefined ? String(value) : description ? messageOf(description, sources) : type));
@@ -49,6 +51,8 @@ function placeOfError({ url, lineNumber, stackTrace }, page) {
  * An uncaught error with its place.
  * @param {object} details the browser's ExceptionDetails
  * @param {string} page its address
+ * @param {import('./sources.js').Sources} [sources]
+ * @returns {string}
  */
 function errorText(details, page, sources) {
   const { url, lineNumber } = placeOfError(details, page);

@@ -21,6 +21,8 @@ class Source {
     this.tags = new Map();
     /** The functions that have a name, an outer one before those inside it. */
     this.functions = [];
+    /** The calls in it that failed, in its own words (instrument/call-site.js). */
+    this.callSites = new Map();
     this.edited = null;
     /** The marks of a page, without what a replay puts into it. */
     this.edits = null;
@@ -252,13 +254,13 @@ class Sources {
   }
 
   /**
-   * The text behind a position in the browser's copy, and the offset in it.
-   * @returns {{text: string, offset: number}|null}
+   * The text behind a position in the browser's copy, the offset in it, and what was told of its calls before.
+   * @returns {{text: string, offset: number, known: Map<string, string|null>}|null}
    */
   textBehind(address, line, column) {
     const source = this.byAddress.get(address);
     if (!source || !source.edited) return null;
-    return { text: source.text, offset: source.edited.originalOffsetAt(line, column) };
+    return { text: source.text, offset: source.edited.originalOffsetAt(line, column), known: source.callSites };
   }
 
   /**

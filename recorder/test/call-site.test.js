@@ -3,10 +3,13 @@
 
 const assert = require('node:assert');
 const { test } = require('node:test');
+const { runInNewContext } = require('node:vm');
 const { ownCallSite } = require('../instrument/call-site.js');
 
 /** What is told of the call at `at` of a text. */
 const told = (marked, text, at) => ownCallSite(marked, { text, offset: text.indexOf(at) });
+/** What a call answers; an error where it takes more than five seconds. */
+const soon = (call) => runInNewContext('call()', { call }, { timeout: 5000 });
 
 test('methods, keys, constructors and templates', () => {
   assert.strictEqual(told('__er.p(...).menu', 'a(); $("b").menu({ c: 1 });', 'menu'), '$(...).menu');
@@ -22,6 +25,36 @@ test('the whole chain, and nothing around it', () => {
   assert.strictEqual(told('__er.p(...).menu', 'call(window.find().menu(1), 2)', 'menu'), 'window.find(...).menu');
   assert.strictEqual(told('__er.p(...).menu', 'call(...find()\n  .menu(', 'menu'), 'find(...).menu');
   assert.strictEqual(told('__er.p(...).menu', 'return new find.Class(1).menu()', 'menu'), '(intermediate value).menu');
+});
+
+test('what stands for the words of a mark is found in no time', () => soon(() => {
+  const marks = '__er.p(...)'.repeat(12);
+  assert.strictEqual(told(`${marks}.y`, `a${'[b]'.repeat(40)}.z()`, 'z'), null);
+  assert.strictEqual(told(`a[${'__er.p(...)]['.repeat(6)}c].z`, `a${'[b]'.repeat(40)}.z()`, 'z'), null);
+  assert.strictEqual(told('a[__er.p(...)][__er.p(...)].z', `a${'[b]'.repeat(40)}.z()`, 'z'), `a${'[b]'.repeat(40)}.z`);
+  assert.strictEqual(told('find__er.p(...)(...).z', 'find().z()', 'z'), null); // a mark stands for a word at the least
+}));
+
+test('of what a call hands over nothing is read, and what was told of a place is known', () => soon(() => {
+  const text = `new find.Class(${'[a, "b"], '.repeat(400000)})`;
+  const known = new Map();
+  for (let k = 0; k < 2000; k++) assert.strictEqual(ownCallSite('__er.p(...).Class', { text, offset: 0, known }), 'find.Class');
+  assert.strictEqual(ownCallSite('__er.p(...).Other', { text, offset: 0, known }), null);
+  assert.strictEqual(known.size, 2);
+  assert.strictEqual(told('__er.p(...).Class', 'new (find().deep.Class)(2)', 'new'), 'find(...).deep.Class');
+  assert.strictEqual(told('__er.p(...).Class', 'new find.Class', 'new'), 'find.Class');
+}));
+
+test('words of the language begin no chain', () => {
+  const words = ['await', 'yield', 'of', 'async', 'typeof', 'void', 'delete', 'in', 'instanceof', 'return', 'throw', 'case', 'else', 'do'];
+  for (const word of words) {
+    assert.strictEqual(told('__er.p(...).jsno', `a ${word} (find(u)).jsno()`, 'jsno'), null, word);
+    assert.strictEqual(told('__er.p(...).jsno', `a ${word} [find(u)].jsno()`, 'jsno'), null, word);
+    assert.strictEqual(told('__er.p(...).jsno', `a ${word} find(u).jsno()`, 'jsno'), 'find(...).jsno', word);
+  }
+  assert.strictEqual(told('__er.p(...).jsno', 'await (await fetch(u)).jsno()', 'jsno'), null);
+  assert.strictEqual(told('__er.p(...).jsno', 'new (find())(u).jsno()', 'jsno'), '(intermediate value).jsno');
+  assert.strictEqual(told('__er.p(...).jsno', 'async.of(u).jsno()', 'jsno'), 'async.of(...).jsno');
 });
 
 test('what is another call, or none, has no words', () => {

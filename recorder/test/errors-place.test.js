@@ -4,6 +4,7 @@
 const assert = require('node:assert');
 const { EventEmitter } = require('node:events');
 const { test } = require('node:test');
+const { runInNewContext } = require('node:vm');
 const { parseOptions } = require('../options.js');
 const { Recorder } = require('../recorder.js');
 const { NEWEST_VERSION } = require('../trace/spelling.js');
@@ -29,6 +30,12 @@ test('an error has the place that the browser tells', () => {
 test('one that a function of the recorder hands on has the place of the code that it was called by', () => {
   const callFrames = [frame(RECORDER, 99), frame('', 1), frame('http://folder/script.js', 7)];
   assert.deepStrictEqual(toldOf({ url: RECORDER, lineNumber: 99, stackTrace: { callFrames } }), ['Error: no (script.js:8)']);
+});
+
+test('a message that looks like code and places of it keeps the recorder no longer than another one', () => {
+  const description = `TypeError: __er.p(...).menu is not a function\n    at ${'('.repeat(300000)}`;
+  const told = runInNewContext('call()', { call: () => toldOf({ lineNumber: 0, exception: { description } }) }, { timeout: 5000 });
+  assert.deepStrictEqual(told, ['TypeError: ….menu is not a function (:1)']);
 });
 
 test('where no other code ran it has the begin of the page', () => {
