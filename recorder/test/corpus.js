@@ -71,6 +71,7 @@ async function install(entries, unpacked, { installs, folder }) {
 
 const fileName = (page) => page.replace(/^\/usr\/share\//, '').replace(/[^\w.-]+/g, '-');
 const folderOf = ({ page }, { folder }) => path.join(folder, 'pages', fileName(page));
+const recordingsIn = (folder) => path.join(folder, 'recordings.json');
 
 /** How many processes want to run, on the average of the last minute. */
 const loadOfMachine = () => os.loadavg()[0];
@@ -86,7 +87,7 @@ function machineFacts(loads, chromium, { lanes }) {
  * @returns {Promise<{runs: object[], loads: number[]}>}
  */
 async function recordingsOf(calls) {
-  const file = path.join(calls.folder, 'recordings.json');
+  const file = recordingsIn(calls.folder);
   if (fs.existsSync(file)) return JSON.parse(fs.readFileSync(file, 'utf8'));
   fs.rmSync(calls.folder, { recursive: true, force: true });
   fs.mkdirSync(calls.folder, { recursive: true });
@@ -125,13 +126,22 @@ function told({ page, failure, seconds, runs, problems, replay }) {
   return `${page}: ${what}; run again: ${replay.races.map(({ verdict }) => verdict).join(', ') || 'none'}; ${Math.round(seconds)} s`;
 }
 
+/** Makes the two recordings of a page alone, and answers what came of it. */
+async function recordAlone(entry, unpacked, options) {
+  try {
+    await recordingsOf(callsOf(entry, unpacked, options));
+    return 'recorded';
+  } catch (fault) {
+    return `failed: ${fault.message || fault}`;
+  }
+}
+
 /** Records pages one after another, until none is left. */
 async function recordLane(left, done, unpacked, chromium, options) {
   while (left.length) {
     const entry = left.shift();
     if (options.recordsOnly) {
-      await recordingsOf(callsOf(entry, unpacked, options));
-      console.log(withoutCommands(`${entry.page}: recorded`));
+      console.log(withoutCommands(`${entry.page}: ${await recordAlone(entry, unpacked, options)}`));
     } else {
       const line = await recordPage(entry, unpacked, chromium, options);
       appendLine(done.file, line);
@@ -141,12 +151,21 @@ async function recordLane(left, done, unpacked, chromium, options) {
   }
 }
 
-/** The pages that are not done. Of one that is recorded anew nothing of before is taken. */
+/** Whether a page was recorded since its line was written: by a call that was stopped then, or with --recordings. */
+function isRecordedSince({ began, seconds }, folder) {
+  const file = fs.statSync(recordingsIn(folder), { throwIfNoEntry: false });
+  return file !== undefined && file.mtimeMs > Date.parse(began) + seconds * 1000;
+}
+
+/** The pages that are not done. Of one that is recorded anew nothing is taken that its line is of. */
 function entriesLeft(entries, file, options) {
   const stays = (line) => !(line.failure && options.recordsFailed) && !(!isQuiet(line) && options.recordsBusy);
   const lines = new Map(readLines(file).map((line) => [line.page, line]));
   const left = entries.filter(({ page }) => !lines.has(page) || !stays(lines.get(page)));
-  left.filter(({ page }) => lines.has(page)).forEach((entry) => fs.rmSync(folderOf(entry, options), { recursive: true, force: true }));
+  for (const entry of left.filter(({ page }) => lines.has(page))) {
+    const folder = folderOf(entry, options);
+    if (!isRecordedSince(lines.get(entry.page), folder)) fs.rmSync(folder, { recursive: true, force: true });
+  }
   return left;
 }
 
@@ -172,4 +191,6 @@ async function main(words) {
   return 0;
 }
 
-main(process.argv.slice(2)).then((status) => { process.exitCode = status; });
+module.exports = { entriesLeft, folderOf, recordingsIn };
+
+if (require.main === module) main(process.argv.slice(2)).then((status) => { process.exitCode = status; });

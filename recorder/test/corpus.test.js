@@ -7,6 +7,7 @@ const fs = require('node:fs');
 const path = require('node:path');
 const { test } = require('node:test');
 const { temporaryFolder } = require('./cleanup.js');
+const { entriesLeft, folderOf, recordingsIn } = require('./corpus.js');
 const { readSaid, faultOf } = require('./corpus/calls.js');
 const { draw, withJudgements, faultsOf, judgementTexts } = require('./corpus/draw.js');
 const { figuresOf, replaysOf, sumOf, troublesOf, worstOf, loadsOf, whyOf, median } = require('./corpus/figures.js');
@@ -159,6 +160,24 @@ const LINE = lineOf(ENTRY, FOUND, FACTS);
 const EMPTY = lineOf({ ...ENTRY, page: '/usr/share/doc/p-doc/b.html' }, { ...FOUND, runs: [{ ...call([], []), status: 4, failure: 'no page' }, call([], [])] }, FACTS);
 const FAILED = failedLine({ ...ENTRY, page: '/usr/share/doc/p-doc/c.html' }, new Error('no room'), FACTS);
 
+test('a page is recorded anew behind its line alone, and not once more behind recordings that came since', () => {
+  const options = { folder: temporaryFolder('corpus'), recordsFailed: true, recordsBusy: false };
+  const file = path.join(options.folder, 'pages.jsonl');
+  const entries = ['a', 'b', 'c', 'd'].map((name) => ({ page: name }));
+  const began = Date.parse(FACTS.began);
+  const recordingOf = (entry) => recordingsIn(folderOf(entry, options));
+  entries.forEach((entry, k) => {
+    fs.mkdirSync(folderOf(entry, options), { recursive: true });
+    fs.writeFileSync(recordingOf(entry), '{}');
+    fs.utimesSync(recordingOf(entry), 0, began / 1000 + [5, 10, 5, 5][k]); // a line is written 9 s behind its begin
+  });
+  [0, 1].forEach((k) => appendLine(file, { ...FAILED, ...entries[k] }));
+  appendLine(file, { ...LINE, ...entries[2] });
+  const left = () => entriesLeft(entries, file, options).map((entry) => entry.page);
+  const kept = () => entries.filter((entry) => fs.existsSync(recordingOf(entry))).map((entry) => entry.page);
+  for (let k = 0; k < 2; k++) assert.deepStrictEqual([left(), kept()], [['a', 'b', 'd'], ['b', 'c', 'd']]);
+});
+
 test('a line has the errors that come with the recorder alone, and why a recording has nothing', () => {
   assert.deepStrictEqual(LINE.runs.map(({ alone }) => alone), [['F (a.js:2)'], []]);
   assert.deepStrictEqual([LINE, EMPTY].map(({ runs }) => runs[0].nothing), ['', 'status 4: no page']);
@@ -224,6 +243,20 @@ test('the documents take them between their marks, and nothing else of them chan
   assert.deepStrictEqual(renewed.map(without), documents.map(without));
   assert.deepStrictEqual(withTexts(renewed, texts), renewed);
   assert.throws(() => withTexts(['none', 'none'], { sums: '' }), /no marks/);
+});
+
+test('a document that has no marks is told in a line, and one that is named twice is written once', () => {
+  const folder = temporaryFolder('corpus');
+  appendLine(path.join(folder, 'pages.jsonl'), LINE);
+  const documents = DOCUMENTS.map((one) => path.join(folder, path.basename(one)));
+  DOCUMENTS.forEach((one, k) => fs.copyFileSync(one, documents[k]));
+  const evaluate = (into) => spawnSync(process.execPath, [path.join(__dirname, 'corpus', 'evaluate.js'), '--into', into, folder], { encoding: 'utf8' });
+  const { status, stderr } = evaluate(documents[0]);
+  assert.strictEqual(status, 2, stderr);
+  assert.match(stderr, /^evaluate\.js: no marks in the document: .*\n$/);
+  assert.strictEqual(fs.readFileSync(documents[0], 'utf8'), fs.readFileSync(DOCUMENTS[0], 'utf8'));
+  assert.strictEqual(evaluate([documents[0], ...documents].join(',')).stderr, '');
+  assert.match(fs.readFileSync(documents[0], 'utf8'), /^1 pages of 1 packages/m);
 });
 
 // ---- drawing

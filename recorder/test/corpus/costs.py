@@ -4,7 +4,8 @@
 Usage: costs.py COMMAND FILE
 
 The shell leaves the command behind and ends, and the command's end comes to this process: so what is told is of the command alone. The system counts what a
-process had before it became another program too, which of a child of this one would be more than most commands take.
+process had before it became another program too, which of a child of this one would be more than most commands take. What a shell leaves behind ignores
+Ctrl-C, which env undoes.
 """
 import ctypes
 import os
@@ -15,7 +16,7 @@ PR_SET_CHILD_SUBREAPER = 36
 
 command, file = sys.argv[1:]
 ctypes.CDLL(None).prctl(PR_SET_CHILD_SUBREAPER, 1, 0, 0, 0)
-shell = subprocess.Popen(["/bin/sh", "-c", f'{command} < "$0" > /dev/null &', file])
+shell = subprocess.Popen(["/bin/sh", "-c", f'env --default-signal=INT,QUIT {command} < "$0" > /dev/null &', file])
 shell.wait()
 _, _, used = os.wait3(0)
 print(used.ru_utime + used.ru_stime, used.ru_maxrss)

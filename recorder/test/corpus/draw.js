@@ -70,7 +70,11 @@ function faultsOf({ problems }, document) {
 
 const percent = (part, all) => `${all ? Math.round((100 * part) / all) : 0} %`;
 
-/** The judgements in sum, and each with its sentence. */
+/**
+ * The judgements in sum, and each with its sentence.
+ * @param {{problems: object[], seed: number|null}} file
+ * @returns {{judgements: string, judged: string}}
+ */
 function judgementTexts({ problems, seed }) {
   const judged = problems.filter(({ judgement }) => judgement);
   const drawn = problems.length ? `${problems.length} problems are drawn by the seed ${seed}` : 'None is drawn yet';

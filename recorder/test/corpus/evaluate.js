@@ -16,6 +16,7 @@ const { tablesOf, withTexts } = require('./tables.js');
 
 const JUDGEMENTS = path.join(__dirname, 'judgements.json');
 const RECORDING = path.join(__dirname, '..', '..', '..', 'docs', 'recording.md');
+const USAGE_STATUS = 2;
 const NONE = { seed: null, count: 0, problems: [] };
 
 function optionsOf(words) {
@@ -38,8 +39,12 @@ function drawInto(lines, { draw: count, seed }) {
   writeWhole(JUDGEMENTS, `${JSON.stringify(withJudgements(draw(lines, facts.count, facts.seed), facts, readJudgements()), null, 1)}\n`);
 }
 
-/** Puts the texts into the documents that have their marks. */
-function putInto(files, texts) {
+/**
+ * Puts the texts into the documents that have their marks.
+ * @param {Set<string>} documents
+ */
+function putInto(documents, texts) {
+  const files = [...documents];
   withTexts(files.map((file) => fs.readFileSync(file, 'utf8')), texts).forEach((text, k) => writeWhole(files[k], text));
 }
 
@@ -47,7 +52,7 @@ function main(words) {
   const options = optionsOf(words);
   if (!options) {
     console.error('usage: evaluate.js [--draw N --seed S] [--into DOCUMENT[,DOCUMENT]] [--worst N] FOLDER');
-    return 2;
+    return USAGE_STATUS;
   }
   const lines = readLines(path.join(options.folder, 'pages.jsonl'));
   if (options.worst !== undefined) {
@@ -59,9 +64,14 @@ function main(words) {
   const faults = faultsOf(judged, fs.readFileSync(RECORDING, 'utf8'));
   faults.forEach((fault) => console.error(`evaluate.js: ${fault}`));
   const texts = { ...tablesOf(lines), ...judgementTexts(judged) };
-  if (options.into) putInto(options.into.split(','), texts);
+  if (options.into) putInto(new Set(options.into.split(',').map((file) => path.resolve(file))), texts);
   else console.log(Object.values(texts).join('\n\n'));
   return faults.length ? 1 : 0;
 }
 
-process.exitCode = main(process.argv.slice(2));
+try {
+  process.exitCode = main(process.argv.slice(2));
+} catch (fault) {
+  console.error(`evaluate.js: ${fault.message}`);
+  process.exitCode = USAGE_STATUS;
+}
