@@ -22,6 +22,7 @@ pub(crate) fn note_document(table: &mut Numbers<u32>, rec: &Record, now: Now)
     note_maker(table, document_in(rec), now.event);
 }
 
+/// The document that it declares.
 pub(crate) fn document_in(rec: &Record) -> Option<u32>
     ensures { (k : ℕ) → is_number k result ≡ declares_document k rec.now }
 {
@@ -41,6 +42,7 @@ pub(crate) fn note_handler(table: &mut Numbers<u32>, rec: &Record, now: Now)
     note_maker(table, handler_in(rec), now.event);
 }
 
+/// The handler that it registers.
 pub(crate) fn handler_in(rec: &Record) -> Option<u32>
     ensures { (k : ℕ) → is_number k result ≡ declares_handler k rec.now }
 {
@@ -59,6 +61,7 @@ pub(crate) fn note_interval(table: &mut Numbers<u32>, rec: &Record, now: Now)
     note_maker(table, interval_in(rec), now.event);
 }
 
+/// The interval that it sets.
 pub(crate) fn interval_in(rec: &Record) -> Option<u32>
     ensures { (k : ℕ) → is_number k result ≡ declares_interval k rec.now }
 {
@@ -77,6 +80,7 @@ pub(crate) fn note_request(table: &mut Numbers<u32>, rec: &Record, now: Now)
     note_maker(table, request_in(rec), now.event);
 }
 
+/// The request that it sends.
 pub(crate) fn request_in(rec: &Record) -> Option<u32>
     ensures { (k : ℕ) → is_number k result ≡ declares_request k rec.now }
 {
@@ -249,7 +253,7 @@ pub(crate) fn eload_in(rec: &Record) -> Option<(u32, u32)>
     }
 }
 
-/// The number of a pair.
+/// The number under which a pair is noted.
 pub(crate) fn number_of(pair: Option<(u32, u32)>) -> Option<u32>
     ensures { (k : ℕ) → is_number k result ≡ is_some (noted_in k pair) }
 {

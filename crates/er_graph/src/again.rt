@@ -14,7 +14,7 @@ use er_page::page::Page;
 use er_trace::record::Record;
 use std::alloc::Global;
 
-/// Whether the record runs a handler in the group in which the newest action runs one, and one event registered both. It takes no memory.
+/// Whether the record runs a peer of the handler that the newest action runs: one of the same group, which the same event registered. It takes no memory.
 pub(crate) fn follows_peer(page: &Page, rec: &Record) -> bool
     requires some { ∥ IsSomePage page.now ∥₁ }
     ensures { (h : List Record) → IsPage page.now h → result ≡ is_peer_of_newest h rec.now }
@@ -40,6 +40,7 @@ fn run_peers(page: &Page, first: &Record, second: &Record) -> bool
     }
 }
 
+/// Whether the second record runs such a peer of this handler.
 fn is_peer_of(page: &Page, dispatch: u32, group: u32, handler: u32, second: &Record) -> bool
     ensures { (h : List Record) → IsPage page.now h
         → result ≡ are_peers h (Run dispatch group handler) second.now }
@@ -58,6 +59,7 @@ fn is_peer_of(page: &Page, dispatch: u32, group: u32, handler: u32, second: &Rec
     }
 }
 
+/// Whether both have a maker, and it is one event.
 fn have_same_maker(first: Option<u32>, second: Option<u32>) -> bool
     ensures { result ≡ is_same_maker first second }
 {

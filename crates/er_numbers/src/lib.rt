@@ -13,6 +13,8 @@ use std::alloc::Global;
 
 /// So many places the vector may have, however few values were put.
 const FIRST_PLACES: usize = 64;
+/// Beyond these it has at most so many for each value that was put: numbers that rise by as much stand in the vector.
+const PLACES_OF_A_VALUE: usize = 4;
 
 /// Values by number.
 pub struct Numbers<V> {
@@ -122,9 +124,9 @@ impl<V: Copy + Drop> Numbers<V> {
         };
     }
 
-    /// Whether a place is so small that the vector may grow to it: beyond its first places it has at most two for each put.
+    /// Whether the vector may grow to a place: always to its first places, else to at most four for each value put.
     fn is_small(&self, place: usize) -> bool {
-        place < FIRST_PLACES || place / 2 < self.count
+        place < FIRST_PLACES || place / PLACES_OF_A_VALUE < self.count
     }
 }
 

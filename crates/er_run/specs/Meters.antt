@@ -1,8 +1,8 @@
--- What the meters of a run count.
+-- What is asked of the meters of a run, and what they do.
 use Rattle.std.specs.Prelude.{◌<◌, ◌≤◌, ◌^◌}
 use Rattle.er_run.specs.declared.meters.Meters.{Meters}
 
--- there is room for all that one trace counts
+-- each is below 2 ^ 60, so all comparisons of one trace can be counted
 abbrev pub HaveRoom : Meters → Type 0
 HaveRoom meters = (meters.compares < 2 ^ 60) × (meters.tests < 2 ^ 60)
 

@@ -24,7 +24,7 @@ impl<R, G> Drop for Host<'_, R, G> {
 }
 
 impl<'a, R, G> Host<'a, R, G> {
-    /// The same, for a work of so many shards.
+    /// The work of this host in so many shards.
     pub(crate) fn in_shards(&self, shards: u32) -> Work<'a, R, G>
         ensures { result.shards ≡ shards }
     {

@@ -4,7 +4,7 @@ ghost use Rattle.std.specs.Prelude.{◌≡◌};
 
 use er_clocks::Meter;
 
-/// How many comparisons were made: of the candidate pairs of accesses, and of those that group the races.
+/// How many comparisons were made: `compares` of candidate pairs, `tests` to group the races.
 #[derive(Drop)]
 pub struct Meters {
     pub compares: Meter,

@@ -242,8 +242,8 @@ fn timer_line(bytes: &[u8]) -> Option<(Record, &[u8])>
 }
 
 /// The record whose line stands at the front, and what stands behind the LF, where it is one of
-/// those that are read so. `None` says nothing. Accesses are the most frequent: their first word
-/// alone has one letter.
+/// those that are read so. `None` says nothing. Accesses are the most frequent: no other
+/// first word has one letter.
 pub fn plain_line(alloc: Global, bytes: &[u8]) -> Option<(Record, &[u8])>
     ensures { IfSome result (λ pair. ((v : Version) → IsRecordOf v pair.0)
         × (bytes.now ≡ spelling pair.0 ++ line_end ∷ pair.1.now)) }

@@ -72,7 +72,7 @@ abbrev pub IsNoted : TaskKind → Record → Option ℕ → Option ℕ → Type 
 IsNoted kind x posted begun =
     ((k : ℕ) → is_number k posted ≡ declares_task kind k x) × (begun ≡ task_started kind x)
 
--- they have room for the one task and the event of the other, if there are such
+-- they have room to note the one task declared and the event of the other begun, if there are such
 abbrev pub HaveRoomOf : TaskTable → Option ℕ → Option ℕ → Type 0
 HaveRoomOf table posted begun = HasRoomWhere table.declared (λ k. is_number k posted)
     × HasRoomWhere table.started (λ k. is_number k begun)
@@ -134,7 +134,7 @@ pub record TasksAre (tasks : Tasks) (h : List Record) : Type 0 where
       → AreBegun (found tasks.jobs.declared) (found tasks.jobs.started)
       (tasks_at tasks.queued u)
 
--- there is room for what the record declares and begins of each kind, and for the job that it begins
+-- there is room for what the record declares and begins of each kind, and in its queuer's list for the job that it begins
 pub record HaveRoomFor (tasks : Tasks) (x : Record) : Type 0 where
   pub messages : HaveRoom OfMessage tasks.messages x
   pub anims : HaveRoom OfAnim tasks.anims x

@@ -19,7 +19,7 @@ pub data Uses : Type 0 where
   UsesAnim : (anim : ℕ) → Uses
   UsesJob : (job : ℕ) → Uses
 
--- the numbers that it declares or starts, which no other record of a list may
+-- the numbers that it declares or starts, each of which no other record of a list may declare, or start, again
 pub data Claims : Type 0 where
   ClaimsNone : Claims
   MakesElement : (element : ℕ) → Claims
