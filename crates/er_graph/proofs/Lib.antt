@@ -4,4 +4,5 @@ pub mod RunLemmas
 pub mod FamilyLemmas
 pub mod PartLemmas
 pub mod GraphLemmas
+pub mod AccessLemmas
 pub mod TaskLemmas

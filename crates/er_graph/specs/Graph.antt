@@ -1,7 +1,8 @@
 -- What a graph stands for, and what an answer to a record says. Lists stand newest first.
-use Rattle.std.specs.Prelude.{◌≡◌, ℕ, ◌<◌, true, false, List, length, Some}
+use Rattle.std.specs.Prelude.{◌≡◌, ℕ, ◌<◌, true, false, List, ◌∷◌, length, Some, None}
 use Rattle.er_trace.specs.declared.record.Record.{Record}
 use Rattle.er_history.specs.History.{told}
+use Rattle.er_history.specs.LookUps.{running_action}
 use Rattle.er_graph.specs.declared.graph.Graph.{Graph}
 use Rattle.er_trace.specs.declared.fault.FeedFault.{FeedFault}
 use Rattle.er_trace.specs.declared.fault.FeedFault.TheVariants.{Refused, NoMemory}
@@ -16,6 +17,13 @@ pub record IsGraph (graph : Graph) (accepted : List Accepted) : Type 0 where
   pub listed : IsListed graph accepted
   pub timed : AreTimed graph.version graph.clocks accepted
   pub whole : graph.has_failed ≡ false
+
+-- The access is accepted next, as one of this action, which runs.
+pub record IsAccessOf (graph : Graph) (accepted : List Accepted) (line action : ℕ)
+    (x : Record) : Type 0 where
+  pub running : running_action (records accepted) ≡ Some action
+  pub legal : cause_now graph.version accepted x ≡ None
+  pub stands : IsGraph graph (record { line = line; read = x } ∷ accepted)
 
 -- memory ran out in an earlier call
 abbrev pub HasFailed : Graph → Type 0

@@ -1,11 +1,14 @@
 //! How records are accepted, and what the graph answers.
 
 ghost use Rattle.std.specs.Prelude.{◌≡◌, ◌<◌, List, [], ◌∷◌, true, Some, None, slice_get, OnOk, OnErr, IfOk, IfErr};
+ghost use Rattle.er_trace.specs.declared.record.Record.TheVariants.{Access};
+ghost use Rattle.er_trace.specs.declared.record.Mode.{Mode};
+ghost use Rattle.er_trace.specs.declared.record.Loc.{Loc};
 ghost use Rattle.er_trace.specs.Versions.{has_record};
 ghost use Rattle.er_page.specs.Accepted.{result_of};
 ghost use Rattle.er_page.specs.Page.{IsPage};
 ghost use Rattle.er_graph.specs.Accepted.{Accepted, records, lines_of, cause_now, AreTimed, IsNext};
-ghost use Rattle.er_graph.specs.Graph.{IsListed, IsGraph, HasBegun, HasFailed, IsFault};
+ghost use Rattle.er_graph.specs.Graph.{IsListed, IsGraph, HasBegun, HasFailed, IsAccessOf, IsFault};
 
 use crate::graph::Graph;
 use crate::grow::grow;
@@ -46,7 +49,13 @@ impl Graph {
         ensures failed { HasFailed self.old → result ≡ Err (FeedFault.NoMemory) }
         ensures version { self.new.version ≡ self.old.version }
     {
-        if self.has_failed {
+        if let Record::Access { .. } = rec {
+            // An access changes neither page, clocks, lines nor the mark.
+            return match self.accept_access(line) {
+                Ok(_) => Ok(()),
+                Err(fault) => Err(fault),
+            };
+        } else if self.has_failed {
             return Err(FeedFault::NoMemory);
         }
         if let Err(cause) = self.check(rec) {
@@ -56,6 +65,28 @@ impl Graph {
             return Err(FeedFault::NoMemory);
         };
         Ok(())
+    }
+
+    /// What `accept` answers of any access in this line, with the running action, whose access it is. An access changes nothing: it uses and claims no number, no rule orders it, and it needs no room.
+    pub fn accept_access(&self, line: u32) -> Result<u32, FeedFault>
+        ensures accepted { IfOk result
+            (λ action. (accepted : List Accepted) (mode : Mode) (loc : Loc)
+            → IsGraph self.now accepted
+            → IsAccessOf self.now accepted line action (Access mode loc)) }
+        ensures refused { IfErr result (λ fault. (mode : Mode) (loc : Loc)
+            → IsFault fault line (Access mode loc) self.now self.now) }
+        ensures failed { HasFailed self.now → result ≡ Err (FeedFault.NoMemory) }
+    {
+        if self.has_failed {
+            return Err(FeedFault::NoMemory);
+        }
+        let Some(action) = self.page.running() else {
+            return Err(FeedFault::Refused {
+                line,
+                cause: Cause::Misplaced,
+            });
+        };
+        Ok(action)
     }
 
     /// The version by whose rules the records are ordered.
@@ -95,14 +126,6 @@ impl Graph {
         ensures { (accepted : List Accepted) → IsListed self.now accepted
             → result ≡ result_of (cause_now self.now.version accepted rec.now) }
     {
-        // An access names nothing, no rule orders it, and it needs no room.
-        if let Record::Access { .. } = rec {
-            return if self.page.running().is_some() {
-                Ok(())
-            } else {
-                Err(Cause::Misplaced)
-            };
-        }
         if let Err(cause) = self.page.check(rec) {
             return Err(cause);
         }
@@ -125,10 +148,6 @@ impl Graph {
         ensures kept { OnErr result
             ((accepted : List Accepted) → IsListed self.old accepted → IsListed self.new accepted) }
     {
-        // An access changes neither page, clocks, lines nor the mark.
-        if let Record::Access { .. } = rec {
-            return Ok(());
-        }
         self.has_failed = true;
         grow(
             self.version,

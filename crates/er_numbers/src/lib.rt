@@ -13,7 +13,7 @@ use std::alloc::Global;
 
 /// So many places the vector may have, however few values were put.
 const FIRST_PLACES: usize = 64;
-/// Beyond these it has at most so many for each value that was put: numbers that rise by as much stand in the vector.
+/// Beyond these it has at most so many for each value, with the one that comes: numbers that rise by as much stand in the vector.
 const PLACES_OF_A_VALUE: usize = 4;
 
 /// Values by number.
@@ -124,9 +124,9 @@ impl<V: Copy + Drop> Numbers<V> {
         };
     }
 
-    /// Whether the vector may grow to a place: always to its first places, else to at most four for each value put.
+    /// Whether the vector may grow to a place: always to its first places, else to four for each value, with the one that comes.
     fn is_small(&self, place: usize) -> bool {
-        place < FIRST_PLACES || place / PLACES_OF_A_VALUE < self.count
+        place < FIRST_PLACES || place / PLACES_OF_A_VALUE <= self.count
     }
 }
 

@@ -13,13 +13,11 @@ use Rattle.er_history.specs.History.{Action, told, running, actions_after}
 use Rattle.er_history.specs.LookUps.{running_action}
 use Rattle.er_history.specs.Laws.{IsNumbered}
 use Rattle.er_history.proofs.HistoryLemmas.{actions_are_numbered, actions_grow, entries_length}
-use Rattle.er_page.specs.declared.page.Page.{Page}
-use Rattle.er_page.specs.Page.{IsPage}
 use Rattle.er_access.specs.Table.{IsRising}
 use Rattle.er_access.specs.Kept.{Kept, access_of, repeats_any, with_access, IsFull}
 use Rattle.er_run.specs.Laws.{KeptInOrder}
 use Rattle.er_run.specs.Races.{kept, access_in, without_repeats}
-use Rattle.er_run.specs.Session.{is_access, AreEarlier, AreKept, IsPastRoom, kept_with}
+use Rattle.er_run.specs.Session.{is_access, AreKept}
 
 -- a record that is no access
 
@@ -150,21 +148,11 @@ newest_is : (actions : List Action) (r : ℕ) → IsNumbered actions → Some r 
 newest_is [] r n e = absurd (cc)
 newest_is (a ∷ older) r n e = let same : r ≡ a.number = cc in omega (arith, n.0, same)
 
-pub up_to_running : (page : Page) (line : ℕ) (accesses : List Kept) (r : ℕ) → AreEarlier page line accesses → ((h : List Record) → IsPage page h → Some r ≡ running_action h) → All (λ (x : Kept). x.action ≤ r) accesses
-up_to_running page line accesses r o runs k d below =
-    let long : r + 1 ≡ length (told o.list).actions = newest_is (told o.list).actions r (actions_are_numbered o.list) (runs o.list o.stands) in
-    let under = o.actions k d below in
+pub up_to_running : (h : List Record) (r : ℕ) → Some r ≡ running_action h → All (λ (x : Kept). x.action ≤ r) (kept h)
+up_to_running h r runs k d below =
+    let long : r + 1 ≡ length (told h).actions = newest_is (told h).actions r (actions_are_numbered h) runs in
+    let under = kept_begun h k d below in
     omega arith
-
-nothing_by : (o : Option Action) (place : ℕ) (m : Mode) (l : Loc) (old : List Kept) → None ≡ option_map (λ (a : Action). a.number) o → without_repeats (access_in (record { read = Access m l; place = place; action = o })) old ≡ old
-nothing_by None place m l old e = refl
-nothing_by (Some a) place m l old e = absurd (cc)
-
--- where no action runs nothing is kept
-pub nothing_runs : (h : List Record) (place : ℕ) (m : Mode) (l : Loc) (old : List Kept) → None ≡ running_action h → AreKept old (kept_with h place m l old) old
-nothing_runs h place m l old e =
-    let same : kept_with h place m l old ≡ old = nothing_by (running (told h).actions) place m l old e in
-    record { same = sym same; room = λ more. absurd (omega (arith, ap length same)) }
 
 with_running_by : (o : Option Action) (line r place : ℕ) (m : Mode) (l : Loc) (old : List Kept) → Some r ≡ option_map (λ (a : Action). a.number) o → line ≡ place + 2
     → without_repeats (access_in (record { read = Access m l; place = place; action = o })) old ≡ with_access (access_of line r m l) old
@@ -173,8 +161,9 @@ with_running_by (Some a) line r place m l old e at =
     let same : a.number ≡ r = cc in
     ap (λ n. with_access (access_of n a.number m l) old) (sym at) ∙ ap (λ n. with_access (access_of line n m l) old) same
 
-with_running : (h : List Record) (line r place : ℕ) (m : Mode) (l : Loc) (old : List Kept) → Some r ≡ running_action h → line ≡ place + 2 → kept_with h place m l old ≡ with_access (access_of line r m l) old
-with_running h line r place m l old e at = with_running_by (running (told h).actions) line r place m l old e at
+-- what the records keep with it
+pub with_running : (h : List Record) (line r : ℕ) (m : Mode) (l : Loc) → Some r ≡ running_action h → line ≡ length h + 2 → kept (Access m l ∷ h) ≡ with_access (access_of line r m l) (kept h)
+with_running h line r m l e at = with_running_by (running (told h).actions) line r (length (told h).entries) m l (kept h) e (omega (arith, at, entries_length h))
 
 -- one comes only where it repeats none
 came_new : (x : Kept) (old : List Kept) → length old < length (with_access x old) → repeats_any x old ≡ false
@@ -184,23 +173,12 @@ came_new x old more = by (repeats_any x old) more
     by true less = absurd (omega arith)
     by false less = refl
 
-one_came : (x : Kept) (old : List Kept) → repeats_any x old ≡ false → length old < length (with_access x old)
+pub one_came : (x : Kept) (old : List Kept) → repeats_any x old ≡ false → length old < length (with_access x old)
 one_came x old none = by (repeats_any x old) none
   where
     by : (b : Bool) → b ≡ false → length old < length (if b then old else old ++ x ∷ [])
     by true e = absurd (cc)
     by false e = grind (arith, common_steps)
 
-pub added : (h : List Record) (line r place : ℕ) (m : Mode) (l : Loc) (old new : List Kept) → Some r ≡ running_action h → line ≡ place + 2
-    → new ≡ with_access (access_of line r m l) old → (IsFull (access_of line r m l) old → ⊥) → AreKept old (kept_with h place m l old) new
-added h line r place m l old new e at is room =
-    let due = with_running h line r place m l old e at in
-    record {
-      same = is ∙ sym due;
-      room = λ more most. room (came_new (access_of line r m l) old (subst (λ (xs : List Kept). length old < length xs) due more), most);
-    }
-
-pub not_added : (h : List Record) (line r place : ℕ) (m : Mode) (l : Loc) (old : List Kept) → Some r ≡ running_action h → line ≡ place + 2 → IsFull (access_of line r m l) old → IsPastRoom old (kept_with h place m l old)
-not_added h line r place m l old e at full =
-    let due = with_running h line r place m l old e at in
-    record { more = subst (λ (xs : List Kept). length old < length xs) (sym due) (one_came (access_of line r m l) old full.0); most = full.1 }
+pub added : (x : Kept) (old new : List Kept) → new ≡ with_access x old → (IsFull x old → ⊥) → AreKept old (with_access x old) new
+added x old new is room = record { same = is; room = λ more most. room (came_new x old more, most) }

@@ -1,5 +1,5 @@
 -- How a session comes to stand for one record more.
-use Rattle.std.proofs.Common.{◌≡◌, ℕ, ◌+◌, ◌<◌, ◌≤◌, Bool, true, false, List, [], ◌∷◌, ◌++◌, append-nil, reverse, length, get_or, Option, Some, None, is_some, refl, sym, ap, subst, ◌∙◌, arith}
+use Rattle.std.proofs.Common.{◌≡◌, ℕ, ◌+◌, ◌<◌, ◌≤◌, Bool, true, false, All, List, [], ◌∷◌, ◌++◌, append-nil, reverse, length, Option, Some, None, is_some, refl, sym, ap, subst, ◌∙◌, arith}
 use Rattle.std.specs.Prelude.{◌≢◌, nat_lt, if◌then◌else◌}
 use Rattle.std.specs.List.{list_all}
 use Rattle.std.proofs.lemmas.Bool.Decides.{nat_tests}
@@ -11,23 +11,23 @@ use Rattle.er_trace.specs.declared.version.Version.{Version}
 use Rattle.er_trace.specs.declared.record.Record.TheVariants.{Access}
 use Rattle.er_trace.specs.declared.record.Mode.{Mode}
 use Rattle.er_trace.specs.declared.record.Loc.{Loc}
-use Rattle.er_history.specs.History.{told, running, or_else}
+use Rattle.er_history.specs.History.{or_else}
+use Rattle.er_history.specs.LookUps.{running_action}
 use Rattle.er_history.specs.Rules.{Rule, rules}
 use Rattle.er_history.specs.Sound as sound
-use Rattle.er_history.proofs.HistoryLemmas.{actions_grow, entries_length}
 use Rattle.er_page.specs.declared.page.Page.{Page}
 use Rattle.er_page.specs.Page.{IsPage}
 use Rattle.er_graph.specs.declared.graph.Graph.{Graph}
 use Rattle.er_graph.specs.Accepted.{Accepted, records, cause_now}
-use Rattle.er_graph.specs.Graph.{IsGraph, IsListed, IsFault}
+use Rattle.er_graph.specs.Graph.{IsGraph, IsListed, IsAccessOf, IsFault}
 use Rattle.er_trace.specs.declared.fault.FeedFault.{FeedFault}
 use Rattle.er_trace.specs.declared.fault.FeedFault.TheVariants.{Refused, NoMemory}
-use Rattle.er_access.specs.Kept.{Kept, most_accesses}
+use Rattle.er_access.specs.Kept.{Kept, access_of, with_access, most_accesses}
 use Rattle.er_run.specs.declared.session.Session.{Session}
 use Rattle.er_run.specs.Legal as legality
-use Rattle.er_run.specs.Races.{kept, access_in, without_repeats}
-use Rattle.er_run.specs.Session.{with_lines, IsSessionOf, HasTaken, AreGiven, version_of, IsFaultAfter, IsFaultOf, IsFaultIn, AreEarlier, AreKept, IsPastRoom, kept_with, is_access}
-use Rattle.er_run.proofs.AccessLemmas.{same_kept, kept_begun, kept_lines, kept_grow}
+use Rattle.er_run.specs.Races.{kept}
+use Rattle.er_run.specs.Session.{with_lines, IsSessionOf, HasTaken, AreGiven, version_of, IsFaultAfter, IsFaultOf, IsFaultIn, AreKept, IsFaultOfRoom, is_access}
+use Rattle.er_run.proofs.AccessLemmas.{same_kept, kept_lines, kept_grow, up_to_running, with_running, one_came}
 
 -- records keep what they are when they have their lines
 pub records_with_lines : (h : List Record) → records (with_lines h) ≡ h
@@ -41,19 +41,17 @@ page_of page graph h is stands = subst (IsPage page) (records_with_lines h) (is 
 abbrev pub Accepts : Graph → Graph → ℕ → Record → Type 0
 Accepts old new line x = (accepted : List Accepted) → IsGraph old accepted → (cause_now old.version accepted x ≡ None) × IsGraph new (record { line = line; read = x } ∷ accepted)
 
-pub record IsAfter (v : Version) (graph : Graph) (h : List Record) (x : Record) (line : ℕ) : Type 0 where
+pub record IsAfter (v : Version) (graph : Graph) (h : List Record) (x : Record) : Type 0 where
   pub sound : sound.cause (rules v) h x ≡ None
   pub stands : IsGraph graph (with_lines (x ∷ h))
-  pub line_is : line ≡ length (told h).entries + 2
 
-pub after : (old : Session) (graph : Graph) (h : List Record) (x : Record) (line : ℕ) → IsSessionOf old h → line ≡ old.records + 2 → Accepts old.graph graph line x → IsAfter old.graph.version graph h x line
+pub after : (old : Session) (graph : Graph) (h : List Record) (x : Record) (line : ℕ) → IsSessionOf old h → line ≡ old.records + 2 → Accepts old.graph graph line x → IsAfter old.graph.version graph h x
 after old graph h x line stands e accepts =
     let p = accepts (with_lines h) stands.graph in
     let at : line ≡ length h + 2 = omega (arith, e, stands.count) in
     record {
       sound = ap (λ l. sound.cause (rules old.graph.version) l x) (sym (records_with_lines h)) ∙ p.0;
       stands = subst (λ n. IsGraph graph (record { line = n; read = x } ∷ with_lines h)) at p.1;
-      line_is = omega (arith, at, entries_length h);
     }
 
 -- the limit on accesses behind the other causes
@@ -101,8 +99,8 @@ no_room_left m n most less is = grind (arith, nat_tests)
 legal_next : (table : List (ℕ × Rule)) (h : List Record) (x : Record) → legality.IsLegal table h → sound.cause table h x ≡ None → (length (kept h) < length (kept (x ∷ h)) → length (kept h) ≢ most_accesses) → legality.cause table h x ≡ None
 legal_next table h x legal none room = by_room (sound.cause table h x) (legality.is_past_room h x) none (room_left (length (kept h)) (length (kept (x ∷ h))) most_accesses (kept_within table h legal) (kept_grow h x) room)
 
-full_next : (table : List (ℕ × Rule)) (h : List Record) (x : Record) → sound.cause table h x ≡ None → IsPastRoom (kept h) (kept (x ∷ h)) → legality.cause table h x ≡ Some TooManyAccesses
-full_next table h x none past = by_limit (sound.cause table h x) (legality.is_past_room h x) none (no_room_left (length (kept h)) (length (kept (x ∷ h))) most_accesses past.more past.most)
+full_next : (table : List (ℕ × Rule)) (h : List Record) (x : Record) → sound.cause table h x ≡ None → length (kept h) < length (kept (x ∷ h)) → length (kept h) ≡ most_accesses → legality.cause table h x ≡ Some TooManyAccesses
+full_next table h x none more most = by_limit (sound.cause table h x) (legality.is_past_room h x) none (no_room_left (length (kept h)) (length (kept (x ∷ h))) most_accesses more most)
 
 first_cause : (table : List (ℕ × Rule)) (h : List Record) (x : Record) (c : Cause) → sound.cause table h x ≡ Some c → legality.cause table h x ≡ Some c
 first_cause table h x c e = by_cause (sound.cause table h x) (if legality.is_past_room h x then Some TooManyAccesses else None) c e
@@ -112,25 +110,6 @@ pub fault_after : (old : Session) (new : Graph) (h : List Record) (x : Record) (
 fault_after old new h x line (Refused l c) stands e is =
     (omega (arith, is.0, e, stands.count), first_cause (rules old.graph.version) h x c (ap (λ k. sound.cause (rules old.graph.version) k x) (sym (records_with_lines h)) ∙ is.2 (with_lines h) stands.graph.listed))
 fault_after old new h x line NoMemory stands e is = tt
-
--- what the access asks of the accesses before it
-pub earlier : (old : Session) (graph : Graph) (page : Page) (h : List Record) (x : Record) (line : ℕ) → IsSessionOf old h → line ≡ old.records + 2 → Accepts old.graph graph line x
-    → ((accepted : List Accepted) → IsListed graph accepted → IsPage page (records accepted)) → AreEarlier page line old.kept
-earlier old graph page h x line stands e accepts is =
-    let at : line ≡ length h + 2 = omega (arith, e, stands.count) in
-    record {
-      list = x ∷ h;
-      stands = page_of page graph (x ∷ h) is (after old graph h x line stands e accepts).stands;
-      lines = λ k d below.
-          let same = ap length stands.accesses in
-          let under = kept_lines h k d (omega arith) in
-          subst (λ (xs : List Kept). (get_or xs k d).line < line) (sym stands.accesses) (omega arith);
-      actions = λ k d below.
-          let same = ap length stands.accesses in
-          let under = kept_begun h k d (omega arith) in
-          let grown = actions_grow (told h) x in
-          subst (λ (xs : List Kept). (get_or xs k d).action < length (told (x ∷ h)).actions) (sym stands.accesses) (omega arith);
-    }
 
 -- in one version the same is legal
 same_rules : (v w : Version) (h : List Record) → w ≡ v → legality.IsLegal (rules v) h → legality.IsLegal (rules w) h
@@ -183,43 +162,55 @@ noted old new h x line stands e accepts access version accesses count =
       legal = same_rules old.graph.version new.graph.version (x ∷ h) version (legal_next (rules old.graph.version) h x stands.legal a.sound (λ more. absurd (omega (arith, more, ap length same))), stands.legal);
     }
 
+-- what a graph says that accepted an access of this action
+abbrev pub AcceptsAccess : Graph → ℕ → ℕ → Type 0
+AcceptsAccess graph line action = (accepted : List Accepted) (m : Mode) (l : Loc) → IsGraph graph accepted → IsAccessOf graph accepted line action (Access m l)
+
+accepts : (graph : Graph) (line action : ℕ) (m : Mode) (l : Loc) → AcceptsAccess graph line action → Accepts graph graph line (Access m l)
+accepts graph line action m l of accepted stands = let a = of accepted m l stands in (a.legal, a.stands)
+
+runs_after : (graph : Graph) (h : List Record) (line action : ℕ) (m : Mode) (l : Loc) → IsGraph graph (with_lines h) → AcceptsAccess graph line action → Some action ≡ running_action h
+runs_after graph h line action m l stands of = sym (of (with_lines h) m l stands).running ∙ ap running_action (records_with_lines h)
+
+-- the accesses before it are of earlier lines, and of actions up to this one
+
+pub in_earlier_lines : (old : Session) (h : List Record) (line : ℕ) → IsSessionOf old h → line ≡ old.records + 2 → All (λ (x : Kept). x.line < line) old.kept
+in_earlier_lines old h line stands e =
+    let at : line ≡ length h + 2 = omega (arith, e, stands.count) in
+    subst (λ (xs : List Kept). All (λ (x : Kept). x.line < line) xs) (sym stands.accesses) (subst (λ n. All (λ (x : Kept). x.line < n) (kept h)) (sym at) (kept_lines h))
+
+pub of_earlier_actions : (old : Session) (h : List Record) (line action : ℕ) (m : Mode) (l : Loc) → IsSessionOf old h → AcceptsAccess old.graph line action → All (λ (x : Kept). x.action ≤ action) old.kept
+of_earlier_actions old h line action m l stands of = subst (λ (xs : List Kept). All (λ (x : Kept). x.action ≤ action) xs) (sym stands.accesses) (up_to_running h action (runs_after old.graph h line action m l stands.graph of))
+
 -- what the table has with an access is what the records keep
-due_is : (old : List Kept) (h : List Record) (x : Record) (m : Mode) (l : Loc) → x ≡ Access m l → old ≡ kept h → kept_with (x ∷ h) (length (told h).entries) m l old ≡ kept (x ∷ h)
-due_is old h x m l is same =
-    let Kept_of : Record → List Kept = λ y. access_in (record { read = y; place = length (told h).entries; action = running (told (x ∷ h)).actions }) in
-    ap (λ y. without_repeats (Kept_of y) old) (sym is) ∙ ap (without_repeats (Kept_of x)) same
+due_is : (old : Session) (h : List Record) (line action : ℕ) (m : Mode) (l : Loc) → IsSessionOf old h → line ≡ old.records + 2 → AcceptsAccess old.graph line action → with_access (access_of line action m l) old.kept ≡ kept (Access m l ∷ h)
+due_is old h line action m l stands e of =
+    ap (with_access (access_of line action m l)) stands.accesses ∙ sym (with_running h line action m l (runs_after old.graph h line action m l stands.graph of) (omega (arith, e, stands.count)))
 
--- what the table says of an access, for every list that the page stands for
-abbrev pub KeepsAccess : Page → ℕ → Mode → Loc → List Kept → List Kept → Type 0
-KeepsAccess page line m l old new = (h : List Record) (place : ℕ) → IsPage page h → line ≡ place + 2 → AreKept old (kept_with h place m l old) new
-
-abbrev pub IsRefusedRoom : Page → ℕ → Mode → Loc → List Kept → Type 0
-IsRefusedRoom page line m l old = (h : List Record) (place : ℕ) → IsPage page h → line ≡ place + 2 → IsPastRoom old (kept_with h place m l old)
-
-pub accessed : (old new : Session) (page : Page) (h : List Record) (x : Record) (m : Mode) (l : Loc) (line : ℕ) → IsSessionOf old h → x ≡ Access m l → line ≡ old.records + 2 → Accepts old.graph new.graph line x
-    → ((accepted : List Accepted) → IsListed new.graph accepted → IsPage page (records accepted)) → KeepsAccess page line m l old.kept new.kept → new.graph.version ≡ old.graph.version → new.records ≡ old.records + 1 → IsSessionOf new (x ∷ h)
-accessed old new page h x m l line stands is e accepts shows keeps version count =
-    let a = after old new.graph h x line stands e accepts in
-    let k = keeps (x ∷ h) (length (told h).entries) (page_of page new.graph (x ∷ h) shows a.stands) a.line_is in
-    let due = due_is old.kept h x m l is stands.accesses in
+pub accessed : (old new : Session) (h : List Record) (line action : ℕ) (m : Mode) (l : Loc) → IsSessionOf old h → line ≡ old.records + 2 → AcceptsAccess old.graph line action
+    → new.graph ≡ old.graph → new.records ≡ old.records + 1 → AreKept old.kept (with_access (access_of line action m l) old.kept) new.kept → IsSessionOf new (Access m l ∷ h)
+accessed old new h line action m l stands e of graph count keeps =
+    let x : Record = Access m l in
+    let a = after old old.graph h x line stands e (accepts old.graph line action m l of) in
+    let due = due_is old h line action m l stands e of in
     let before = ap length stands.accesses in
     let now = ap length due in
     record {
-      graph = a.stands;
-      accesses = k.same ∙ due;
+      graph = subst (λ g. IsGraph g (with_lines (x ∷ h))) (sym graph) a.stands;
+      accesses = keeps.same ∙ due;
       count = omega (arith, count, stands.count);
-      legal = same_rules old.graph.version new.graph.version (x ∷ h) version (legal_next (rules old.graph.version) h x stands.legal a.sound (λ more most. k.room (omega arith) (omega arith)), stands.legal);
+      legal = same_rules old.graph.version new.graph.version (x ∷ h) (ap (λ (g : Graph). g.version) graph) (legal_next (rules old.graph.version) h x stands.legal a.sound (λ more most. keeps.room (omega arith) (omega arith)), stands.legal);
     }
 
 -- an access for which there is no room
-pub refused_room : (old : Session) (graph : Graph) (page : Page) (h : List Record) (x : Record) (m : Mode) (l : Loc) (line : ℕ) → IsSessionOf old h → x ≡ Access m l → line ≡ old.records + 2 → Accepts old.graph graph line x
-    → ((accepted : List Accepted) → IsListed graph accepted → IsPage page (records accepted)) → IsRefusedRoom page line m l old.kept → IsFaultAfter old.graph.version h x (Refused line TooManyAccesses)
-refused_room old graph page h x m l line stands is e accepts shows past =
-    let a = after old graph h x line stands e accepts in
-    let p = past (x ∷ h) (length (told h).entries) (page_of page graph (x ∷ h) shows a.stands) a.line_is in
-    let due = due_is old.kept h x m l is stands.accesses in
+pub refused_room : (old : Session) (h : List Record) (line action : ℕ) (m : Mode) (l : Loc) (fault : FeedFault) → IsSessionOf old h → line ≡ old.records + 2 → AcceptsAccess old.graph line action
+    → IsFaultOfRoom fault (access_of line action m l) old.kept → IsFaultAfter old.graph.version h (Access m l) fault
+refused_room old h line action m l (Refused n c) stands e of is =
+    let x : Record = Access m l in
+    let a = after old old.graph h x line stands e (accepts old.graph line action m l of) in
     let before = ap length stands.accesses in
-    let now = ap length due in
-    let more = p.more in
-    let most = p.most in
-    (omega (arith, e, stands.count), full_next (rules old.graph.version) h x a.sound (record { more = omega arith; most = omega arith }))
+    let now = ap length (due_is old h line action m l stands e of) in
+    let more = one_came (access_of line action m l) old.kept is.2.0 in
+    let most = is.2.1 in
+    (omega (arith, is.0, e, stands.count), full_next (rules old.graph.version) h x a.sound (omega arith) (omega arith) ∙ ap Some (sym is.1))
+refused_room old h line action m l NoMemory stands e of is = tt

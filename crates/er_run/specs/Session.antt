@@ -1,5 +1,5 @@
 -- What a session stands for, and what a judgement promises. Lists of records stand newest first.
-use Rattle.std.specs.Prelude.{[], ℕ, ◌+◌, Bool, true, false, ◌∷◌, ◌≡◌, ◌≢◌, ◌<◌, ◌≤◌, All, List, reverse, length, take, slice_get, Option, Some, None}
+use Rattle.std.specs.Prelude.{[], ℕ, ◌+◌, Bool, true, false, ◌∷◌, ◌≡◌, ◌≢◌, ◌<◌, ◌≤◌, List, reverse, length, take, slice_get, Option, Some, None}
 use Rattle.std.specs.List.{list_all}
 use Rattle.er_trace.specs.declared.record.Record.{Record}
 use Rattle.er_trace.specs.declared.version.Version.{Version}
@@ -7,21 +7,17 @@ use Rattle.er_trace.specs.declared.version.Version.TheVariants.{One}
 use Rattle.er_trace.specs.Trace.{most_lines}
 use Rattle.er_trace.specs.Versions.{has_record}
 use Rattle.er_trace.specs.declared.record.Record.TheVariants.{Access}
-use Rattle.er_trace.specs.declared.record.Mode.{Mode}
-use Rattle.er_trace.specs.declared.record.Loc.{Loc}
-use Rattle.er_history.specs.History.{told, running}
 use Rattle.er_history.specs.Rules.{rules}
-use Rattle.er_page.specs.declared.page.Page.{Page}
-use Rattle.er_page.specs.Page.{IsPage}
 use Rattle.er_graph.specs.Accepted.{Accepted}
 use Rattle.er_graph.specs.Graph.{IsGraph}
 use Rattle.er_trace.specs.declared.fault.FeedFault.{FeedFault}
+use Rattle.er_text.specs.declared.causes.Cause.TheVariants.{TooManyAccesses}
 use Rattle.er_trace.specs.declared.fault.FeedFault.TheVariants.{Refused, NoMemory}
-use Rattle.er_access.specs.Kept.{Kept, most_accesses}
+use Rattle.er_access.specs.Kept.{Kept, IsFull, most_accesses}
 use Rattle.er_run.specs.declared.session.Session.{Session}
 use Rattle.er_run.specs.Legal.{IsLegal}
 use Rattle.er_run.specs.Legal as legality
-use Rattle.er_run.specs.Races.{kept, access_in, without_repeats}
+use Rattle.er_run.specs.Races.{kept}
 
 -- the records with their lines: the one at place k, counted from 0 in the order of the trace, stands in line k + 2
 abbrev pub with_lines : List Record → List Accepted
@@ -92,31 +88,16 @@ abbrev pub IsFaultIn : Option Version → List Record → FeedFault → Type 0
 IsFaultIn None records fault = fault ≡ NoMemory
 IsFaultIn (Some v) records fault = IsFaultOf v records fault
 
--- the page stands for some list, and the accesses are of earlier lines and of actions that have begun
-pub record AreEarlier (page : Page) (line : ℕ) (accesses : List Kept) : Type 0 where
-  pub list : List Record
-  pub stands : IsPage page list
-  pub lines : All (λ (x : Kept). x.line < line) accesses
-  pub actions : All (λ (x : Kept). x.action < length (told list).actions) accesses
-
--- these accesses with one of the running action, which the record at that place makes
-abbrev pub kept_with : List Record → ℕ → Mode → Loc → List Kept → List Kept
-kept_with h place m l old =
-    without_repeats (access_in (record {
-      read = Access m l;
-      place = place;
-      action = running (told h).actions;
-    })) old
-
 -- the new accesses are these; where one came to the old ones, there was room for it
 pub record AreKept (old due new : List Kept) : Type 0 where
   pub same : new ≡ due
   pub room : length old < length due → length old ≢ most_accesses
 
--- one comes to the old accesses, and there is no room for it
-pub record IsPastRoom (old due : List Kept) : Type 0 where
-  pub more : length old < length due
-  pub most : length old ≡ most_accesses
+-- The access is refused with its line where there is no room for it; or there is, and memory ran out.
+abbrev pub IsFaultOfRoom : FeedFault → Kept → List Kept → Type 0
+IsFaultOfRoom (Refused line cause) x old =
+    (line ≡ x.line) × (cause ≡ TooManyAccesses) × IsFull x old
+IsFaultOfRoom NoMemory x old = IsFull x old → ⊥
 
 abbrev pub is_access : Record → Bool
 is_access (Access m l) = true

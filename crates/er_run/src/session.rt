@@ -1,18 +1,18 @@
 //! What the accepted records say and access, and which record comes next.
 
-ghost use Rattle.std.specs.Prelude.{◌≡◌, true, ℕ, ◌+◌, ◌<◌, ◌≤◌, List, [], ◌∷◌, ◌++◌, reverse, length, Err, OnOk, IfOk, IfErr};
+ghost use Rattle.std.specs.Prelude.{◌≡◌, true, ◌+◌, ◌<◌, ◌≤◌, All, List, [], ◌∷◌, ◌++◌, reverse, length, OnOk, IfOk, IfErr};
 ghost use Rattle.std.specs.List.{list_all};
 ghost use Rattle.er_trace.specs.declared.record.Record.{Record};
+ghost use Rattle.er_trace.specs.declared.record.Record.TheVariants.{Access};
 ghost use Rattle.er_trace.specs.Trace.{most_lines};
 ghost use Rattle.er_trace.specs.Versions.{has_record};
-ghost use Rattle.er_page.specs.Page.{IsPage};
-ghost use Rattle.er_run.specs.Session.{IsSessionOf, IsSession, IsFaultAfter, IsFaultOf, HasTaken, GoesOnIn, version_of, version_or_first, AreEarlier, AreKept, IsPastRoom, kept_with};
+ghost use Rattle.er_access.specs.Kept.{access_of, with_access};
+ghost use Rattle.er_run.specs.Session.{IsSessionOf, IsSession, IsFaultAfter, IsFaultOf, HasTaken, GoesOnIn, version_of, version_or_first, AreKept, IsFaultOfRoom};
 
 use er_access::{AddFault, Table};
 use er_gen::Generator;
 use er_graph::Graph;
 use er_io::NoMemory;
-use er_page::page::Page;
 use er_text::Cause;
 use er_trace::fault::FeedFault;
 use er_trace::record::{Loc, Mode, Record};
@@ -151,20 +151,33 @@ impl Session {
         ensures version { self.new.graph.version ≡ self.old.graph.version }
     {
         let line = self.next_line();
+        if let Record::Access { mode, loc } = rec {
+            return self.take_access(line, *mode, loc);
+        }
         if let Err(fault) = self.graph.accept(line, rec) {
             return Err(fault);
         }
         self.records += 1;
-        let Record::Access { mode, loc } = rec else {
-            return Ok(());
-        };
-        match keep_access(&mut self.kept, self.graph.page(), line, *mode, loc) {
-            Ok(()) => Ok(()),
-            Err(AddFault::Full) => Err(FeedFault::Refused {
-                line,
-                cause: Cause::TooManyAccesses,
-            }),
-            Err(AddFault::NoMemory) => Err(FeedFault::NoMemory),
+        Ok(())
+    }
+
+    /// Takes an access, which stands in this line, as `take` does.
+    fn take_access(&mut self, line: u32, mode: Mode, loc: &Loc) -> Result<(), FeedFault>
+        requires some { IsSession self.old }
+        requires room { self.old.records < most_lines }
+        requires line { line ≡ self.old.records + 2 }
+        ensures taken { OnOk result ((h : List Record) → IsSessionOf self.old h
+            → IsSessionOf self.new (Access mode loc.now ∷ h)) }
+        ensures refused { IfErr result (λ fault. (h : List Record) → IsSessionOf self.old h
+            → IsFaultAfter self.old.graph.version h (Access mode loc.now) fault) }
+        ensures version { self.new.graph.version ≡ self.old.graph.version }
+    {
+        match self.graph.accept_access(line) {
+            Ok(action) => {
+                self.records += 1;
+                keep_access(&mut self.kept, line, action, mode, loc)
+            }
+            Err(fault) => Err(fault),
         }
     }
 }
@@ -201,25 +214,27 @@ pub(crate) fn or_empty(alloc: Global, session: Option<Session>) -> Result<Sessio
     }
 }
 
-/// Keeps an access of the running action, unless it repeats one.
+/// Keeps an access of this action, unless it repeats one.
 fn keep_access(
     kept: &mut Table,
-    page: &Page,
     line: u32,
+    action: u32,
     mode: Mode,
     loc: &Loc,
-) -> Result<(), AddFault>
-    requires { AreEarlier page.now line kept.old }
-    ensures kept { OnOk result ((h : List Record) (place : ℕ) → IsPage page.now h → line ≡ place + 2
-        → AreKept kept.old (kept_with h place mode loc.now kept.old) kept.new) }
-    ensures full { result ≡ Err AddFault.Full → (h : List Record) (place : ℕ) → IsPage page.now h
-        → line ≡ place + 2 → IsPastRoom kept.old (kept_with h place mode loc.now kept.old) }
+) -> Result<(), FeedFault>
+    requires lines { All (λ x. x.line < line) kept.old }
+    requires actions { All (λ x. x.action ≤ action) kept.old }
+    ensures kept { OnOk result (AreKept kept.old
+        (with_access (access_of line action mode loc.now) kept.old) kept.new) }
+    ensures refused { IfErr result (λ fault.
+        IsFaultOfRoom fault (access_of line action mode loc.now) kept.old) }
 {
-    let Some(action) = page.running() else {
-        return Ok(());
-    };
     match kept.add(line, action, mode, loc) {
         Ok(_) => Ok(()),
-        Err(fault) => Err(fault),
+        Err(AddFault::Full) => Err(FeedFault::Refused {
+            line,
+            cause: Cause::TooManyAccesses,
+        }),
+        Err(AddFault::NoMemory) => Err(FeedFault::NoMemory),
     }
 }
