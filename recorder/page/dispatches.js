@@ -184,6 +184,7 @@ class Dispatches {
     recording.isCheckpoint = false;
     while (recording.dispatches.length > height) recording.finishTop();
     recording.close(recording.top());
+    this.page.controls.tellOf(dispatch);
     this.writeInline(dispatch, `a consequence of ${recording.top().event.type}`);
     return true;
   }
@@ -204,7 +205,10 @@ class Dispatches {
     const { recording, page } = this;
     const type = spellName(event.type);
     if (target === page.window) recording.begin(`wfire ${dispatch.number} ${page.number} ${type}`, 'begin');
-    else recording.begin(`fire ${dispatch.number} ${page.elements.declaredNumber(target)} ${type}`, 'begin');
+    else {
+      const element = page.controls.standIn(dispatch) || page.elements.declaredNumber(target);
+      recording.begin(`fire ${dispatch.number} ${element} ${type}`, 'begin', undefined, [dispatch.enabledBy]);
+    }
   }
 
   /** The look-up of handlers at each node of the path; the driver spells it as reads of all slots that were ever written there. */

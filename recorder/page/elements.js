@@ -50,7 +50,7 @@ class Elements {
   watch(root) {
     this.observer.observe(root, {
       childList: true, subtree: true, attributes: true, attributeOldValue: true,
-      ...(this.recording.objects ? { characterData: true } : { attributeFilter: ['id', 'open', 'class', 'style'] }),
+      ...(this.recording.objects ? { characterData: true } : { attributeFilter: ['id', 'open', 'class', 'style', 'disabled'] }),
     });
   }
 
@@ -299,6 +299,7 @@ class Elements {
       this.writeId(oldValue, maker);
       this.writeId(this.idOf(target), maker);
     }
+    if (attributeName === 'disabled') this.page.controls.noteAttribute(target, oldValue, maker);
     if (maker !== 'script') return;
     if (attributeName === 'open') this.page.queued.noteOpen(target);
     else if (attributeName === 'class' || attributeName === 'style') this.page.queued.noteChange(target);
@@ -354,6 +355,7 @@ class Elements {
     } else if (this.idOf(node)) {
       this.recording.log.name('element', this.number(node), { id: this.idOf(node) });
     }
+    this.page.controls.noteAdded(node, maker);
     if (!this.page.shadows.has(node)) this.writeId(this.idOf(node), maker);
     if (maker === 'parser') this.page.shadows.look(node);
   }

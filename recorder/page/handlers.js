@@ -13,6 +13,8 @@ class Handlers {
     this.natives = page.natives;
     this.listeners = new WeakMap();
     this.ofAttributes = new WeakMap();
+    /** By target and type: the numbers of the handlers that `on..` properties have. */
+    this.ofProperties = new WeakMap();
     this.originals = new WeakMap();
   }
 
@@ -49,6 +51,14 @@ class Handlers {
     this.recording.log.name('handler', handler, {
       type, target: this.page.elements.number(target), function: functionName || undefined,
     });
+  }
+
+  /** Whether a target has a handler of a type now that was registered in an event. */
+  hasOneOf(target, type, event) {
+    const { registrars } = this.page.dispatches;
+    const isOfIt = (handler) => registrars.get(handler) === event;
+    const hasListener = (isCapture) => !!findItem([...this.registrations(target, type, isCapture).values()], ({ handler }) => isOfIt(handler));
+    return isOfIt(this.ofProperties.get(target)?.get(type)) || hasListener(false) || hasListener(true);
   }
 
   // ---- addEventListener
@@ -154,6 +164,8 @@ class Handlers {
   assign(target, type, value) {
     const owner = this.slotTarget(target, type);
     this.forgetAttribute(owner, type);
+    if (!this.ofProperties.has(owner)) this.ofProperties.set(owner, new Map());
+    this.ofProperties.get(owner).delete(type);
     if (typeof value !== 'function') {
       this.recording.access('w', this.slot(owner, type));
       return value;
@@ -161,6 +173,7 @@ class Handlers {
     const handlers = this;
     if (type === 'message') this.page.messages.noteStart(owner);
     const handler = this.register(owner, type, value, false);
+    this.ofProperties.get(owner).set(type, handler);
     const wrapped = function wrapped(event) {
       const current = event && event.currentTarget !== undefined ? event : handlers.page.window.event;
       return handlers.page.dispatches.runHandler(handler, current, current ? current.currentTarget : this, () => value.apply(this, arguments));

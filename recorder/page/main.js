@@ -11,6 +11,7 @@ class Page {
     this.globals = new Globals(this);
     this.imports = new Imports(this);
     this.dispatches = new Dispatches(this);
+    this.controls = new Controls(this);
     this.queued = new Queued(this);
     this.media = new Media(this);
     this.navigations = new Navigations(this);

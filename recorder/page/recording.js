@@ -38,6 +38,8 @@ class Recording {
     this.documents = [];
     this.elementNumbers = new WeakMap();
     this.declared = new Set();
+    /** What is known of the form controls of all documents (controls.js). */
+    this.controls = new WeakMap();
     this.endedEvents = new WeakSet();
     /** Texts of scripts whose marks were taken away, until the observer tells so. */
     this.ownTexts = new WeakSet();

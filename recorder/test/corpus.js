@@ -1,6 +1,6 @@
 #!/usr/bin/env node
 'use strict';
-// corpus.js [--install] [--side-by-side N] [--most N] [--minutes N] [--loads N] [--recordings] [--again] [--quiet] FOLDER [PACKAGE..]: the evaluation
+// corpus.js [--install] [--side-by-side N] [--most N] [--minutes N] [--loads N] [--recordings] [--times] [--again] [--quiet] FOLDER [PACKAGE..]: the evaluation
 // (docs/evaluation.md). Records the pages of corpus.json, or of the packages that are named, each with five clicks and a slow network in two seeds, judges
 // them, and runs the first problems of each page again in the other order. Appends a line of JSON for each page to FOLDER/pages.jsonl when it is done, so it
 // can be stopped, and goes on where it was: also behind the two recordings of a page that is not done.
@@ -14,7 +14,7 @@ const { programState } = require('../view/program.js');
 const { writeWhole } = require('../list/whole-file.js');
 const { run } = require('./cleanup.js');
 const { PageCalls } = require('./corpus/calls.js');
-const { readLines, appendLine, isQuiet } = require('./corpus/lines.js');
+const { readLines, appendLine, isQuiet, areTimesGood } = require('./corpus/lines.js');
 const { Unpacked } = require('./corpus/packages.js');
 const { lineOf, failedLine } = require('./corpus/page-line.js');
 
@@ -25,16 +25,17 @@ const USAGE = `usage: corpus.js [options] FOLDER [PACKAGE..]
   --minutes N       for at most so many minutes a page (60); what was found until then stays
   --loads N         so many loads of each page with and without the recorder, for their times (3); 0 where the machine is not quiet
   --recordings      the two recordings of each page alone, which take no program; a later call goes on behind them
+  --times           the loads of each page alone, which take no program: for those that have none yet with nothing else at work
   --again           records the pages anew that failed before
   --quiet           records the pages anew that were recorded with other work on the machine`;
 const USAGE_STATUS = 2;
 const NUMBERS = { '--side-by-side': 'lanes', '--most': 'most', '--minutes': 'minutes', '--loads': 'loads' };
-const FLAGS = { '--install': 'installs', '--recordings': 'recordsOnly', '--again': 'recordsFailed', '--quiet': 'recordsBusy' };
+const FLAGS = { '--install': 'installs', '--recordings': 'recordsOnly', '--times': 'timesOnly', '--again': 'recordsFailed', '--quiet': 'recordsBusy' };
 
 const isNumberFor = (name, word) => /^\d{1,4}$/.test(word) && (name === '--loads' || Number(word) > 0);
 
 function optionsOf(words) {
-  const options = { lanes: 1, most: 5, minutes: 60, loads: 3, installs: false, recordsOnly: false, recordsFailed: false, recordsBusy: false };
+  const options = { lanes: 1, most: 5, minutes: 60, loads: 3, installs: false, recordsOnly: false, timesOnly: false, recordsFailed: false, recordsBusy: false };
   const left = [...words];
   while (left[0]?.startsWith('--')) {
     const name = left.shift();
@@ -72,6 +73,8 @@ async function install(entries, unpacked, { installs, folder }) {
 const fileName = (page) => page.replace(/^\/usr\/share\//, '').replace(/[^\w.-]+/g, '-');
 const folderOf = ({ page }, { folder }) => path.join(folder, 'pages', fileName(page));
 const recordingsIn = (folder) => path.join(folder, 'recordings.json');
+/** Beside the folder of the page, which is made anew with its recordings. */
+const loadsIn = (folder) => `${folder}.loads.json`;
 
 /** How many processes want to run, on the average of the last minute. */
 const loadOfMachine = () => os.loadavg()[0];
@@ -97,6 +100,33 @@ async function recordingsOf(calls) {
   return recordings;
 }
 
+/** The time of all processors so far, and how much of it was idle, in milliseconds. */
+function processorTime() {
+  const times = os.cpus().map((one) => one.times);
+  const sum = (what) => times.reduce((total, one) => total + what(one), 0);
+  return { idle: sum(({ idle }) => idle), all: sum((one) => Object.values(one).reduce((total, time) => total + time, 0)) };
+}
+
+/**
+ * The loads of a page for their times, with the share of the processors' time that was left meanwhile: those of an earlier call, or new ones.
+ * @param {PageCalls} calls
+ * @param {number} times
+ * @param {(loads: object) => boolean} stay  whether those of an earlier call are enough
+ * @returns {Promise<{without: (number|null)[], with: (number|null)[], idle: number}>}
+ */
+async function loadsOf(calls, times, stay) {
+  const file = loadsIn(calls.folder);
+  const earlier = fs.existsSync(file) ? JSON.parse(fs.readFileSync(file, 'utf8')) : null;
+  if (earlier && stay(earlier)) return earlier;
+  fs.mkdirSync(calls.folder, { recursive: true });
+  const before = processorTime();
+  const own = await calls.loads(times);
+  const after = processorTime();
+  const loads = { ...own, idle: (after.idle - before.idle) / (after.all - before.all || 1) };
+  if (times) writeWhole(file, JSON.stringify(loads));
+  return loads;
+}
+
 const callsOf = (entry, unpacked, options) => new PageCalls(path.join(unpacked.root, entry.page), unpacked.root, folderOf(entry, options));
 
 /** Records one page, and answers its line. */
@@ -110,7 +140,7 @@ async function recordPage(entry, unpacked, chromium, options) {
     const calls = callsOf(entry, unpacked, options);
     const recordings = await recordingsOf(calls);
     loadsOfMachine.push(...recordings.loads);
-    const loads = await calls.loads(options.loads);
+    const loads = await loadsOf(calls, options.loads, () => true);
     const replay = await calls.replay(options);
     const measured = await calls.measure();
     return lineOf(known, { runs: recordings.runs, loads, replay, measured, costs: await calls.costs() }, facts());
@@ -126,13 +156,27 @@ function told({ page, failure, seconds, runs, problems, replay }) {
   return `${page}: ${what}; run again: ${replay.races.map(({ verdict }) => verdict).join(', ') || 'none'}; ${Math.round(seconds)} s`;
 }
 
-/** Makes the two recordings of a page alone, and answers what came of it. */
-async function recordAlone(entry, unpacked, options) {
+/** Makes the two recordings of a page alone. */
+async function recordAlone(calls) {
+  await recordingsOf(calls);
+  return 'recorded';
+}
+
+/** Loads a page for its times alone, and puts them into its line, where it has one. */
+async function timeAlone(calls, { page }, options, file) {
+  const loads = await loadsOf(calls, options.loads, areTimesGood);
+  const line = readLines(file).find((one) => one.page === page && !one.failure);
+  if (line) appendLine(file, { ...line, loads });
+  return `timed${areTimesGood(loads) ? '' : ' with other work on the machine'}: ${loads.without.join(' ')} s without the recorder, ${loads.with.join(' ')} s with it`;
+}
+
+/** Does one thing alone with a page, and says what came of it. */
+async function doAlone(entry, unpacked, options, file) {
+  const calls = callsOf(entry, unpacked, options);
   try {
-    await recordingsOf(callsOf(entry, unpacked, options));
-    return 'recorded';
+    return `${entry.page}: ${options.timesOnly ? await timeAlone(calls, entry, options, file) : await recordAlone(calls)}`;
   } catch (fault) {
-    return `failed: ${fault.message || fault}`;
+    return `${entry.page}: failed: ${fault.message || fault}`;
   }
 }
 
@@ -140,8 +184,8 @@ async function recordAlone(entry, unpacked, options) {
 async function recordLane(left, done, unpacked, chromium, options) {
   while (left.length) {
     const entry = left.shift();
-    if (options.recordsOnly) {
-      console.log(withoutCommands(`${entry.page}: ${await recordAlone(entry, unpacked, options)}`));
+    if (options.recordsOnly || options.timesOnly) {
+      console.log(withoutCommands(await doAlone(entry, unpacked, options, done.file)));
     } else {
       const line = await recordPage(entry, unpacked, chromium, options);
       appendLine(done.file, line);
@@ -175,7 +219,7 @@ async function main(words) {
     console.error(USAGE);
     return USAGE_STATUS;
   }
-  if (!options.recordsOnly && programState() !== 'built') {
+  if (!options.recordsOnly && !options.timesOnly && programState() !== 'built') {
     console.error('corpus.js: nothing done: it takes the built program: ./er_cli --build, or ER_CLI names one');
     return USAGE_STATUS;
   }
@@ -183,7 +227,7 @@ async function main(words) {
   const entries = readCorpus(options.only);
   if (!await install(entries, unpacked, options)) return USAGE_STATUS;
   const file = path.join(options.folder, 'pages.jsonl');
-  const left = entriesLeft(entries, file, options);
+  const left = options.timesOnly ? [...entries] : entriesLeft(entries, file, options);
   const { stdout } = await run(process.env.CHROMIUM || '/usr/bin/chromium', ['--version'], { longest: 60000 });
   const chromium = stdout.trim().split(' ').slice(0, 2).join(' ');
   const done = { file, count: entries.length - left.length, of: entries.length };

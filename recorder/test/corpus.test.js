@@ -52,7 +52,7 @@ test('the order of the candidates is that of a digest of their names, and large 
 
 test('the document tells the kinds as the rule has them', () => {
   const text = fs.readFileSync(DOCUMENTS[0], 'utf8');
-  KINDS.forEach(({ kind, most }) => assert.ok(text.includes(`\n| ${kind} | ${most} | `), kind));
+  assert.ok(text.includes(`: ${KINDS.map(({ kind, most }) => `${kind} ${most}`).join('; ')}.`));
 });
 
 const page = (name, bytes, files = [name], more = {}) => ({ page: name, size: 1, bytes, files, isPart: false, isBroken: false, isLeft: false, hasForeign: false, ...more });
@@ -151,7 +151,7 @@ const RACES = [
 ];
 const FOUND = {
   runs: [call(['E (a.js:1)', 'F (a.js:2)'], ['E (a.js:1)']), call(['E (a.js:1)'], [])],
-  loads: { without: [0.1, 0.3, 0.2], with: [0.4, 0.4, 0.6] },
+  loads: { without: [0.1, 0.3, 0.2], with: [0.4, 0.4, 0.6], idle: 0.5 },
   replay: { status: 1, seconds: 5 },
   costs: { seconds: 0.5, megabytes: 12 },
   measured: { runs: [FIGURES, { ...FIGURES, leftOut: 1 }], problems: PROBLEMS, replays: RACES },
@@ -226,10 +226,12 @@ test('the tables add up, and take nothing of a page for mark-up', () => {
   assert.match(texts.looks, /^\| `counter` \| 1 \| 50 % \| 1 \|$/m);
   assert.match(texts.replays, /^\| by its worst effect: a lost act \| 1 \| 50 % \|$/m);
   assert.match(texts.pages, /^\| p-doc, p-doc\/a\.html \| 10 \| 20 \| 4 \| 3 \| 2 \| 1 \| 1 of 2 \| 2 of 3, 1 \| 0\.20, 0\.40 \| 0\.50, 12 \|$/m);
-  assert.match(texts.recorded, /^1 pages of 1 packages, .* at a load of 1\.0 to 2\.0\. With/);
+  assert.match(texts.recorded, /^1 pages of 1 packages, .* at a load of 1\.0 to 2\.0\. Loads are told of 1 of 1\. With/);
   const busy = tablesOf([{ ...LINE, machine: { ...FACTS.machine, loads: [3, 6] } }]);
   assert.match(busy.recorded, /\*\*With other work on the machine: 1 of 1;/);
-  assert.ok(!busy.sums.includes('load with') && busy.pages.includes('| 2 of 3, 1 |  | 0.50, 12 |'), busy.pages);
+  assert.ok(busy.recorded.includes('Loads are told of 1 of 1.') && busy.sums.includes('load with'), busy.recorded);
+  const hurried = tablesOf([{ ...LINE, loads: { ...LINE.loads, idle: 0.05 } }]);
+  assert.ok(!hurried.sums.includes('load with') && hurried.pages.includes('| 2 of 3, 1 |  | 0.50, 12 |'), hurried.pages);
   assert.strictEqual(told('a|b`<i>*\n'), 'a&#124;b&#96;&#60;i&#62;&#42;&#92;u{a}');
   assert.throws(() => tablesOf([FAILED]), /no page was recorded/);
 });
@@ -292,7 +294,7 @@ test('a judgement has a reason, and an impossible race the order that is lost', 
   assert.deepStrictEqual(faultsOf(judged('bad', '', 'so'), ''), ['p, n: no judgement: bad']);
   const texts = judgementTexts(judged('harmless', '', 'a | b'));
   assert.match(texts.judgements, /\| real and harmless \| 1 \| 100 % \|/);
-  assert.match(texts.judged, /\| a &#124; b \|/);
+  assert.match(texts.judged, /^- p: w\. \*\*real and harmless\*\*: a &#124; b$/);
   assert.match(judgementTexts(judged('', '', '')).judgements, /1 problems are drawn by the seed 7; none is judged yet/);
   assert.strictEqual(judgementTexts({ problems: [], seed: 7 }).judgements, 'None is drawn yet.');
 });

@@ -2,7 +2,7 @@
 'use strict';
 // packaged-names.js [--record N] [--first M] [--into DOCUMENT] FOLDER [PACKAGE..]: of pages that were recorded several times, FOLDER/PAGE/RUN/page.trace, what the list is worth:
 // lines before and after folding, the share of places outside of libraries, how many names are the same in all runs, and what the races look like; at last
-// the tables of docs/viewing.md, which with --into get their place there. With --record the pages of packaged.json are recorded before, N times each: the first M
+// the tables of docs/evaluation-tables.md, which with --into get their place there. With --record the pages of packaged.json are recorded before, N times each: the first M
 // of them, or those that are named.
 
 const fs = require('node:fs');

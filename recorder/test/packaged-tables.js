@@ -1,5 +1,5 @@
 'use strict';
-// What packaged-names.js measured, as the two tables of docs/viewing.md, "What the list is worth".
+// What packaged-names.js measured, as the two tables of docs/evaluation-tables.md, "What the list is worth".
 
 const { LOOKS } = require('../list/looks.js');
 

@@ -1,5 +1,5 @@
 'use strict';
-// The tables of what the list is worth: how pages add up, and that docs/viewing.md has a place for them. No browser.
+// The tables of what the list is worth: how pages add up, and that docs/evaluation-tables.md has a place for them. No browser.
 
 const assert = require('node:assert');
 const fs = require('node:fs');
@@ -7,7 +7,7 @@ const path = require('node:path');
 const { test } = require('node:test');
 const { tablesOf, withTables } = require('./packaged-tables.js');
 
-const DOCUMENT = path.join(__dirname, '..', '..', 'docs', 'viewing.md');
+const DOCUMENT = path.join(__dirname, '..', '..', 'docs', 'evaluation-tables.md');
 const page = (name, size, looks) => ({
   page: name, races: size, groups: size, problems: size, lines: size, lost: 0, looks, places: { own: size, library: size, none: 2 * size, access: size, byWay: 0 },
   firsts: { own: size, all: 4 * size },
@@ -28,7 +28,7 @@ test('the document takes them in the place of its own, and nothing else of it ch
   const renewed = withTables(document, tables);
   tables.forEach((one) => assert.ok(renewed.includes(`\n\n${one}\n\n`), one));
   const begin = document.indexOf('| Page | Races |');
-  const end = document.indexOf('\n\n', document.indexOf('| Looks like | Problems |')) + 2;
+  const end = document.indexOf('\n\n', document.indexOf('| Looks like | Problems | Of |')) + 2;
   assert.strictEqual(renewed, document.slice(0, begin) + tables.join('\n\n') + '\n\n' + document.slice(end));
   assert.strictEqual(withTables(renewed, tables), renewed);
   assert.throws(() => withTables('no table', tables), /no such table: \| Page \| Races/);

@@ -28,6 +28,7 @@ exports.cases = [
   { page: 'race-flag.html', location: 'isLoaded', differs: null },
   { page: 'race-live.html', words: ['--live'], location: 'isLoaded', isLong: true, differs: null, says: /but in what differs by itself too: text in the (recorded|other) order alone: "drawn: / },
   { page: 'race-two-handlers.html', words: ['--do', 'click:#go'], location: 'steps', isLong: true, why: /both come from one act of the user/ },
+  { page: 'race-enabled.html', words: ['--do', 'click:#button'], location: 'price', isLong: true, worst: CONTENT, differs: last('none') },
   { page: 'race-press-release.html', words: ['--do', 'click:#go'], location: 'state', why: /both come from one act of the user/ },
   // objects, closures and the page's tree
   { page: 'race-closure.html', location: 'price of the closure of shop() at race-closure.html:5', isLong: true, worst: CONTENT, differs: last('price 0', 'price 7') },

@@ -91,7 +91,8 @@ class Words {
 
   /** The place of an element's tag, or of the code that made it. */
   placeOfElement(number) {
-    return this.names.elements[number]?.place || this.placeOfLine(this.actions.declaredAt.get(`element ${number}`));
+    const { place, standsFor } = this.names.elements[number] || {};
+    return place || this.placeOfLine(this.actions.declaredAt.get(`element ${number}`)) || (standsFor ? this.placeOfElement(standsFor) : null);
   }
 
   /** The document of a frame; nothing for the page's own. */

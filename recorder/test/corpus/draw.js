@@ -68,6 +68,12 @@ function faultsOf({ problems }, document) {
   return faults;
 }
 
+/** A judgement as an item of a list: its sentences are too long for a table. */
+function itemOf({ page, words, judgement, lost, why }) {
+  const because = told([why, lost].filter(Boolean).join(': '), LONGEST_WHY);
+  return `- ${told(page.split('/').slice(-2).join('/'))}: ${told(words)}. **${JUDGEMENTS[judgement]}**: ${because}`;
+}
+
 const percent = (part, all) => `${all ? Math.round((100 * part) / all) : 0} %`;
 
 /**
@@ -82,8 +88,7 @@ function judgementTexts({ problems, seed }) {
   const rows = Object.entries(JUDGEMENTS).map(([key, words]) => [words, judged.filter(({ judgement }) => judgement === key).length]);
   const rest = problems.length - judged.length;
   const sums = [...rows, ...rest ? [[NOT_JUDGED, rest]] : []].map(([words, count]) => [words, count, percent(count, problems.length)]);
-  const each = judged.map(({ page, words, judgement, lost, why }) => [told(page.split('/').slice(-2).join('/')), told(words), JUDGEMENTS[judgement], told([why, lost].filter(Boolean).join(': '), LONGEST_WHY)]);
-  return { judgements: tableOf(['Of the problems that were drawn', 'Problems', 'Share'], sums), judged: tableOf(['Page', 'Problem', 'Judged', 'Why'], each) };
+  return { judgements: tableOf(['Of the problems that were drawn', 'Problems', 'Share'], sums), judged: judged.map(itemOf).join('\n') };
 }
 
 module.exports = { draw, withJudgements, faultsOf, judgementTexts, JUDGEMENTS };

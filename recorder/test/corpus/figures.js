@@ -1,7 +1,7 @@
 'use strict';
 // The figures of an evaluation: what a page's line tells of it, and what the lines of all pages come to.
 
-const { isQuiet } = require('./lines.js');
+const { areTimesGood } = require('./lines.js');
 
 /** At what a race is that is found with objects and closures alone (measure.js). */
 const OF_OBJECTS = ['object', 'closure', 'module'];
@@ -66,7 +66,7 @@ function replaysOf({ races }) {
   return found;
 }
 
-/** The figures of a page by its line; null where its first recording has nothing. Its loads are told where the machine was quiet. */
+/** The figures of a page by its line; null where its first recording has nothing. Its loads are told where nothing else was at work. */
 function figuresOf(line) {
   const run = recordingOf(line);
   if (!run) return null;
@@ -75,7 +75,7 @@ function figuresOf(line) {
   const again = line.runs[1].nothing ? null : problems.filter(({ isAgain }) => isAgain).length;
   return {
     page, package: name, kind, actions, accesses, races, groups, problems: count, lines,
-    objects: countOf(run.kinds, OF_OBJECTS), again, looks: run.looks, kinds: run.kinds, loads: isQuiet(line) ? loadsOf(loads) : null, program, replay: replaysOf(replay),
+    objects: countOf(run.kinds, OF_OBJECTS), again, looks: run.looks, kinds: run.kinds, loads: areTimesGood(loads) ? loadsOf(loads) : null, program, replay: replaysOf(replay),
   };
 }
 

@@ -30,4 +30,9 @@ function appendLine(file, line) {
 /** Whether no more wanted to run, before a page and behind it, than there are processors. */
 const isQuiet = ({ machine: { loads, processors } }) => Math.max(...loads) <= processors;
 
-module.exports = { readLines, appendLine, isQuiet };
+/** Times are worth something where so much of the processors' time was left meanwhile: two browsers side by side leave a sixth of four. */
+const LEAST_IDLE = 0.1;
+/** Whether nothing had to wait while a page was loaded for its times. */
+const areTimesGood = ({ idle }) => idle !== undefined && idle >= LEAST_IDLE;
+
+module.exports = { readLines, appendLine, isQuiet, areTimesGood };

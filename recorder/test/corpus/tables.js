@@ -122,13 +122,15 @@ function recordedText(lines, figures) {
   const loads = lines.flatMap(({ machine }) => machine.loads);
   const processors = Math.max(...lines.map(({ machine }) => machine.processors));
   const busy = lines.filter((line) => !isQuiet(line)).length;
-  const quiet = busy ? ` **With other work on the machine: ${of(busy, lines.length)}; loads of these are not told, and fewer of their races could be turned.**` : '';
+  const quiet = busy ? ` **With other work on the machine: ${of(busy, lines.length)}; fewer of their races could be turned.**` : '';
+  const timed = figures.filter((one) => one.loads).length;
   const days = [...new Set(lines.map(({ began }) => began.slice(0, 10)))].sort();
   const browsers = [...new Set(lines.map(({ machine }) => machine.chromium))].join(', ');
   const lanes = Math.max(...lines.map(({ machine }) => machine.sideBySide));
   const packages = new Set(figures.map((one) => one.package)).size;
   return `${whole(figures.length)} pages of ${packages} packages, recorded ${days[0]}${days.length > 1 ? ` to ${days[days.length - 1]}` : ''} with ${told(browsers)}, `
-    + `${lanes} at once, on ${processors} processors at a load of ${Math.min(...loads).toFixed(1)} to ${Math.max(...loads).toFixed(1)}.${quiet} `
+    + `up to ${lanes} at once, on ${processors} processors at a load of ${Math.min(...loads).toFixed(1)} to ${Math.max(...loads).toFixed(1)}.${quiet} `
+    + `Loads are told of ${of(timed, figures.length)}. `
     + `With at least one problem: ${of(figures.filter(({ problems }) => problems).length, figures.length)}.`;
 }
 
