@@ -1,4 +1,5 @@
-//! Laws: the tests of the definitions say what they are named for. Each is a function with no parameters, whose contract is the law.
+//! Laws: the tests of the definitions say what they are named for. Each is a function with no
+//! parameters, whose contract is the law.
 
 ghost use Rattle.std.specs.Prelude.{◌≡◌};
 ghost use Rattle.std.specs.Bool.{Decides};

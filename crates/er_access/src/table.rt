@@ -14,7 +14,8 @@ use indexmap::IndexSet;
 use std::alloc::Global;
 use std::marker::Model;
 
-/// The kept accesses, the locations that they use, what each location has seen, and the number of candidate pairs.
+/// The kept accesses, the locations that they use, what each location has seen, and the number of
+/// candidate pairs.
 /// Callers see the list of accesses with their locations.
 pub struct Table {
     keys: IndexSet<Loc>,
@@ -37,8 +38,8 @@ impl Drop for Table {
     }
 }
 
-/// The number of a location, if it has one. The location of the number `last` is tried first, without a
-/// hash: a script reads a variable again and again.
+/// The number of a location, if it has one. The location of the number `last` is tried first,
+/// without a hash: a script reads a variable again and again.
 fn find(keys: &IndexSet<Loc>, last: usize, loc: &Loc) -> Option<usize>
     requires distinct { AreDistinct keys.now.keys }
     ensures found { IfSome result (λ k. k ≡ number_of loc.now keys.now.keys) }
@@ -160,7 +161,8 @@ impl Table {
         &self.keys.as_slice()[k as usize]
     }
 
-    /// The numbers of the accesses of a location, ascending. No later access is of a lesser action, and none repeats another.
+    /// The numbers of the accesses of a location, ascending. No later access is of a lesser action,
+    /// and none repeats another.
     pub fn rows(&self, k: u32) -> &[u32]
         requires { k < length (locations_of self.now) }
         ensures rows { result.now ≡ rows_of (accesses_of self.now) k }

@@ -142,7 +142,8 @@ pub record HasRoomFor (claimed : Claimed) (x : Record) : Type 0 where
 abbrev pub declares_either : ℕ → ℕ → List Record → Bool
 declares_either element inner h = list_any (declares_element element) h || knows_document h inner
 
--- What naming asks of records that neither declare nor begin a message, an animation callback or a job; of those it is asked elsewhere.
+-- What naming asks of records that neither declare nor begin a message, an animation callback or a
+-- job; of those it is asked elsewhere.
 
 abbrev pub unknown_number : List Record → Record → Bool
 unknown_number h x = if is_of_task x then false else naming.unknown h x

@@ -38,7 +38,8 @@ pub(crate) struct Timeout {
     pub(crate) rank: usize,
 }
 
-/// A timeout that was set: its number, its delay, the event and the piece that set it, and how many were set before.
+/// A timeout that was set: its number, its delay, the event and the piece that set it, and how many
+/// were set before.
 #[derive(Clone, Copy)]
 pub struct SetTimeout {
     pub timeout: u32,
@@ -48,8 +49,9 @@ pub struct SetTimeout {
     pub rank: usize,
 }
 
-/// A timeout that has fired, and of those that fired right before it how many were set in its piece before it with
-/// no greater delay (`run`), how many have no lesser delay (`longer`), and how many were set no earlier (`later`).
+/// A timeout that has fired, and of those that fired right before it how many were set in its piece
+/// before it with no greater delay (`run`), how many have no lesser delay (`longer`), and how many
+/// were set no earlier (`later`).
 /// Where there are more, as many as a number of two bytes can tell.
 #[derive(Clone, Copy)]
 pub struct FiredTimeout {

@@ -12,7 +12,8 @@ use crate::claimed::{Claimed, Element, Form};
 use er_trace::record::{Kind, Record};
 
 impl Claimed {
-    /// Whether the record uses a number that no earlier record declared. That of a message, an animation callback or a job is not asked here.
+    /// Whether the record uses a number that no earlier record declared. That of a message, an
+    /// animation callback or a job is not asked here.
     pub fn is_unknown(&self, rec: &Record) -> bool
         ensures { Answers self.now (λ h. unknown_number h rec.now) result }
     {
@@ -52,7 +53,8 @@ impl Claimed {
         }
     }
 
-    /// Whether it declares or starts what was declared or started before. That of a message, an animation callback or a job is not asked here.
+    /// Whether it declares or starts what was declared or started before. That of a message, an
+    /// animation callback or a job is not asked here.
     pub fn is_again(&self, rec: &Record) -> bool
         ensures { Answers self.now (λ h. number_again h rec.now) result }
     {

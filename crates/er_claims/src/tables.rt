@@ -1,4 +1,5 @@
-//! The tables of what the records have declared, started and finished, and how they take one record more.
+//! The tables of what the records have declared, started and finished, and how they take
+//! one record more.
 
 ghost use Rattle.std.specs.Prelude.{◌≡◌, ℕ, [], OnOk};
 ghost use Rattle.er_numbers.specs.Numbers.{found, HasRoomWhere};

@@ -15,7 +15,8 @@ use Rattle.er_cli.specs.declared.printed.Printed.{Printed}
 abbrev pub line_printed : Option Printed → Option (List ℕ)
 line_printed = option_map (λ line. line.text.now)
 
--- what is seen of the two ends: what is left of the source, what the sink got, and how many reads and writes have failed
+-- what is seen of the two ends: what is left of the source, what the sink got, and how many reads
+-- and writes have failed
 pub record Outside : Type 0 where
   pub left : Option (List ℕ)
   pub got : Option (List ℕ)
@@ -30,7 +31,8 @@ outside left got failed_reads failed_writes = record {
   failed_writes = failed_writes;
 }
 
--- The status and the line are those of an outcome to which `run` may come for all of these words, by so many comparisons and tests, where this was seen of the ends before and after.
+-- The status and the line are those of an outcome to which `run` may come for all of these words,
+-- by so many comparisons and tests, where this was seen of the ends before and after.
 pub record EndsWith (words : List (List ℕ)) (old new : Outside) (line : Option (List ℕ))
     (status : ℕ) : Type 0 where
   pub outcome : Outcome
@@ -51,11 +53,13 @@ pub record EndsWith (words : List (List ℕ)) (old new : Outside) (line : Option
   pub read_stands : outcome ≢ ReadFault → new.failed_reads ≡ old.failed_reads
   pub writes : CountsWrites outcome old.failed_writes new.failed_writes
   pub unread : outcome ≡ Usage → new.left ≡ old.left
-  -- a generated trace reads nothing, so only `NoMemory` and `WriteFault` may stand in for its answer
+  -- a generated trace reads nothing, so only `NoMemory` and `WriteFault` may stand in for
+  -- its answer
   pub generated : (asked : Asked) (n : ℕ) → Asks words asked → asked.command ≡ Gen n
       → (new.left ≡ old.left) × (outcome ≢ ReadFault)
   pub unwritten : IsSilent outcome → new.got ≡ old.got
-  -- where no read and no write failed, the answer of all that the command has to judge comes, or memory ran out
+  -- where no read and no write failed, the answer of all that the command has to judge comes, or
+  -- memory ran out
   pub complete : (asked : Asked) → Asks words asked
       → NoReadFailed asked.command old.failed_reads new.failed_reads
       → ¬ Rose old.failed_writes new.failed_writes

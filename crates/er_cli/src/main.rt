@@ -1,4 +1,5 @@
-//! The program: standard input, standard output and the words of the command, and what `run` makes of them.
+//! The program: standard input, standard output and the words of the command, and what
+//! `run` makes of them.
 #![tactic(auto)]
 
 ghost use Rattle.std.specs.Prelude.{◌≡◌, drop, map, string_bytes, IfErr, IfOk};

@@ -1,4 +1,5 @@
--- Where the new action is to have the links of the newest one: its links, and its row made of that one's.
+-- Where the new action is to have the links of the newest one: its links, and its row
+-- made of that one's.
 use Rattle.std.proofs.Common.{◌≡◌, ◌≢◌, ℕ, zero, suc, ◌+◌, ◌-◌, ◌<◌, ◌≤◌, Bool, true, false, List, [], ◌∷◌, ◌++◌, length, refl, sym, ap, ◌∙◌, arith, subst, inl, inr}
 use Rattle.std.specs.Prelude.{◌==◌, ◌||◌, ◌&&◌, not, nat_lt, slice_index, if◌then◌else◌}
 use Rattle.std.specs.List.{list_any, filter, AllByRecursion}

@@ -22,3 +22,5 @@ pub more_end : (xs : List ℕ) (x : ℕ) → x ≤ length xs → length xs ≤ x
 more_end [] x h k = refl
 more_end (n ∷ xs) zero h k = absurd (omega arith)
 more_end (n ∷ xs) (suc x) h k = ap (λ (ms : List ℕ). n ∷ ms) (more_end xs x (omega arith) (omega arith))
+
+pub ruleset lengthens = (few_chains, more_set, more_end)

@@ -1,4 +1,5 @@
--- What the tables answer, for the lists of links that the clocks are seen as, and for each list that they stand for.
+-- What the tables answer, for the lists of links that the clocks are seen as, and for each list
+-- that they stand for.
 use Rattle.std.proofs.Common.{◌≡◌, ◌≢◌, ℕ, zero, suc, All, ◌∷◌, refl, ◌<◌, List, [], length, get_or, sym, ap, ◌∙◌, arith, subst}
 use Rattle.std.specs.Prelude.{slice_index, reverse, nat_lt}
 use Rattle.std.proofs.lemmas.List.{get_or_read, length-reverse}

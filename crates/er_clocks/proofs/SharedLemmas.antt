@@ -27,3 +27,5 @@ shared_more {X = X} d lists numbers x n ok is =
     map-append (λ m. slice_index_or (lists ++ x ∷ []) m d) numbers (n ∷ [])
     ∙ ap (λ (y : X). shared d (lists ++ x ∷ []) numbers ++ y ∷ []) (get_end lists x n d is)
     ∙ ap (λ (xs : List X). xs ++ x ∷ []) (still d lists numbers x (recursion_from_All (λ m. m < length lists) numbers ok.within))
+
+pub ruleset listed = (shared_at, number_within)

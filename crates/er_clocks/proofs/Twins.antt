@@ -1,4 +1,5 @@
--- Actions with the same links: all but themselves that has a path to the one has a path to the other.
+-- Actions with the same links: all but themselves that has a path to the one has a path
+-- to the other.
 use Rattle.std.proofs.Common.{◌≡◌, ◌≢◌, ◌⊎◌, ℕ, zero, suc, ◌<◌, ◌≤◌, Bool, true, false, List, [], ◌∷◌, ◌++◌, length, get_or, max, refl, sym, ap, ◌∙◌, arith, subst, inl, inr}
 use Rattle.std.specs.Prelude.{◌==◌, ◌||◌, slice_index, reverse, if◌then◌else◌}
 use Rattle.std.specs.List.{list_any}

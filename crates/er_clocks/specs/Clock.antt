@@ -1,4 +1,5 @@
--- What clocks keep, and for which lists of predecessors they stand. Rows stand oldest first, lists of links newest first.
+-- What clocks keep, and for which lists of predecessors they stand. Rows stand oldest first, lists
+-- of links newest first.
 use Rattle.std.specs.Prelude.{◌≡◌, ℕ, suc, ◌*◌, ◌<◌, ◌≤◌, ◌==◌, if◌then◌else◌, List, ◌∷◌, length, map, slice_index}
 use Rattle.std.specs.List.{sum}
 use Rattle.er_paths.specs.Limits.{most_actions}
@@ -6,12 +7,14 @@ use Rattle.er_paths.specs.links.Chains.{chains, chain_of, place_of, entry}
 use Rattle.er_paths.specs.links.Links.{links, total}
 use Rattle.er_clocks.specs.Shared.{row_of}
 
--- the number of action j at a chain: at its own one more than its place, else that of its row, which is 0 past the end
+-- the number of action j at a chain: at its own one more than its place, else that of its row,
+-- which is 0 past the end
 abbrev pub number_at : List (List ℕ) → List ℕ → List ℕ → ℕ → ℕ → ℕ
 number_at rows numbers places j c =
     if c == slice_index numbers j then suc (slice_index places j) else slice_index (row_of rows j) c
 
--- The kept lists are their own links; rows, chains, places, lengths and the count are right of them.
+-- The kept lists are their own links; rows, chains, places, lengths and the count are
+-- right of them.
 pub record IsClock (kept rows : List (List ℕ)) (numbers places lengths : List ℕ)
     (count : ℕ) : Type 0 where
   pub few : length kept ≤ most_actions
@@ -35,7 +38,8 @@ pub record StandsFor (kept lists : List (List ℕ)) : Type 0 where
 abbrev pub Tells : List (List ℕ) → (List (List ℕ) → Type 0) → Type 0
 Tells kept has = (lists : List (List ℕ)) → StandsFor kept lists → has lists
 
--- For whatever list they stood, they stand now for that list with one action more, which has these predecessors.
+-- For whatever list they stood, they stand now for that list with one action more, which has these
+-- predecessors.
 abbrev pub StandsForMore : List (List ℕ) → List ℕ → List (List ℕ) → Type 0
 StandsForMore old preds new = (lists : List (List ℕ)) → StandsFor old lists
     → StandsFor new (preds ∷ lists)

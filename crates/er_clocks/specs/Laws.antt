@@ -21,7 +21,8 @@ abbrev pub ClocksOfHanded : Type 0
 ClocksOfHanded = (kept handed lists : List (List ℕ)) → IsEnough handed lists → StandsFor kept handed
     → StandsFor kept lists
 
--- The same of the newest action alone: each handed number is of its list, and from each number of the list a path leads to a handed one.
+-- The same of the newest action alone: each handed number is of its list, and from each number of
+-- the list a path leads to a handed one.
 abbrev pub ClocksOfNewest : Type 0
 ClocksOfNewest = (kept older : List (List ℕ)) (handed all : List ℕ)
     → ((k : ℕ) → is_among k handed ≡ true → is_among k all ≡ true)

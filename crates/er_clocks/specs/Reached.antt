@@ -1,4 +1,5 @@
--- How many members of each chain have a path to an action that is to come, as it is handed from step to step.
+-- How many members of each chain have a path to an action that is to come, as it is handed from
+-- step to step.
 use Rattle.std.specs.Prelude.{◌≡◌, ◌≢◌, ◌≤◌, ◌<◌, ℕ, ◌==◌, if◌then◌else◌, List, [], length, slice_index}
 use Rattle.er_paths.specs.Limits.{most_actions}
 use Rattle.er_paths.specs.links.Chains.{chains, members, count_in, chain_of, entry}

@@ -55,7 +55,8 @@ ComeBefore lists xs j = (k : ℕ) → is_among k xs ≡ true → (k < j) × (joi
 abbrev pub HasLinks : List (List ℕ) → List ℕ → ℕ → Type 0
 HasLinks lists xs j = (k : ℕ) → is_among k (links_of lists j) ≡ true → is_among k xs ≡ true
 
--- k comes before j, and of the links of j it is the next after those that were found, or none of them.
+-- k comes before j, and of the links of j it is the next after those that were found, or
+-- none of them.
 abbrev pub IsFoundWith : List (List ℕ) → ℕ → List ℕ → ℕ → ℕ → ℕ → Type 0
 IsFoundWith lists j links k found more =
     ((k < j) × (joins lists k j ≡ true)) × (more ≤ length links)

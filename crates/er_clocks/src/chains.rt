@@ -52,7 +52,7 @@ impl Chains {
     }
 
     /// One more member at the chain's end. At `count` it is the first of a new chain.
-    #[tactic(auto, using(crate::proofs::Lengths::few_chains, crate::proofs::Lengths::more_set, crate::proofs::Lengths::more_end))]
+    #[tactic(auto, using(crate::proofs::Lengths::lengthens))]
     pub fn append(&mut self, chain: u32) -> Result<(), NoMemory>
         requires chain { chain ≤ length self.old }
         requires room { sum self.old < 2 ^ 32 - 1 }

@@ -15,7 +15,8 @@ use crate::{Chains, Meter, Paths};
 use std::alloc::Global;
 use std::marker::Model;
 
-/// For each action its links, its chain and place there, and a row that says how many members of each other chain have a path to it.
+/// For each action its links, its chain and place there, and a row that says how many members of
+/// each other chain have a path to it.
 /// Many actions share a row, and those with the same links one after the other share these.
 /// Callers see the lists of links, newest first.
 pub struct Clocks {

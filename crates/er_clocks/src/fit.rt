@@ -19,7 +19,8 @@ impl Clocks {
         }
     }
 
-    /// The same where they are those of j, but at its chain. The last members of lower chains have no path to j: it would have taken such a chain.
+    /// The same where they are those of j, but at its chain. The last members of lower chains have
+    /// no path to j: it would have taken such a chain.
     fn fit_like(&self, j: u32, number: u32) -> u32
         requires { j < length self.now }
         ensures { IsFit self.now (like_at self.now j number) result }
@@ -38,7 +39,8 @@ impl Clocks {
     }
 }
 
-/// The lowest chain, of these and higher ones, whose length is the row's number, or how many chains there are.
+/// The lowest chain, of these and higher ones, whose length is the row's number, or how
+/// many chains there are.
 fn first_full(chains: &Chains, row: &[Number], from: u32) -> u32
     requires begun { (c : ℕ) → c < length chains.now → 0 < slice_index chains.now c }
     ensures within { result ≤ length chains.now }

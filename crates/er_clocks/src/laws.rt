@@ -1,4 +1,5 @@
-//! Laws: what clocks that stand for a list tell of it. Each is a function with no parameters, whose contract is the law.
+//! Laws: what clocks that stand for a list tell of it. Each is a function with no parameters, whose
+//! contract is the law.
 
 ghost use Rattle.er_clocks.specs.Laws.{ClocksOfHanded, ClocksOfNewest, ClocksOfPaths, ClocksTellPaths};
 
@@ -17,7 +18,8 @@ pub fn clocks_of_handed()
     ensures { ClocksOfHanded }
 {}
 
-/// Where enough of the newest action's predecessors were handed, the clocks are those of its whole list.
+/// Where enough of the newest action's predecessors were handed, the clocks are those of
+/// its whole list.
 pub fn clocks_of_newest()
     ensures { ClocksOfNewest }
 {}

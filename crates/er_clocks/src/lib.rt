@@ -1,4 +1,5 @@
-//! Vector clocks over chains: whether a path leads from one action to another, by one comparison of two numbers.
+//! Vector clocks over chains: whether a path leads from one action to another, by one comparison of
+//! two numbers.
 #![tactic(auto)]
 
 mod chains;

@@ -1,6 +1,7 @@
 //! Many actions asked at once.
 //!
-//! Each loop is a function that is not inlined: in its callers the registers would not reach for it.
+//! Each loop is a function that is not inlined: in its callers the registers would not
+//! reach for it.
 
 ghost use Rattle.std.specs.Prelude.{◌≡◌, ◌+◌, ◌<◌, ◌≤◌, ◌^◌, ℕ, nat_lt, All, length, IfOk};
 ghost use Rattle.er_paths.specs.Limits.{most_actions};
@@ -13,8 +14,8 @@ use crate::row::{Number, copied_to, number_at};
 use crate::{Clocks, Meter};
 use er_io::NoMemory;
 
-/// So many are asked by the row of j, which most often answers: they cost what it costs to lay out the entries of some
-/// thousand chains.
+/// So many are asked by the row of j, which most often answers: they cost what it costs to lay out
+/// the entries of some thousand chains.
 const NEAR: usize = 256;
 
 /// What is looked up of an action once, before many are asked whether they have a path to it.
@@ -129,7 +130,8 @@ impl Clocks {
 impl Clocks {
     /// The place of the first of these that has no path to j, or their number.
     ///
-    /// Where many are left behind the first few, the entries of j are laid out for all chains, and each of them costs one look-up there.
+    /// Where many are left behind the first few, the entries of j are laid out for all chains, and
+    /// each of them costs one look-up there.
     pub(crate) fn first_pathless(&self, firsts: &[u32], j: u32) -> usize
         requires firsts { All (λ i. i < length self.now) firsts.now }
         requires second { j < length self.now }

@@ -18,8 +18,10 @@ use std::alloc::Global;
 impl Clocks {
     /// Adds the next action, to which an edge leads from each of these, and answers its number.
     ///
-    /// Where the links are those of the newest action, or one alone, each number costs one look-up, and a row is written only where the action takes another chain than its link.
-    /// Else a number that a greater one covers costs one look-up, and so does a link whose own links are those of the next greater; each other link costs one step a chain.
+    /// Where the links are those of the newest action, or one alone, each number costs one look-up,
+    /// and a row is written only where the action takes another chain than its link.
+    /// Else a number that a greater one covers costs one look-up, and so does a link whose own
+    /// links are those of the next greater; each other link costs one step a chain.
     pub fn push(&mut self, preds: &[u32]) -> Result<u32, NoMemory>
         requires known { All (λ k. k < length self.old) preds.now }
         requires room { length self.old < most_actions }
@@ -60,7 +62,8 @@ fn place_at(chains: &Chains, chain: u32) -> u32
     }
 }
 
-/// The row with these entries, but at the chain that the action itself takes: where it may, that of an earlier action.
+/// The row with these entries, but at the chain that the action itself takes: where it may, that of
+/// an earlier action.
 fn row_for(
     rows: &Shared<Row>,
     numbers: &[u32],

@@ -43,7 +43,7 @@ impl<T> Shared<T> {
     }
 
     /// The list of j.
-    #[tactic(auto, using(crate::proofs::SharedLemmas::shared_at, crate::proofs::SharedLemmas::number_within))]
+    #[tactic(auto, using(crate::proofs::SharedLemmas::listed))]
     pub(crate) fn list(&self, j: u32) -> &T
         requires shared { AreShared self.now.lists.items self.now.numbers.items }
         requires known { j < length self.now.numbers.items }

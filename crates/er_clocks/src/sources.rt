@@ -1,7 +1,9 @@
 //! Which of the handed numbers are links, and the row that the rows of these make.
 //!
-//! Where the links are those of the newest action, or one alone, nothing is sorted and no row is made.
-//! Else the numbers, sorted, are taken from the greatest down. One that the row covers already is no link, and costs a look-up.
+//! Where the links are those of the newest action, or one alone, nothing is sorted and no
+//! row is made.
+//! Else the numbers, sorted, are taken from the greatest down. One that the row covers already is
+//! no link, and costs a look-up.
 
 ghost use Rattle.std.specs.Prelude.{◌≡◌, ◌≤◌, ◌<◌, ℕ, true, List, [], All, length, slice_index, IfOk, OnOk, IfSome};
 ghost use Rattle.er_paths.specs.Paths.{is_among};
@@ -61,7 +63,8 @@ impl Clocks {
         count > 0 && self.repeats(preds, count - 1)
     }
 
-    /// Whether each of these has a path to j and is not j, and all links of j are among them. They stand descending, as the links ascend.
+    /// Whether each of these has a path to j and is not j, and all links of j are among them. They
+    /// stand descending, as the links ascend.
     fn repeats(&self, preds: &[u32], j: u32) -> bool
         requires known { All (λ k. k < length self.now) preds.now }
         requires begun { j < length self.now }
@@ -202,7 +205,8 @@ impl Clocks {
         Ok(())
     }
 
-    /// Takes one number more. Where the row covers it, it has a path to one that was taken, and is no link.
+    /// Takes one number more. Where the row covers it, it has a path to one that was
+    /// taken, and is no link.
     fn take(&self, i: u32, row: &mut Row, links: &mut Vec<Number>) -> Result<(), NoMemory>
         requires known { i < length self.now }
         requires taken { All (λ k. k < length self.now) links.old.items }
@@ -220,7 +224,8 @@ impl Clocks {
         Ok(())
     }
 
-    /// Raises the row by that of i. Where a link was taken with the same links as i, the row has all that but i itself.
+    /// Raises the row by that of i. Where a link was taken with the same links as i, the row has
+    /// all that but i itself.
     fn join(&self, i: u32, row: &mut Row, links: &[Number]) -> Result<(), NoMemory>
         requires known { i < length self.now }
         requires taken { All (λ k. k < length self.now) links.now }

@@ -135,7 +135,8 @@ top_above actions joined xs x y (suc fuel) o p l w m c = elim (decide (is_maxima
       top_above actions joined xs x z.0 fuel o p (omega arith) (omega arith) z.1 (covers_through joined z.0 y x o z.3 c)
 ]
 
--- the pass: among the maximal ones of those that were passed, one covers x exactly where x is not maximal
+-- the pass: among the maximal ones of those that were passed, one covers x exactly where
+-- x is not maximal
 pub pass_decides : (actions : ℕ) (joined : ℕ → ℕ → Bool) (xs done : List Class) (x : Class) → AreOrders joined → AllByRecursion (IsKnown actions) xs
     → ((y : Class) → is_among y xs ≡ true → rank actions y < rank actions x → is_among y done ≡ true)
     → ((y : Class) → is_among y done ≡ true → (is_among y xs ≡ true) × (same y x ≡ false))

@@ -1,4 +1,5 @@
--- Classes of races. A class is all races of one pair of actions, and is named by the pair. Lists stand in the order of the races.
+-- Classes of races. A class is all races of one pair of actions, and is named by the pair. Lists
+-- stand in the order of the races.
 use Rattle.std.specs.Prelude.{ℕ, Bool, not, ◌==◌, ◌&&◌, List, [], ◌∷◌, map, filter}
 use Rattle.std.specs.List.{list_any}
 use Rattle.er_access.specs.Kept.{Kept}

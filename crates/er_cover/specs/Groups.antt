@@ -1,11 +1,13 @@
--- Covers and groups. `joined i j` says that a path leads from action i to action j. Races and groups are numbered from 0.
+-- Covers and groups. `joined i j` says that a path leads from action i to action j. Races and
+-- groups are numbered from 0.
 use Rattle.std.specs.Prelude.{ℕ, ◌*◌, Bool, not, ◌==◌, ◌&&◌, List, map, filter, length}
 use Rattle.std.specs.List.{list_any, position_or_len, count_by, range_with_len}
 use Rattle.er_access.specs.Kept.{Kept}
 use Rattle.er_cover.specs.declared.class.Class.{Class}
 use Rattle.er_cover.specs.Classes.{same, each_once, classes_by_race, classes_of}
 
--- each race of x covers each race of y: a path leads from y's first action to x's, and one from x's second action to y's
+-- each race of x covers each race of y: a path leads from y's first action to x's, and one from x's
+-- second action to y's
 abbrev pub covers : (ℕ → ℕ → Bool) → Class → Class → Bool
 covers joined x y = joined y.first x.first && joined x.second y.second
 

@@ -1,4 +1,5 @@
--- Worked rows: small lists of predecessors, newest first, and the classes of races, in the order of the races.
+-- Worked rows: small lists of predecessors, newest first, and the classes of races, in
+-- the order of the races.
 use Rattle.std.specs.Prelude.{◌≡◌, ℕ, List, [], ◌∷◌}
 use Rattle.er_paths.specs.Paths.{joins}
 use Rattle.er_cover.specs.declared.class.Class.{Class}
@@ -21,7 +22,8 @@ abbrev pub OneClass : Type 0
 OneClass = Gives ((1 ∷ []) ∷ (1 ∷ []) ∷ (0 ∷ []) ∷ [] ∷ []) (of 2 3 ∷ of 2 3 ∷ []) (0 ∷ 0 ∷ [])
     (0 ∷ []) (2 ∷ [])
 
--- two timeouts that race set one each; the race of these two covers the race of the first and the last action
+-- two timeouts that race set one each; the race of these two covers the race of the first
+-- and the last action
 abbrev pub LaterRepresentative : Type 0
 LaterRepresentative = Gives ((4 ∷ []) ∷ (1 ∷ []) ∷ (2 ∷ []) ∷ (1 ∷ []) ∷ (0 ∷ []) ∷ [] ∷ [])
     (of 2 5 ∷ of 3 4 ∷ []) (0 ∷ 0 ∷ []) (1 ∷ []) (2 ∷ [])

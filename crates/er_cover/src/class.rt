@@ -19,7 +19,8 @@ pub struct Class {
 }
 
 impl Class {
-    /// Its place among all pairs of actions, where the first falls and, for one first, the second rises.
+    /// Its place among all pairs of actions, where the first falls and, for one first,
+    /// the second rises.
     pub(crate) fn rank(&self, actions: u32) -> u64
         ensures { result ≡ spec.rank actions self.now }
     {

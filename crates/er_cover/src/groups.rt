@@ -5,7 +5,8 @@ ghost use Rattle.er_races.specs.Races.{most_races};
 
 use std::marker::Model;
 
-/// The groups of races. Races and groups are numbered from 0, groups in the order of their representatives.
+/// The groups of races. Races and groups are numbered from 0, groups in the order of their
+/// representatives.
 pub struct Groups {
     pub(crate) names: Vec<u32>,
     pub(crate) representatives: Vec<u32>,

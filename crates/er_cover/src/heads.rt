@@ -10,7 +10,8 @@ use er_clocks::{Clocks, Meter};
 use er_io::NoMemory;
 use std::alloc::Global;
 
-/// The first actions of the groups found so far, each once, and where the groups of each begin among them.
+/// The first actions of the groups found so far, each once, and where the groups of each
+/// begin among them.
 ///
 /// Classes come by falling first action, so that groups of one first action stand side by side.
 #[derive(Drop)]
@@ -29,7 +30,8 @@ impl Heads {
         }
     }
 
-    /// Takes in the first action of a class that goes behind these groups, unless the last group has it.
+    /// Takes in the first action of a class that goes behind these groups, unless the
+    /// last group has it.
     pub(crate) fn add(&mut self, found: &[Class], class: &Class) -> Result<(), NoMemory>
         requires heads { AreHeads found.now self.old }
         requires few { length found.now ≤ most_classes }
@@ -68,7 +70,8 @@ impl Heads {
         &found[start..end]
     }
 
-    /// Where the groups of the first action at this place begin, or behind the last of them the number of groups.
+    /// Where the groups of the first action at this place begin, or behind the last of them the
+    /// number of groups.
     fn start(&self, found: &[Class], n: usize) -> usize
         requires heads { AreHeads found.now self.now }
         requires place { n ≤ length self.now.firsts.items }

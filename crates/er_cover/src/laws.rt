@@ -1,4 +1,5 @@
-//! Laws on classes, covers and groups. Each is a function with no parameters, whose contract is the law.
+//! Laws on classes, covers and groups. Each is a function with no parameters, whose
+//! contract is the law.
 
 ghost use Rattle.er_cover.specs.Laws.{ClassesAreOnce, CoveredIsWider, EachIsCovered, EachNamesACover, EachNamesAGroup, GroupsInOrder, MaximalIsUncovered};
 ghost use Rattle.er_cover.specs.Rows.{WorkedRows};

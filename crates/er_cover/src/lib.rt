@@ -1,4 +1,5 @@
-//! Which races cover which: classes of races, the maximal ones among them, and the group that each race names.
+//! Which races cover which: classes of races, the maximal ones among them, and the group
+//! that each race names.
 #![tactic(auto)]
 
 mod class;

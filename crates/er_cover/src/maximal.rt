@@ -1,4 +1,5 @@
-//! The maximal classes, by one pass over the classes by falling first action and, of one first action, by rising second:
+//! The maximal classes, by one pass over the classes by falling first action and, of one first
+//! action, by rising second:
 //! whatever covers a class stands before it.
 
 ghost use Rattle.std.specs.Prelude.{◌≡◌, ◌+◌, ◌*◌, ◌<◌, ◌≤◌, ◌^◌, length, All, Some, IfOk, OnOk};
@@ -83,7 +84,8 @@ fn pass(
     Ok(found)
 }
 
-/// The second actions of those found classes to whose first action a path leads from one first action.
+/// The second actions of those found classes to whose first action a path leads from one
+/// first action.
 #[derive(Drop)]
 pub(crate) struct Leading {
     pub(crate) first: Option<u32>,

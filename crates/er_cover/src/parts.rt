@@ -1,4 +1,5 @@
-//! The parts of a grouping: the classes and the groups among them, what some classes name, and all of it together.
+//! The parts of a grouping: the classes and the groups among them, what some classes name, and all
+//! of it together.
 
 ghost use Rattle.std.specs.Prelude.{◌≡◌, ◌+◌, ◌-◌, ◌*◌, ◌<◌, ◌≤◌, ◌^◌, ℕ, Bool, Err, length, take, drop, All, IfOk, OnOk};
 ghost use Rattle.er_paths.specs.Paths.{joins};
@@ -24,7 +25,8 @@ use std::marker::Model;
 /// The most classes that are grouped.
 const MOST_CLASSES: usize = 32_768;
 
-/// The class of each race, the classes in the order of their first races, and the groups among them.
+/// The class of each race, the classes in the order of their first races, and the groups
+/// among them.
 pub struct Classes {
     by_race: Vec<Class>,
     distinct: Distinct,

@@ -22,9 +22,11 @@ use er_reasons::reason;
 use er_trace::version::Version;
 use std::alloc::Global;
 
-/// The steps that lead from one action to another by the rules of the graph's version, or none where no path does.
+/// The steps that lead from one action to another by the rules of the graph's version, or none
+/// where no path does.
 ///
-/// It goes back from the last action, link by link. Each action is passed once at most, at a comparison for each link into it.
+/// It goes back from the last action, link by link. Each action is passed once at most, at a
+/// comparison for each link into it.
 pub fn explain(alloc: Global, graph: &Graph, from: u32, to: u32) -> Result<Option<Steps>, NoMemory>
     requires first { ∥ HasBegun graph.now from ∥₁ }
     requires second { ∥ HasBegun graph.now to ∥₁ }

@@ -1,4 +1,5 @@
-//! Why two actions are ordered: a list of links from the one to the other, each with the rule that makes it.
+//! Why two actions are ordered: a list of links from the one to the other, each with the
+//! rule that makes it.
 #![tactic(auto)]
 
 mod explanation;

@@ -9,7 +9,8 @@ ghost use Rattle.er_pieces.specs.steps.Steps as steps;
 use er_graph::Graph;
 use er_reasons::reason;
 
-/// The least number of a rule of the graph's version that makes an edge from action i to action j. It takes no memory.
+/// The least number of a rule of the graph's version that makes an edge from action i to action j.
+/// It takes no memory.
 pub fn rule_of(graph: &Graph, i: u32, j: u32) -> Option<u32>
     requires first { ∥ HasBegun graph.now i ∥₁ }
     requires second { ∥ HasBegun graph.now j ∥₁ }

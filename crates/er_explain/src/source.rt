@@ -8,7 +8,8 @@ ghost use Rattle.er_explain.specs.Steps.{AreSome};
 
 use er_clocks::Clocks;
 
-/// Of the links into an action, the least source to which a path leads. It costs a comparison of two numbers for each link.
+/// Of the links into an action, the least source to which a path leads. It costs a comparison of
+/// two numbers for each link.
 pub(crate) fn source_of(clocks: &Clocks, from: u32, at: u32) -> Option<u32>
     requires begun { at < length clocks.now }
     requires some { ∥ AreSome clocks.now ∥₁ }

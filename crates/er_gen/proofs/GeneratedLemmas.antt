@@ -101,3 +101,5 @@ generated_fits n few = record {
   each = all_append (IsRecordOf One) opening (flat_map round (range_with_len 1 n) ++ closing) opening_fits (all_append (IsRecordOf One) (flat_map round (range_with_len 1 n)) closing (rounds_fit 1 n (omega arith)) closing_fits);
   few = let e : length (generated n) ≡ 12 * n + 10 = generated_length n in omega (arith, e);
 }
+
+pub ruleset left = (first_left, rest_left, none_left)

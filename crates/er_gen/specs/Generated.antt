@@ -29,7 +29,8 @@ opening =
     ∷ Set 2 0
     ∷ []
 
--- Element e is made, and `a` is written. Dispatch p of a click runs a handler that writes `b`, calls dispatch q of a focus, whose handler reads `b`, and writes `b` again.
+-- Element e is made, and `a` is written. Dispatch p of a click runs a handler that writes `b`,
+-- calls dispatch q of a focus, whose handler reads `b`, and writes `b` again.
 abbrev pub round_of : ℕ → ℕ → ℕ → List Record
 round_of e p q =
     Parse 0 e kinds.Plain

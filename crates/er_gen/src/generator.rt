@@ -55,7 +55,7 @@ impl Generator {
     }
 
     /// The next record.
-    #[tactic(auto, using(crate::proofs::GeneratedLemmas::first_left, crate::proofs::GeneratedLemmas::rest_left, crate::proofs::GeneratedLemmas::none_left))]
+    #[tactic(auto, using(crate::proofs::GeneratedLemmas::left))]
     pub fn next(&mut self) -> Result<Option<Record>, NoMemory>
         ensures given { IfOk result (λ given. given ≡ slice_get self.old 0) }
         ensures later { OnOk result (self.new ≡ drop 1 self.old) }

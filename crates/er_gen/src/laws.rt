@@ -11,7 +11,8 @@ pub fn records_are_counted()
     ensures { (number : ℕ) → length (generated number) ≡ 12 * number + 10 }
 {}
 
-/// The records are those of a trace in version 1: each has a spelling, and they are no more than a trace has.
+/// The records are those of a trace in version 1: each has a spelling, and they are no
+/// more than a trace has.
 #[tactic(auto, using(crate::proofs::GeneratedLemmas::generated_fits))]
 pub fn a_trace_is_generated()
     ensures { (number : ℕ) → number ≤ most_rounds → IsTrace One (generated number) }

@@ -1,4 +1,5 @@
--- The table of all rules is its families one after the other: a record comes too late exactly where it does by one of them. Lists of records stand newest first.
+-- The table of all rules is its families one after the other: a record comes too late exactly where
+-- it does by one of them. Lists of records stand newest first.
 use Rattle.std.proofs.Common.{◌≡◌, ℕ, Bool, false, List, [], ◌∷◌, ◌++◌, refl, ap, ◌∙◌, sym}
 use Rattle.std.specs.Prelude.{◌==◌, not, ◌||◌}
 use Rattle.std.specs.List.{list_any}

@@ -1,4 +1,5 @@
--- The links of the newest action stand for what comes before it, also before the next. Lists stand newest first.
+-- The links of the newest action stand for what comes before it, also before the next. Lists stand
+-- newest first.
 use Rattle.std.proofs.Common.{◌≡◌, ℕ, ◌+◌, ◌-◌, ◌<◌, Bool, true, List, [], ◌∷◌, All, length, refl, sym, ap, subst, ◌∙◌, arith}
 use Rattle.std.specs.Prelude.{◌==◌, ◌||◌, slice_index, if◌then◌else◌}
 use Rattle.std.specs.List.{list_any}

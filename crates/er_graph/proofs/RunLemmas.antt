@@ -1,4 +1,5 @@
--- Handlers of one group of one dispatch that one event registered have the same sources of edges. Lists of records stand newest first.
+-- Handlers of one group of one dispatch that one event registered have the same sources of edges.
+-- Lists of records stand newest first.
 use Rattle.std.proofs.Common.{◌≡◌, ℕ, ◌<◌, ◌≤◌, Bool, true, false, List, [], ◌∷◌, ◌++◌, length, Option, Some, None, refl, sym, ap, subst, ◌∙◌, arith, inl, inr}
 use Rattle.std.specs.Prelude.{◌==◌, ◌||◌, ◌&&◌, not, nat_lt, if◌then◌else◌, map, filter}
 use Rattle.std.proofs.lemmas.Bool.{ne_eqb}

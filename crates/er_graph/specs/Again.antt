@@ -1,4 +1,5 @@
--- A handler behind a peer, which is one of its group that the same event registered: the same actions come before both. Lists stand newest first.
+-- A handler behind a peer, which is one of its group that the same event registered: the same
+-- actions come before both. Lists stand newest first.
 use Rattle.std.specs.Prelude.{ℕ, Bool, false, ◌==◌, ◌&&◌, List, Option}
 use Rattle.er_trace.specs.declared.record.Record.{Record}
 use Rattle.er_trace.specs.declared.record.Record.TheVariants.{Run}

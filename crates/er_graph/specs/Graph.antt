@@ -8,7 +8,8 @@ use Rattle.er_trace.specs.declared.fault.FeedFault.{FeedFault}
 use Rattle.er_trace.specs.declared.fault.FeedFault.TheVariants.{Refused, NoMemory}
 use Rattle.er_graph.specs.Accepted.{Accepted, records, cause_now, IsTold, AreTimed}
 
--- Its page and its lines are those of the accepted records. This outlives an answer of out of memory.
+-- Its page and its lines are those of the accepted records. This outlives an answer of
+-- out of memory.
 abbrev pub IsListed : Graph → List Accepted → Type 0
 IsListed graph accepted = IsTold graph.version graph.page graph.lines.items accepted
 
@@ -35,7 +36,9 @@ pub record HasBegun (graph : Graph) (action : ℕ) : Type 0 where
   pub listed : IsListed graph accepted
   pub begun : action < length (told (records accepted)).actions
 
--- What a fault says. A refusal has the line that was handed in and the first cause against the record, and changes nothing; after out of memory the graph is marked, and its page and lines are as they were.
+-- What a fault says. A refusal has the line that was handed in and the first cause against the
+-- record, and changes nothing; after out of memory the graph is marked, and its page and lines are
+-- as they were.
 abbrev pub IsFault : FeedFault → ℕ → Record → Graph → Graph → Type 0
 IsFault (Refused l c) line x old new =
     (l ≡ line) × (new ≡ old)

@@ -12,7 +12,8 @@ use Rattle.er_page.specs.declared.page.Page.{Page}
 use Rattle.er_path_rules.specs.timer.Timed.{IsTimed}
 use Rattle.er_graph.specs.Accepted.{AreOf}
 
--- They stand for the list, which is sound; nothing is against the record after it, and both are of the version.
+-- They stand for the list, which is sound; nothing is against the record after it, and both are of
+-- the version.
 pub record ComesAfter (v : Version) (shown : Page) (links : List (List ℕ)) (x : Record)
     (h : List Record) : Type 0 where
   pub timed : IsTimed v shown links h
@@ -36,7 +37,8 @@ pub record StandForSome (links : List (List ℕ)) : Type 0 where
   pub lists : List (List ℕ)
   pub stand : StandsFor links lists
 
--- Where the newest action has these earlier predecessors, they stand now for one action more with the same ones.
+-- Where the newest action has these earlier predecessors, they stand now for one action more with
+-- the same ones.
 abbrev pub StandsForAgain : List (List ℕ) → List (List ℕ) → Type 0
 StandsForAgain old new = (p : List ℕ) (older : List (List ℕ))
     → ((k : ℕ) → is_among k p ≡ true → k < length older)

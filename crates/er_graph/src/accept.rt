@@ -39,7 +39,8 @@ impl Graph {
 
     /// Accepts the next record, which stands in this line, or answers the first cause against it.
     ///
-    /// The version has the record. Naming and nesting are asked first, then order, then room. After `NoMemory` every later call answers `NoMemory`.
+    /// The version has the record. Naming and nesting are asked first, then order, then room. After
+    /// `NoMemory` every later call answers `NoMemory`.
     pub fn accept(&mut self, line: u32, rec: &Record) -> Result<(), FeedFault>
         requires of_version { has_record self.old.version rec.now ≡ true }
         ensures accepted { OnOk result ((accepted : List Accepted) → IsGraph self.old accepted
@@ -67,7 +68,9 @@ impl Graph {
         Ok(())
     }
 
-    /// What `accept` answers of any access in this line, with the running action, whose access it is. An access changes nothing: it uses and claims no number, no rule orders it, and it needs no room.
+    /// What `accept` answers of any access in this line, with the running action, whose
+    /// access it is. An access changes nothing: it uses and claims no number, no rule
+    /// orders it, and it needs no room.
     pub fn accept_access(&self, line: u32) -> Result<u32, FeedFault>
         ensures accepted { IfOk result
             (λ action. (accepted : List Accepted) (mode : Mode) (loc : Loc)
@@ -135,7 +138,8 @@ impl Graph {
         self.page.room(rec)
     }
 
-    /// Takes a record that `check` accepts. The graph is marked as failed first, so that it stays so where memory runs out.
+    /// Takes a record that `check` accepts. The graph is marked as failed first, so that it stays
+    /// so where memory runs out.
     fn take(&mut self, line: u32, rec: &Record) -> Result<(), NoMemory>
         requires next { ∥ IsNext self.old.version self.old.page self.old.clocks
             self.old.lines.items rec.now ∥₁ }

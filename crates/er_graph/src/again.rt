@@ -1,4 +1,5 @@
-//! A next action before which the same actions come as before the newest. They are not gone through: the links of the newest stand for them.
+//! A next action before which the same actions come as before the newest. They are not gone
+//! through: the links of the newest stand for them.
 
 ghost use Rattle.std.specs.Prelude.{◌≡◌, ◌-◌, ◌<◌, ℕ, List, length, slice_index, IfOk, OnOk};
 ghost use Rattle.er_trace.specs.declared.record.Record.{Record};
@@ -14,7 +15,8 @@ use er_page::page::Page;
 use er_trace::record::Record;
 use std::alloc::Global;
 
-/// Whether the record runs a peer of the handler that the newest action runs: one of the same group, which the same event registered. It takes no memory.
+/// Whether the record runs a peer of the handler that the newest action runs: one of the same
+/// group, which the same event registered. It takes no memory.
 pub(crate) fn follows_peer(page: &Page, rec: &Record) -> bool
     requires some { ∥ IsSomePage page.now ∥₁ }
     ensures { (h : List Record) → IsPage page.now h → result ≡ is_peer_of_newest h rec.now }

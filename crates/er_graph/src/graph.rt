@@ -6,7 +6,8 @@ use er_clocks::Clocks;
 use er_page::page::Page;
 use er_trace::version::Version;
 
-/// The version of the rules, what the accepted records say, the lines that were handed in with them, and the clocks of their actions.
+/// The version of the rules, what the accepted records say, the lines that were handed in with
+/// them, and the clocks of their actions.
 pub struct Graph {
     pub(crate) version: Version,
     pub(crate) page: Page,

@@ -16,7 +16,8 @@ use er_trace::record::Record;
 use er_trace::version::Version;
 use std::alloc::Global;
 
-/// Takes a record against which there is no cause. After `NoMemory` the clocks may have one action more.
+/// Takes a record against which there is no cause. After `NoMemory` the clocks may have
+/// one action more.
 pub(crate) fn grow(
     version: Version,
     page: &mut Page,
@@ -83,7 +84,8 @@ fn begin(
     Ok(())
 }
 
-/// Adds the action that the record begins to the clocks. Where a handler runs behind another of its group and one event registered both, the same actions come before it, and are not gone through.
+/// Adds the action that the record begins to the clocks. Where a handler runs behind another of its
+/// group and one event registered both, the same actions come before it, and are not gone through.
 fn push(
     alloc: Global,
     version: Version,

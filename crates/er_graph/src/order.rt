@@ -1,4 +1,5 @@
-//! The rules of all families together: whether a record comes too late, and what comes before it. A family is a line in each.
+//! The rules of all families together: whether a record comes too late, and what comes before it. A
+//! family is a line in each.
 
 ghost use Rattle.std.specs.Prelude.{◌≡◌, List, ◌∷◌, Bool, false, None, IfOk, OnOk};
 ghost use Rattle.std.specs.List.{list_any};
@@ -26,7 +27,8 @@ use er_trace::version::Version;
 use smallvec::SmallVec;
 use std::alloc::Global;
 
-/// Whether a rule leads from the event that the record would begin to one that has begun. It takes no memory.
+/// Whether a rule leads from the event that the record would begin to one that has begun.
+/// It takes no memory.
 pub(crate) fn is_late(page: &Page, rec: &Record) -> bool
     ensures { (v : Version) (h : List Record) → IsPage page.now h → IsSound (rules v) h
         → naming h rec.now ≡ None → result ≡ out_of_order (rules v) h rec.now }
@@ -49,7 +51,8 @@ fn is_any(late: &[bool]) -> bool
     late.iter().any(|late| *late)
 }
 
-/// Sources of edges to the action that the record would begin: each source has a path to one of them.
+/// Sources of edges to the action that the record would begin: each source has a path to
+/// one of them.
 pub(crate) fn sources(
     alloc: Global,
     page: &Page,

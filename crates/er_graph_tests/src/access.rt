@@ -15,7 +15,8 @@ use std::alloc::Global;
 use std::mem::forget;
 use std::process::Abort;
 
-/// Hands in the record. An access behind it is of this action; where memory ran out, none is accepted.
+/// Hands in the record. An access behind it is of this action; where memory ran out, none
+/// is accepted.
 fn begin(rt: &impl Abort, graph: &mut Graph, line: u32, rec: &Record, action: u32)
     requires of_version { has_record graph.old.version rec.now ≡ true }
 {

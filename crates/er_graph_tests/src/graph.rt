@@ -1,7 +1,7 @@
 //! Records handed straight to a graph, and what its clocks and its rules answer.
 //!
-//! A record is forgotten where its end would come: its name lies in place, so that nothing is lost, and the proof of
-//! the end of a record takes as long as ten of these functions.
+//! A record is forgotten where its end would come: its name lies in place, so that nothing is lost,
+//! and the proof of the end of a record takes as long as ten of these functions.
 
 ghost use Rattle.std.specs.Prelude.{◌≡◌, true, false, OnOk};
 ghost use Rattle.er_trace.specs.Versions.{has_record};
@@ -20,7 +20,8 @@ use std::alloc::Global;
 use std::mem::forget;
 use std::process::Abort;
 
-/// Lines that are handed in, each with its number and the cause against it, and what holds behind them.
+/// Lines that are handed in, each with its number and the cause against it, and what
+/// holds behind them.
 struct Row {
     lines: &'static [(u32, &'static str, Option<Cause>)],
     /// The actions with their lines.
@@ -244,7 +245,8 @@ fn go_through(rt: &impl Abort, graph: &mut Graph, alloc: Global, row: &Row)
     }
 }
 
-/// Lets the graph go. The proof of that is long, and a caller that goes through this needs none of its own.
+/// Lets the graph go. The proof of that is long, and a caller that goes through this
+/// needs none of its own.
 pub(crate) fn let_go(_graph: Graph) {}
 
 /// Goes through the row with a new graph.

@@ -18,7 +18,8 @@ use std::alloc::Global;
 use std::mem::forget;
 use std::process::Abort;
 
-/// The records of the realistic load, the most numbers that may be handed for each, and how many are: of parsing, scripts, loads, timers, requests and dispatches.
+/// The records of the realistic load, the most numbers that may be handed for each, and how many
+/// are: of parsing, scripts, loads, timers, requests and dispatches.
 pub(crate) static NUMBERS: [(&str, [usize; 6], [usize; 6]); 53] = [
     ("parse 0 1 plain", [2, 1, 0, 0, 0, 0], [0, 0, 0, 0, 0, 0]),
     ("parse 0 2 sync", [2, 1, 0, 0, 0, 0], [1, 0, 0, 0, 0, 0]),
@@ -75,7 +76,8 @@ pub(crate) static NUMBERS: [(&str, [usize; 6], [usize; 6]); 53] = [
     ("r var 0 count", [0, 0, 0, 0, 0, 0], [0, 0, 0, 0, 0, 0]),
 ];
 
-/// Records of version 3, the most numbers that the rules of tasks may hand for each, and how many they do.
+/// Records of version 3, the most numbers that the rules of tasks may hand for each, and
+/// how many they do.
 static OF_TASKS: [(&str, usize, usize); 25] = [
     ("parse 0 1 plain", 0, 0), // 0
     ("post 1", 0, 0),

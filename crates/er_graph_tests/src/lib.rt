@@ -1,4 +1,5 @@
-//! Tests of the graph: what each family of rules hands, which paths and clocks come of it, which records come too late, and whose an access is.
+//! Tests of the graph: what each family of rules hands, which paths and clocks come of it, which
+//! records come too late, and whose an access is.
 #![tactic(auto)]
 
 #[cfg(test)]

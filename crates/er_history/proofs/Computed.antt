@@ -40,3 +40,5 @@ misplaced_jobs = refl
 
 pub late_records : LateRecords
 late_records = refl
+
+pub ruleset worked_edges = (each_rule, nested_dispatches, timers_on_timers, timers_of_pieces, jobs_and_callbacks, jobs_in_dispatches, tasks_of_later_pieces, timers_of_steps_in_three, frames_that_scripts_made, later_load_event, misplaced_jobs, late_records)

@@ -1,4 +1,5 @@
--- What an earlier record declared, a look-up finds, where naming refuses no record: each record that declares is read while an action runs.
+-- What an earlier record declared, a look-up finds, where naming refuses no record: each record
+-- that declares is read while an action runs.
 use Rattle.std.proofs.Common.{◌≡◌, ℕ, Bool, true, false, List, [], ◌∷◌, length, Option, Some, None, refl, ap, ◌∙◌, inl, inr, ◌⊎◌}
 use Rattle.std.specs.Prelude.{◌==◌, ◌||◌, not, if◌then◌else◌}
 use Rattle.std.specs.List.{list_any}
@@ -24,7 +25,8 @@ is_known false e = absurd (cc)
 abbrev pub Found : {B : Type 0} → Option B → Type 0
 Found {B} o = (b : B) × (o ≡ Some b)
 
--- where it gives something at each record that passes the test, it finds one that an earlier record declared
+-- where it gives something at each record that passes the test, it finds one that an
+-- earlier record declared
 pub declared_is_found : {B : Type 0} → (f : Entry → Option B) (test : Record → Bool)
     → ((x : Record) (place : ℕ) (a : Action) → test x ≡ true → Found (f (record { read = x; place = place; action = Some a })))
     → (h : List Record) → IsNamed h → list_any test h ≡ true → Found (first_to f (told h).entries)

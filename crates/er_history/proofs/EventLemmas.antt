@@ -1,4 +1,5 @@
--- What the event of an action is, by the record that began its first piece and the look-ups of the whole list. Lists stand newest first.
+-- What the event of an action is, by the record that began its first piece and the look-ups of the
+-- whole list. Lists stand newest first.
 use Rattle.std.proofs.Common.{◌≡◌, ℕ, ◌<◌, Bool, true, false, List, [], ◌∷◌, length, refl, sym, ap, subst, ◌∙◌, arith, inl, inr, ◌⊎◌, Option, Some, None}
 use Rattle.std.specs.Prelude.{◌-◌, if◌then◌else◌}
 use Rattle.std.proofs.lemmas.Bool.Decides.{eqb_tells}
@@ -155,6 +156,7 @@ has_first h a among =
       form = subst (λ (e : Event). HasForm first.begin e.what) event (form_first h first piece.1 (ap (λ (e : Event). e.number) event ∙ sym piece.2));
     }
 
--- Where naming refuses no record, the event of an action is known by the record that began its first piece.
+-- Where naming refuses no record, the event of an action is known by the record that began its
+-- first piece.
 pub begun_as : (h : List Record) (a : Action) → IsNamed h → (among : Among a (told h).actions) → IsBegunAs (told h).entries (has_first h a among).first.begin a.event.what
 begun_as h a named among = let piece = has_first h a among in known_by (told h).entries piece.first.begin a.event.what piece.form (facts_are_exact h a named among)

@@ -1,4 +1,5 @@
--- Proof that each fact that an event kept is the one that the whole list gives, where naming refuses no record.
+-- Proof that each fact that an event kept is the one that the whole list gives, where naming
+-- refuses no record.
 use Rattle.std.proofs.Common.{◌≡◌, ℕ, ◌-◌, ◌<◌, ◌≤◌, Bool, true, false, List, [], ◌∷◌, length, Option, Some, None, refl, sym, subst, ◌∙◌, arith, inl, inr, ◌⊎◌}
 use Rattle.std.specs.Prelude.{◌==◌, ◌&&◌, not, if◌then◌else◌}
 use Rattle.std.proofs.lemmas.Bool.{eqb-false}
@@ -49,7 +50,8 @@ ActionsKnown (a ∷ older) = WhatKnown a.event.what × ActionsKnown older
 abbrev pub Follows : ℕ → Dispatch → Type 0
 Follows n d = (0 < d.begin) × (d.begin ≤ n)
 
--- and of a dispatch that is not finished: before an inline one stands an action, and only the close of an inline one has begun
+-- and of a dispatch that is not finished: before an inline one stands an action, and only the close
+-- of an inline one has begun
 pub record OpenKnown (n : ℕ) (o : Open) : Type 0 where
   pub delivery : DeliveryKnown o.dispatch.delivers
   pub follows : is_inline o.dispatch ≡ true → Follows n o.dispatch

@@ -1,4 +1,5 @@
--- What a scan of all actions hands: the source of every edge of a family of rules. Lists of records stand newest first.
+-- What a scan of all actions hands: the source of every edge of a family of rules. Lists of records
+-- stand newest first.
 use Rattle.std.proofs.Common.{◌≡◌, ℕ, ◌+◌, ◌≤◌, Bool, true, false, cond, List, [], ◌∷◌, ◌++◌, length, take, drop, filter, suc, zero, refl, sym, ap, ◌∙◌, arith, inl, inr, append-nil, append_assoc}
 use Rattle.std.proofs.Math.Seq.{take-append_seam}
 use Rattle.std.proofs.lemmas.List.{take-append-drop}
@@ -105,7 +106,9 @@ action_stands table h a among =
 
 -- what a scan hands
 
--- What a scan goes by: a test of numbers, which tells of each action whether a rule of the family leads from its event to the one that the record would begin, and whether a rule speaks of the record at all.
+-- What a scan goes by: a test of numbers, which tells of each action whether a rule of the family
+-- leads from its event to the one that the record would begin, and whether a rule speaks of the
+-- record at all.
 pub record IsTestOf (family table : List (ℕ × Rule)) (h : List Record) (x : Record) (test : ℕ → Bool) (speaks : Bool) : Type 0 where
   pub tells : Tells test family (path table h) (told h) x
   pub new : goes_on x ≡ false

@@ -1,4 +1,5 @@
--- Which rules never hold from an event that begins now to one that has begun, and so put no record out of order.
+-- Which rules never hold from an event that begins now to one that has begun, and so put no record
+-- out of order.
 use Rattle.std.proofs.Common.{◌≡◌, ℕ, ◌<◌, Bool, true, false, List, [], ◌∷◌, ◌++◌, length, Option, Some, None, refl, ap, ◌∙◌, arith, inl, inr}
 use Rattle.std.specs.Prelude.{◌==◌, ◌||◌, ◌&&◌, not}
 use Rattle.std.specs.List.{list_any}
@@ -344,3 +345,5 @@ leads_append a b joined h x =
     ap (λ f. begins x && list_any f h.actions) each
     ∙ (ap (λ c. begins x && c) (any_either (by a) (by b) h.actions)
     ∙ and_or (begins x) (list_any (by a) h.actions) (list_any (by b) h.actions))
+
+pub ruleset later_events_never_lead_back = (parse_rules_never_lead_back, timer_rules_never_lead_back, request_rules_never_lead_back, task_rules_never_lead_back)

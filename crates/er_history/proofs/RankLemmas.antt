@@ -61,7 +61,8 @@ none_before : {X : Type 0} (f : X → ℕ) (o : Option X) → option_map f o ≡
 none_before f None e = refl
 none_before f (Some x) e = absurd (cc)
 
--- a number is noted, or none: those that were ranked stay so, and the new one has the greatest rank and the last place
+-- a number is noted, or none: those that were ranked stay so, and the new one has the greatest rank
+-- and the last place
 pub more_ranked : {X : Type 0} (rank_in : X → ℕ) (old new : ℕ → Option X) (pair : Option (ℕ × X)) (place_at places : ℕ → Option ℕ) (count entries more : ℕ)
     → ((k : ℕ) → new k ≡ or_else (old k) (noted_in k pair))
     → ((k : ℕ) → places k ≡ or_else (place_at k) (option_map (λ (t : X). entries) (noted_in k pair)))

@@ -1,4 +1,5 @@
--- Proof that the stack has the numbers of the dispatches that have begun and are not finished, where naming refuses no record.
+-- Proof that the stack has the numbers of the dispatches that have begun and are not finished,
+-- where naming refuses no record.
 use Rattle.std.proofs.Common.{◌≡◌, ℕ, Bool, true, false, cond, List, [], ◌∷◌, map, filter, Option, Some, None, refl, sym, ap, subst, ◌∙◌}
 use Rattle.std.specs.Prelude.{◌==◌, ◌&&◌, ◌||◌, not, if◌then◌else◌}
 use Rattle.std.specs.List.{list_any}
@@ -121,7 +122,8 @@ none_back_yet (x ∷ h) p is e =
     let parts = or_none (begins_dispatch p x) (list_any (begins_dispatch p) h) e in
     rw (back_known h x p (none_holds h x is.0) parts.1) (none_back_yet h p is.1 parts.1)
 
--- the dispatches on the stack: each has begun, the list says whether it is inline, and only the close of an inline one has begun
+-- the dispatches on the stack: each has begun, the list says whether it is inline, and only the
+-- close of an inline one has begun
 pub record OpenBegun (h : List Record) (o : Open) : Type 0 where
   pub begun : list_any (begins_dispatch o.dispatch.number) h ≡ true
   pub inline : list_any (begins_inline o.dispatch.number) h ≡ is_inline o.dispatch

@@ -6,7 +6,8 @@ use Rattle.er_paths.specs.Paths.{joins}
 use Rattle.er_history.specs.History.{What, CloseOf, Action, told, is_inline}
 use Rattle.er_history.specs.Rules.{Rule, any_holds}
 
--- 22. The piece that an inline dispatch suspends before its begin, and each piece of its close before the piece that its `back` begins. This project's own.
+-- 22. The piece that an inline dispatch suspends before its begin, and each piece of its close
+--     before the piece that its `back` begins. This project's own.
 abbrev pub around_inline : Action → Action → Bool
 around_inline i j = by j.begin
   where
@@ -27,7 +28,8 @@ of_one_event i j = i.event.number == j.event.number
 abbrev pub up_to : ℕ → (ℕ → ℕ → Bool) → ℕ → ℕ → Bool
 up_to n joined i j = nat_lt j n && joined i j
 
--- a rule of the table holds between their events; the rules are told of the paths among the actions before event j
+-- a rule of the table holds between their events; the rules are told of the paths among the actions
+-- before event j
 abbrev pub is_ruled : List (ℕ × Rule) → (ℕ → ℕ → Bool) → Action → Action → Bool
 is_ruled table joined i j = any_holds table (up_to j.event.number joined) i.event j.event
 
@@ -40,7 +42,8 @@ edge table joined i j = nat_lt i.number j.number
 abbrev pub sources : List (ℕ × Rule) → (ℕ → ℕ → Bool) → List Action → Action → List ℕ
 sources table joined older j = map (λ i. i.number) (filter (λ i. edge table joined i j) older)
 
--- each action's list of the sources of edges to it, newest first: the rules may ask for the paths among the actions before it
+-- each action's list of the sources of edges to it, newest first: the rules may ask for the paths
+-- among the actions before it
 abbrev pub edges : List (ℕ × Rule) → List Action → List (List ℕ)
 edges table [] = []
 edges table (j ∷ older) = more (edges table older)

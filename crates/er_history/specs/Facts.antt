@@ -66,7 +66,8 @@ WhatIs entries (JobRun j made within) =
     (made ≡ first_to (makes_task (queues_job j)) entries) × (x : Task) × (made ≡ Some x)
 WhatIs entries Unnamed = ⊥
 
--- Where naming refuses no record, each maker, element and timeout that an event kept is what a look-up in the whole list gives.
+-- Where naming refuses no record, each maker, element and timeout that an event kept is what a
+-- look-up in the whole list gives.
 abbrev pub FactsAreExact : Type 0
 FactsAreExact = (h : List Record) (a : Action) → IsNamed h → Among a (told h).actions
     → WhatIs (told h).entries a.event.what

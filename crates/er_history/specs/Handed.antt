@@ -1,4 +1,5 @@
--- What a family of rules between events hands: sources of its edges, enough of them that the other sources have a path to these. Lists of records stand newest first.
+-- What a family of rules between events hands: sources of its edges, enough of them that the other
+-- sources have a path to these. Lists of records stand newest first.
 use Rattle.std.specs.Prelude.{◌≡◌, ℕ, Bool, true, false, List, [], ◌++◌, Some}
 use Rattle.std.specs.List.{list_any}
 use Rattle.er_trace.specs.declared.record.Record.{Record}
@@ -20,7 +21,8 @@ AreSources family joined h x handed = (k : ℕ) → is_among k handed ≡ true
     → (i : Action) × Among i h.actions × (i.number ≡ k)
     × (is_ruled family joined i (action_begun h x) ≡ true)
 
--- the source of each such edge has a path to one of them; or, for a piece that `back` begins, to the running action, which is the latest piece of the close
+-- the source of each such edge has a path to one of them; or, for a piece that `back` begins, to
+-- the running action, which is the latest piece of the close
 abbrev pub AreEnough : List (ℕ × Rule) → (ℕ → ℕ → Bool) → History → Record → List ℕ → Type 0
 AreEnough family joined h (Back p) handed = (i c : Action) → Among i h.actions
     → running h.actions ≡ Some c

@@ -1,4 +1,5 @@
--- What a list of records says: which actions have begun, of which events they are pieces, and which dispatches are not finished. Lists stand newest first.
+-- What a list of records says: which actions have begun, of which events they are pieces, and which
+-- dispatches are not finished. Lists stand newest first.
 use Rattle.std.specs.Prelude.{ℕ, ◌-◌, Bool, true, false, ◌==◌, if◌then◌else◌, List, [], ◌∷◌, length, map, Option, Some, None}
 pub use Rattle.er_numbers.specs.Numbers.{or_else}
 use Rattle.er_trace.specs.Signature.{nesting}
@@ -16,7 +17,8 @@ pub data Form : Type 0 where
   Kinded : (kind : Kind) → Form
   Framing : (inner : ℕ) → Form
 
--- An element: its document, its form, whether a parse step made it, and the event and the piece that made it.
+-- An element: its document, its form, whether a parse step made it, and the event and the piece
+-- that made it.
 pub record Element : Type 0 where
   pub doc : ℕ
   pub form : Form
@@ -24,14 +26,16 @@ pub record Element : Type 0 where
   pub maker : ℕ
   pub piece : ℕ
 
--- A timeout: its delay, the place of its record in the list, and the event and the piece that set it.
+-- A timeout: its delay, the place of its record in the list, and the event and the piece
+-- that set it.
 pub record Timeout : Type 0 where
   pub delay : ℕ
   pub place : ℕ
   pub maker : ℕ
   pub piece : ℕ
 
--- A message, an animation callback or a job: the place of the record that declares it in the list, and the event and the piece that hold that.
+-- A message, an animation callback or a job: the place of the record that declares it in the list,
+-- and the event and the piece that hold that.
 pub record Task : Type 0 where
   pub place : ℕ
   pub maker : ℕ
@@ -60,7 +64,9 @@ is_inline d = by d.delivers
     by (InlineAt e n m) = true
     by _ = false
 
--- What an event is, with all that a rule asks of it: the number in its record, and what was declared under it; of a job besides the dispatches on the stack. This is fixed when it begins. `Unnamed` stands only in a list that naming refuses.
+-- What an event is, with all that a rule asks of it: the number in its record, and what was
+-- declared under it; of a job besides the dispatches on the stack. This is fixed when it begins.
+-- `Unnamed` stands only in a list that naming refuses.
 pub data What : Type 0 where
   ParseStep : (doc : ℕ) → (maker : Option ℕ) → What
   ScriptRun : (element : ℕ) → (made : Option Element) → What
@@ -125,7 +131,8 @@ kind_of new_kinds.Plain = kinds.Plain
 kind_of new_kinds.Async = kinds.Async
 kind_of new_kinds.Image = kinds.Image
 
--- The maker of a number is the event of the action that runs when the record that declares it has been read.
+-- The maker of a number is the event of the action that runs when the record that
+-- declares it has been read.
 
 -- the element that an entry makes under this number
 abbrev pub makes_element : ℕ → Entry → Option Element
@@ -276,7 +283,8 @@ what_begun h x = by x
         (map (λ (o : Open). o.dispatch.number) h.stack)
     by x = begin (dispatch_begun h.entries (length h.actions) x)
 
--- the event that goes on where inline dispatch p is finished: that of the piece just before its begin
+-- the event that goes on where inline dispatch p is finished: that of the piece just
+-- before its begin
 abbrev pub event_resumed : History → ℕ → Event
 event_resumed h p = of (find_open p h.stack)
   where
@@ -296,7 +304,8 @@ event_begun h x = record { number = length h.actions; what = what_begun h x }
 abbrev pub action_begun : History → Record → Action
 action_begun h x = record { number = length h.actions; begin = x; event = event_begun h x }
 
--- A dispatch that begins is put on top. At a close the top leaves, where it is not inline; an inline one leaves at `back`. Naming lets only the top dispatch be closed.
+-- A dispatch that begins is put on top. At a close the top leaves, where it is not inline; an
+-- inline one leaves at `back`. Naming lets only the top dispatch be closed.
 abbrev pub stack_after : List Open → Option Dispatch → Record → List Open
 stack_after stack d (Close p) = closed stack
   where
@@ -334,7 +343,8 @@ after h x = record {
 abbrev pub start : History
 start = record { entries = []; actions = []; stack = [] }
 
--- The history of a list of records, newest first. Behind a record that naming refuses it says nothing that is used.
+-- The history of a list of records, newest first. Behind a record that naming refuses it says
+-- nothing that is used.
 abbrev pub told : List Record → History
 told [] = start
 told (x ∷ h) = after (told h) x

@@ -1,4 +1,5 @@
--- What came last among the actions of a list: the newest piece of a kind of event, and the latest piece of an event. Lists stand newest first.
+-- What came last among the actions of a list: the newest piece of a kind of event, and the latest
+-- piece of an event. Lists stand newest first.
 use Rattle.std.specs.Prelude.{ℕ, Bool, ◌==◌, ◌&&◌, nat_lt, if◌then◌else◌, List, [], ◌∷◌, ◌++◌, Option, Some, None}
 use Rattle.er_history.specs.History.{What, HandlerOf, Event, Action}
 

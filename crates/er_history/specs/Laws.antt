@@ -1,4 +1,5 @@
--- What holds of the actions of a list of records, of the edges between them, and of paths. Lists stand newest first.
+-- What holds of the actions of a list of records, of the edges between them, and of paths. Lists
+-- stand newest first.
 use Rattle.std.specs.Prelude.{◌≡◌, ◌↔◌, ◌⊎◌, ℕ, ◌<◌, ◌≤◌, true, List, [], ◌∷◌, ◌++◌, length}
 use Rattle.er_trace.specs.declared.record.Record.{Record}
 use Rattle.er_paths.specs.Paths.{is_among, list_of, Leads}

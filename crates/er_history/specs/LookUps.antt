@@ -1,4 +1,5 @@
--- What the look-ups of a page answer, each by the list of records alone. Lists of records stand newest first; a list of events that a look-up answers stands oldest first.
+-- What the look-ups of a page answer, each by the list of records alone. Lists of records stand
+-- newest first; a list of events that a look-up answers stands oldest first.
 use Rattle.std.specs.Prelude.{ℕ, ◌-◌, Bool, true, false, ◌==◌, nat_lt, if◌then◌else◌, List, [], ◌∷◌, ◌++◌, length, map, reverse, option_map, Option, Some, None}
 use Rattle.er_trace.specs.declared.record.Record.{Record}
 use Rattle.er_trace.specs.declared.record.Record.TheVariants.{ParseFrame, NewFrame, Dcl, Load, Eload, Inline, Close, Timer, Post, Ask, Queue}
@@ -22,7 +23,8 @@ makes_frame doc (ParseFrame d e f) = if f == doc then Some e else None
 makes_frame doc (NewFrame d e f) = if f == doc then Some e else None
 makes_frame doc _ = None
 
--- the dispatch that a record begins as DOMContentLoaded or load of this document, or as first load event of this element
+-- the dispatch that a record begins as DOMContentLoaded or load of this document, or as first load
+-- event of this element
 abbrev pub begins_dcl : ℕ → Record → Option ℕ
 begins_dcl doc (Dcl p d) = if d == doc then Some p else None
 begins_dcl doc _ = None
@@ -205,7 +207,8 @@ last_element_close h e n = last_close_at (FireAt e n None) (told h).actions
 abbrev pub last_window_close : List Record → ℕ → List ℕ → Option ℕ
 last_window_close h d n = last_close_at (WindowFire d n None) (told h).actions
 
--- Runs, timeouts, begins and closes answer an event, which the record begins itself; loads and DOMContentLoaded a dispatch.
+-- Runs, timeouts, begins and closes answer an event, which the record begins itself; loads and
+-- DOMContentLoaded a dispatch.
 
 abbrev pub run_of : List Record → ℕ → Option ℕ
 run_of h e = maker_by (runs_script e) (told h).entries

@@ -1,4 +1,5 @@
--- Which records naming and nesting accept after the earlier ones, and where room ends. Lists of records stand newest first.
+-- Which records naming and nesting accept after the earlier ones, and where room ends. Lists of
+-- records stand newest first.
 use Rattle.std.specs.Prelude.{◌≡◌, ℕ, Bool, true, false, not, ◌==◌, ◌&&◌, ◌||◌, nat_lt, if◌then◌else◌, List, [], ◌∷◌, length, filter, Option, Some, None}
 use Rattle.std.specs.List.{list_any}
 use Rattle.er_text.specs.declared.causes.Cause.{Cause}
@@ -173,7 +174,8 @@ is_top closing p [] = false
 is_top true p (o ∷ below) = (o.dispatch.number == p) && o.closing
 is_top false p (o ∷ below) = (o.dispatch.number == p) && not o.closing
 
--- the running action can call an inline dispatch: it is of a script run, a timeout, a tick, a handler, a close, a message, an animation callback or a job
+-- the running action can call an inline dispatch: it is of a script run, a timeout, a tick, a
+-- handler, a close, a message, an animation callback or a job
 abbrev pub may_call : Option Action → Bool
 may_call None = false
 may_call (Some a) = by a.event.what
@@ -196,7 +198,8 @@ abbrev pub one_runs : Option Action → Bool
 one_runs None = false
 one_runs (Some a) = true
 
--- No record may stand so at this point of the nesting. Most records that begin an action want an empty stack, and a record that begins none wants a running action.
+-- No record may stand so at this point of the nesting. Most records that begin an action want an
+-- empty stack, and a record that begins none wants a running action.
 abbrev pub misplaced_at : History → Nesting → Bool
 misplaced_at h Note = not (one_runs (running h.actions))
 misplaced_at h Alone = has_open h.stack

@@ -1,4 +1,5 @@
--- What the definitions say of small lists of records, and the numbers of the rules. Each rule and each kind of piece is reached.
+-- What the definitions say of small lists of records, and the numbers of the rules. Each rule and
+-- each kind of piece is reached.
 use Rattle.std.specs.Prelude.{◌≡◌, ℕ, List, [], ◌∷◌, map, filter, reverse, codes, Option, Some, None}
 use Rattle.er_text.specs.declared.causes.Cause.{Cause}
 use Rattle.er_text.specs.declared.causes.Cause.TheVariants.{Unknown, Again, Misplaced, OutOfOrder}
@@ -19,7 +20,8 @@ RulesAreNumbered = (v : Version) → map (λ r. r.0) (tables.rules v)
     ≡ 1 ∷ 2 ∷ 3 ∷ 4 ∷ 5 ∷ 6 ∷ 7 ∷ 8 ∷ 9 ∷ 10 ∷ 11 ∷ 12 ∷ 13 ∷ 14 ∷ 15 ∷ 16 ∷ 17 ∷ 18 ∷ 19 ∷ 20 ∷ 21
     ∷ 24 ∷ 25 ∷ 26 ∷ 27 ∷ 28 ∷ 29 ∷ 30 ∷ 31 ∷ []
 
--- A record, and the actions with an edge to the action that it begins, newest first; none where it begins none. A row has its lines oldest first.
+-- A record, and the actions with an edge to the action that it begins, newest first; none where it
+-- begins none. A row has its lines oldest first.
 abbrev pub Line : Type 0
 Line = Record × List ℕ
 
@@ -92,7 +94,8 @@ EachRule = IsSharedRow (
     (Timer 2, 28 ∷ 8 ∷ []) ∷  -- 29
     [])
 
--- Inline dispatches in a handler, in one another's handlers and in closes: rules 22 and 23, and what is of one event.
+-- Inline dispatches in a handler, in one another's handlers and in closes: rules 22 and 23, and
+-- what is of one event.
 abbrev pub NestedDispatches : Type 0
 NestedDispatches = IsSharedRow (
     (Parse 0 1 kinds.Inline, []) ∷  -- 0
@@ -125,7 +128,8 @@ NestedDispatches = IsSharedRow (
     (Close 7, 23 ∷ []) ∷  -- 24
     [])
 
--- Rule 19 of version 2, whose path may rest on the same rule: action 1 leads to 2, so what was set in 1 fires before what was set in 2.
+-- Rule 19 of version 2, whose path may rest on the same rule: action 1 leads to 2, so what was set
+-- in 1 fires before what was set in 2.
 abbrev pub TimersOnTimers : Type 0
 TimersOnTimers = IsRowOf Two (
     (Parse 0 1 kinds.Plain, []) ∷  -- 0
@@ -139,7 +143,8 @@ TimersOnTimers = IsRowOf Two (
     (Timer 4, 3 ∷ 2 ∷ 1 ∷ []) ∷  -- 4
     [])
 
--- Timeouts set in pieces that a path joins, and in pieces that none does: among them the pieces of a script around an inline dispatch.
+-- Timeouts set in pieces that a path joins, and in pieces that none does: among them the pieces of
+-- a script around an inline dispatch.
 abbrev pub TimersOfPieces : Type 0
 TimersOfPieces = IsRowOf Two (
     (Parse 0 1 kinds.Inline, []) ∷  -- 0
@@ -206,7 +211,8 @@ JobsAndCallbacks = IsRowOf Three (
     (Anim 3, 8 ∷ []) ∷  -- 17
     [])
 
--- Rule 31: jobs between the handlers of a dispatch, an inline dispatch of the same type at the same target within one, and closes in recorded order.
+-- Rule 31: jobs between the handlers of a dispatch, an inline dispatch of the same type at the same
+-- target within one, and closes in recorded order.
 abbrev pub JobsInDispatches : Type 0
 JobsInDispatches = IsRowOf Three (
     (Parse 0 1 kinds.Plain, []) ∷  -- 0
@@ -239,7 +245,9 @@ JobsInDispatches = IsRowOf Three (
     (Close 6, 21 ∷ []) ∷  -- 22
     [])
 
--- Rules 19, 25, 27 and 29 ask for a path from the piece that declared one to the piece that declared the other, not from or to another piece of their events; rules 24, 26 and 28 name the event.
+-- Rules 19, 25, 27 and 29 ask for a path from the piece that declared one to the piece
+-- that declared the other, not from or to another piece of their events; rules 24, 26 and
+-- 28 name the event.
 abbrev pub TasksOfLaterPieces : Type 0
 TasksOfLaterPieces = IsRowOf Three (
     (Parse 0 1 kinds.Inline, []) ∷  -- 0
@@ -297,7 +305,8 @@ TimersOfStepsInThree = IsRowOf Three (
     (Timer 2, 2 ∷ 1 ∷ []) ∷  -- 3
     [])
 
--- Rule 13 counts a frame that a script made, as one that a parse step made, and load of its document if it is closed before.
+-- Rule 13 counts a frame that a script made, as one that a parse step made, and load of its
+-- document if it is closed before.
 abbrev pub FramesThatScriptsMade : Type 0
 FramesThatScriptsMade = IsRow (
     (Parse 0 1 kinds.Inline, []) ∷  -- 0

@@ -7,7 +7,8 @@ use Rattle.er_trace.specs.declared.version.Version.{Version}
 use Rattle.er_trace.specs.declared.version.Version.TheVariants.{One, Two, Three}
 use Rattle.er_history.specs.History.{Form, Kinded, Framing, Element, Task, Delivery, DclOf, LoadOf, EloadOf, FireAt, InlineAt, WindowFire, ReplyOf, What, ParseStep, ScriptRun, TimeoutRun, TickRun, BeginOf, HandlerOf, CloseOf, MessageRun, AnimRun, JobRun, Event}
 
--- A rule between two events. It is told which earlier actions a path joins. It says nothing of lists in which naming refuses a record.
+-- A rule between two events. It is told which earlier actions a path joins. It says nothing of
+-- lists in which naming refuses a record.
 abbrev pub Rule : Type 0
 Rule = (ℕ → ℕ → Bool) → Event → Event → Bool
 
@@ -91,9 +92,12 @@ step_or_script test d (ParseStep c m) = c == d
 step_or_script test d (ScriptRun e made) = is_some_and (λ x. test x && (x.doc == d)) made
 step_or_script test d _ = false
 
--- The rules, in the order of their numbers. Each says: u before v. Those alone ask which paths there are that go by the pieces in which two numbers were declared: rule 19 of versions 2 and 3, and rules 25, 27 and 29.
+-- The rules, in the order of their numbers. Each says: u before v. Those alone ask which paths
+-- there are that go by the pieces in which two numbers were declared: rule 19 of versions 2 and 3,
+-- and rules 25, 27 and 29.
 
--- 1. A parse step of a document before a later parse step of it (recorded). HTML Standard, "Parsing HTML documents".
+-- 1. A parse step of a document before a later parse step of it (recorded). HTML Standard, "Parsing
+--    HTML documents".
 abbrev pub parse_steps_in_order : Rule
 parse_steps_in_order joined u v = recorded u v && go u.what v.what
   where
@@ -117,7 +121,8 @@ script_made_before_run joined u v = go v.what
     go (ScriptRun e made) = is_some_and (λ x. x.maker == u.number) made
     go _ = false
 
--- 4. The run of a blocking script before each parse step of its document behind its own. A parse step is one piece, so its event has its number. HTML Standard, "The script element".
+-- 4. The run of a blocking script before each parse step of its document behind its own. A parse
+--    step is one piece, so its event has its number. HTML Standard, "The script element".
 abbrev pub blocking_script_before_later_step : Rule
 blocking_script_before_later_step joined u v = go u.what v.what
   where
@@ -134,7 +139,8 @@ step_before_deferred_script joined u v = go u.what v.what
     go (ParseStep d m) (ScriptRun e made) = is_some_and (λ x. is_deferred x && (x.doc == d)) made
     go _ _ = false
 
--- 6. The run of a blocking script before the run of a deferred script of its document. HTML Standard, "The end".
+-- 6. The run of a blocking script before the run of a deferred script of its document. HTML
+--    Standard, "The end".
 abbrev pub blocking_before_deferred_script : Rule
 blocking_before_deferred_script joined u v = go u.what v.what
   where
@@ -143,7 +149,8 @@ blocking_before_deferred_script joined u v = go u.what v.what
         both_some_and (λ x y. is_blocking x && (is_deferred y && (x.doc == y.doc))) made made2
     go _ _ = false
 
--- 7. The run of a deferred script before the run of a deferred script of its document that was parsed later. HTML Standard, "The end".
+-- 7. The run of a deferred script before the run of a deferred script of its document that was
+--    parsed later. HTML Standard, "The end".
 abbrev pub deferred_scripts_as_parsed : Rule
 deferred_scripts_as_parsed joined u v = go u.what v.what
   where
@@ -154,7 +161,8 @@ deferred_scripts_as_parsed joined u v = go u.what v.what
         made made2
     go _ _ = false
 
--- 8. A parse step, or the run of a blocking or deferred script, before the begin of DOMContentLoaded of its document. HTML Standard, "The end".
+-- 8. A parse step, or the run of a blocking or deferred script, before the begin of
+--    DOMContentLoaded of its document. HTML Standard, "The end".
 abbrev pub parsed_before_dcl : Rule
 parsed_before_dcl joined u v = go v.what
   where
@@ -166,7 +174,8 @@ parsed_before_dcl joined u v = go v.what
     go (BeginOf q) = of q.delivers
     go _ = false
 
--- 9. The begin, a handler or the close of DOMContentLoaded before the begin of load of the document. HTML Standard, "The end".
+-- 9. The begin, a handler or the close of DOMContentLoaded before the begin of load of the
+--    document. HTML Standard, "The end".
 abbrev pub dcl_before_load : Rule
 dcl_before_load joined u v = go v.what
   where
@@ -184,7 +193,8 @@ dcl_before_load joined u v = go v.what
     go (BeginOf q) = of q.delivers
     go _ = false
 
--- 10. A parse step, or the run of a static script, before the begin of load of its document. HTML Standard, "The end".
+-- 10. A parse step, or the run of a static script, before the begin of load of its document. HTML
+--     Standard, "The end".
 abbrev pub parsed_before_load : Rule
 parsed_before_load joined u v = go v.what
   where
@@ -196,7 +206,8 @@ parsed_before_load joined u v = go v.what
     go (BeginOf q) = of q.delivers
     go _ = false
 
--- 11. The close of the first load event of a static element that is not plain before the begin of load of its document (recorded). This project's own.
+-- 11. The close of the first load event of a static element that is not plain before the begin of
+--     load of its document (recorded). This project's own.
 abbrev pub static_loads_before_load : Rule
 static_loads_before_load joined u v = recorded u v && go u.what v.what
   where
@@ -209,7 +220,9 @@ static_loads_before_load joined u v = recorded u v && go u.what v.what
     go (CloseOf p) (BeginOf q) = of p.delivers q.delivers
     go _ _ = false
 
--- 12. The event that made an element, and the run of it where it is a script, before the begin of its first load event. For the run HTML Standard, "The script element"; for the rest this project's own.
+-- 12. The event that made an element, and the run of it where it is a script, before the begin of
+--     its first load event. For the run HTML Standard, "The script element"; for the rest this
+--     project's own.
 abbrev pub element_before_its_load : Rule
 element_before_its_load joined u v = go v.what
   where
@@ -225,7 +238,8 @@ element_before_its_load joined u v = go v.what
     go (BeginOf q) = of q.delivers
     go _ = false
 
--- 13. The close of load of a frame's document before the begin of the frame's first load event (recorded). This project's own.
+-- 13. The close of load of a frame's document before the begin of the frame's first load event
+--     (recorded). This project's own.
 abbrev pub inner_load_before_frame_load : Rule
 inner_load_before_frame_load joined u v = recorded u v && go u.what v.what
   where
@@ -237,7 +251,9 @@ inner_load_before_frame_load joined u v = recorded u v && go u.what v.what
     go (CloseOf p) (BeginOf q) = of p.delivers q.delivers
     go _ _ = false
 
--- 14. The event that made an element before the begin of a dispatch of a type at it; the event that declared a document before the begin of a dispatch at its window, of DOMContentLoaded and of load. This project's own.
+-- 14. The event that made an element before the begin of a dispatch of a type at it; the event that
+--     declared a document before the begin of a dispatch at its window, of DOMContentLoaded and of
+--     load. This project's own.
 abbrev pub target_before_dispatch : Rule
 target_before_dispatch joined u v = go v.what
   where
@@ -261,7 +277,9 @@ registered_before_run joined u v = go v.what
     go (HandlerOf p g x m) = made_by m u
     go _ = false
 
--- 16. The begin of a dispatch before its handlers and its close; a handler before those of a greater group and before the close. Groups are this project's own; between listeners of one target DOM Level 2 Events fixes no order.
+-- 16. The begin of a dispatch before its handlers and its close; a handler before those of a
+--     greater group and before the close. Groups are this project's own; between listeners of one
+--     target DOM Level 2 Events fixes no order.
 abbrev pub dispatch_in_order : Rule
 dispatch_in_order joined u v = go u.what v.what
   where
@@ -272,7 +290,8 @@ dispatch_in_order joined u v = go u.what v.what
     go (HandlerOf p g x m) (CloseOf q) = p.number == q.number
     go _ _ = false
 
--- 17. The close of a dispatch before the begin of another of its type at its target (recorded). This project's own.
+-- 17. The close of a dispatch before the begin of another of its type at its target (recorded).
+--     This project's own.
 abbrev pub dispatches_of_one_type_in_order : Rule
 dispatches_of_one_type_in_order joined u v = recorded u v && go u.what v.what
   where
@@ -288,7 +307,9 @@ set_before_timer joined u v = go v.what
     go (TimeoutRun t made) = is_some_and (λ x. x.maker == u.number) made
     go _ = false
 
--- 19, in version 1. The callback of a timeout before that of another that the same event set later with no lesser delay (recorded). HTML Standard, "Timers"; that delays alone are compared is this project's own.
+-- 19, in version 1. The callback of a timeout before that of another that the same event set later
+-- with no lesser delay (recorded). HTML Standard, "Timers"; that delays alone are compared is this
+-- project's own.
 abbrev pub timers_of_one_event_in_order : Rule
 timers_of_one_event_in_order joined u v = recorded u v && go u.what v.what
   where
@@ -299,7 +320,9 @@ timers_of_one_event_in_order joined u v = recorded u v && go u.what v.what
         made made2
     go _ _ = false
 
--- 19, in versions 2 and 3. The callback of a timeout before that of another that was set later with no lesser delay, in a piece to which a path leads from the piece that set the first (recorded). HTML Standard, "Timers"; that delays alone are compared is this project's own.
+-- 19, in versions 2 and 3. The callback of a timeout before that of another that was set later with
+-- no lesser delay, in a piece to which a path leads from the piece that set the first (recorded).
+-- HTML Standard, "Timers"; that delays alone are compared is this project's own.
 abbrev pub timers_of_joined_pieces_in_order : Rule
 timers_of_joined_pieces_in_order joined u v = recorded u v && go u.what v.what
   where
@@ -316,7 +339,8 @@ timers_in_order One = timers_of_one_event_in_order
 timers_in_order Two = timers_of_joined_pieces_in_order
 timers_in_order Three = timers_of_joined_pieces_in_order
 
--- 20. The event that set an interval before each callback of it; a callback before a later one of the same interval (recorded). HTML Standard, "Timers".
+-- 20. The event that set an interval before each callback of it; a callback before a later one of
+--     the same interval (recorded). HTML Standard, "Timers".
 abbrev pub ticks_in_order : Rule
 ticks_in_order joined u v = go u.what v.what
   where
@@ -328,7 +352,8 @@ ticks_in_order joined u v = go u.what v.what
     go x (TickRun i m) = made_by m u || earlier i x
     go _ _ = false
 
--- 21. The event that sent a request before the begin of each reply of it; the close of a reply before the begin of a later reply of the same request (recorded). This project's own.
+-- 21. The event that sent a request before the begin of each reply of it; the close of a reply
+--     before the begin of a later reply of the same request (recorded). This project's own.
 abbrev pub replies_in_order : Rule
 replies_in_order joined u v = go v.what
   where
@@ -348,7 +373,8 @@ replies_in_order joined u v = go v.what
     go (BeginOf q) = of q.delivers
     go _ = false
 
--- two tasks of one kind, the first declared in an earlier record, and in a piece from which a path leads to the other's
+-- two tasks of one kind, the first declared in an earlier record, and in a piece from which a path
+-- leads to the other's
 abbrev pub declared_in_order : (ℕ → ℕ → Bool) → Option Task → Option Task → Bool
 declared_in_order joined made made2 =
     both_some_and (λ (x : Task) (y : Task).
@@ -362,7 +388,8 @@ post_before_message joined u v = go v.what
     go (MessageRun m made) = is_some_and (λ (x : Task). x.maker == u.number) made
     go _ = false
 
--- 25. The event of a message before that of another that was posted later, in a piece to which a path leads from the piece that posted the first (recorded). This project's own.
+-- 25. The event of a message before that of another that was posted later, in a piece to which a
+--     path leads from the piece that posted the first (recorded). This project's own.
 abbrev pub messages_in_order : Rule
 messages_in_order joined u v = recorded u v && go u.what v.what
   where
@@ -378,7 +405,8 @@ ask_before_anim joined u v = go v.what
     go (AnimRun a made) = is_some_and (λ (x : Task). x.maker == u.number) made
     go _ = false
 
--- 27. An animation callback before another that was asked for later, in a piece to which a path leads from the piece that asked for the first (recorded). This project's own.
+-- 27. An animation callback before another that was asked for later, in a piece to which a path
+--     leads from the piece that asked for the first (recorded). This project's own.
 abbrev pub anims_in_order : Rule
 anims_in_order joined u v = recorded u v && go u.what v.what
   where
@@ -394,7 +422,8 @@ queue_before_job joined u v = go v.what
     go (JobRun j made within) = is_some_and (λ (x : Task). x.maker == u.number) made
     go _ = false
 
--- 29. A job before another that was queued later, in a piece to which a path leads from the piece that queued the first (recorded). This project's own.
+-- 29. A job before another that was queued later, in a piece to which a path leads from the piece
+--     that queued the first (recorded). This project's own.
 abbrev pub jobs_in_order : Rule
 jobs_in_order joined u v = recorded u v && go u.what v.what
   where
@@ -402,7 +431,9 @@ jobs_in_order joined u v = recorded u v && go u.what v.what
     go (JobRun j made within) (JobRun k made2 around) = declared_in_order joined made made2
     go _ _ = false
 
--- 30. A job before the callbacks and messages that were declared by the event that queued it: of timeouts and intervals that it set, of messages that it posted and of animation callbacks that it asked for (recorded). This project's own.
+-- 30. A job before the callbacks and messages that were declared by the event that queued it: of
+--     timeouts and intervals that it set, of messages that it posted and of animation callbacks
+--     that it asked for (recorded). This project's own.
 abbrev pub jobs_before_callbacks : Rule
 jobs_before_callbacks joined u v = recorded u v && go u.what v.what
   where
@@ -417,7 +448,8 @@ jobs_before_callbacks joined u v = recorded u v && go u.what v.what
     go (JobRun j made within) w = is_some_and (λ (x : Task). to x.maker w) made
     go _ _ = false
 
--- 31. A job that began while a dispatch was on the stack before the close of the dispatch (recorded). This project's own.
+-- 31. A job that began while a dispatch was on the stack before the close of the dispatch
+--     (recorded). This project's own.
 abbrev pub jobs_before_close : Rule
 jobs_before_close joined u v = recorded u v && go u.what v.what
   where
@@ -425,7 +457,8 @@ jobs_before_close joined u v = recorded u v && go u.what v.what
     go (JobRun j made within) (CloseOf p) = list_any (λ q. q == p.number) within
     go _ _ = false
 
--- Each rule between events with its number, in the families of the crates that ask it. Rule 19 alone differs by version. Rules 22 and 23 speak of pieces (Edges).
+-- Each rule between events with its number, in the families of the crates that ask it. Rule 19
+-- alone differs by version. Rules 22 and 23 speak of pieces (Edges).
 abbrev pub parse_rules : List (ℕ × Rule)
 parse_rules =
     (1, parse_steps_in_order)
@@ -465,7 +498,8 @@ timer_rules v = (18, set_before_timer) ∷ (19, timers_in_order v) ∷ (20, tick
 abbrev pub request_rules : List (ℕ × Rule)
 request_rules = (21, replies_in_order) ∷ []
 
--- These are in the table of each version: they lead from events or to events that records of version 3 alone begin.
+-- These are in the table of each version: they lead from events or to events that records of
+-- version 3 alone begin.
 abbrev pub task_rules : List (ℕ × Rule)
 task_rules =
     (24, post_before_message)

@@ -1,4 +1,5 @@
--- Which records are out of order, and which lists are sound and legal, by a table of rules. Lists of records stand newest first.
+-- Which records are out of order, and which lists are sound and legal, by a table of rules. Lists
+-- of records stand newest first.
 use Rattle.std.specs.Prelude.{◌≡◌, ℕ, Bool, false, ◌&&◌, if◌then◌else◌, List, [], ◌∷◌, Option, Some, None}
 use Rattle.std.specs.List.{list_any}
 use Rattle.er_text.specs.declared.causes.Cause.{Cause}
@@ -10,7 +11,8 @@ use Rattle.er_history.specs.Rules.{Rule, any_holds}
 use Rattle.er_history.specs.Edges.{path}
 use Rattle.er_history.specs.Naming.{naming, room, IsNamed}
 
--- One of the rules holds from the event that the record begins to one that has begun. `back` begins no event.
+-- One of the rules holds from the event that the record begins to one that has begun.
+-- `back` begins no event.
 abbrev pub leads_back : List (ℕ × Rule) → (ℕ → ℕ → Bool) → History → Record → Bool
 leads_back rules joined h (Back p) = false
 leads_back rules joined h x = begins x
@@ -19,7 +21,8 @@ leads_back rules joined h x = begins x
 abbrev pub out_of_order : List (ℕ × Rule) → List Record → Record → Bool
 out_of_order table h x = leads_back table (path table h) (told h) x
 
--- the first cause for which the record is refused after the earlier ones: by naming and nesting, by order, or by room
+-- the first cause for which the record is refused after the earlier ones: by naming and nesting, by
+-- order, or by room
 abbrev pub cause : List (ℕ × Rule) → List Record → Record → Option Cause
 cause table h x =
     or_else (naming h x) (if out_of_order table h x then Some OutOfOrder else room h x)

@@ -1,4 +1,5 @@
--- How what stands for a list of records goes on to stand for it, or takes one record more. Lists of records stand newest first.
+-- How what stands for a list of records goes on to stand for it, or takes one record more. Lists of
+-- records stand newest first.
 use Rattle.std.specs.Prelude.{◌≡◌, ℕ, List, ◌∷◌, Option, Some}
 use Rattle.er_trace.specs.declared.record.Record.{Record}
 use Rattle.er_history.specs.History.{told, running, actions_after, Action}

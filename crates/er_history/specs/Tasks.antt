@@ -1,4 +1,5 @@
--- Messages, animation callbacks and jobs: tasks of three kinds. Lists of records stand newest first; a list of tasks that have begun stands oldest first.
+-- Messages, animation callbacks and jobs: tasks of three kinds. Lists of records stand newest
+-- first; a list of tasks that have begun stands oldest first.
 use Rattle.std.specs.Prelude.{ℕ, Bool, ◌==◌, if◌then◌else◌, List, [], ◌∷◌, ◌++◌, option_map, Option, Some, None}
 use Rattle.er_trace.specs.declared.record.Record.{Record}
 use Rattle.er_trace.specs.Signature.{Claims, StartsMessage, StartsAnim, StartsJob, claims}

@@ -43,7 +43,8 @@ abbrev pub is_finished : List Record → ℕ → Bool
 is_finished h p =
     if list_any (begins_inline p) h then list_any (begins_back p) h else list_any (begins_close p) h
 
--- Where naming refuses no record, the stack has the numbers of the dispatches that have begun and are not finished, the newest on top.
+-- Where naming refuses no record, the stack has the numbers of the dispatches that have begun and
+-- are not finished, the newest on top.
 abbrev pub StackIsUnfinished : Type 0
 StackIsUnfinished = (h : List Record) → IsNamed h
     → map (λ (o : Open). o.dispatch.number) (told h).stack

@@ -22,7 +22,8 @@ abbrev pub SetBeforeCallback : Type 0
 SetBeforeCallback = (h : List Record) (a : Action) (t : ℕ) (x : Timeout) → Among a (told h).actions
     → a.event.what ≡ TimeoutRun t (Some x) → x.piece < a.event.number
 
--- So a rule that is told of the paths among the actions before the later event holds exactly where it does by all paths.
+-- So a rule that is told of the paths among the actions before the later event holds exactly where
+-- it does by all paths.
 abbrev pub PathsBeforeSuffice : Type 0
 PathsBeforeSuffice = (v : Version) (h : List Record) (a b : Action) → Among b (told h).actions
     → is_ruled (rules v) (path (rules v) h) a b

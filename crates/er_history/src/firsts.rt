@@ -1,10 +1,13 @@
-//! Tables from numbers to what was noted first under them, one way to note for all of them, and how each takes one record more.
+//! Tables from numbers to what was noted first under them, one way to note for all of them, and how
+//! each takes one record more.
 //!
 //! In contracts:
 //!
 //! - `specs/Noted.antt`: what a note puts under a number.
-//! - `specs/Found.antt`: what the tables answer, against what the list of records says: `MakersAre` (events), `FirstsAre` (other numbers), `IsRanked` (which number was noted first).
-//! - `specs/Taken.antt`: `StillStands`, `Takes`: a value stands for the list still, or for the list with one record more, after which this action runs (`IsNow`).
+//! - `specs/Found.antt`: what the tables answer, against what the list of records says: `MakersAre`
+//!   (events), `FirstsAre` (other numbers), `IsRanked` (which number was noted first).
+//! - `specs/Taken.antt`: `StillStands`, `Takes`: a value stands for the list still, or for the list
+//!   with one record more, after which this action runs (`IsNow`).
 
 ghost use Rattle.std.specs.Prelude.{◌≡◌, ℕ, ◌<◌, ◌≤◌, Bool, List, ◌∷◌, Option, Some, None, if◌then◌else◌, is_some, OnOk, IfSome};
 ghost use Rattle.er_numbers.specs.Numbers.{found, HasRoomUnder, HasRoomWhere};

@@ -1,5 +1,7 @@
-//! What a list of records says: its actions, the rules between them, paths, and which records naming, order and room refuse.
-//! Definitions and their laws; no state. Each law is a function with no parameters, whose contract is the law. Beside them `firsts`, tables from numbers to what was noted first.
+//! What a list of records says: its actions, the rules between them, paths, and which records
+//! naming, order and room refuse.
+//! Definitions and their laws; no state. Each law is a function with no parameters, whose contract
+//! is the law. Beside them `firsts`, tables from numbers to what was noted first.
 #![tactic(auto)]
 
 pub mod firsts;
@@ -92,7 +94,8 @@ pub fn facts_stay()
     ensures { FactsStay }
 {}
 
-/// Where naming refuses no record, each fact that an event kept is the one that the whole list gives.
+/// Where naming refuses no record, each fact that an event kept is the one that the whole
+/// list gives.
 #[tactic(auto, using(crate::proofs::ExactLemmas::facts_are_exact))]
 pub fn facts_are_exact()
     ensures { FactsAreExact }
@@ -105,7 +108,7 @@ pub fn sound_lists_are_named()
 {}
 
 /// The rules of parsing, timers and requests put no record out of order, in each version.
-#[tactic(auto, using(crate::proofs::OrderLemmas::parse_rules_never_lead_back, crate::proofs::OrderLemmas::timer_rules_never_lead_back, crate::proofs::OrderLemmas::request_rules_never_lead_back, crate::proofs::OrderLemmas::task_rules_never_lead_back))]
+#[tactic(auto, using(crate::proofs::OrderLemmas::later_events_never_lead_back))]
 pub fn later_events_never_lead_back()
     ensures parsing { NeverLeadBack parse_rules }
     ensures timers { (v : Version) → NeverLeadBack (timer_rules v) }
@@ -129,7 +132,8 @@ pub fn paths_before_suffice()
     ensures { PathsBeforeSuffice }
 {}
 
-/// Where naming refuses no record, the stack has the numbers of the dispatches that have begun and are not finished.
+/// Where naming refuses no record, the stack has the numbers of the dispatches that have begun and
+/// are not finished.
 #[tactic(auto, using(crate::proofs::UnfinishedLemmas::stack_is_unfinished))]
 pub fn stack_is_unfinished()
     ensures { StackIsUnfinished }
@@ -146,8 +150,9 @@ pub fn rules_are_numbered()
     ensures { RulesAreNumbered }
 {}
 
-/// The edges of small lists that reach each rule and each kind of piece, and the causes of records after another.
-#[tactic(auto, using(crate::proofs::Computed::each_rule, crate::proofs::Computed::nested_dispatches, crate::proofs::Computed::timers_on_timers, crate::proofs::Computed::timers_of_pieces, crate::proofs::Computed::jobs_and_callbacks, crate::proofs::Computed::jobs_in_dispatches, crate::proofs::Computed::tasks_of_later_pieces, crate::proofs::Computed::timers_of_steps_in_three, crate::proofs::Computed::frames_that_scripts_made, crate::proofs::Computed::later_load_event, crate::proofs::Computed::misplaced_jobs, crate::proofs::Computed::late_records))]
+/// The edges of small lists that reach each rule and each kind of piece, and the causes of records
+/// after another.
+#[tactic(auto, using(crate::proofs::Computed::worked_edges))]
 pub fn worked_edges()
     ensures rules { EachRule }
     ensures pieces { NestedDispatches }

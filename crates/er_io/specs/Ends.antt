@@ -43,7 +43,8 @@ unfoldable pub GetsPart : Option (List ℕ) → List ℕ → Option (List ℕ) �
 GetsPart old due new = (n : ℕ) × (n < length due) × Gets old (take n due) new
 
 -- What writing the bytes that are due comes to, by what the sink got and counted before and after:
--- all of them came and no fault, or a proper front of them and one fault, behind which nothing is written.
+-- all of them came and no fault, or a proper front of them and one fault, behind which
+-- nothing is written.
 pub record Puts {S E : Type 0} (got : S → Option (List ℕ)) (faults : S → ℕ) (old : S) (due : List ℕ)
     (new : S) (result : Result Unit E) : Type 0 where
   pub whole : OnOk result (Gets (got old) due (got new))

@@ -39,7 +39,8 @@ impl<T: Drop> From<AllocFailed<T>> for NoMemory {
 pub trait Source {
     /// The bytes still to come, where the source tells them.
     ghost left: { Self → Option (List ℕ) };
-    /// How many reads have failed: each raises it by one, up to its last value, and nothing else changes it.
+    /// How many reads have failed: each raises it by one, up to its last value, and
+    /// nothing else changes it.
     ghost faults: { Self → ℕ };
 
     /// Fills a front of the buffer, and answers how many bytes it placed.
@@ -59,10 +60,12 @@ pub trait Source {
 pub trait Sink {
     /// The bytes taken so far, where the sink tells them.
     ghost got: { Self → Option (List ℕ) };
-    /// How many writes have failed: each raises it by one, up to its last value, and nothing else changes it.
+    /// How many writes have failed: each raises it by one, up to its last value, and
+    /// nothing else changes it.
     ghost faults: { Self → ℕ };
 
-    /// Takes a front of the chunk, and answers its length: at least one byte of a chunk that is not empty.
+    /// Takes a front of the chunk, and answers its length: at least one byte of a chunk
+    /// that is not empty.
     fn write(&mut self, chunk: &[u8]) -> Result<usize, Failed>
         ensures taken { IfOk result (λ n. n ≤ length chunk.now) }
         ensures got { IfOk result (λ n. Gets (got self.old) (take n chunk.now) (got self.new)) }

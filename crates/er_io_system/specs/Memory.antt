@@ -1,7 +1,8 @@
 -- What a caller sees of a source and of a sink in memory.
 use Rattle.std.specs.Prelude.{ℕ, ◌+◌, List, min}
 
--- a source: the bytes still to come, the most that one call gives, the numbers of the calls that fail, how many calls came, and how many failed
+-- a source: the bytes still to come, the most that one call gives, the numbers of the calls that
+-- fail, how many calls came, and how many failed
 pub record Input : Type 0 where
   pub left : List ℕ
   pub most : ℕ
@@ -9,7 +10,8 @@ pub record Input : Type 0 where
   pub calls : ℕ
   pub faults : ℕ
 
--- a sink: the bytes taken so far, how many it has room for in all, the most that one call takes, and its calls likewise
+-- a sink: the bytes taken so far, how many it has room for in all, the most that one call takes,
+-- and its calls likewise
 pub record Output : Type 0 where
   pub got : List ℕ
   pub room : ℕ

@@ -56,8 +56,8 @@ impl<R: Read> Source for FromRead<R> {
 }
 
 /// A sink over a writer, flushed after each write. It does not tell what it took.
-/// Each error of the writer is a fault, also an interruption, and so is a write that takes nothing of a
-/// chunk that is not empty. The writer is not asked again.
+/// Each error of the writer is a fault, also an interruption, and so is a write that takes nothing
+/// of a chunk that is not empty. The writer is not asked again.
 #[derive(Drop)]
 pub struct ToWrite<W> {
     inner: CountedWriter<W>,
@@ -94,8 +94,9 @@ impl<W: Write> Sink for ToWrite<W> {
         ensures raised { OnErr result (self.new.faults ≡ one_more self.old.faults) }
         ensures count { self.old.faults ≤ self.new.faults }
         ensures stands { OnOk result (self.new.faults ≡ self.old.faults) }
-        // The writer was asked once to write, and once to flush behind that where it did; a failed write is
-        // not flushed, and a failed flush not asked again. None of its errors is passed over.
+        // The writer was asked once to write, and once to flush behind that where it did;
+        // a failed write is not flushed, and a failed flush not asked again. None of its
+        // errors is passed over.
         ensures asked { self.new.inner.writes ≡ one_more self.old.inner.writes }
         ensures flushed { OnOk result (self.new.inner.flushes ≡ one_more self.old.inner.flushes) }
         ensures settled { OnOk result (self.new.inner.pending ≡ false) }
@@ -115,7 +116,8 @@ impl<W: Write> Sink for ToWrite<W> {
     }
 }
 
-/// One write and a flush. Nothing is answered where one of them fails, or nothing is taken of a chunk that is not empty.
+/// One write and a flush. Nothing is answered where one of them fails, or nothing is taken of a
+/// chunk that is not empty.
 fn write_and_flush<W: Write>(writer: &mut CountedWriter<W>, chunk: &[u8]) -> Option<usize>
     ensures taken { IfSome result (λ n. n ≤ length chunk.now) }
     ensures some { IfSome result (λ n. 0 < length chunk.now → 0 < n) }

@@ -1,6 +1,6 @@
-//! A reader and a writer of the standard library that count what they are asked. The adapters can ask
-//! their ends in no other way, so what is proved of the counts is proved of the ends. That each call
-//! here asks the end once is trusted, and seen by tests.
+//! A reader and a writer of the standard library that count what they are asked. The adapters can
+//! ask their ends in no other way, so what is proved of the counts is proved of the ends. That each
+//! call here asks the end once is trusted, and seen by tests.
 
 ghost use Rattle.std.specs.Prelude.{◌≡◌, ◌≤◌, true, false, length, take, IfOk, OnOk, OnErr};
 ghost use Rattle.std.specs.Io.KnownBytes.{Keeps, ReadConsumes, WriteAppends};
@@ -51,8 +51,8 @@ impl<R: Read> CountedReader<R> {
     }
 }
 
-/// A writer, how often it was asked to write and to flush, how often it failed, and whether a write that it
-/// took is still to be flushed.
+/// A writer, how often it was asked to write and to flush, how often it failed, and whether a write
+/// that it took is still to be flushed.
 #[derive(Drop)]
 pub struct CountedWriter<W> {
     inner: W,

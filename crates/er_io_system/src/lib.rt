@@ -1,4 +1,5 @@
-//! The ends that there are: over the standard library's readers and writers, in memory, and such as never fail.
+//! The ends that there are: over the standard library's readers and writers, in memory,
+//! and such as never fail.
 #![tactic(auto)]
 
 mod adapters;

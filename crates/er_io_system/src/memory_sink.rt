@@ -10,7 +10,8 @@ use std::alloc::Global;
 use std::marker::Model;
 
 /// Takes the bytes that it is given, no more than `most` of them a call, as long as it has room.
-/// Its calls are counted from 1, and those whose numbers it was made with fail, unless they bring nothing.
+/// Its calls are counted from 1, and those whose numbers it was made with fail, unless
+/// they bring nothing.
 #[derive(Drop)]
 pub struct MemorySink {
     bytes: Vec<u8>,

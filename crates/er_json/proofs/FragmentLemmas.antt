@@ -1,4 +1,5 @@
--- A group, a race and a refusal, as the parts that are written. What stands in an array or a string is flattened.
+-- A group, a race and a refusal, as the parts that are written. What stands in an array or a string
+-- is flattened.
 use Rattle.std.proofs.Common.{◌≡◌, ℕ, ◌+◌, List, [], ◌∷◌, ◌++◌, refl, sym, ap, ◌∙◌, append_assoc, codes, decimal}
 use Rattle.std.specs.Prelude.{nat_lt}
 use Rattle.json.specs.Print.{escape, escape_byte, quoted}

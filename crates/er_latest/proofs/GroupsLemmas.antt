@@ -120,3 +120,5 @@ rising_inserted g (x ∷ xs) zero rising place new =
 rising_inserted g [] (suc j) rising place new = absurd (omega (arith, place.within))
 rising_inserted g (x ∷ xs) (suc j) rising place new =
     (below_inserted x g xs j (first_less g x xs j rising place) rising.0, rising_inserted g xs j rising.1 (rest_place g x xs j place) (λ within. new (omega (arith, within))))
+
+pub ruleset inserted = (greatest_inserted, greatest_there, rising_inserted)

@@ -1,4 +1,5 @@
--- What the tables stand for: what came last among a list of actions. Lists of actions stand newest first.
+-- What the tables stand for: what came last among a list of actions. Lists of actions
+-- stand newest first.
 use Rattle.std.specs.Prelude.{◌≡◌, ℕ, ◌==◌, Bool, List, Option, None, nat_eq, reverse}
 use Rattle.indexmap.specs.IndexMap.{get}
 use Rattle.er_numbers.specs.Numbers.{found}

@@ -59,7 +59,8 @@ abbrev pub HasRoomFor : {K A : Type 0} → (K → K → Bool) → Table K (Vec �
 HasRoomFor eq lists None = Unit {0}
 HasRoomFor eq lists (Some k) = HasRoom (get eq lists k)
 
--- the list of key k once this event has been put at the end of that one, if any, where the action is its first piece
+-- the list of key k once this event has been put at the end of that one, if any, where the action
+-- is its first piece
 abbrev pub put_first : {K : Type 0} → (K → K → Bool) → Option K → Now → K → List ℕ → List ℕ
 put_first eq None now k old = old
 put_first eq (Some n) now k old =

@@ -54,7 +54,7 @@ pub(crate) fn put(lists: &mut IndexMap<u32, Vec<u32>>, handler: Option<(u32, u32
 }
 
 /// Puts a group among others.
-#[tactic(auto, using(crate::proofs::GroupsLemmas::greatest_inserted, crate::proofs::GroupsLemmas::greatest_there, crate::proofs::GroupsLemmas::rising_inserted))]
+#[tactic(auto, using(crate::proofs::GroupsLemmas::inserted))]
 fn put_in(groups: &mut Vec<u32>, group: u32)
     requires room { vec_len groups.old < vec_capacity groups.old }
     ensures greatest { (test : ℕ → Bool)
@@ -81,7 +81,8 @@ fn stands_at(groups: &[u32], place: usize, group: u32) -> bool
     place < groups.len() && groups[place] == group
 }
 
-/// How many of the groups are less than this one. It is asked from the end, where the group of a handler that runs mostly is.
+/// How many of the groups are less than this one. It is asked from the end, where the group of a
+/// handler that runs mostly is.
 fn place_of(groups: &[u32], group: u32) -> usize
     ensures { IsPlaceOf group groups.now result }
 {

@@ -36,7 +36,8 @@ pub(crate) fn make_room<K: Eq + Hash + Copy + Drop>(
     make_place(lists, key)
 }
 
-/// Puts an event at the end of the list of a key, if there is one, where the action is the event's first piece.
+/// Puts an event at the end of the list of a key, if there is one, where the action is the event's
+/// first piece.
 pub(crate) fn put<K: Eq + Hash + Copy + Drop>(
     lists: &mut IndexMap<K, Vec<u32>>,
     key: Option<K>,

@@ -1,4 +1,7 @@
-//! The look-ups. Each answers what the list of actions says, also for numbers that were never declared. None takes memory, and none goes through the actions: `group_below` goes through those groups of the dispatch that are not less, from the greatest, and each other one asks a table or two.
+//! The look-ups. Each answers what the list of actions says, also for numbers that were
+//! never declared. None takes memory, and none goes through the actions: `group_below`
+//! goes through those groups of the dispatch that are not less, from the greatest, and
+//! each other one asks a table or two.
 
 ghost use Rattle.std.specs.Prelude.{◌==◌, nat_lt, true};
 ghost use Rattle.er_history.specs.Rules.{is_blocking, is_deferred};
@@ -47,7 +50,8 @@ impl Latest {
         lists::of(&self.asyncs, doc)
     }
 
-    /// The events of the closes of the first load events of static elements that are not plain, oldest first.
+    /// The events of the closes of the first load events of static elements that are not plain,
+    /// oldest first.
     pub fn static_closes(&self, doc: u32) -> &[u32]
         ensures { Answers self.now (events_in_order (closes (is_static_load_of doc))) result.now }
     {
@@ -96,14 +100,16 @@ impl Latest {
         lists::of(&self.runs, (dispatch, group))
     }
 
-    /// The latest piece of a close of a dispatch of this type at the element, begun by `fire` or `inline`.
+    /// The latest piece of a close of a dispatch of this type at the element, begun by
+    /// `fire` or `inline`.
     pub fn last_element_close(&self, element: u32, name: &Name) -> Option<u32>
         ensures { Answers self.now (λ actions. closes_at_element element name.now actions) result }
     {
         named::of(&self.elements, name, element)
     }
 
-    /// The latest piece of a close of a dispatch of this type at the window of the document, begun by `wfire`.
+    /// The latest piece of a close of a dispatch of this type at the window of the
+    /// document, begun by `wfire`.
     pub fn last_window_close(&self, doc: u32, name: &Name) -> Option<u32>
         ensures { Answers self.now (λ actions. closes_at_window doc name.now actions) result }
     {

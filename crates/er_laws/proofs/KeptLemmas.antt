@@ -1,4 +1,5 @@
--- Proof that later records change no chain and no link of an earlier action. Lists of records stand newest first.
+-- Proof that later records change no chain and no link of an earlier action. Lists of records stand
+-- newest first.
 use Rattle.std.proofs.Common.{ℕ, ◌<◌, List, length, ap, ◌∙◌, arith}
 use Rattle.er_trace.specs.declared.record.Record.{Record}
 use Rattle.er_history.specs.History.{told}

@@ -1,4 +1,5 @@
--- Proof that what declared a task comes before its event, and that a job keeps the dispatches that are not finished before its record. Lists of records stand newest first.
+-- Proof that what declared a task comes before its event, and that a job keeps the dispatches that
+-- are not finished before its record. Lists of records stand newest first.
 use Rattle.std.proofs.Common.{◌≡◌, ℕ, Bool, true, false, List, [], ◌∷◌, Option, Some, None, refl, sym, ap, subst, ◌∙◌, inl, inr}
 use Rattle.std.specs.Prelude.{◌-◌, if◌then◌else◌, length}
 use Rattle.er_trace.specs.declared.record.Record.{Record}

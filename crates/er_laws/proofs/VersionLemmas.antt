@@ -1,4 +1,5 @@
--- Proof that each version has the edges and paths of version 1. Lists of records stand newest first.
+-- Proof that each version has the edges and paths of version 1. Lists of records stand
+-- newest first.
 use Rattle.std.proofs.Common.{◌≡◌, ℕ, zero, suc, ◌<◌, ◌≤◌, Bool, true, false, List, [], ◌∷◌, ◌++◌, length, Option, Some, None, refl, sym, ap, subst, ◌∙◌, arith, inl, inr, ◌⊎◌}
 use Rattle.std.specs.Prelude.{◌==◌, ◌||◌, ◌&&◌, not, nat_lt, nat_le, if◌then◌else◌}
 use Rattle.std.proofs.lemmas.Bool.{eqb-true, eq-eqb, ltb-true}
@@ -115,7 +116,8 @@ pieces_joined table h a b first second one le =
           ap (λ (m : ℕ). joins lists m b.number) same ∙ paths_stand lists b.number below
     ]
 
--- So a path leads from the piece that set a timeout to the piece of the same event that set another one later.
+-- So a path leads from the piece that set a timeout to the piece of the same event that
+-- set another one later.
 set_joined : (table : List (ℕ × Rule)) (h : List Record) (s t : ℕ) (x y : Timeout) → first_to (makes_timeout s) (told h).entries ≡ Some x → first_to (makes_timeout t) (told h).entries ≡ Some y → x.maker ≡ y.maker → x.place < y.place → path table h x.piece y.piece ≡ true
 set_joined table h s t x y first second one before =
     let d = entry_found (makes_timeout s) (told h).entries x first in
@@ -177,7 +179,8 @@ jobs_gives f g more u v = by u.what v.what
     by (JobRun m made within) _ = λ e. e
     by _ z = λ e. e
 
--- the timeouts that two events are, the one set before the other by one event, were set in pieces that g joins
+-- the timeouts that two events are, the one set before the other by one event, were set in pieces
+-- that g joins
 abbrev AreJoined : (ℕ → ℕ → Bool) → What → What → Type 0
 AreJoined g w z = (s t : ℕ) (x y : Timeout) → w ≡ TimeoutRun s (Some x) → z ≡ TimeoutRun t (Some y) → x.maker ≡ y.maker → x.place < y.place → g x.piece y.piece ≡ true
 

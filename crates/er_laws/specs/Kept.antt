@@ -1,4 +1,5 @@
--- What a longer list leaves of the chains and links of a list's actions. Lists of records stand newest first, so the longer one has its further records before the others.
+-- What a longer list leaves of the chains and links of a list's actions. Lists of records stand
+-- newest first, so the longer one has its further records before the others.
 use Rattle.std.specs.Prelude.{◌≡◌, ℕ, ◌<◌, List, ◌++◌, length}
 use Rattle.er_trace.specs.declared.record.Record.{Record}
 use Rattle.er_history.specs.History.{told}
@@ -11,7 +12,8 @@ use Rattle.er_paths.specs.links.Links.{links_of}
 abbrev pub edges_after : List (ℕ × Rule) → List Record → List (List ℕ)
 edges_after table h = edges table (told h).actions
 
--- By any table, after any list, an action's chain, its place there and its entries are those that it had.
+-- By any table, after any list, an action's chain, its place there and its entries are
+-- those that it had.
 abbrev pub ChainsAreKept : Type 0
 ChainsAreKept = (table : List (ℕ × Rule)) (more h : List Record)
     → (j c : ℕ) → j < length (told h).actions

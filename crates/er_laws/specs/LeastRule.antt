@@ -14,7 +14,8 @@ with_number n table = filter (λ (r : ℕ × Rule). r.0 == n) table
 abbrev pub is_piece_rule : ℕ → Action → Action → Bool
 is_piece_rule n i j = ((n == 22) && around_inline i j) || ((n == 23) && of_one_event i j)
 
--- rule n makes an edge from i to j: i was begun first, and the rule holds between their events, or between the two as pieces
+-- rule n makes an edge from i to j: i was begun first, and the rule holds between their events, or
+-- between the two as pieces
 abbrev pub makes_edge : List (ℕ × Rule) → (ℕ → ℕ → Bool) → Action → Action → ℕ → Bool
 makes_edge table joined i j n = nat_lt i.number j.number
     && (is_ruled (with_number n table) joined i j || is_piece_rule n i j)

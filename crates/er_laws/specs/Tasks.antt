@@ -1,4 +1,5 @@
--- What the events of messages, animation callbacks and jobs keep of the records before them. Lists of records stand newest first.
+-- What the events of messages, animation callbacks and jobs keep of the records before them. Lists
+-- of records stand newest first.
 use Rattle.std.specs.Prelude.{◌≡◌, ℕ, ◌<◌, not, List, ◌∷◌, ◌++◌, length, filter, Option, Some}
 use Rattle.er_trace.specs.declared.record.Record.{Record}
 use Rattle.er_trace.specs.declared.record.Record.TheVariants.{Job}
@@ -27,7 +28,8 @@ pub record IsBegunBehind (h : List Record) (e : Event) (j : ℕ) (before : List 
   pub whole : h ≡ later ++ (Job j ∷ before)
   pub begins : e.number ≡ length (told before).actions
 
--- Where naming refuses no record, a job began while those dispatches were on the stack that had begun and were not finished before its record.
+-- Where naming refuses no record, a job began while those dispatches were on the stack that had
+-- begun and were not finished before its record.
 abbrev pub WithinIsUnfinished : Type 0
 WithinIsUnfinished = (h : List Record) (a : Action) (j : ℕ) (made : Option Task) (within : List ℕ)
     → IsNamed h → Among a (told h).actions → a.event.what ≡ JobRun j made within

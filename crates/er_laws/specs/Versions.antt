@@ -1,4 +1,5 @@
--- What version 1 orders, each version orders. Lists of records stand newest first, lists of accesses oldest first.
+-- What version 1 orders, each version orders. Lists of records stand newest first, lists of
+-- accesses oldest first.
 use Rattle.std.specs.Prelude.{◌≡◌, ℕ, true, not, List, filter}
 use Rattle.er_trace.specs.declared.record.Record.{Record}
 use Rattle.er_trace.specs.declared.version.Version.{Version}

@@ -1,6 +1,10 @@
-//! What later records leave of the chains and links of actions, what the events of tasks keep of the records before them, which rule an explanation names, and what each version orders.
+//! What later records leave of the chains and links of actions, what the events of tasks keep of
+//! the records before them, which rule an explanation names, and what each version orders.
 //!
-//! Laws that join those of er_history: on the edges of longer lists with those of links and chains (er_paths), on the stack with what a job keeps of it, on edges with the rule of a step (er_pieces) and with the version. No state, and nothing stands on this crate. Each law is a function with no parameters, whose contract is the law.
+//! Laws that join those of er_history: on the edges of longer lists with those of links and chains
+//! (er_paths), on the stack with what a job keeps of it, on edges with the rule of a step
+//! (er_pieces) and with the version. No state, and nothing stands on this crate. Each law is a
+//! function with no parameters, whose contract is the law.
 #![tactic(auto)]
 
 pub mod rows;
@@ -27,7 +31,8 @@ pub fn declared_before_event()
     ensures { DeclaredBeforeEvent }
 {}
 
-/// A job began while those dispatches were on the stack that had begun and were not finished before its record.
+/// A job began while those dispatches were on the stack that had begun and were not
+/// finished before its record.
 pub fn within_is_unfinished()
     ensures { WithinIsUnfinished }
 {}
@@ -58,7 +63,8 @@ pub fn paths_remain()
     ensures { PathsRemain }
 {}
 
-/// The races of a version are those of version 1 that it leaves unordered, so it has none that version 1 has not.
+/// The races of a version are those of version 1 that it leaves unordered, so it has none that
+/// version 1 has not.
 pub fn races_are_of_version_one()
     ensures { RacesAreOfVersionOne }
 {}

@@ -1,6 +1,8 @@
-//! Rows: what the definitions of er_history say of lists of records, by all rules: the edges between actions, and which records are refused; and lists that reach the counts of er_pieces.
+//! Rows: what the definitions of er_history say of lists of records, by all rules: the edges
+//! between actions, and which records are refused; and lists that reach the counts of er_pieces.
 //!
-//! `specs/rows/` has the rows, a topic a file. What they say of edges and causes was found by a program that shares nothing with this one: it asks every rule of every pair of events.
+//! `specs/rows/` has the rows, a topic a file. What they say of edges and causes was found by a
+//! program that shares nothing with this one: it asks every rule of every pair of events.
 ghost use Rattle.er_laws.specs.rows.Apart.{PlainElementNotForLoad, MadeElementNotForLoad, CloseForLoad, OtherDocumentNotForLoad, WindowsApart, ElementAndWindowApart, TypesApart, LongerDelaySetFirst, ShorterDelaySetLast, DeferredOfTwoDocuments};
 ghost use Rattle.er_laws.specs.rows.Full.{FullParse, FullScript, FullLoad, FullEload, LegalEload, FullTimer, FullTimerOfPieces, FullRequest, FullBegins, FullDispatch};
 ghost use Rattle.er_laws.specs.rows.Late.{StepAfterDeferredScript, StepAfterDcl, StepAfterLoad, BlockingAfterStep, BlockingAfterDeferred, DeferredExchanged, ScriptAfterDcl, ScriptAfterLoad, ScriptAfterItsLoad, DclAfterLoad, HandlerAfterGreaterGroup};
@@ -17,7 +19,7 @@ pub fn realistic_page()
 {}
 
 /// The edges where inline dispatches are nested.
-#[tactic(auto, using(crate::proofs::rows::Computed::suspended_script, crate::proofs::rows::Computed::cut_short, crate::proofs::rows::Computed::in_a_handler, crate::proofs::rows::Computed::in_a_close, crate::proofs::rows::Computed::in_callbacks))]
+#[tactic(auto, using(crate::proofs::rows::Computed::inline_dispatches))]
 pub fn inline_dispatches()
     ensures suspended_script { SuspendedScript }
     ensures cut_short { CutShort }
@@ -27,7 +29,7 @@ pub fn inline_dispatches()
 {}
 
 /// Which first load events rule 11 counts.
-#[tactic(auto, using(crate::proofs::rows::Computed::plain_element_not_for_load, crate::proofs::rows::Computed::made_element_not_for_load, crate::proofs::rows::Computed::close_for_load, crate::proofs::rows::Computed::other_document_not_for_load))]
+#[tactic(auto, using(crate::proofs::rows::Computed::closes_for_load))]
 pub fn closes_for_load()
     ensures plain_element_not_for_load { PlainElementNotForLoad }
     ensures made_element_not_for_load { MadeElementNotForLoad }
@@ -36,7 +38,7 @@ pub fn closes_for_load()
 {}
 
 /// Which targets rule 17 takes for one.
-#[tactic(auto, using(crate::proofs::rows::Computed::windows_apart, crate::proofs::rows::Computed::element_and_window_apart, crate::proofs::rows::Computed::types_apart))]
+#[tactic(auto, using(crate::proofs::rows::Computed::targets_apart))]
 pub fn targets_apart()
     ensures windows_apart { WindowsApart }
     ensures element_and_window_apart { ElementAndWindowApart }
@@ -44,7 +46,7 @@ pub fn targets_apart()
 {}
 
 /// Which timeouts and deferred scripts are in no order.
-#[tactic(auto, using(crate::proofs::rows::Computed::longer_delay_set_first, crate::proofs::rows::Computed::shorter_delay_set_last, crate::proofs::rows::Computed::deferred_of_two_documents))]
+#[tactic(auto, using(crate::proofs::rows::Computed::callbacks_apart))]
 pub fn callbacks_apart()
     ensures longer_delay_set_first { LongerDelaySetFirst }
     ensures shorter_delay_set_last { ShorterDelaySetLast }
@@ -52,7 +54,7 @@ pub fn callbacks_apart()
 {}
 
 /// Lists that reach the most pieces that the rules of parsing, scripts and loads hand.
-#[tactic(auto, using(crate::proofs::rows::Computed::full_parse, crate::proofs::rows::Computed::full_script, crate::proofs::rows::Computed::full_load, crate::proofs::rows::Computed::full_eload, crate::proofs::rows::Computed::legal_eload))]
+#[tactic(auto, using(crate::proofs::rows::Computed::full_pages))]
 pub fn full_pages()
     ensures full_parse { FullParse }
     ensures full_script { FullScript }
@@ -62,7 +64,7 @@ pub fn full_pages()
 {}
 
 /// Lists that reach the most pieces that the rules of timeouts, requests and dispatches hand.
-#[tactic(auto, using(crate::proofs::rows::Computed::full_timer, crate::proofs::rows::Computed::full_timer_of_pieces, crate::proofs::rows::Computed::full_request, crate::proofs::rows::Computed::full_begins, crate::proofs::rows::Computed::full_dispatch))]
+#[tactic(auto, using(crate::proofs::rows::Computed::full_callbacks))]
 pub fn full_callbacks()
     ensures full_timer { FullTimer }
     ensures full_timer_of_pieces { FullTimerOfPieces }
@@ -72,7 +74,7 @@ pub fn full_callbacks()
 {}
 
 /// Which parse steps are out of order.
-#[tactic(auto, using(crate::proofs::rows::Computed::step_after_deferred_script, crate::proofs::rows::Computed::step_after_dcl, crate::proofs::rows::Computed::step_after_load))]
+#[tactic(auto, using(crate::proofs::rows::Computed::late_steps))]
 pub fn late_steps()
     ensures step_after_deferred_script { StepAfterDeferredScript }
     ensures step_after_dcl { StepAfterDcl }
@@ -80,7 +82,7 @@ pub fn late_steps()
 {}
 
 /// Which runs of scripts are out of order.
-#[tactic(auto, using(crate::proofs::rows::Computed::blocking_after_step, crate::proofs::rows::Computed::blocking_after_deferred, crate::proofs::rows::Computed::deferred_exchanged, crate::proofs::rows::Computed::script_after_dcl, crate::proofs::rows::Computed::script_after_load, crate::proofs::rows::Computed::script_after_its_load))]
+#[tactic(auto, using(crate::proofs::rows::Computed::late_scripts))]
 pub fn late_scripts()
     ensures blocking_after_step { BlockingAfterStep }
     ensures blocking_after_deferred { BlockingAfterDeferred }
@@ -91,14 +93,14 @@ pub fn late_scripts()
 {}
 
 /// Which begins and handlers of dispatches are out of order.
-#[tactic(auto, using(crate::proofs::rows::Computed::dcl_after_load, crate::proofs::rows::Computed::handler_after_greater_group))]
+#[tactic(auto, using(crate::proofs::rows::Computed::late_dispatches))]
 pub fn late_dispatches()
     ensures dcl_after_load { DclAfterLoad }
     ensures handler_after_greater_group { HandlerAfterGreaterGroup }
 {}
 
 /// The edges of random pages, and the causes of records behind them.
-#[tactic(auto, using(crate::proofs::rows::Computed::first_page, crate::proofs::rows::Computed::second_page, crate::proofs::rows::Computed::third_page, crate::proofs::rows::Computed::fourth_page, crate::proofs::rows::Computed::fifth_page, crate::proofs::rows::Computed::sixth_page))]
+#[tactic(auto, using(crate::proofs::rows::Computed::random_pages))]
 pub fn random_pages()
     ensures first_page { FirstPage }
     ensures second_page { SecondPage }
@@ -109,7 +111,7 @@ pub fn random_pages()
 {}
 
 /// The same of six more.
-#[tactic(auto, using(crate::proofs::rows::Computed::seventh_page, crate::proofs::rows::Computed::eighth_page, crate::proofs::rows::Computed::ninth_page, crate::proofs::rows::Computed::tenth_page, crate::proofs::rows::Computed::eleventh_page, crate::proofs::rows::Computed::twelfth_page))]
+#[tactic(auto, using(crate::proofs::rows::Computed::more_random_pages))]
 pub fn more_random_pages()
     ensures seventh_page { SeventhPage }
     ensures eighth_page { EighthPage }
@@ -120,7 +122,7 @@ pub fn more_random_pages()
 {}
 
 /// The edges of random pages with many timeouts, in version 2.
-#[tactic(auto, using(crate::proofs::rows::Computed::first_timers, crate::proofs::rows::Computed::second_timers, crate::proofs::rows::Computed::third_timers, crate::proofs::rows::Computed::fourth_timers))]
+#[tactic(auto, using(crate::proofs::rows::Computed::random_timers))]
 pub fn random_timers()
     ensures first_timers { FirstTimers }
     ensures second_timers { SecondTimers }
@@ -135,7 +137,7 @@ pub fn jobs_before_callbacks()
 {}
 
 /// The edges of random pages with many messages, animation callbacks and jobs, in version 3.
-#[tactic(auto, using(crate::proofs::rows::Computed::first_tasks, crate::proofs::rows::Computed::second_tasks, crate::proofs::rows::Computed::third_tasks))]
+#[tactic(auto, using(crate::proofs::rows::Computed::random_tasks))]
 pub fn random_tasks()
     ensures first_tasks { FirstTasks }
     ensures second_tasks { SecondTasks }

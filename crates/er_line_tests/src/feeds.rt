@@ -14,7 +14,8 @@ use std::alloc::{AllocError, Global};
 /// A trace, the lines of text of the records that come of it, and the line that is refused.
 pub type Row = (&'static str, &'static str, Option<(u32, Cause)>);
 
-/// A chunk, how many records it hands on, how many came by then, and whether the last line has come.
+/// A chunk, how many records it hands on, how many came by then, and whether the last
+/// line has come.
 pub type Mark = (&'static str, usize, u32, bool);
 
 /// A trace, the lines of text of its records, and what a feed answers to it.
@@ -113,7 +114,8 @@ pub fn joined(alloc: Global, parts: &[&[u8]]) -> Result<Vec<u8>, AllocError> {
     Ok(text)
 }
 
-/// Whether the answer and the records are due, cut at the ends of the text and of its first line, and within the second.
+/// Whether the answer and the records are due, cut at the ends of the text and of its first line,
+/// and within the second.
 fn is_read_at_the_ends<L: Lines>(alloc: Global, due: &Due<'_>, first_line: usize) -> bool {
     let end = due.text.len();
     for place in [
@@ -162,7 +164,8 @@ fn fed<L: Lines>(
     (answer, out.len())
 }
 
-/// Whether the third line of the first chunk is refused behind one record, and so is all that follows.
+/// Whether the third line of the first chunk is refused behind one record, and so is all
+/// that follows.
 pub fn stays_refused<L: Lines>(alloc: Global, chunk: &str, later: &str) -> bool {
     let refused = Err(FeedFault::Refused {
         line: 3,

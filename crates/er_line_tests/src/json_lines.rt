@@ -124,7 +124,8 @@ static OTHERS: [&str; 52] = [
     "[\"post\",1]",
 ];
 
-/// Lets the record go. The proof of that is long, and a caller that goes through this needs none of its own.
+/// Lets the record go. The proof of that is long, and a caller that goes through this
+/// needs none of its own.
 fn let_go(_rec: Record) {}
 
 /// Whether the record is printed as this line of text.

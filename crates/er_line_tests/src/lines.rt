@@ -92,8 +92,8 @@ fn lines_at_the_limit(rt: HostRuntime) {
     }
 }
 
-/// Accesses with names of 1, 29, 30 and 31 bytes, on both sides of what lies in place, and one with a byte
-/// that is spelled by digits.
+/// Accesses with names of 1, 29, 30 and 31 bytes, on both sides of what lies in place, and one with
+/// a byte that is spelled by digits.
 static NAMES: [&str; 5] = [
     "w slot 4294967295 x\n",
     "r var 0 abcdefghijklmnopqrstuvwxyz012\n",
@@ -102,7 +102,8 @@ static NAMES: [&str; 5] = [
     "r elem 10 abcdefghijklmnopqrstu%00\n",
 ];
 
-/// Lines behind them, with more bytes than lie in place: a line that few bytes follow is read in another way.
+/// Lines behind them, with more bytes than lie in place: a line that few bytes follow is read in
+/// another way.
 const LATER: &[u8] = b"w var 1 a\nexec 1\nw var 2 b\nr var 3 c\n";
 
 /// Whether the line comes with those behind it, wherever the text is cut.

@@ -26,7 +26,8 @@ IsBeforeEnd marks.Start = Unit {0}
 IsBeforeEnd (marks.After v n) = Unit {0}
 IsBeforeEnd (marks.Ended v n) = ⊥
 
--- what bytes come to for which no cause but `no-end` applies: a line is not at its end yet, or the trace is whole
+-- what bytes come to for which no cause but `no-end` applies: a line is not at its end yet, or the
+-- trace is whole
 pub data Unfinished (f : Format) (mark : Mark) (line bytes : List ℕ) (records : List Record) : Type 0 where
   Waits : (place : Place) → (h : Refuses f bytes place NoEnd) → line ≡ h.rest → mark ≡ mark_of place → records ≡ records_before place → IsBeforeEnd mark → Unfinished f mark line bytes records
   Whole : (v : Version) → IsTrace f v bytes records → mark ≡ marks.Ended v (length records) → line ≡ [] → Unfinished f mark line bytes records

@@ -1,4 +1,5 @@
-//! Reading a trace of any format that comes in chunks: a format says how one line is read, as text (`text`) or as JSON (`json_line`).
+//! Reading a trace of any format that comes in chunks: a format says how one line is read, as text
+//! (`text`) or as JSON (`json_line`).
 #![tactic(auto)]
 
 mod cut;

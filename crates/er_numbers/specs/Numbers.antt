@@ -12,7 +12,8 @@ or_else (Some x) o = Some x
 abbrev pub found : {V : Type 0} → Numbers V → ℕ → Option V
 found xs k = or_else (get_or xs.dense.items k None) (get nat_eq xs.sparse k)
 
--- a value may be put under the number: one more can be counted, and it has a place in the vector, or the table has room
+-- a value may be put under the number: one more can be counted, and it has a place in the vector,
+-- or the table has room
 pub record HasRoomUnder {V : Type 0} (xs : Numbers V) (number : ℕ) : Type 0 where
   pub counts : xs.count + 1 < 2 ^ 64
   pub place : length xs.dense.items ≤ number → 0 < spare xs.sparse

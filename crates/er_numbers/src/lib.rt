@@ -1,6 +1,9 @@
-//! Values by number: those of small numbers in a vector, one beside the other, the others in a hash table.
+//! Values by number: those of small numbers in a vector, one beside the other, the others
+//! in a hash table.
 //!
-//! A contract sees what is found under each number (`found` of `specs/Numbers.antt`). Nothing ties the vector to the table: what stands in the vector is found first, and a value that went into the table while the vector was shorter is found there.
+//! A contract sees what is found under each number (`found` of `specs/Numbers.antt`). Nothing ties
+//! the vector to the table: what stands in the vector is found first, and a value that went into
+//! the table while the vector was shorter is found there.
 #![tactic(auto)]
 
 ghost use Rattle.std.specs.Prelude.{◌≡◌, ℕ, ◌+◌, ◌<◌, ◌≤◌, ◌==◌, if◌then◌else◌, Some, None, OnOk, is_some, length, get_or, nat_eq, vec_len, vec_capacity};
@@ -13,7 +16,8 @@ use std::alloc::Global;
 
 /// So many places the vector may have, however few values were put.
 const FIRST_PLACES: usize = 64;
-/// Beyond these it has at most so many for each value, with the one that comes: numbers that rise by as much stand in the vector.
+/// Beyond these it has at most so many for each value, with the one that comes: numbers that rise
+/// by as much stand in the vector.
 const PLACES_OF_A_VALUE: usize = 4;
 
 /// Values by number.
@@ -124,7 +128,8 @@ impl<V: Copy + Drop> Numbers<V> {
         };
     }
 
-    /// Whether the vector may grow to a place: always to its first places, else to four for each value, with the one that comes.
+    /// Whether the vector may grow to a place: always to its first places, else to four for each
+    /// value, with the one that comes.
     fn is_small(&self, place: usize) -> bool {
         place < FIRST_PLACES || place / PLACES_OF_A_VALUE <= self.count
     }

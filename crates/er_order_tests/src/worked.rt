@@ -180,7 +180,8 @@ const EXPLAINED: &[Row] = &[
     },
 ];
 
-/// Two actions of the timeouts in order, and the least rule that makes an edge between them, if one does.
+/// Two actions of the timeouts in order, and the least rule that makes an edge between
+/// them, if one does.
 const RULES: &[(u32, u32, Option<u32>)] = &[
     (0, 1, Some(3)),
     (1, 2, Some(18)),
@@ -259,7 +260,8 @@ fn write(
     Ok(write_steps(sink, from, to, &steps).is_ok())
 }
 
-/// Whether the orders of the two actions are these, and each is one for them and none for the other.
+/// Whether the orders of the two actions are these, and each is one for them and none for
+/// the other.
 fn has_orders(
     alloc: Global,
     clocks: &Clocks,
@@ -302,7 +304,8 @@ fn is_order(
     check_schedule(alloc, clocks, order, i, j)
 }
 
-/// Whether the two orders of two timeouts are told, and none of three other lists is one of the first: the other order, one that breaks an edge, one that lacks an action.
+/// Whether the two orders of two timeouts are told, and none of three other lists is one of the
+/// first: the other order, one that breaks an edge, one that lacks an action.
 fn tells_orders(alloc: Global, clocks: &Clocks) -> Result<bool, NoMemory> {
     let both = has_orders(alloc, clocks, 2, 3, &[0, 1, 2, 3], &[0, 1, 3, 2])?;
     let turned = is_order(alloc, clocks, &[0, 1, 3, 2], 2, 3)?;

@@ -1,4 +1,5 @@
--- The role of an event is told by the record that began it, and that of a close by the record that began its dispatch.
+-- The role of an event is told by the record that began it, and that of a close by the record that
+-- began its dispatch.
 use Rattle.std.proofs.Common.{◌≡◌, ℕ, true, false, List, [], ◌∷◌, length, option_map, Option, Some, None, inl, inr, refl, sym, ap, subst, ◌∙◌, arith}
 use Rattle.std.specs.Prelude.{slice_get}
 use Rattle.std.proofs.lemmas.Option.{slice_get_past}

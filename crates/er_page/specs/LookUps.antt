@@ -1,4 +1,5 @@
--- What an event is, of those that a list of records has begun, and what a record suspends. What the other look-ups answer stands in er_history. Lists of records stand newest first.
+-- What an event is, of those that a list of records has begun, and what a record suspends. What the
+-- other look-ups answer stands in er_history. Lists of records stand newest first.
 use Rattle.std.specs.Prelude.{ℕ, ◌-◌, List, Option, Some, None}
 use Rattle.er_trace.specs.declared.record.Record.{Record}
 use Rattle.er_trace.specs.declared.record.Record.TheVariants.{Inline}

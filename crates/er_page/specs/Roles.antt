@@ -1,4 +1,5 @@
--- The role of an event, by the record that began it and the record that began the dispatch that it serves. Lists of records stand newest first.
+-- The role of an event, by the record that began it and the record that began the dispatch that it
+-- serves. Lists of records stand newest first.
 use Rattle.std.specs.Prelude.{ℕ, List, Option, Some, None, option_map, slice_get}
 use Rattle.std.specs.Borrow.{Bor}
 use Rattle.er_trace.specs.declared.record.Record.{Record}
@@ -31,7 +32,8 @@ role_by h (Run p g x) served = HandlerIn p g
 role_by h (Close p) served = closed_by h served
 role_by h _ served = Nothing
 
--- the record that began the event of a piece: that of its first piece, where there is one, or else the record that begins it now
+-- the record that began the event of a piece: that of its first piece, where there is one, or else
+-- the record that begins it now
 abbrev pub first_in : List Piece → Record → Start → Record
 first_in pieces x start = of (slice_get pieces start.event)
   where

@@ -6,7 +6,8 @@ use Rattle.er_history.specs.History.{told, is_inline, Open}
 use Rattle.er_page.specs.declared.stack.Level.{Level}
 use Rattle.er_page.specs.declared.stack.Stack.{Stack}
 
--- what is kept of the dispatches of a stack: of each also how many inline ones there are from it down
+-- what is kept of the dispatches of a stack: of each also how many inline ones there are
+-- from it down
 abbrev pub levels_of : List Open → List Level
 levels_of [] = []
 levels_of (o ∷ below) = record {
@@ -34,7 +35,9 @@ abbrev pub HasDepth : List Level → Record → Type 0
 HasDepth ls (Inline p e n) = depth_on ls + 1 < 2 ^ 32
 HasDepth ls _ = Unit {0}
 
--- The levels, top first, after one record more, which begins action k, if one: a dispatch that begins is put on top; at a close the top leaves, where it is not inline, and else is marked, and leaves at `back`.
+-- The levels, top first, after one record more, which begins action k, if one: a dispatch that
+-- begins is put on top; at a close the top leaves, where it is not inline, and else is marked, and
+-- leaves at `back`.
 
 abbrev pub put : Bool → List Level → ℕ → ℕ → List Level
 put inline ls number begin = record {

@@ -70,7 +70,8 @@ pub fn hand_each(page: &Page, events: &[u32], out: &mut SmallVec<u32, 8>) -> Res
     Ok(())
 }
 
-/// Hands the latest parse step of the document, its latest blocking run and its latest deferred run.
+/// Hands the latest parse step of the document, its latest blocking run and its latest
+/// deferred run.
 pub fn hand_parsed(page: &Page, doc: u32, out: &mut SmallVec<u32, 8>) -> Result<(), NoMemory>
     requires some { ∥ IsSomePage page.now ∥₁ }
     ensures whole { OnOk result

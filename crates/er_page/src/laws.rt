@@ -1,4 +1,5 @@
-//! What holds of the lists that pages stand for. Each law is a function with no parameters, whose contract is the law.
+//! What holds of the lists that pages stand for. Each law is a function with no parameters, whose
+//! contract is the law.
 
 ghost use Rattle.er_page.specs.Accepted.{AcceptedListsAreNamed};
 

@@ -1,23 +1,32 @@
-//! What the list of accepted records says, by number. No look-up takes memory, and none goes through the actions.
+//! What the list of accepted records says, by number. No look-up takes memory, and none goes
+//! through the actions.
 //!
-//! A look-up answers `None` exactly where the list has nothing of the kind, also for a number that is not declared.
+//! A look-up answers `None` exactly where the list has nothing of the kind, also for a number that
+//! is not declared.
 //!
-//! | Asked of | Look-ups |
-//! |---|---|
-//! | the list | `actions`, `running`, `open_dispatch`, `inline_depth` |
-//! | an action | `begin_of`, `event_of` |
-//! | an event | `latest_piece`, `begun_as`; the timeouts set in it: `fired_with`, `fired_timeouts_with`; the jobs queued in it: `jobs_queued`, `begun_jobs_of` |
-//! | a number that was declared, its maker | `maker_of_element`, `maker_of_document`, `maker_of_handler`, `maker_of_timeout`, `maker_of_interval`, `maker_of_request` |
-//! | an element | `element`, `document_of`, `is_static`, `parse_action`; a script: `script_kind`, `run_of`; a frame: `inner_of`; its load: `eload_of` |
-//! | a document | `frame_of`, `dcl_of`, `load_of`; what came last in it: `last_parse`, `last_blocking_run`, `last_deferred_run`, `last_deferred_element`; all of a kind: `async_runs`, `static_closes` |
-//! | a timeout | `timeout`, `delay_of`, `setting_piece`, `timer_event`; two of them: `set_before`; all that have fired: `fired`, `fired_timeouts` |
-//! | a message | `message`, `message_piece`, `message_event`; all that have begun: `messages`, `begun_messages` |
-//! | an animation callback | `anim`, `anim_piece`, `anim_event`; all that have begun: `anims`, `begun_anims` |
-//! | a job | `job`, `job_piece`, `job_event`; all that have begun: `jobs`, `begun_jobs` |
-//! | two notes of tasks | `declared_before` |
-//! | an interval, a request | `last_tick`, `last_reply_close` |
-//! | a dispatch | `begin_event`, `close_event`, `suspended_by`; its handlers: `last_group`, `runs_in`, `group_below`; the jobs begun in it: `jobs_in` |
-//! | a target and a type | `last_element_close`, `last_window_close` |
+//! - the list: `actions`, `running`, `open_dispatch`, `inline_depth`
+//! - an action: `begin_of`, `event_of`
+//! - an event: `latest_piece`, `begun_as`; the timeouts set in it: `fired_with`,
+//!   `fired_timeouts_with`; the jobs queued in it: `jobs_queued`, `begun_jobs_of`
+//! - a number that was declared, its maker: `maker_of_element`, `maker_of_document`,
+//!   `maker_of_handler`, `maker_of_timeout`, `maker_of_interval`, `maker_of_request`
+//! - an element: `element`, `document_of`, `is_static`, `parse_action`; a script: `script_kind`,
+//!   `run_of`; a frame: `inner_of`; its load: `eload_of`
+//! - a document: `frame_of`, `dcl_of`, `load_of`; what came last in it: `last_parse`,
+//!   `last_blocking_run`, `last_deferred_run`, `last_deferred_element`; all of a kind:
+//!   `async_runs`, `static_closes`
+//! - a timeout: `timeout`, `delay_of`, `setting_piece`, `timer_event`; two of them: `set_before`;
+//!   all that have fired: `fired`, `fired_timeouts`
+//! - a message: `message`, `message_piece`, `message_event`; all that have begun: `messages`,
+//!   `begun_messages`
+//! - an animation callback: `anim`, `anim_piece`, `anim_event`; all that have begun: `anims`,
+//!   `begun_anims`
+//! - a job: `job`, `job_piece`, `job_event`; all that have begun: `jobs`, `begun_jobs`
+//! - two notes of tasks: `declared_before`
+//! - an interval, a request: `last_tick`, `last_reply_close`
+//! - a dispatch: `begin_event`, `close_event`, `suspended_by`; its handlers: `last_group`,
+//!   `runs_in`, `group_below`; the jobs begun in it: `jobs_in`
+//! - a target and a type: `last_element_close`, `last_window_close`
 
 ghost use Rattle.std.specs.Prelude.{◌≡◌, ℕ, List, length, option_map, map, Some, None};
 ghost use Rattle.std.specs.List.{All};
@@ -215,7 +224,8 @@ impl Page {
     }
 }
 
-/// What came last in a document, and what ran in it. A blocking script is a static one of kind `Inline` or `Sync`, a deferred one a static one of kind `Defer`.
+/// What came last in a document, and what ran in it. A blocking script is a static one of kind
+/// `Inline` or `Sync`, a deferred one a static one of kind `Defer`.
 impl Page {
     /// The latest parse step of the document.
     pub fn last_parse(&self, doc: u32) -> Option<u32>
@@ -407,14 +417,16 @@ impl Page {
         self.latest.group_below(dispatch, group)
     }
 
-    /// The latest piece of a close of a dispatch of this type at the element, begun by `fire` or `inline`.
+    /// The latest piece of a close of a dispatch of this type at the element, begun by
+    /// `fire` or `inline`.
     pub fn last_element_close(&self, element: u32, name: &Name) -> Option<u32>
         ensures { Answers self.now (λ h. says.last_element_close h element name.now) result }
     {
         self.latest.last_element_close(element, name)
     }
 
-    /// The latest piece of a close of a dispatch of this type at the window of the document, begun by `wfire`.
+    /// The latest piece of a close of a dispatch of this type at the window of the
+    /// document, begun by `wfire`.
     pub fn last_window_close(&self, doc: u32, name: &Name) -> Option<u32>
         ensures { Answers self.now (λ h. says.last_window_close h doc name.now) result }
     {

@@ -1,6 +1,8 @@
-//! The page that a list of accepted records stands for: which record may come next, and how it is taken.
+//! The page that a list of accepted records stands for: which record may come next, and
+//! how it is taken.
 //!
-//! What a rule may ask of a page stands in `look_ups`, whose head lists the look-ups by what they are asked of.
+//! What a rule may ask of a page stands in `look_ups`, whose head lists the look-ups by what they
+//! are asked of.
 
 ghost use Rattle.std.specs.Prelude.{◌≡◌, List, [], ◌∷◌, Some, None, IfOk, OnOk, OnErr};
 ghost use Rattle.er_trace.specs.declared.record.Record.{Record};
@@ -72,7 +74,8 @@ impl Page {
         })
     }
 
-    /// Whether naming and nesting accept the record, or else the first cause against it. It takes no memory.
+    /// Whether naming and nesting accept the record, or else the first cause against it.
+    /// It takes no memory.
     pub fn check(&self, rec: &Record) -> Result<(), Cause>
         ensures { Answers self.now (λ h. result_of (naming h rec.now)) result }
     {
@@ -91,7 +94,8 @@ impl Page {
         Ok(())
     }
 
-    /// Whether the record stays within the limits of actions and of inline dispatches on the stack, or else the first that it would pass. It takes no memory.
+    /// Whether the record stays within the limits of actions and of inline dispatches on the stack,
+    /// or else the first that it would pass. It takes no memory.
     pub fn room(&self, rec: &Record) -> Result<(), Cause>
         ensures { Answers self.now (λ h. result_of (room h rec.now)) result }
     {
@@ -104,7 +108,8 @@ impl Page {
         Ok(())
     }
 
-    /// Takes the next record, which `check` and `room` accept. After `NoMemory` the page stands for what it did.
+    /// Takes the next record, which `check` and `room` accept. After `NoMemory` the page stands for
+    /// what it did.
     pub fn apply(&mut self, rec: &Record) -> Result<(), NoMemory>
         requires next { ∥ IsNext self.old rec.now ∥₁ }
         ensures taken { OnOk result ((h : List Record) → IsPage self.old h → naming h rec.now ≡ None
@@ -125,7 +130,8 @@ impl Page {
         }
     }
 
-    /// Makes room for what the record declares, starts or finishes. The tasks are asked for room only where the record is one's.
+    /// Makes room for what the record declares, starts or finishes. The tasks are asked for room
+    /// only where the record is one's.
     #[tactic(auto, using(crate::proofs::TakenLemmas::with_room))]
     fn make_room(&mut self, rec: &Record) -> Result<(), NoMemory>
         ensures kept { (h : List Record) → IsPage self.old h → IsPage self.new h }

@@ -32,7 +32,8 @@ pub enum Begun {
     Job,
 }
 
-/// The event that a piece is of, what that is, and the begin of the dispatch that it is a handler or the close of.
+/// The event that a piece is of, what that is, and the begin of the dispatch that it is a handler
+/// or the close of.
 #[derive(Clone, Copy)]
 pub(crate) struct Start {
     pub(crate) event: u32,
@@ -60,7 +61,8 @@ impl Drop for Pieces {
     }
 }
 
-/// Whether the record begins an action. Each other record is a note, which stands in the running one.
+/// Whether the record begins an action. Each other record is a note, which stands in the
+/// running one.
 pub fn begins(rec: &Record) -> bool
     ensures { result ≡ begins rec.now }
 {

@@ -108,7 +108,8 @@ impl Pieces {
         })
     }
 
-    /// Whether the running action can call an inline dispatch: its event is a script run, a timeout, a tick, a handler, a close, a message, an animation callback or a job.
+    /// Whether the running action can call an inline dispatch: its event is a script run, a
+    /// timeout, a tick, a handler, a close, a message, an animation callback or a job.
     pub(crate) fn may_call(&self) -> bool
         ensures { (h : List Record) → PiecesAre self.now h
             → result ≡ may_call (running (told h).actions) }

@@ -1,4 +1,5 @@
-//! The role of an event, as far as the look-ups of what came last ask. It is told by the record that began the event; for a close, by the record that began its dispatch.
+//! The role of an event, as far as the look-ups of what came last ask. It is told by the record
+//! that began the event; for a close, by the record that began its dispatch.
 
 ghost use Rattle.std.specs.Prelude.{◌≡◌, List, option_map};
 ghost use Rattle.er_trace.specs.declared.record.Record.{Record};
@@ -30,7 +31,8 @@ pub(crate) fn served_of<'a>(pieces: &'a Pieces, start: Start) -> Option<&'a Reco
     pieces.begin(begin)
 }
 
-/// The role of an event that this record began, which serves the dispatch that the other record began, if one.
+/// The role of an event that this record began, which serves the dispatch that the other record
+/// began, if one.
 pub(crate) fn role_by<'a>(
     claimed: &Claimed,
     first: &'a Record,

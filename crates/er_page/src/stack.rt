@@ -12,7 +12,8 @@ use er_io::NoMemory;
 use er_trace::record::Record;
 use std::alloc::Global;
 
-/// A dispatch that is not finished: its number, the action that is its begin, whether it is inline, whether its close has begun, and how many inline ones there are from it down.
+/// A dispatch that is not finished: its number, the action that is its begin, whether it is inline,
+/// whether its close has begun, and how many inline ones there are from it down.
 #[derive(Clone, Copy)]
 pub(crate) struct Level {
     pub(crate) number: u32,
@@ -107,7 +108,8 @@ impl Stack {
         }
     }
 
-    /// Takes a record, which begins this action, if one: a dispatch that begins is put on top. At a close the top leaves, where it is not inline; an inline one is marked, and leaves at `back`.
+    /// Takes a record, which begins this action, if one: a dispatch that begins is put on top. At a
+    /// close the top leaves, where it is not inline; an inline one is marked, and leaves at `back`.
     pub(crate) fn take(&mut self, rec: &Record, action: u32)
         requires room { vec_len self.old.levels < vec_capacity self.old.levels }
         requires depth { HasDepth (reverse self.old.levels.items) rec.now }

@@ -12,7 +12,8 @@ use crate::pieces::begun_by;
 use crate::stack::Stack;
 use er_trace::record::Record;
 
-/// The event that a record begins, or goes on with, where naming accepts the record. A note does neither.
+/// The event that a record begins, or goes on with, where naming accepts the record. A
+/// note does neither.
 pub(crate) fn start_of(stack: &Stack, pieces: &Pieces, rec: &Record) -> Option<Start>
     ensures { (h : List Record) → StackIs stack.now h → PiecesAre pieces.now h
         → IsNamed (rec.now ∷ h) → option_map about_start result ≡ about_begun h rec.now }

@@ -48,3 +48,5 @@ pub some_after : (old new : Page) (x : Record) (r : Result (Unit {0}) NoMemory) 
     → OnErr r ((h : List Record) → IsPage old h → IsPage new h) → ∥ IsSomePage new ∥₁
 some_after old new x (Ok u) some named fits taken kept = after_next old new x (next_of old x (Ok tt) (Ok tt) some refl refl named fits) taken
 some_after old new x (Err e) some named fits taken kept = kept_page old new some kept
+
+pub ruleset takes = (next_of, after_next, kept_page, misnamed, over, taken)

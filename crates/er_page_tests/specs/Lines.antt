@@ -1,4 +1,5 @@
--- What a page says of one record, and what it stands for afterwards. Lists of records stand newest first.
+-- What a page says of one record, and what it stands for afterwards. Lists of records
+-- stand newest first.
 use Rattle.std.specs.Prelude.{◌≡◌, List, ◌∷◌, Option, Some, None}
 use Rattle.std.specs.Option.{option_or}
 use Rattle.er_text.specs.declared.causes.Cause.{Cause}

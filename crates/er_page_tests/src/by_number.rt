@@ -1,4 +1,5 @@
-//! Values by number, put in a bad order: what stands in a hash table is found also once the vector has grown over its number.
+//! Values by number, put in a bad order: what stands in a hash table is found also once the vector
+//! has grown over its number.
 
 use er_io::NoMemory;
 use er_numbers::Numbers;

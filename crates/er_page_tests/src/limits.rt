@@ -67,10 +67,12 @@ fn parse_steps(rt: HostRuntime) -> Result<(), Fail> {
 /// How many inline dispatches the stack may hold.
 const MOST_INLINE: u32 = 256;
 
-/// Lines before the first inline dispatch. The dispatch that they begin is not inline, and does not count.
+/// Lines before the first inline dispatch. The dispatch that they begin is not inline,
+/// and does not count.
 static CALLER: [&str; 4] = ["parse 0 1 plain", "on 1", "fire 999 1 a", "run 999 0 1"];
 
-/// Lines after the last inline dispatch that the stack may hold, and a handler of it. Naming comes first; a close leaves an inline dispatch where it is, and its `back` makes room.
+/// Lines after the last inline dispatch that the stack may hold, and a handler of it. Naming comes
+/// first; a close leaves an inline dispatch where it is, and its `back` makes room.
 static DEEP: [(&str, Option<Cause>); 9] = [
     ("inline 256 1 a", Some(Cause::TooDeep)),
     ("inline 255 1 a", Some(Cause::Again)),
@@ -98,7 +100,8 @@ fn read_all(
     Ok(None)
 }
 
-/// Takes inline dispatches, the numbers below the count, each called by a handler of the one before, up to the first that is refused.
+/// Takes inline dispatches, the numbers below the count, each called by a handler of the one
+/// before, up to the first that is refused.
 fn nest(reading: &mut Reading, name: &Name, count: u32) -> Result<Option<Cause>, NoMemory> {
     for dispatch in 0..count {
         let begin = Record::Inline {

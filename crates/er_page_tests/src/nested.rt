@@ -1,4 +1,5 @@
-//! The look-ups over a list with inline dispatches: what each answers of pieces that go on, and of what came last.
+//! The look-ups over a list with inline dispatches: what each answers of pieces that go on, and of
+//! what came last.
 
 use crate::letting_go::let_go;
 use crate::reading::Reading;

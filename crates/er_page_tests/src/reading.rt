@@ -57,7 +57,7 @@ impl Reading {
     }
 
     /// Takes the record, or answers the first cause against it.
-    #[tactic(auto, using(er_page::proofs::PageLemmas::next_of, er_page::proofs::PageLemmas::after_next, er_page::proofs::PageLemmas::kept_page, crate::proofs::TakenLemmas::misnamed, crate::proofs::TakenLemmas::over, crate::proofs::TakenLemmas::taken))]
+    #[tactic(auto, using(crate::proofs::TakenLemmas::takes))]
     pub fn take(&mut self, rec: &Record) -> Result<Option<Cause>, NoMemory>
         ensures taken { IfOk result (λ cause. (h : List Record) → IsPage self.old.page h
             → HasTaken self.new.page rec.now cause h) }

@@ -31,7 +31,8 @@ abbrev pub PathsStay : Type 0
 PathsStay = (more lists : List (List ℕ)) (i j : ℕ) → j < length lists
     → joins (more ++ lists) i j ≡ joins lists i j
 
--- Handed numbers beside whole lists: each handed number is of the list, and from each number of the list a path leads to a handed one.
+-- Handed numbers beside whole lists: each handed number is of the list, and from each number of the
+-- list a path leads to a handed one.
 abbrev pub IsEnough : List (List ℕ) → List (List ℕ) → Type 0
 IsEnough [] [] = Unit {0}
 IsEnough (handed ∷ rest) (all ∷ older) = IsEnough rest older

@@ -1,4 +1,5 @@
--- Paths over lists of predecessors. The lists stand newest first, one an action: the list of action j has the actions with an edge to j.
+-- Paths over lists of predecessors. The lists stand newest first, one an action: the list of action
+-- j has the actions with an edge to j.
 use Rattle.std.specs.Prelude.{◌≡◌, ℕ, Bool, true, false, ◌==◌, ◌||◌, List, [], ◌∷◌, length, if◌then◌else◌}
 use Rattle.std.specs.List.{list_any}
 
@@ -6,7 +7,8 @@ use Rattle.std.specs.List.{list_any}
 abbrev pub is_among : ℕ → List ℕ → Bool
 is_among k ks = list_any (λ m. m == k) ks
 
--- a path leads from i to j: the newest is joined from itself, and from where one of its list is joined
+-- a path leads from i to j: the newest is joined from itself, and from where one of its
+-- list is joined
 abbrev pub joins : List (List ℕ) → ℕ → ℕ → Bool
 joins [] i j = false
 joins (p ∷ older) i j =

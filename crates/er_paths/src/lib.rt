@@ -1,6 +1,9 @@
-//! Paths over lists of predecessors, on which happens-before rests, and what is made of them: chains and links (`links`), and orders of all actions (`orders`). Definitions and their laws; no state.
+//! Paths over lists of predecessors, on which happens-before rests, and what is made of
+//! them: chains and links (`links`), and orders of all actions (`orders`). Definitions
+//! and their laws; no state.
 //!
-//! The lists stand newest first, one an action. Each law is a function with no parameters, whose contract is the law.
+//! The lists stand newest first, one an action. Each law is a function with no parameters, whose
+//! contract is the law.
 #![tactic(auto)]
 
 pub mod links;

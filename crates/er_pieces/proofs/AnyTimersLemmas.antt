@@ -1,4 +1,5 @@
--- Proof of what the rules of timers hand, by whatever rule a version has in place of rule 19. Lists of records stand newest first.
+-- Proof of what the rules of timers hand, by whatever rule a version has in place of rule 19. Lists
+-- of records stand newest first.
 use Rattle.std.proofs.Common.{◌≡◌, ℕ, Bool, true, false, List, [], ◌++◌, length, Option, Some, None, refl, sym, subst, arith, inl, inr, ◌⊎◌}
 use Rattle.std.specs.List.{list_any}
 use Rattle.std.proofs.lemmas.Bool.{eqb-true, eq-eqb}

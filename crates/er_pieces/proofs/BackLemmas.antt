@@ -49,3 +49,5 @@ back_ends_close h p c named accepts runs =
     let back = resumed h p named (none_holds h (Back p) accepts).placed in
     let closes = ap what_of (sym runs) ∙ close_runs h named p back.on_top in
     subst (IsCloseOf p) (sym closes) back.on_top.number
+
+pub ruleset goes_back = (back_goes_on, back_ends_close)

@@ -1,4 +1,5 @@
--- What look-ups by a record that begins an action find: an event, and where such a record comes once, the events of its kind. Lists of records stand newest first.
+-- What look-ups by a record that begins an action find: an event, and where such a record comes
+-- once, the events of its kind. Lists of records stand newest first.
 use Rattle.std.proofs.Common.{◌≡◌, ℕ, Bool, true, false, List, [], ◌∷◌, length, Option, Some, None, refl, sym, ap, subst, ◌∙◌, inl, inr}
 use Rattle.std.specs.Prelude.{◌==◌, if◌then◌else◌}
 use Rattle.std.specs.List.{list_any}

@@ -1,4 +1,5 @@
--- The piece that an inline dispatch suspends, which `back` goes on with, and the events of one piece. Lists of records stand newest first.
+-- The piece that an inline dispatch suspends, which `back` goes on with, and the events of one
+-- piece. Lists of records stand newest first.
 use Rattle.std.proofs.Common.{◌≡◌, ℕ, ◌+◌, ◌-◌, Bool, true, false, List, [], ◌∷◌, length, Some, refl, sym, ap, subst, ◌∙◌, arith, inl, inr, ◌⊎◌}
 use Rattle.std.specs.Prelude.{not, if◌then◌else◌}
 use Rattle.er_trace.specs.declared.record.Record.{Record}

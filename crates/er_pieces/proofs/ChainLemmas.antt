@@ -1,4 +1,5 @@
--- What the proofs of the handed pieces share: events of one kind that rules join in order, and makers. Lists of records stand newest first.
+-- What the proofs of the handed pieces share: events of one kind that rules join in order, and
+-- makers. Lists of records stand newest first.
 use Rattle.std.proofs.Common.{◌≡◌, ℕ, ◌<◌, ◌≤◌, Bool, true, List, Option, Some, None, sym, ap, arith, inl, inr}
 use Rattle.std.specs.Prelude.{not, ◌==◌}
 use Rattle.std.specs.List.{list_any}
@@ -26,7 +27,8 @@ event_with n w = record { number = n; what = w }
 pub one_holds : (family : List (ℕ × Rule)) (joined : ℕ → ℕ → Bool) (u v : Event) → (u.number ≡ v.number → ⊥) → list_any (λ (r : ℕ × Rule). r.1 joined u v) family ≡ true → any_holds family joined u v ≡ true
 one_holds family joined u v apart e = both (not (u.number == v.number)) _ (ap not (ne_eqb u.number v.number apart)) e
 
--- An earlier piece of a kind joins a later one, where of two events of the kind that begin with no dispatch open the earlier leads to the later.
+-- An earlier piece of a kind joins a later one, where of two events of the kind that begin with no
+-- dispatch open the earlier leads to the later.
 pub chain : (table : List (ℕ × Rule)) (h : List Record) → IsSteady table h → (i a : Action) → Among i (told h).actions → Among a (told h).actions → bound i.event ≡ 0 → bound a.event ≡ 0 → i.number ≤ a.number
     → (i.event.number < a.event.number → i.number < a.event.number → a.event.number ≤ a.number → path table h i.number a.number ≡ true) → path table h i.number a.number ≡ true
 chain table h steady i a first last clear free le leads =

@@ -1,4 +1,5 @@
--- From the first piece of an event on, no earlier event goes on, but for those under its dispatch. Lists of records stand newest first.
+-- From the first piece of an event on, no earlier event goes on, but for those under its dispatch.
+-- Lists of records stand newest first.
 use Rattle.std.proofs.Common.{◌≡◌, ℕ, ◌<◌, ◌≤◌, Bool, true, false, List, [], ◌∷◌, length, Option, Some, None, refl, sym, ap, subst, ◌∙◌, arith, inl, inr, ◌⊎◌}
 use Rattle.std.specs.Prelude.{if◌then◌else◌}
 use Rattle.er_trace.specs.declared.record.Record.{Record}
@@ -59,7 +60,8 @@ sorted (x ∷ h) = step (told h).stack x (dispatch_begun (told h).entries (lengt
     step s x (Some d) e lt is = (λ q on. let before = lt q on in let at = dispatch_at (told h).entries (length (told h).actions) x d e in omega arith, is)
     step s x None e lt is = is
 
--- From action n on: each piece is of an event that has begun since, or before action b; and so has each dispatch that is served or open.
+-- From action n on: each piece is of an event that has begun since, or before action b; and so has
+-- each dispatch that is served or open.
 pub record Clear (b n : ℕ) (actions : List Action) (stack : List Open) : Type 0 where
   pub pieces : (a : Action) → Among a actions → n ≤ a.number → (a.event.number < b) ⊎ (n ≤ a.event.number)
   pub serves : (a : Action) (d : Dispatch) → Among a actions → n ≤ a.event.number → Serves a.event.what d → (d.begin < b) ⊎ (n ≤ d.begin)

@@ -1,4 +1,5 @@
--- The closes of dispatches that are not inline, and what begins after them. Lists of records stand newest first.
+-- The closes of dispatches that are not inline, and what begins after them. Lists of records stand
+-- newest first.
 use Rattle.std.proofs.Common.{◌≡◌, ℕ, ◌+◌, ◌<◌, ◌≤◌, Bool, true, false, List, refl, ap, ◌∙◌, arith, inl, inr}
 use Rattle.std.specs.Prelude.{if◌then◌else◌}
 use Rattle.er_trace.specs.declared.record.Record.{Record}

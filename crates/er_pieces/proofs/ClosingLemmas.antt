@@ -1,4 +1,5 @@
--- Proof that the stack says of a dispatch what the records say. Lists of records stand newest first.
+-- Proof that the stack says of a dispatch what the records say. Lists of records stand
+-- newest first.
 use Rattle.std.proofs.Common.{◌≡◌, ℕ, Bool, true, false, cond, List, [], ◌∷◌, filter, None, refl, sym, ap, subst, ◌∙◌, inl, inr}
 use Rattle.std.specs.Prelude.{◌==◌, ◌||◌, not, if◌then◌else◌}
 use Rattle.std.specs.List.{list_any}

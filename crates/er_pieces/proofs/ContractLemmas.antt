@@ -1,4 +1,5 @@
--- What grows by one list and then by another, and what a crate's clause on its handed pieces comes to.
+-- What grows by one list and then by another, and what a crate's clause on its handed
+-- pieces comes to.
 use Rattle.std.proofs.Common.{◌≡◌, ℕ, ◌+◌, ◌<◌, ◌≤◌, true, List, [], ◌∷◌, ◌++◌, length, take, zero, suc, Result, Ok, Err, OnOk, OnErr, sym, ap, ◌∙◌, append-nil, length-append, arith, inl, inr}
 use Rattle.std.specs.Prelude.{◌==◌}
 use Rattle.std.proofs.lemmas.List.{take-append-le, length-take-le}
@@ -63,7 +64,8 @@ in_order table (x ∷ h) sound = ((no_cause table h x sound.0).ordered, in_order
 pub steady_by : (table : List (ℕ × Rule)) (h : List Record) (x : Record) → ComesNext table h x → IsSteady table h
 steady_by table h x next = record { has = next.has; named = sound_lists_are_named table h next.sound; ordered = in_order table h next.sound }
 
--- Where the pieces of a family are sources and enough, so is what has grown by exactly these; and what has grown by a front of them is sources.
+-- Where the pieces of a family are sources and enough, so is what has grown by exactly these; and
+-- what has grown by a front of them is sources.
 
 pub has_handed : (table family : List (ℕ × Rule)) (handed : History → Record → List ℕ) → Hands table family handed → (h : List Record) (x : Record) (old new : List ℕ) → ComesNext table h x → GrewBy old (handed (told h) x) new
     → HasHanded family (path table h) (told h) x old new

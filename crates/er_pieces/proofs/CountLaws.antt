@@ -127,3 +127,7 @@ dispatch_hands_at_most h (Run p g x) =
 dispatch_hands_at_most h (Close p) = runs_short h p (greatest_group p (λ k. true) (told h).actions)
 dispatch_hands_at_most h (Back p) = number_short (running (told h).actions)
 dispatch_hands_at_most h _ = nothing 0
+
+pub ruleset parsing_and_loading_hand_at_most = (parse_hands_at_most, script_hands_at_most, load_hands_at_most)
+
+pub ruleset events_hand_at_most = (timer_hands_at_most, request_hands_at_most, dispatch_hands_at_most)

@@ -1,4 +1,5 @@
--- DOMContentLoaded and load of a document, and the first load event of an element, as look-ups find them. Lists of records stand newest first.
+-- DOMContentLoaded and load of a document, and the first load event of an element, as look-ups find
+-- them. Lists of records stand newest first.
 use Rattle.std.proofs.Common.{◌≡◌, ℕ, Bool, true, false, List, [], ◌∷◌, length, Option, Some, None, refl, sym, ap, subst, ◌∙◌, arith, inl, inr}
 use Rattle.std.specs.Prelude.{◌==◌, if◌then◌else◌}
 use Rattle.std.specs.List.{list_any}

@@ -1,4 +1,5 @@
--- The begin and the close of a dispatch: each that is open or served has begun, and each that has begun is open or closed. Lists of records stand newest first.
+-- The begin and the close of a dispatch: each that is open or served has begun, and each that has
+-- begun is open or closed. Lists of records stand newest first.
 use Rattle.std.proofs.Common.{◌≡◌, ℕ, Bool, true, false, List, [], ◌∷◌, length, Option, Some, None, refl, sym, ap, subst, ◌∙◌, inl, inr, ◌⊎◌}
 use Rattle.std.specs.Prelude.{if◌then◌else◌}
 use Rattle.er_trace.specs.declared.record.Record.{Record}

@@ -1,4 +1,5 @@
--- Proof that latest pieces suffice for the rules of dispatches between events. Lists of records stand newest first.
+-- Proof that latest pieces suffice for the rules of dispatches between events. Lists of records
+-- stand newest first.
 use Rattle.std.proofs.Common.{◌≡◌, ℕ, true, false, List, ◌++◌, length, Option, None, refl, subst, inl, inr}
 use Rattle.std.specs.Prelude.{nat_lt}
 use Rattle.er_trace.specs.declared.record.Record.{Record}

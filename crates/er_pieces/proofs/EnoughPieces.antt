@@ -1,4 +1,5 @@
--- Proof that the pieces that the rules of dispatches hand suffice for rules 22 and 23. Lists of records stand newest first.
+-- Proof that the pieces that the rules of dispatches hand suffice for rules 22 and 23. Lists of
+-- records stand newest first.
 use Rattle.std.proofs.Common.{◌≡◌, ℕ, ◌+◌, ◌≤◌, Bool, true, false, List, [], ◌∷◌, length, Some, None, refl, sym, ap, subst, ◌∙◌, arith, inl, inr}
 use Rattle.std.specs.Prelude.{◌||◌, nat_lt}
 use Rattle.std.specs.List.{list_any}

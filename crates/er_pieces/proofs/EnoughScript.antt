@@ -39,7 +39,8 @@ to_step joined u n d m e = by u.what e
     by (ScriptRun s (Some x)) e = first_two (is_blocking x) (x.doc == d) (nat_lt x.piece n) e
     by _ e = e
 
--- to the run of a script lead its maker, and for a deferred one the events of parsing of its document
+-- to the run of a script lead its maker, and for a deferred one the events of parsing of
+-- its document
 abbrev pub LeadsToRun : Event → Element → Type 0
 LeadsToRun u y = (y.maker ≡ u.number) ⊎ ((is_deferred y ≡ true) × IsParsed y.doc u)
 

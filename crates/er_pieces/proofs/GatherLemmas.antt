@@ -1,4 +1,5 @@
--- From its event on, for a close from the begin of its dispatch on, every action joins a piece. Lists of records stand newest first.
+-- From its event on, for a close from the begin of its dispatch on, every action joins a piece.
+-- Lists of records stand newest first.
 use Rattle.std.proofs.Common.{◌≡◌, ℕ, ◌+◌, ◌<◌, ◌≤◌, Bool, true, false, List, [], ◌∷◌, length, Option, refl, sym, ap, subst, ◌∙◌, arith, inl, inr, ◌⊎◌}
 use Rattle.er_trace.specs.declared.record.Record.{Record}
 use Rattle.er_paths.proofs.Paths.{or_left, or_right, place_cases}
@@ -39,7 +40,8 @@ IsWithin _ d = ⊥
 abbrev pub Served : List (ℕ × Rule) → List Record → Dispatch → ℕ → Type 0
 Served table h d i = (c : Action) × Among c (told h).actions × IsWithin c.event.what d × (path table h i c.number ≡ true)
 
--- level by level: before the close of a dispatch each action since its begin joins its begin, a handler or a job within
+-- level by level: before the close of a dispatch each action since its begin joins its begin, a
+-- handler or a job within
 abbrev pub Held : List (ℕ × Rule) → List Record → Action → List Open → Type 0
 Held table h a [] = Unit {0}
 Held table h a (o ∷ rest) = (o.closing ≡ false → IsWithin a.event.what o.dispatch × ((i : ℕ) → o.dispatch.begin ≤ i → i ≤ a.number → Served table h o.dispatch i))

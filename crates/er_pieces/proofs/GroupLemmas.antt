@@ -1,4 +1,5 @@
--- The runs of the greatest group of a dispatch stand for its begin and for its runs of lesser groups. Lists of records stand newest first.
+-- The runs of the greatest group of a dispatch stand for its begin and for its runs of lesser
+-- groups. Lists of records stand newest first.
 use Rattle.std.proofs.Common.{◌≡◌, ℕ, ◌<◌, ◌≤◌, Bool, true, false, List, [], ◌∷◌, Option, Some, None, refl, sym, ap, ◌∙◌, arith, inl, inr}
 use Rattle.std.specs.Prelude.{◌==◌, ◌&&◌, nat_lt, if◌then◌else◌}
 use Rattle.std.proofs.lemmas.Bool.{eqb-true, eq-eqb}

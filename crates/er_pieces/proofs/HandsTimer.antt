@@ -1,4 +1,5 @@
--- Proof of what the rules of requests hand, and that a callback of an interval leads to a later one. Lists of records stand newest first.
+-- Proof of what the rules of requests hand, and that a callback of an interval leads to a later
+-- one. Lists of records stand newest first.
 use Rattle.std.proofs.Common.{◌≡◌, ℕ, ◌<◌, Bool, true, false, List, [], ◌++◌, length, Option, Some, None, refl, sym, arith}
 use Rattle.std.specs.Prelude.{◌==◌}
 use Rattle.std.proofs.lemmas.Bool.{eqb-true, eq-eqb}

@@ -1,4 +1,5 @@
--- Where no record is out of order, a rule leads from an earlier event to a later one, and so is a path. Lists of records stand newest first.
+-- Where no record is out of order, a rule leads from an earlier event to a later one, and so is a
+-- path. Lists of records stand newest first.
 use Rattle.std.proofs.Common.{◌≡◌, ℕ, ◌<◌, ◌≤◌, Bool, true, false, List, [], ◌∷◌, refl, sym, ap, subst, ◌∙◌, arith, inl, inr}
 use Rattle.std.specs.Prelude.{not, ◌==◌, ◌&&◌}
 use Rattle.std.specs.List.{list_any}

@@ -1,4 +1,5 @@
--- Proof that a dispatch is begun by its record, and that there is one of each number. Lists of records stand newest first.
+-- Proof that a dispatch is begun by its record, and that there is one of each number. Lists of
+-- records stand newest first.
 use Rattle.std.proofs.Common.{◌≡◌, List, [], ◌∷◌, Some, refl, sym, ap, subst, ◌∙◌, inl, inr}
 use Rattle.er_trace.specs.declared.record.Record.{Record}
 use Rattle.er_history.specs.History.{Dispatch, What, BeginOf, HandlerOf, CloseOf, Action, Open, told}

@@ -1,4 +1,5 @@
--- What runs where the close of an inline dispatch has begun, and what is suspended under one. Lists of records stand newest first.
+-- What runs where the close of an inline dispatch has begun, and what is suspended under one. Lists
+-- of records stand newest first.
 use Rattle.std.proofs.Common.{◌≡◌, ℕ, ◌+◌, ◌≤◌, Bool, true, false, List, [], ◌∷◌, length, Option, Some, None, refl, sym, ap, subst, ◌∙◌, arith, inl, inr}
 use Rattle.std.specs.Prelude.{if◌then◌else◌}
 use Rattle.std.specs.List.{list_any}
@@ -58,7 +59,8 @@ within (x ∷ h) named o a on among le =
         let same = ap (λ (d : Dispatch). d.begin) from.2 in
         omega (arith, lt, same)
 
--- level by level down the stack: where a close has begun, what ran last above it is that close; a dispatch that is not inline has none below
+-- level by level down the stack: where a close has begun, what ran last above it is that close; a
+-- dispatch that is not inline has none below
 
 abbrev pub Level : List Action → What → List Open → Type 0
 Level actions w [] = Unit {0}

@@ -49,5 +49,6 @@ pub mod StackLemmas
 pub mod StartsLemmas
 pub mod StaticLemmas
 pub mod SteadyLemmas
+pub mod Suffice
 pub mod TaskLemmas
 pub mod TogetherLemmas

@@ -1,4 +1,5 @@
--- What the proof on loads stands on: one DOMContentLoaded and one load of a document, and the kinds of static scripts that run. Lists of records stand newest first.
+-- What the proof on loads stands on: one DOMContentLoaded and one load of a document, and the kinds
+-- of static scripts that run. Lists of records stand newest first.
 use Rattle.std.proofs.Common.{◌≡◌, ℕ, ◌≤◌, Bool, true, false, List, [], ◌∷◌, Option, Some, refl, sym, ap, subst, ◌∙◌, inl, inr, ◌⊎◌}
 use Rattle.std.specs.List.{list_any}
 use Rattle.std.proofs.lemmas.Bool.{eqb-true, eq-eqb}

@@ -1,4 +1,5 @@
--- Proof that an event keeps a dispatch of the number in its record. Lists of records stand newest first.
+-- Proof that an event keeps a dispatch of the number in its record. Lists of records
+-- stand newest first.
 use Rattle.std.proofs.Common.{◌≡◌, ℕ, false, List, [], ◌∷◌, length, option_map, Option, Some, None, refl, sym, ap, subst, ◌∙◌, arith, inl, inr}
 use Rattle.er_trace.specs.declared.record.Record.{Record}
 use Rattle.er_trace.specs.declared.record.Record.TheVariants.{Run, Close, Back}
@@ -9,6 +10,7 @@ use Rattle.er_history.proofs.NamedLemmas.{none_holds}
 use Rattle.er_pieces.proofs.StackLemmas.{top_is}
 use Rattle.er_pieces.proofs.CallerLemmas.{among_cases, resumed}
 use Rattle.er_pieces.specs.Stack.{dispatch_of, dispatch_named, KeptAsRead}
+use Rattle.er_pieces.proofs.KeptLemmas.{one_dispatch}
 
 abbrev number_in : What → Option ℕ
 number_in w = option_map (λ (d : Dispatch). d.number) (dispatch_of w)
@@ -43,3 +45,5 @@ kept_as_read (x ∷ h) a named among own =
           (named_now h x named.1 (none_holds h x named.0).placed (subst (λ (c : Action). c.event.number ≡ c.number) now.1 own))
       | inr older ↦ kept_as_read h a named.1 older own
     ]
+
+pub ruleset dispatch_kept = (one_dispatch, kept_as_read)

@@ -1,4 +1,5 @@
--- Proof of the two laws of nested pieces, from what each piece gathers. Lists of records stand newest first.
+-- Proof of the two laws of nested pieces, from what each piece gathers. Lists of records stand
+-- newest first.
 use Rattle.std.proofs.Common.{◌≡◌, ℕ, ◌+◌, Bool, true, false, List, [], ◌∷◌, length, map, None, refl, sym, ap, subst, ◌∙◌, arith, inl, inr}
 use Rattle.std.specs.Prelude.{◌==◌, if◌then◌else◌, nat_lt}
 use Rattle.std.specs.List.{list_any}

@@ -1,4 +1,5 @@
--- How the newest piece of a kind is found by look-ups: it is the latest piece of its event, and of any event that alone is of the kind. Lists of records stand newest first.
+-- How the newest piece of a kind is found by look-ups: it is the latest piece of its event, and of
+-- any event that alone is of the kind. Lists of records stand newest first.
 use Rattle.std.proofs.Common.{◌≡◌, ℕ, Bool, true, false, List, [], ◌∷◌, Some, None, refl, sym, ap, ◌∙◌, inl, inr}
 use Rattle.std.specs.Prelude.{◌==◌, if◌then◌else◌}
 use Rattle.std.proofs.lemmas.Bool.{eqb-true, eq-eqb, ne_eqb}

@@ -1,4 +1,5 @@
--- What begins once: the record that began an event, and events that only one record may begin. Lists of records stand newest first.
+-- What begins once: the record that began an event, and events that only one record may begin.
+-- Lists of records stand newest first.
 use Rattle.std.proofs.Common.{◌≡◌, ℕ, Bool, true, false, List, [], ◌∷◌, length, Option, refl, sym, ap, subst, ◌∙◌, arith, inl, inr}
 use Rattle.std.specs.List.{list_any}
 use Rattle.std.proofs.lemmas.Bool.{eqb-true, eq-eqb}

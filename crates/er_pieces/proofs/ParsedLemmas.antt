@@ -1,4 +1,5 @@
--- Parse steps, blocking runs and deferred runs of a document reach the handed ones. Lists of records stand newest first.
+-- Parse steps, blocking runs and deferred runs of a document reach the handed ones. Lists of
+-- records stand newest first.
 use Rattle.std.proofs.Common.{◌≡◌, ℕ, true, List, ◌++◌, ◌⊎◌, inl, inr}
 use Rattle.er_trace.specs.declared.record.Record.{Record}
 use Rattle.er_history.specs.History.{Event, Action, told}

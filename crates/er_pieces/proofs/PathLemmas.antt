@@ -1,4 +1,5 @@
--- Paths between actions of a list, and paths to the newest of a kind. Lists of records stand newest first.
+-- Paths between actions of a list, and paths to the newest of a kind. Lists of records
+-- stand newest first.
 use Rattle.std.proofs.Common.{◌≡◌, ℕ, ◌<◌, ◌≤◌, Bool, true, false, List, [], ◌∷◌, ◌++◌, Some, refl, sym, ap, subst, ◌∙◌, arith, inl, inr}
 use Rattle.std.specs.Prelude.{◌==◌, ◌&&◌, ◌||◌, nat_lt, if◌then◌else◌}
 use Rattle.std.specs.List.{list_any}

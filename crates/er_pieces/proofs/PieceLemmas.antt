@@ -18,3 +18,5 @@ pieces_reach_latest table h a among =
       ap number_of is.found,
       piece_path table h a is.action among is.among (sym (eqb-true is.action.event.number a.event.number is.passes)) is.later,
     )
+
+pub ruleset in_order = (pieces_in_order, pieces_reach_latest)

@@ -1,4 +1,5 @@
--- The blocking runs of a document are joined in recorded order, and so are its deferred runs. Lists of records stand newest first.
+-- The blocking runs of a document are joined in recorded order, and so are its deferred runs. Lists
+-- of records stand newest first.
 use Rattle.std.proofs.Common.{◌≡◌, ℕ, ◌<◌, ◌≤◌, true, false, List, Option, Some, sym, ap, subst, ◌∙◌, arith, inl, inr}
 use Rattle.std.specs.Prelude.{◌==◌}
 use Rattle.std.proofs.lemmas.Bool.{eqb-true, eq-eqb}
@@ -88,7 +89,8 @@ step_before_run table h steady a e x among run by_step =
     (made_leads by_step.step.event a.event e x apart run (by_step.maker ∙ sym by_step.own) (λ i j. false)) in
     omega (arith, before, by_step.own)
 
--- the run of a blocking script joins each step of the document behind its own, and has begun before it
+-- the run of a blocking script joins each step of the document behind its own, and has
+-- begun before it
 
 step_behind : (table : List (ℕ × Rule)) (h : List Record) → IsSteady table h → (d : ℕ) (a : Action) → Among a (told h).actions → (is : RunIs h is_blocking d a) → (p : Action) → Among p (told h).actions → is_step_of d p.event ≡ true
     → is.made.piece < p.event.number → Leads script_rules a.event p.event

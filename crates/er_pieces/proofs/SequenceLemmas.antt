@@ -1,4 +1,5 @@
--- Calls that hand one behind the other, for each list that a page stands for. Lists of records stand newest first.
+-- Calls that hand one behind the other, for each list that a page stands for. Lists of records
+-- stand newest first.
 use Rattle.std.proofs.Common.{◌≡◌, ℕ, List, ◌++◌, subst}
 use Rattle.std.specs.Prelude.{Result, Ok, Err, OnOk, OnErr}
 use Rattle.er_trace.specs.declared.record.Record.{Record}

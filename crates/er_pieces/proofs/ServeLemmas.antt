@@ -1,4 +1,5 @@
--- Paths within a dispatch: from its begin to its handlers and its close, and from a handler to a later group and to the close. Lists of records stand newest first.
+-- Paths within a dispatch: from its begin to its handlers and its close, and from a handler to a
+-- later group and to the close. Lists of records stand newest first.
 use Rattle.std.proofs.Common.{◌≡◌, ℕ, ◌+◌, ◌<◌, ◌≤◌, Bool, true, false, List, Option, refl, sym, ap, subst, ◌∙◌, arith}
 use Rattle.std.specs.Prelude.{◌==◌}
 use Rattle.std.proofs.lemmas.Bool.{eq-eqb}

@@ -1,4 +1,5 @@
--- How a record that naming accepts changes the stack, and what the events are that it begins. Lists of records stand newest first.
+-- How a record that naming accepts changes the stack, and what the events are that it begins. Lists
+-- of records stand newest first.
 use Rattle.std.proofs.Common.{◌≡◌, ℕ, Bool, true, false, List, [], ◌∷◌, Option, Some, None, refl, sym, ap, subst, inl, inr, ◌⊎◌}
 use Rattle.std.specs.Prelude.{not, if◌then◌else◌}
 use Rattle.std.proofs.lemmas.Bool.{eq-eqb}

@@ -1,4 +1,5 @@
--- Each event is clear of the earlier ones, but for those under its dispatch. Lists of records stand newest first.
+-- Each event is clear of the earlier ones, but for those under its dispatch. Lists of records stand
+-- newest first.
 use Rattle.std.proofs.Common.{◌≡◌, ℕ, ◌+◌, ◌<◌, ◌≤◌, Bool, true, false, List, [], ◌∷◌, length, Some, None, refl, sym, ap, subst, ◌∙◌, arith, inl, inr, ◌⊎◌}
 use Rattle.std.specs.Prelude.{◌&&◌, not, if◌then◌else◌}
 use Rattle.std.proofs.lemmas.Bool.{eq-eqb}
@@ -16,7 +17,8 @@ use Rattle.er_pieces.proofs.StackLemmas.{On, Serves, top_is, stack_from, dispatc
 use Rattle.er_pieces.proofs.CallerLemmas.{among_cases, event_is}
 use Rattle.er_pieces.proofs.ClearLemmas.{IsSorted, sorted, Clear, clear_more}
 
--- the actions before which earlier events may go on behind an event: under a dispatch that it serves, those that began before the dispatch
+-- the actions before which earlier events may go on behind an event: under a dispatch that it
+-- serves, those that began before the dispatch
 abbrev pub bound_of : ℕ → What → ℕ
 bound_of n (HandlerOf d g x m) = d.begin + 1
 bound_of n (CloseOf d) = d.begin + 1

@@ -1,4 +1,5 @@
--- Proof that what the six families of rules hand is enough for all edges. Lists of records stand newest first.
+-- Proof that what the six families of rules hand is enough for all edges. Lists of records stand
+-- newest first.
 use Rattle.std.proofs.Common.{◌≡◌, ◌⊎◌, ℕ, ◌<◌, Bool, true, false, List, [], ◌∷◌, ◌++◌, length, take, None, refl, sym, ap, subst, ◌∙◌, arith, inl, inr, append_assoc}
 use Rattle.std.specs.Prelude.{◌==◌, ◌&&◌, ◌||◌, nat_lt, if◌then◌else◌, Result, Ok, Err, OnOk, OnErr}
 use Rattle.std.specs.List.{list_any, AllByRecursion}
@@ -101,7 +102,8 @@ past_running v h x handed i steady named are begin runs last to =
     let whole = path_on (rules v) h i.number runs.piece.number found.0 to (subst (λ n. path (rules v) h n found.0 ≡ true) s.2 found.2) in
     any_from (λ k. path (rules v) h i.number k) found.0 handed found.1 whole
 
--- the source of an edge of a family of rules between events leads to what that family hands, or to what the rules of dispatches do
+-- the source of an edge of a family of rules between events leads to what that family hands, or to
+-- what the rules of dispatches do
 family_reaches : (v : Version) (family : List (ℕ × Rule)) (h : List Record) (x : Record) (own others : List ℕ) → IsSteady (rules v) h → naming h x ≡ None → begins x ≡ true → AreEnough family (path (rules v) h) (told h) x own
     → ArePiecesHanded dispatch_rules (path (rules v) h) (told h) x others → (i : Action) → Among i (told h).actions → is_ruled family (path (rules v) h) i (action_begun (told h) x) ≡ true
     → Reaches (path (rules v) h) i.number own ⊎ Reaches (path (rules v) h) i.number others

@@ -1,4 +1,5 @@
--- What the rules of timers hand, by whatever rule a version has in place of rule 19. Lists of records stand newest first.
+-- What the rules of timers hand, by whatever rule a version has in place of rule 19. Lists of
+-- records stand newest first.
 use Rattle.std.specs.Prelude.{◌≡◌, ℕ, Bool, true, false, List, [], ◌∷◌, Some, None}
 use Rattle.er_trace.specs.declared.record.Record.{Record}
 use Rattle.er_history.specs.History.{Timeout, TimeoutRun, Event, told}

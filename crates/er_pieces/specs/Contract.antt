@@ -1,9 +1,14 @@
--- The words in which a crate of rules says what it hands: numbers of actions, put behind those that stand already. Lists of records stand newest first.
+-- The words in which a crate of rules says what it hands: numbers of actions, put behind those that
+-- stand already. Lists of records stand newest first.
 --
--- A clause speaks of each list that a page stands for, so `stands` is that relation of the page: `IsPage page.now`. The clauses of a crate that hands `handed` by the rules of `family` are then
---   OnOk result (HandsExactly stands handed x old new): the numbers have grown by exactly that list;
---   OnErr result (HandsFront stands handed x old new): memory ran out, and they have grown by a proper front of it;
---   OnOk result (HandsEnough stands family x old new) and OnErr result (HandsSources stands family x old new): it is enough, and all of it sources, for every table by which the record comes next.
+-- A clause speaks of each list that a page stands for, so `stands` is that relation of the page:
+-- `IsPage page.now`. The clauses of a crate that hands `handed` by the rules of `family` are then
+-- OnOk result (HandsExactly stands handed x old new): the numbers have grown by exactly that list;
+--   OnErr result (HandsFront stands handed x old new): memory ran out, and they have grown by a
+--   proper front of it;
+--   OnOk result (HandsEnough stands family x old new) and OnErr result (HandsSources
+--   stands family x old new): it is enough, and all of it sources, for every table by
+--   which the record comes next.
 --   HandsFew stands most x old new: in any case there are at most so many more.
 -- The others follow from the first two: proofs/ContractLemmas.
 use Rattle.std.specs.Prelude.{◌≡◌, ℕ, ◌+◌, ◌<◌, ◌≤◌, false, List, [], ◌∷◌, ◌++◌, length, take, Option, Some, None}
@@ -17,7 +22,8 @@ use Rattle.er_history.specs.Naming.{naming}
 use Rattle.er_history.specs.Sound.{IsSound, out_of_order}
 use Rattle.er_pieces.specs.Enough.{HasSteady}
 
--- the table has the steady rules, the list is sound by it, and neither naming nor order has anything against the record
+-- the table has the steady rules, the list is sound by it, and neither naming nor order has
+-- anything against the record
 pub record ComesNext (table : List (ℕ × Rule)) (h : List Record) (x : Record) : Type 0 where
   pub has : HasSteady table
   pub sound : IsSound table h

@@ -1,4 +1,5 @@
--- The most pieces that each family of rules hands for a record. Lists of records stand newest first.
+-- The most pieces that each family of rules hands for a record. Lists of records stand
+-- newest first.
 use Rattle.std.specs.Prelude.{ℕ, ◌+◌, ◌≤◌, List, length, max, Option, Some, None}
 use Rattle.er_trace.specs.declared.record.Record.{Record}
 use Rattle.er_trace.specs.declared.record.Record.TheVariants.{Parse, ParseFrame, Exec, Timer, Tick, Dcl, Load, Eload, Fire, Wfire, Reply, Inline, Run, Close, Back}
@@ -38,21 +39,24 @@ most_parse h (Parse d e k) = 2
 most_parse h (ParseFrame d e f) = 2
 most_parse h _ = 0
 
--- the latest blocking run; before a run its maker, and for a deferred script the latest parse step, blocking run and deferred run
+-- the latest blocking run; before a run its maker, and for a deferred script the latest parse step,
+-- blocking run and deferred run
 abbrev pub most_script : List Record → Record → ℕ
 most_script h (Parse d e k) = 1
 most_script h (ParseFrame d e f) = 1
 most_script h (Exec e) = 4
 most_script h _ = 0
 
--- Before `load`: the close of DOMContentLoaded, the latest parse step, blocking run and deferred run, the async runs and the static closes.
+-- Before `load`: the close of DOMContentLoaded, the latest parse step, blocking run and deferred
+-- run, the async runs and the static closes.
 abbrev pub most_load : List Record → Record → ℕ
 most_load h (Dcl p d) = 3
 most_load h (Load p d) = 4 + async_run_count h d + static_close_count h d
 most_load h (Eload p e) = 3
 most_load h _ = 0
 
--- the event that set it, and the callbacks that rule 19 leads from; the event that set the interval, and its latest callback
+-- the event that set it, and the callbacks that rule 19 leads from; the event that set the
+-- interval, and its latest callback
 abbrev pub most_timer : Version → List Record → Record → ℕ
 most_timer v h (Timer t) = 1 + fired_count v h t
 most_timer v h (Tick i) = 2
@@ -63,7 +67,9 @@ abbrev pub most_request : List Record → Record → ℕ
 most_request h (Reply p r) = 2
 most_request h _ = 0
 
--- the maker of the target, the latest close there and the suspended piece; before a handler the event that registered it, and the runs of the greatest smaller group or the begin; before a close the runs of the greatest group, or the begin
+-- the maker of the target, the latest close there and the suspended piece; before a handler the
+-- event that registered it, and the runs of the greatest smaller group or the begin; before a close
+-- the runs of the greatest group, or the begin
 abbrev pub most_dispatch : List Record → Record → ℕ
 most_dispatch h (Fire p e n) = 2
 most_dispatch h (Wfire p d n) = 2

@@ -1,4 +1,5 @@
--- What the rules that are the same in every version ask of a table and of a list, and the two laws of nested pieces that the laws of handed pieces rest on. Lists of records stand newest first.
+-- What the rules that are the same in every version ask of a table and of a list, and the two laws
+-- of nested pieces that the laws of handed pieces rest on. Lists of records stand newest first.
 use Rattle.std.specs.Prelude.{◌≡◌, ℕ, ◌≤◌, true, false, ◌||◌, List, [], ◌∷◌, Some, None}
 use Rattle.std.specs.List.{list_any}
 use Rattle.er_trace.specs.declared.record.Record.{Record}
@@ -35,7 +36,8 @@ pub record IsSteady (table : List (ℕ × Rule)) (h : List Record) : Type 0 wher
   pub named : IsNamed h
   pub ordered : AreInOrder table h
 
--- The source of an edge of the table to the piece that `back` begins has a path to the running action.
+-- The source of an edge of the table to the piece that `back` begins has a path to the
+-- running action.
 abbrev pub BackFollowsClose : List (ℕ × Rule) → Type 0
 BackFollowsClose table = (h : List Record) (p : ℕ) (i c : Action) → IsSteady table h
     → naming h (Back p) ≡ None
@@ -59,7 +61,8 @@ pub record NestedFacts (table : List (ℕ × Rule)) : Type 0 where
 abbrev pub NestedFactsHold : Type 0
 NestedFactsHold = (table : List (ℕ × Rule)) → NestedFacts table
 
--- The handed pieces of a family suffice for the record, after a list to which naming and order have nothing against.
+-- The handed pieces of a family suffice for the record, after a list to which naming and order have
+-- nothing against.
 abbrev pub Suffices : List (ℕ × Rule) → List (ℕ × Rule) → (History → Record → List ℕ) → Type 0
 Suffices table family handed = (h : List Record) (x : Record)
     → IsSteady table h → naming h x ≡ None → out_of_order table h x ≡ false
@@ -80,7 +83,8 @@ abbrev pub EnoughLoad : Type 0
 EnoughLoad = (table : List (ℕ × Rule)) → NestedFacts table
     → Suffices table load_rules load_handed
 
--- And for those of timers of a version, where the table has them all. What is handed by them may rest on the paths.
+-- And for those of timers of a version, where the table has them all. What is handed by them may
+-- rest on the paths.
 abbrev pub EnoughTimer : Type 0
 EnoughTimer = (v : Version) (table : List (ℕ × Rule)) → HasFamily table (timer_rules v)
     → NestedFacts table

@@ -1,4 +1,5 @@
--- The pieces that each family of rules hands for a record: latest pieces alone. Lists of records stand newest first.
+-- The pieces that each family of rules hands for a record: latest pieces alone. Lists of records
+-- stand newest first.
 use Rattle.std.specs.Prelude.{ℕ, Bool, true, false, ◌==◌, nat_lt, if◌then◌else◌, List, [], ◌++◌, Option, Some, None}
 use Rattle.er_trace.specs.declared.record.Record.{Record}
 use Rattle.er_trace.specs.declared.record.Record.TheVariants.{Parse, ParseFrame, Exec, Timer, Tick, Dcl, Load, Eload, Fire, Wfire, Reply, Inline, Run, Close, Back, Message, Anim, Job}
@@ -91,7 +92,8 @@ request_handed h (Reply p r) =
     ++ newest (closes (is_reply_of r)) h.actions
 request_handed h _ = []
 
--- the latest piece of each event from which a rule of tasks leads to the event that the record begins
+-- the latest piece of each event from which a rule of tasks leads to the event that the
+-- record begins
 abbrev pub tasks_before : (ℕ → ℕ → Bool) → History → Event → List ℕ
 tasks_before joined h v =
     latest_of_each (λ (u : Event). any_holds task_rules (up_to v.number joined) u v) h.actions
@@ -113,8 +115,9 @@ runs_or_begin p actions (Some g) = latest_of_each (is_handler_of p (λ k. k == g
 abbrev pub group_handed : ℕ → (ℕ → Bool) → List Action → List ℕ
 group_handed p test actions = runs_or_begin p actions (greatest_group p test actions)
 
--- Before a begin the maker of the target, and the latest close piece of the same target and type; before a handler and a
--- close what ran before in the dispatch; around an inline dispatch the running piece.
+-- Before a begin the maker of the target, and the latest close piece of the same target and type;
+-- before a handler and a close what ran before in the dispatch; around an inline dispatch the
+-- running piece.
 abbrev pub dispatch_handed : History → Record → List ℕ
 dispatch_handed h (Fire p e n) =
     latest_of (element_maker h.entries e) h.actions

@@ -1,4 +1,5 @@
--- What is handed is sources, and enough of them: the laws of each family whole. Lists of records stand newest first.
+-- What is handed is sources, and enough of them: the laws of each family whole. Lists of records
+-- stand newest first.
 use Rattle.std.specs.Prelude.{◌≡◌, ℕ, Bool, true, false, ◌||◌, List, [], None}
 use Rattle.er_trace.specs.declared.record.Record.{Record}
 use Rattle.er_paths.specs.Paths.{is_among}
@@ -13,7 +14,8 @@ use Rattle.er_history.specs.Handed.{HasFamily, AreHanded}
 use Rattle.er_pieces.specs.HandedPieces.{parse_handed, script_handed, load_handed, timer_handed, request_handed, task_handed, dispatch_handed}
 use Rattle.er_pieces.specs.Enough.{IsSteady, NestedFacts}
 
--- the pieces of the family are sources and enough, after a list to which naming and order have nothing against
+-- the pieces of the family are sources and enough, after a list to which naming and order have
+-- nothing against
 abbrev pub Hands : List (ℕ × Rule) → List (ℕ × Rule) → (History → Record → List ℕ) → Type 0
 Hands table family handed = (h : List Record) (x : Record)
     → IsSteady table h → naming h x ≡ None → out_of_order table h x ≡ false
@@ -48,7 +50,8 @@ HandsTask = (table : List (ℕ × Rule)) → NestedFacts table
     → IsSteady table h → naming h x ≡ None → out_of_order table h x ≡ false
     → AreHanded task_rules (path table h) (told h) x (task_handed (path table h) (told h) x)
 
--- For dispatches, each is the source of an edge by a rule of the family, or by one of the two on pieces.
+-- For dispatches, each is the source of an edge by a rule of the family, or by one of the
+-- two on pieces.
 abbrev pub DispatchHandsSources : Type 0
 DispatchHandsSources =
     (table : List (ℕ × Rule)) (h : List Record) (x : Record) (joined : ℕ → ℕ → Bool)

@@ -1,4 +1,5 @@
--- What is handed where the two rules on pieces are asked too: sources of edges, and enough of them. Lists of records stand newest first.
+-- What is handed where the two rules on pieces are asked too: sources of edges, and enough of them.
+-- Lists of records stand newest first.
 use Rattle.std.specs.Prelude.{◌≡◌, ℕ, Bool, true, false, ◌||◌, List, [], ◌++◌}
 use Rattle.std.specs.List.{list_any}
 use Rattle.er_trace.specs.declared.record.Record.{Record}
@@ -46,7 +47,8 @@ pub record HasHandedSomePieces (table : List (ℕ × Rule)) (joined : ℕ → �
   pub grown : new ≡ old ++ handed
   pub sources : ArePieceSources table joined h x handed
 
--- What a crate of such rules says of what it handed, beside the words of specs/Contract: it is enough, and all of it sources, for every table by which the record comes next.
+-- What a crate of such rules says of what it handed, beside the words of specs/Contract: it is
+-- enough, and all of it sources, for every table by which the record comes next.
 
 abbrev pub HandsEnoughPieces : (List Record → Type 0) → List (ℕ × Rule) → Record → List ℕ → List ℕ
     → Type 0

@@ -1,4 +1,5 @@
--- What the stack and the events keep of dispatches, against what the records say. Lists of records stand newest first.
+-- What the stack and the events keep of dispatches, against what the records say. Lists of records
+-- stand newest first.
 use Rattle.std.specs.Prelude.{◌≡◌, ◌⊎◌, ℕ, ◌+◌, true, List, [], ◌∷◌, option_map, Option, Some, None}
 use Rattle.std.specs.List.{list_any}
 use Rattle.er_trace.specs.declared.record.Record.{Record}
@@ -13,7 +14,8 @@ abbrev pub IsOn : Open → List Open → Type 0
 IsOn o [] = ⊥
 IsOn o (p ∷ below) = (o ≡ p) ⊎ IsOn o below
 
--- Whether the close of a dispatch on the stack has begun, and whether it is inline, is what the records say.
+-- Whether the close of a dispatch on the stack has begun, and whether it is inline, is what the
+-- records say.
 abbrev pub StackIsAsRead : Type 0
 StackIsAsRead = (h : List Record) (o : Open) → IsNamed h → IsOn o (told h).stack
     → (o.closing ≡ list_any (begins_close o.dispatch.number) h)
@@ -40,7 +42,8 @@ dispatch_of _ = None
 abbrev pub KeepsDispatch : List Record → Action → Dispatch → Type 0
 KeepsDispatch h a d = Among a (told h).actions × (dispatch_of a.event.what ≡ Some d)
 
--- A dispatch on the stack was begun by the action that it names as its begin, and that by a record of its number.
+-- A dispatch on the stack was begun by the action that it names as its begin, and that by a record
+-- of its number.
 abbrev pub OpenHaveBegun : Type 0
 OpenHaveBegun = (h : List Record) (o : Open) → IsNamed h → IsOn o (told h).stack
     → HasBegin (told h).actions o.dispatch
@@ -83,7 +86,8 @@ KeptAsRead = (h : List Record) (a : Action) → IsNamed h → Among a (told h).a
     → a.event.number ≡ a.number
     → option_map (λ (d : Dispatch). d.number) (dispatch_of a.event.what) ≡ dispatch_named a.begin
 
--- Where naming accepts `back`: the begin of the inline dispatch, and the piece just before it, of whose event is the one that goes on.
+-- Where naming accepts `back`: the begin of the inline dispatch, and the piece just before it, of
+-- whose event is the one that goes on.
 pub record GoesOn (h : List Record) (p : ℕ) : Type 0 where
   pub begin : Action
   pub begun : Among begin (told h).actions

@@ -1,4 +1,5 @@
--- The seven families of rules together: what they hand one behind the other is enough for all edges. Lists of records stand newest first.
+-- The seven families of rules together: what they hand one behind the other is enough for all
+-- edges. Lists of records stand newest first.
 use Rattle.std.specs.Prelude.{◌≡◌, ℕ, ◌<◌, Bool, true, false, List, ◌∷◌, length, None, All}
 use Rattle.er_trace.specs.declared.record.Record.{Record}
 use Rattle.er_paths.specs.Laws.{IsEnough}
@@ -41,7 +42,8 @@ AllHand = (v : Version) (h : List Record) (x : Record) (old new : List ℕ) → 
     → HandInTurn v (path (rules v) h) h x old new
     → HasHandedPieces (rules v) (path (rules v) h) (told h) x old new
 
--- Beside the lists of the actions before it, the handed numbers are enough for the list of the action that the record begins.
+-- Beside the lists of the actions before it, the handed numbers are enough for the list of the
+-- action that the record begins.
 abbrev pub HandedStayEnough : Type 0
 HandedStayEnough = (table : List (ℕ × Rule)) (h : List Record) (x : Record)
     (handed : List ℕ) (lists : List (List ℕ))

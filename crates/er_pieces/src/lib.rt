@@ -1,8 +1,12 @@
-//! The pieces of events: how they follow one another where dispatches are nested, and which of them stand for all that must come before a record.
+//! The pieces of events: how they follow one another where dispatches are nested, and which of them
+//! stand for all that must come before a record.
 //!
 //! Beside them, why a path leads from one action to another (`steps`).
 //!
-//! Definitions and their laws; no state. What each family of rules hands for a record is a list in `specs/HandedPieces.antt`: latest pieces alone. The laws say that these are sources of edges, and enough of them, for every table that has the steady rules: those that are the same in every version of the format.
+//! Definitions and their laws; no state. What each family of rules hands for a record is a list in
+//! `specs/HandedPieces.antt`: latest pieces alone. The laws say that these are sources of edges,
+//! and enough of them, for every table that has the steady rules: those that are the same in every
+//! version of the format.
 #![tactic(auto)]
 
 pub mod stack;
@@ -17,7 +21,7 @@ ghost use Rattle.er_pieces.specs.Hands.{HandsParse, HandsScript, HandsLoad, Hand
 ghost use Rattle.er_pieces.specs.Together.{SoundListsAreSteady, AllHand, HandedStayEnough, HandedAreBelow, HandsDispatches};
 
 /// Given the two laws of nested pieces, the latest pieces that each family of rules hands suffice.
-#[tactic(auto, using(crate::proofs::EnoughParse::enough_parse, crate::proofs::EnoughScript::enough_script, crate::proofs::EnoughLoad::enough_load))]
+#[tactic(auto, using(crate::proofs::Suffice::parsing_and_loading_suffice))]
 pub fn latest_pieces_of_parsing_and_loading_suffice()
     ensures parsing { EnoughParse }
     ensures scripts { EnoughScript }
@@ -25,7 +29,7 @@ pub fn latest_pieces_of_parsing_and_loading_suffice()
 {}
 
 /// The same for dispatches, timers and requests.
-#[tactic(auto, using(crate::proofs::EnoughDispatch::enough_dispatch, crate::proofs::AnyTimersLemmas::enough_timer, crate::proofs::EnoughRequest::enough_request, crate::proofs::TaskLemmas::enough_task))]
+#[tactic(auto, using(crate::proofs::Suffice::events_suffice))]
 pub fn latest_pieces_of_events_suffice()
     ensures dispatches { EnoughDispatch }
     ensures timers { EnoughTimer }
@@ -61,18 +65,20 @@ pub fn latest_pieces_of_events_are_handed()
     ensures tasks { HandsTask }
 {}
 
-/// The two laws of nested pieces: the source of an edge to the piece that `back` begins has a path to the running action, and close pieces of one target and type are joined in recorded order.
+/// The two laws of nested pieces: the source of an edge to the piece that `back` begins has a path
+/// to the running action, and close pieces of one target and type are joined in recorded order.
 pub fn nested_facts_hold()
     ensures { NestedFactsHold }
 {}
 
-/// The latest pieces that the rules of timers hand are sources and enough, by whatever rule a version has in place of rule 19.
+/// The latest pieces that the rules of timers hand are sources and enough, by whatever rule a
+/// version has in place of rule 19.
 pub fn latest_pieces_of_timers_are_handed_in_each_version()
     ensures { HandsTimersBy }
 {}
 
 /// No family hands more pieces for a record than its count.
-#[tactic(auto, using(crate::proofs::CountLaws::parse_hands_at_most, crate::proofs::CountLaws::script_hands_at_most, crate::proofs::CountLaws::load_hands_at_most))]
+#[tactic(auto, using(crate::proofs::CountLaws::parsing_and_loading_hand_at_most))]
 pub fn few_pieces_of_parsing_and_loading_are_handed()
     ensures parsing { ParseHandsAtMost }
     ensures scripts { ScriptHandsAtMost }
@@ -80,19 +86,21 @@ pub fn few_pieces_of_parsing_and_loading_are_handed()
 {}
 
 /// The same for dispatches, timers and requests.
-#[tactic(auto, using(crate::proofs::CountLaws::timer_hands_at_most, crate::proofs::CountLaws::request_hands_at_most, crate::proofs::CountLaws::dispatch_hands_at_most))]
+#[tactic(auto, using(crate::proofs::CountLaws::events_hand_at_most))]
 pub fn few_pieces_of_events_are_handed()
     ensures dispatches { DispatchHandsAtMost }
     ensures timers { TimerHandsAtMost }
     ensures requests { RequestHandsAtMost }
 {}
 
-/// The pieces that the rules of dispatches hand are sources and enough, for edges between events and for those between pieces.
+/// The pieces that the rules of dispatches hand are sources and enough, for edges between events
+/// and for those between pieces.
 pub fn latest_pieces_of_dispatches_are_handed()
     ensures { HandsDispatches }
 {}
 
-/// What the seven families of rules hand, one behind the other, are sources of edges by all rules, and enough of them: so the paths over the handed numbers are those over all edges.
+/// What the seven families of rules hand, one behind the other, are sources of edges by all rules,
+/// and enough of them: so the paths over the handed numbers are those over all edges.
 pub fn seven_groups_together_are_enough()
     ensures steady { SoundListsAreSteady }
     ensures handed { AllHand }

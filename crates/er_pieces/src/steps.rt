@@ -20,7 +20,8 @@ pub fn links_are_edges()
     ensures { LinksAreEdges }
 {}
 
-/// Where there is a path, the steps lead from the one action to the other, each by a link with its rule.
+/// Where there is a path, the steps lead from the one action to the other, each by a link
+/// with its rule.
 pub fn steps_follow_links()
     ensures { StepsFollowLinks }
 {}

@@ -3,7 +3,8 @@
 use er_clocks::{Clocks, Meter, Paths};
 use std::test::Fail;
 
-/// Whether one action more was added, and its number answered. The numbers are to be those of earlier actions.
+/// Whether one action more was added, and its number answered. The numbers are to be those of
+/// earlier actions.
 fn add(clocks: &mut Clocks, preds: &[u32]) -> bool {
     let count = clocks.len();
     count < 32768 && preds.iter().all(|k| *k < count) && clocks.push(preds) == Ok(count)
@@ -25,7 +26,8 @@ fn is_handed_twice_right(clocks: &mut Clocks) -> bool {
         && clocks.entry(3, 1) == 1
 }
 
-/// Two layers of two, each of the second after each of the first, and an action after both: the second of a layer has the links of the first.
+/// Two layers of two, each of the second after each of the first, and an action after both: the
+/// second of a layer has the links of the first.
 fn is_layered_right(clocks: &mut Clocks) -> bool {
     if !(add(clocks, &[]) && add(clocks, &[]) && add(clocks, &[0, 1]) && add(clocks, &[1, 0])) {
         return false;
@@ -38,7 +40,8 @@ fn is_layered_right(clocks: &mut Clocks) -> bool {
         && clocks.link_count() == 6
 }
 
-/// The number of comparisons, where an action before two that are apart and one after both are compared rightly.
+/// The number of comparisons, where an action before two that are apart and one after both are
+/// compared rightly.
 fn compared(clocks: &mut Clocks, meter: &mut Meter) -> bool {
     if !(add(clocks, &[]) && add(clocks, &[0]) && add(clocks, &[0]) && add(clocks, &[2, 0, 1])) {
         return false;

@@ -1,4 +1,5 @@
-//! Tests of clocks, chains, the table and the lister: each call that may want memory, with ample memory, and what a lister asks of any paths.
+//! Tests of clocks, chains, the table and the lister: each call that may want memory, with ample
+//! memory, and what a lister asks of any paths.
 #![tactic(auto)]
 
 #[cfg(test)]

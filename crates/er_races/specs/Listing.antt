@@ -39,7 +39,8 @@ leaves shards shard k = (k % shards) == shard
 abbrev pub writes_among : List Access → List ℕ → List ℕ
 writes_among accesses rows = filter (λ n. is_write (access_at accesses n).mode) rows
 
--- The candidates and the races of kept accesses at location k, at the same where it is one of those asked for, and at all locations asked for.
+-- The candidates and the races of kept accesses at location k, at the same where it is one of those
+-- asked for, and at all locations asked for.
 
 abbrev pub candidates_at : List Kept → ℕ → List Race
 candidates_at kept k = at_location (candidate (accesses_of kept)) (accesses_of kept) k
@@ -59,7 +60,8 @@ candidates_in own kept = part own (candidate (accesses_of kept)) (accesses_of ke
 abbrev pub races_in : (ℕ → Bool) → (ℕ → ℕ → Bool) → List Kept → List Race
 races_in own joined kept = part own (race joined (accesses_of kept)) (accesses_of kept)
 
--- those of these earlier accesses that are candidates with a second one, and those that race with it
+-- those of these earlier accesses that are candidates with a second one, and those that
+-- race with it
 
 abbrev pub candidates_with : List Kept → ℕ → List ℕ → List ℕ
 candidates_with kept second earlier = filter (λ i. candidate (accesses_of kept) i second) earlier

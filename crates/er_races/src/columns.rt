@@ -11,7 +11,8 @@ use er_io::NoMemory;
 use er_trace::record::Mode;
 use std::alloc::Global;
 
-/// Of the accesses of one location that were gone through the actions, and once more of those that write the numbers and the actions.
+/// Of the accesses of one location that were gone through the actions, and once more of those that
+/// write the numbers and the actions.
 #[derive(Drop)]
 pub(crate) struct Columns {
     pub(crate) actions: Vec<u32>,

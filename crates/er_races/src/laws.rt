@@ -1,4 +1,5 @@
-//! Laws: what the numbers of the races are. Each is a function with no parameters, whose contract is the law.
+//! Laws: what the numbers of the races are. Each is a function with no parameters, whose
+//! contract is the law.
 
 ghost use Rattle.std.specs.Prelude.{ℕ, Bool, All, List};
 ghost use Rattle.er_access.specs.Kept.{Kept};

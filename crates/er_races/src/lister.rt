@@ -14,7 +14,8 @@ use er_access::Table;
 use er_clocks::{Meter, Paths};
 use std::alloc::Global;
 
-/// Lists the races in the order of their accesses: the candidate pairs whose first action does not join the second.
+/// Lists the races in the order of their accesses: the candidate pairs whose first action does not
+/// join the second.
 ///
 /// Each candidate pair is compared once, location by location.
 pub fn list<P: Paths>(

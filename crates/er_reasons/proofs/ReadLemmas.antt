@@ -1,4 +1,5 @@
--- An event is what the record of its first piece and the whole list say. Lists of records stand newest first.
+-- An event is what the record of its first piece and the whole list say. Lists of records stand
+-- newest first.
 use Rattle.std.proofs.Common.{◌≡◌, ◌<◌, ℕ, true, List, length, option_map, Option, Some, None, refl, sym, ap, subst, ◌∙◌, arith}
 use Rattle.std.specs.Prelude.{[], if◌then◌else◌}
 use Rattle.std.proofs.Math.Logic.{∥∥₁_map}

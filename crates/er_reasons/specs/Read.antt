@@ -1,4 +1,5 @@
--- What an event is, by the record that began it and what the whole list says. Lists of records stand newest first.
+-- What an event is, by the record that began it and what the whole list says. Lists of records
+-- stand newest first.
 use Rattle.std.specs.Prelude.{◌≡◌, ◌==◌, if◌then◌else◌, ℕ, List, [], Option, Some, None}
 use Rattle.er_trace.specs.declared.record.Record.{Record}
 use Rattle.er_trace.specs.declared.record.Record.TheVariants.{Parse, ParseFrame, Exec, Timer, Tick, Dcl, Load, Eload, Fire, Wfire, Reply, Inline, Run, Close, Message, Anim, Job}
@@ -86,7 +87,8 @@ what_read h k (Wfire p d n) = begun_what (dispatch_by h p k (Wfire p d n))
 what_read h k (Reply p r) = begun_what (dispatch_by h p k (Reply p r))
 what_read h k _ = Unnamed
 
--- Where naming refuses no record, an event is what the record of its first piece and the whole list say.
+-- Where naming refuses no record, an event is what the record of its first piece and the
+-- whole list say.
 abbrev pub EventsAreAsRead : Type 0
 EventsAreAsRead = (h : List Record) (a : Action) → IsNamed h → Among a (told h).actions
     → a.event.number ≡ a.number → a.event.what ≡ what_read h a.number a.begin

@@ -1,4 +1,5 @@
--- What an event that is read off a page stands for. A timeout and a task are shown by their numbers: the list says what set or declared them, and under which dispatches a job began.
+-- What an event that is read off a page stands for. A timeout and a task are shown by their
+-- numbers: the list says what set or declared them, and under which dispatches a job began.
 use Rattle.std.specs.Prelude.{ℕ, Bool, List, Option, option_map}
 use Rattle.er_trace.specs.declared.record.Record.{Record}
 use Rattle.er_history.specs.History as history

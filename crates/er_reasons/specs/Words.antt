@@ -59,7 +59,8 @@ fires_in_order made later =
     (x.maker == y.maker) && (nat_lt x.place y.place && nat_le x.delay y.delay))
     made later
 
--- the one timeout was set before the other with no greater delay, and a path leads from the piece that set it to that of the other
+-- the one timeout was set before the other with no greater delay, and a path leads from the piece
+-- that set it to that of the other
 abbrev pub fires_behind : (ℕ → ℕ → Bool) → Option Timeout → Option Timeout → Bool
 fires_behind joined made later =
     both_some_and (λ x y.
@@ -70,7 +71,8 @@ fires_behind joined made later =
 abbrev pub is_declarer : Option Task → ℕ → Bool
 is_declarer made event = is_some_and (λ (x : Task). x.maker == event) made
 
--- the callback of a timeout or an interval that this event set, the event of a message that it posted, or an animation callback that it asked for
+-- the callback of a timeout or an interval that this event set, the event of a message that it
+-- posted, or an animation callback that it asked for
 abbrev pub declares : ℕ → What → Bool
 declares maker (TimeoutRun t made) = is_setter made maker
 declares maker (TickRun i m) = is_some_and (λ (k : ℕ). k == maker) m

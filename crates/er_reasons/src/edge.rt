@@ -26,9 +26,12 @@ use er_clocks::Clocks;
 use er_page::page::Page;
 use er_trace::version::Version;
 
-/// The least number of a rule of the version that makes an edge from action i to action j. It takes no memory. The clocks are those of the page's actions in this version.
+/// The least number of a rule of the version that makes an edge from action i to action j. It takes
+/// no memory. The clocks are those of the page's actions in this version.
 ///
-/// Each rule is asked of the two events alone, and of one path at most, so it costs some look-ups, however many actions there are; before a close, rule 31 goes through the jobs that began in the dispatch.
+/// Each rule is asked of the two events alone, and of one path at most, so it costs some
+/// look-ups, however many actions there are; before a close, rule 31 goes through the
+/// jobs that began in the dispatch.
 pub fn reason(page: &Page, clocks: &Clocks, version: Version, i: u32, j: u32) -> Option<u32>
     requires first { ∥ HasBegun page.now i ∥₁ }
     requires second { ∥ HasBegun page.now j ∥₁ }

@@ -47,7 +47,8 @@ pub(crate) struct Dispatch<'a> {
     pub(crate) delivers: Delivery<'a>,
 }
 
-/// What an event is. What set a timeout or declared a task is asked of the page, and under which dispatch a job began.
+/// What an event is. What set a timeout or declared a task is asked of the page, and under which
+/// dispatch a job began.
 #[derive(Clone, Copy)]
 pub(crate) enum What<'a> {
     ParseStep {

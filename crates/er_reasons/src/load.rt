@@ -166,7 +166,8 @@ fn runs(element: u32, what: What<'_>) -> bool
     }
 }
 
-/// Whether the one is a first load event of a static element that is not plain, the other load of its document.
+/// Whether the one is a first load event of a static element that is not plain, the other load of
+/// its document.
 fn is_static_load_before(first: Delivery<'_>, later: Delivery<'_>) -> bool
     ensures { result ≡ is_static_load_before (delivered first.entry) (delivered later.entry) }
 {
@@ -179,7 +180,8 @@ fn is_static_load_before(first: Delivery<'_>, later: Delivery<'_>) -> bool
     }
 }
 
-/// Whether the one is load of a document, the other the first load event of the frame that declared it.
+/// Whether the one is load of a document, the other the first load event of the frame
+/// that declared it.
 fn is_inner_load_before(first: Delivery<'_>, later: Delivery<'_>) -> bool
     ensures { result ≡ is_inner_load_before (delivered first.entry) (delivered later.entry) }
 {

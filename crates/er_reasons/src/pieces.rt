@@ -12,7 +12,8 @@ use crate::event::{Delivery, Event, What};
 use crate::numbers::lesser;
 use er_trace::record::Record;
 
-/// The least number of a rule on pieces that holds from piece i of u to piece j of v, which this record began.
+/// The least number of a rule on pieces that holds from piece i of u to piece j of v, which this
+/// record began.
 pub(crate) fn piece_rule(
     i: u32,
     u: &Event<'_>,
@@ -38,7 +39,8 @@ fn given(holds: bool, number: u32) -> Option<u32>
     if holds { Some(number) } else { None }
 }
 
-/// Whether the piece was suspended by the inline dispatch that the record begins, or is one of its close, and the record its `back`.
+/// Whether the piece was suspended by the inline dispatch that the record begins, or is one of its
+/// close, and the record its `back`.
 fn is_around_inline(i: u32, u: &Event<'_>, j: u32, begin: &Record) -> bool
     requires { i < j }
     ensures { (h : List Record) (x : Record) (e : history.Event)

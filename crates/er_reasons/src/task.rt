@@ -201,7 +201,8 @@ fn is_declarer(page: &Page, task: Option<Task>, event: u32) -> bool
     }
 }
 
-/// Whether both tasks are declared, the first before the other, and a path among the actions before this one leads from its piece to that of the other. The page has both.
+/// Whether both tasks are declared, the first before the other, and a path among the actions before
+/// this one leads from its piece to that of the other. The page has both.
 fn in_order(
     page: &Page,
     clocks: &Clocks,

@@ -158,7 +158,8 @@ fn fires_in_order(page: &Page, timeout: u32, later: u32) -> bool
     (maker == other) & (page.set_before(timeout, later) & (delay <= longer))
 }
 
-/// Whether the one timeout was set before the other with no greater delay, and a path among the actions before this one leads from the piece that set the one to the piece that set the other.
+/// Whether the one timeout was set before the other with no greater delay, and a path among the
+/// actions before this one leads from the piece that set the one to the piece that set the other.
 fn fires_behind(page: &Page, clocks: &Clocks, timeout: u32, later: u32, before: u32) -> bool
     ensures { (h : List Record) (lists : List (List ℕ)) → IsPage page.now h
         → StandsFor clocks.now lists

@@ -11,14 +11,14 @@ use Rattle.er_syntax.proofs.LineLemmas.{first_item, item_before_loc}
 use Rattle.er_report.specs.Fragments.{placed}
 use Rattle.er_report.specs.Report.{race_line, cover_line, group_line, refusal}
 
-pub refusal_fragments : (n : ℕ) (c : Cause) → refusal n c ≡ item_start (Word (codes "refused")) ++ item_start (Number n) ++ item_line (Word (cause_name c) ∷ [])
-refusal_fragments n c = simp (first_item, append_assoc)
+pub refusal_parts : (n : ℕ) (c : Cause) → refusal n c ≡ item_start (Word (codes "refused")) ++ item_start (Number n) ++ item_line (Word (cause_name c) ∷ [])
+refusal_parts n c = simp (first_item, append_assoc)
 
-pub race_fragments : (k : ℕ) (x y : Access) (l : Loc) → race_line k (placed x l, placed y l) ≡ item_start (Word (codes "race")) ++ item_start (Number k) ++ item_start (Number x.line) ++ item_start (Number y.line) ++ item_start (Word (mode_word x.mode ++ mode_word y.mode)) ++ item_start (Number x.action) ++ item_start (Number y.action) ++ item_line (loc_items l)
-race_fragments k x y l = simp (first_item, item_before_loc, append_assoc)
+pub race_parts : (k : ℕ) (x y : Access) (l : Loc) → race_line k (placed x l, placed y l) ≡ item_start (Word (codes "race")) ++ item_start (Number k) ++ item_start (Number x.line) ++ item_start (Number y.line) ++ item_start (Word (mode_word x.mode ++ mode_word y.mode)) ++ item_start (Number x.action) ++ item_start (Number y.action) ++ item_line (loc_items l)
+race_parts k x y l = simp (first_item, item_before_loc, append_assoc)
 
-pub cover_fragments : (k g : ℕ) → cover_line k g ≡ item_start (Word (codes "cover")) ++ item_start (Number k) ++ item_line (Number (g + 1) ∷ [])
-cover_fragments k g = simp (first_item, append_assoc)
+pub cover_parts : (k g : ℕ) → cover_line k g ≡ item_start (Word (codes "cover")) ++ item_start (Number k) ++ item_line (Number (g + 1) ∷ [])
+cover_parts k g = simp (first_item, append_assoc)
 
-pub group_fragments : (g k size : ℕ) → group_line g (k, size) ≡ item_start (Word (codes "group")) ++ item_start (Number g) ++ item_start (Number (k + 1)) ++ item_line (Number size ∷ [])
-group_fragments g k size = simp (first_item, append_assoc)
+pub group_parts : (g k size : ℕ) → group_line g (k, size) ≡ item_start (Word (codes "group")) ++ item_start (Number g) ++ item_start (Number (k + 1)) ++ item_line (Number size ∷ [])
+group_parts g k size = simp (first_item, append_assoc)

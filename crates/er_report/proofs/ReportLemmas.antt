@@ -28,7 +28,8 @@ pair_at accesses found pairs i r a b are here first second =
     let e2 : option_map v (slice_get pairs i) ≡ option_map g (slice_get found i) = sym (slice_get-map v pairs i) ∙ ap (λ (xs : List (Option Kept)). slice_get xs i) (sym are.1) ∙ slice_get-map g found i in
     pair_from_parts (slice_get pairs i) a b (e1 ∙ ap (option_map f) here ∙ ap Some first) (e2 ∙ ap (option_map g) here ∙ ap Some second)
 
--- The pair at a place, as a loop over the races reads it: its accesses, with the location of the first, and of the second.
+-- The pair at a place, as a loop over the races reads it: its accesses, with the location of the
+-- first, and of the second.
 pub record IsPairAt (pairs : List (Kept × Kept)) (i : ℕ) (x y : Access) (l : Loc) : Type 0 where
   pub other : Loc
   pub here : slice_get pairs i ≡ Some (placed x l, placed y other)

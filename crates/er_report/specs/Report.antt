@@ -1,4 +1,5 @@
--- The text of a report, of a summary, and of a refusal. Lists of predecessors stand newest first, all others oldest first.
+-- The text of a report, of a summary, and of a refusal. Lists of predecessors stand newest first,
+-- all others oldest first.
 -- Its numbers of races and groups begin at 1; the places in lists begin at 0.
 use Rattle.std.specs.Prelude.{ℕ, ◌+◌, List, [], ◌∷◌, ◌++◌, length, codes}
 use Rattle.std.specs.List.{zip}

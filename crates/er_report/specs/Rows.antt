@@ -14,7 +14,8 @@ NothingAtAll = report [] []
     ++ line (codes "groups 0") ++ line (codes "chains 0") ++ line (codes "links 0")
     ++ line (codes "end")
 
--- two timeouts that race set one each; the race of these two covers the race of the first and the last action
+-- two timeouts that race set one each; the race of these two covers the race of the first
+-- and the last action
 abbrev pub LaterRepresentative : Type 0
 LaterRepresentative = report ((4 ∷ []) ∷ (1 ∷ []) ∷ (2 ∷ []) ∷ (1 ∷ []) ∷ (0 ∷ []) ∷ [] ∷ [])
     (access_of 7 2 W (Var 0 (codes "x"))

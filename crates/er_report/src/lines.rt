@@ -54,7 +54,7 @@ pub struct RaceLine<'a> {
 impl<'a> Text for RaceLine<'a> {
     ghost text = { λ race. race_line race.number (both_at race.first race.second race.loc.now) };
 
-    #[tactic(auto, using(er_io::proofs::Puts::composes, crate::proofs::LineLemmas::race_fragments))]
+    #[tactic(auto, using(er_io::proofs::Puts::composes, crate::proofs::LineLemmas::race_parts))]
     fn put<K: Sink>(&self, sink: &mut K) -> Result<(), Failed> {
         put_word(sink, "race")?;
         put_field(sink, self.number)?;
@@ -77,7 +77,7 @@ pub(crate) struct CoverLine {
 impl Text for CoverLine {
     ghost text = { λ cover. cover_line cover.number cover.group };
 
-    #[tactic(auto, using(er_io::proofs::Puts::composes, crate::proofs::LineLemmas::cover_fragments))]
+    #[tactic(auto, using(er_io::proofs::Puts::composes, crate::proofs::LineLemmas::cover_parts))]
     fn put<K: Sink>(&self, sink: &mut K) -> Result<(), Failed> {
         put_word(sink, "cover")?;
         put_field(sink, self.number)?;
@@ -96,7 +96,7 @@ pub(crate) struct GroupLine {
 impl Text for GroupLine {
     ghost text = { λ group. group_line group.number (group.representative, group.size) };
 
-    #[tactic(auto, using(er_io::proofs::Puts::composes, crate::proofs::LineLemmas::group_fragments))]
+    #[tactic(auto, using(er_io::proofs::Puts::composes, crate::proofs::LineLemmas::group_parts))]
     fn put<K: Sink>(&self, sink: &mut K) -> Result<(), Failed> {
         put_word(sink, "group")?;
         put_field(sink, self.number)?;
@@ -132,7 +132,7 @@ pub(crate) struct Refusal {
 impl Text for Refusal {
     ghost text = { λ r. refusal r.line r.cause };
 
-    #[tactic(auto, using(er_io::proofs::Puts::composes, crate::proofs::LineLemmas::refusal_fragments))]
+    #[tactic(auto, using(er_io::proofs::Puts::composes, crate::proofs::LineLemmas::refusal_parts))]
     fn put<K: Sink>(&self, sink: &mut K) -> Result<(), Failed> {
         put_word(sink, "refused")?;
         put_field(sink, self.line as u64)?;

@@ -20,7 +20,8 @@ use er_races::Race;
 use er_syntax::{Buffer, flush, put_text};
 use er_text::Cause;
 
-/// Writes the report of a table, with its races by these clocks and their groups. It takes no memory.
+/// Writes the report of a table, with its races by these clocks and their groups. It
+/// takes no memory.
 pub fn write_report<K: Sink>(
     sink: &mut K,
     table: &Table,

@@ -131,7 +131,8 @@ pub refusal_judged : (f : Format) (asked : Command) (v : Version) (bytes : List 
 refusal_judged f asked v bytes records refused (faults.Refused line c) reading judged = refused_judged f asked v bytes records refused line c reading judged
 refusal_judged f asked v bytes records refused faults.NoMemory reading judged = tt
 
--- the lines before a place are legal, where its records are, and they are within the limits if the `end` line stands before it
+-- the lines before a place are legal, where its records are, and they are within the limits if the
+-- `end` line stands before it
 legal_at : (asked : Command) (v : Version) (place : Place) (records : List Record) → IsOf v place → records ≡ records_before place → IsLegal (rules v) (reverse records) → (length records + 2 < line_number place → end_cause_for asked v (reverse records) ≡ None) → IsLegalBefore asked place
 legal_at asked v Start records of same legal within = tt
 legal_at asked v (After w earlier) records of same legal within = subst (λ u. IsLegal (rules u) (reverse earlier)) of (subst (λ rs. IsLegal (rules v) (reverse rs)) same legal)

@@ -77,7 +77,8 @@ HasAnswer f asked bytes = (o : Outcome) × (due : List ℕ) × Answers f asked b
 refused : (f : Format) (asked : Command) (bytes : List ℕ) (n : ℕ) (c : Cause) → FirstIllegal f asked bytes n c → HasAnswer f asked bytes
 refused f asked bytes n c is = (Refused n c, refusal_for asked n c, (is, refl))
 
--- behind legal records and no line that is refused the `end` line is refused, or it is within the limits
+-- behind legal records and no line that is refused the `end` line is refused, or it is
+-- within the limits
 by_end : (f : Format) (v : Version) (asked : Command) (bytes : List ℕ) (records : List Record) (line : Option LineRefusal) (o : Option Cause) → o ≡ end_cause_for asked v (reverse records) → IsReading f v bytes records line → IsRead records line → IsLegal (rules v) (reverse records)
     → (end_cause_for asked v (reverse records) ≡ None → HasAnswer f asked bytes) → HasAnswer f asked bytes
 by_end f v asked bytes records line None is reading read legal answer = answer (sym is)

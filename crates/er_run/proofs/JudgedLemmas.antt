@@ -171,7 +171,8 @@ by_kept : (s : Session) (links : List (List ℕ)) (h : List Record) (has : List 
     → clocks.Tells links (λ lists. has lists s.kept) → has (edges (rules s.graph.version) (told h).actions) (kept h)
 by_kept s links h has timed stands tells = subst (has (edges (rules s.graph.version) (told h).actions)) stands.accesses (tells (edges (rules s.graph.version) (told h).actions) (clocks_stand s links h timed stands))
 
--- what holds by the paths of the clocks and of the kept accesses of the session holds by those of the list
+-- what holds by the paths of the clocks and of the kept accesses of the session holds by
+-- those of the list
 by_paths : (s : Session) (links : List (List ℕ)) (h : List Record) (has : (ℕ → ℕ → Bool) → List Kept → Type 0) → AreClocks s.graph links → IsSessionOf s h
     → has (joins links) s.kept → has (path (rules s.graph.version) h) (kept h)
 by_paths s links h has timed stands is =

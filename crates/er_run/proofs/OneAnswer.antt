@@ -118,7 +118,8 @@ not_legally_by f good v table earlier records x c l r s (Shorter y more m rest s
 not_legally_by f good v table earlier records x c l r s (Longer y more m rest short_y is_y e there) short is cause legal stops =
     stops (omega (arith, ap length e, length-append records (y ∷ more))) y m rest short_y is_y there
 
--- a record that has a cause stands before no place that legal records lead to, where no record follows
+-- a record that has a cause stands before no place that legal records lead to, where no
+-- record follows
 not_legally : (f : Format) → IsFormat f → (v w : Version) (bytes : List ℕ) (earlier records : List Record) (x : Record) (c : Cause) (s : List ℕ) → Faulty f v bytes earlier x c → Legally f w bytes records s → (length records ≤ length earlier → NoRecord f w s) → ⊥
 not_legally f good v w bytes earlier records x c s first second stops =
     let both : (v ≡ w) × Meets f w earlier records (line first.l ++ first.rest) s = meets f good v w bytes earlier records first.front second.front (line first.l ++ first.rest) s first.are second.are first.begins second.begins in

@@ -1,4 +1,5 @@
--- The two actions of a race: that of the first access began earlier. Lists of records stand newest first.
+-- The two actions of a race: that of the first access began earlier. Lists of records
+-- stand newest first.
 use Rattle.std.proofs.Common.{◌≡◌, ◌≢◌, ℕ, zero, suc, ◌+◌, ◌<◌, ◌≤◌, Bool, true, false, not, cond, List, [], ◌∷◌, ◌++◌, All, length, filter, get_or, Some, refl, sym, ap, ◌∙◌, subst, arith, length-append}
 use Rattle.std.specs.Prelude.{nat_lt, if◌then◌else◌}
 use Rattle.std.specs.List.{slice_get}

@@ -1,4 +1,5 @@
--- The races stand in the order of their lines, and each names the first group that covers it. Lists of records stand newest first.
+-- The races stand in the order of their lines, and each names the first group that covers it. Lists
+-- of records stand newest first.
 use Rattle.std.proofs.Common.{◌≡◌, ℕ, zero, suc, ◌<◌, Bool, true, false, not, cond, List, [], ◌∷◌, ◌++◌, All, length, map, filter, get_or, Some, inl, inr, refl, sym, ap, subst, ◌∙◌, arith}
 use Rattle.std.specs.Prelude.{option_map}
 use Rattle.std.specs.List.{AllByRecursion, slice_get}

@@ -42,7 +42,8 @@ below [] m x e = absurd (cc)
 below (y ∷ ys) zero x e = omega arith
 below (y ∷ ys) (suc m) x e = let less = below ys m x e in omega (arith, less)
 
--- the two actions of a pair of kept accesses: the first is no later, and the second is one of the first n
+-- the two actions of a pair of kept accesses: the first is no later, and the second is
+-- one of the first n
 abbrev IsPair : ℕ → Kept × Kept → Type 0
 IsPair n p = (p.0.action ≤ p.1.action) × (p.1.action < n)
 

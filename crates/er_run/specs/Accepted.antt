@@ -35,13 +35,15 @@ use Rattle.er_races.specs.Races.{races_of, most_pairs, most_races}
 use Rattle.er_cover.specs.Groups.{Grouping, grouping_of, most_classes}
 use Rattle.er_run.specs.Races.{kept, candidates, races, classes, groups}
 
--- these are the numbers of the races of these records, newest first, and neither they nor the pairs are over a limit
+-- these are the numbers of the races of these records, newest first, and neither they nor the pairs
+-- are over a limit
 pub record AreListed (v : Version) (found : List Race) (h : List Record) : Type 0 where
   pub few_pairs : length (candidates h) ≤ most_pairs
   pub few_races : length (races v h) ≤ most_races
   pub are_races : found ≡ races_of (path (rules v) h) (kept h)
 
--- these are the groups of the races of these records, newest first, and the classes are not over their limit
+-- these are the groups of the races of these records, newest first, and the classes are
+-- not over their limit
 pub record AreGrouped (v : Version) (found : Grouping) (h : List Record) : Type 0 where
   pub few_classes : length (classes v h) ≤ most_classes
   pub are_groups : found ≡ grouping_of (path (rules v) h) (kept h)
@@ -76,7 +78,8 @@ IsFound asked v (findings.Orders k races orders) h =
     (asked ≡ Schedule k) × AreOrdersOf v k races.items orders h
 IsFound asked v (findings.Steps i j steps) h = (asked ≡ Explain i j) × IsExplanation v i j steps h
 
--- the session stands for these records, newest first, their `end` line has no cause, and this was found of them
+-- the session stands for these records, newest first, their `end` line has no cause, and this was
+-- found of them
 pub record IsJudged (asked : Command) (session : Session) (found : Found)
     (h : List Record) : Type 0 where
   pub stands : IsSessionOf session h
@@ -96,7 +99,8 @@ pub record IsAccepted (f : Format) (asked : Command) (bytes : List ℕ)
   pub legal : IsLegalTrace f asked judged.session.graph.version bytes records
   pub is_judged : IsJudged asked judged.session judged.found (reverse records)
 
--- the count of comparisons rose by one for each candidate pair of the records for which the session stands
+-- the count of comparisons rose by one for each candidate pair of the records for which
+-- the session stands
 abbrev pub IsCompared : Session → ℕ → ℕ → Type 0
 IsCompared session old new = (h : List Record) → IsSessionOf session h
     → new ≡ old + length (candidates h)

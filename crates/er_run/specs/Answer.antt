@@ -34,7 +34,8 @@ lines_asked _ = inputs.Text
 abbrev pub format_of : Command → Format
 format_of asked = lines_of (lines_asked asked)
 
--- the bytes are a trace in that version with these records, oldest first, which is legal for what is asked
+-- the bytes are a trace in that version with these records, oldest first, which is legal
+-- for what is asked
 pub record IsLegalTrace (f : Format) (asked : Command) (v : Version) (bytes : List ℕ)
     (records : List Record) : Type 0 where
   pub is_trace : IsTrace f v bytes records
@@ -96,7 +97,8 @@ pub record FirstIllegal (f : Format) (asked : Command) (bytes : List ℕ) (n : �
   pub begins : bytes ≡ before ++ rest
   pub illegal : Illegal f asked place rest c
 
--- how the command ends on legal records with these races, newest record first: an explanation knows no races
+-- how the command ends on legal records with these races, newest record first: an
+-- explanation knows no races
 abbrev pub outcome_of : {X : Type 0} → List X → Outcome
 outcome_of [] = Clean
 outcome_of (x ∷ xs) = Races
@@ -107,7 +109,8 @@ outcome_for (Gen n) v h = outcome_of (races v h)
 outcome_for (Schedule k) v h = outcome_of (races v h)
 outcome_for (Explain i j) v h = Clean
 
--- Where lines are read so, the answer of the bytes to the command is this outcome, and the text is due for it.
+-- Where lines are read so, the answer of the bytes to the command is this outcome, and
+-- the text is due for it.
 abbrev pub Answers : Format → Command → List ℕ → Outcome → List ℕ → Type 0
 Answers f asked bytes Clean due = (v : Version) × (records : List Record)
     × IsLegalTrace f asked v bytes records × (outcome_for asked v (reverse records) ≡ Clean)

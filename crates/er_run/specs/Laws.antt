@@ -32,7 +32,8 @@ OneAnswer = (asked : Command) (bytes : List ℕ) (o p : Outcome) (due text : Lis
     → Answers (format_of asked) asked bytes o due → Answers (format_of asked) asked bytes p text
     → (o ≡ p) × (due ≡ text)
 
--- to each command a byte string has an outcome, and a text is due for it; under a double negation, since the words of the definitions decide nothing
+-- to each command a byte string has an outcome, and a text is due for it; under a double negation,
+-- since the words of the definitions decide nothing
 abbrev pub EveryAnswer : Type 0
 EveryAnswer = (asked : Command) (bytes : List ℕ)
     → ¬ ¬ ((o : Outcome) × (due : List ℕ) × Answers (format_of asked) asked bytes o due)
@@ -43,7 +44,8 @@ LongerInput = (asked : Command) (bytes more : List ℕ) (n : ℕ) (c : Cause)
     → FirstIllegal (format_of asked) asked bytes n c → c ≢ NoEnd
     → FirstIllegal (format_of asked) asked (bytes ++ more) n c
 
--- The bytes of a legal trace, without some of the last, are refused for `no-end`, at the line behind their last LF.
+-- The bytes of a legal trace, without some of the last, are refused for `no-end`, at the line
+-- behind their last LF.
 abbrev pub CutTrace : Type 0
 CutTrace = (asked : Command) (v : Version) (records : List Record) (bytes more : List ℕ)
     → IsTrace (format_of asked) v (bytes ++ more) records → IsLegal (rules v) (reverse records)
@@ -55,7 +57,8 @@ CutTrace = (asked : Command) (v : Version) (records : List Record) (bytes more :
 abbrev pub KeptInOrder : Type 0
 KeptInOrder = (h : List Record) → IsStrictlyIncreasing (map (λ (x : Kept). x.line) (kept h))
 
--- the lines of the one race stand before those of the other: its first line is less, or the first lines are the same and its second is less
+-- the lines of the one race stand before those of the other: its first line is less, or the first
+-- lines are the same and its second is less
 abbrev pub StandsBefore : Kept × Kept → Kept × Kept → Type 0
 StandsBefore p q = (p.0.line < q.0.line) ⊎ ((p.0.line ≡ q.0.line) × (p.1.line < q.1.line))
 
@@ -77,7 +80,8 @@ abbrev pub EachRaceNamesACover : Type 0
 EachRaceNamesACover = (v : Version) (h : List Record) (k : ℕ) (race : Kept × Kept)
     → slice_get (races v h) k ≡ Some race → NamesFirstCover v h k race
 
--- by these lists no edge leads back in either order of the two actions, and each order shows them side by side
+-- by these lists no edge leads back in either order of the two actions, and each order shows them
+-- side by side
 pub record AreBothLawful (lists : List (List ℕ)) (i j : ℕ) : Type 0 where
   pub first : is_lawful lists (before_order (joins lists) (length lists) i j) ≡ true
   pub second : is_lawful lists (after_order (joins lists) (length lists) i j) ≡ true

@@ -1,4 +1,5 @@
--- Which lists are legal, and when the `end` line behind them is refused. Lists of records stand newest first.
+-- Which lists are legal, and when the `end` line behind them is refused. Lists of records stand
+-- newest first.
 use Rattle.std.specs.Prelude.{◌≡◌, ℕ, Bool, ◌||◌, nat_lt, nat_le, if◌then◌else◌, List, [], ◌∷◌, length, Option, Some, None}
 use Rattle.er_text.specs.declared.causes.Cause.{Cause}
 use Rattle.er_text.specs.declared.causes.Cause.TheVariants.{TooManyAccesses, TooManyPairs, TooManyRaces, TooManyClasses, NoRace, NoAction}
@@ -28,7 +29,8 @@ abbrev pub IsLegal : List (ℕ × Rule) → List Record → Type 0
 IsLegal table [] = Unit {0}
 IsLegal table (x ∷ h) = (cause table h x ≡ None) × IsLegal table h
 
--- the limit of the pairs or of the races that the records before the `end` line are over; where they are over none, another cause
+-- the limit of the pairs or of the races that the records before the `end` line are over; where
+-- they are over none, another cause
 abbrev pub listing_cause : Version → List Record → Option Cause → Option Cause
 listing_cause v h other =
     if nat_lt most_pairs (length (candidates h)) then Some TooManyPairs

@@ -31,7 +31,8 @@ IsFinal f asked bytes = (n : ℕ) × (c : Cause) × FirstIllegal f asked bytes n
 abbrev pub chunk_bytes : ℕ
 chunk_bytes = 4096
 
--- without their last chunk the bytes are not refused, but for `no-end`, and with it they are refused so
+-- without their last chunk the bytes are not refused, but for `no-end`, and with it they
+-- are refused so
 pub record IsJustRefused (f : Format) (asked : Command) (bytes : List ℕ) (n : ℕ)
     (c : Cause) : Type 0 where
   pub before : List ℕ
@@ -54,8 +55,8 @@ IsSilent ReadFault = Unit {0}
 IsSilent NoMemory = Unit {0}
 IsSilent _ = ⊥
 
--- How a call with this outcome leaves the count of a sink's faults: one more where a write failed, and
--- as it was with any other outcome.
+-- How a call with this outcome leaves the count of a sink's faults: one more where a write failed,
+-- and as it was with any other outcome.
 pub record CountsWrites (outcome : Outcome) (old new : ℕ) : Type 0 where
   pub rose : outcome ≡ WriteFault → Rose old new
   pub once : outcome ≡ WriteFault → new ≡ one_more old
@@ -88,7 +89,8 @@ tested_for (Check json input) v h = length (classes v h) * length (groups v h)
 tested_for (Gen n) v h = length (classes v h) * length (groups v h)
 tested_for _ v h = 0
 
--- where the trace is legal, the count of comparisons rose by one for each candidate pair that is compared
+-- where the trace is legal, the count of comparisons rose by one for each candidate pair
+-- that is compared
 abbrev pub Compares : Format → Command → List ℕ → Outcome → ℕ → ℕ → Type 0
 Compares f asked bytes Clean old new = (v : Version) (records : List Record)
     → IsLegalTrace f asked v bytes records → new ≡ old + compared_for asked (reverse records)
@@ -106,7 +108,8 @@ Tests f asked bytes Races old new = (v : Version) (records : List Record)
     → (old ≤ new) × (new ≤ old + 4 * tested_for asked v (reverse records))
 Tests f asked bytes _ old new = Unit {0}
 
--- What a command judges for this outcome: a generated trace, for which it takes nothing of the source, or the bytes that the call took of it.
+-- What a command judges for this outcome: a generated trace, for which it takes nothing of the
+-- source, or the bytes that the call took of it.
 abbrev pub IsInput : Format → Command → List ℕ → Option (List ℕ) → Option (List ℕ) → Outcome
     → Type 0
 IsInput f (Gen n) bytes left_old left_new outcome =
@@ -114,7 +117,8 @@ IsInput f (Gen n) bytes left_old left_new outcome =
 IsInput f asked bytes left_old left_new outcome =
     Gives left_old bytes left_new × IsDecided f asked bytes left_new outcome
 
--- what is seen of a call: what is left of the source, what the sink got, and how many comparisons and tests were made
+-- what is seen of a call: what is left of the source, what the sink got, and how many comparisons
+-- and tests were made
 pub record Seen : Type 0 where
   pub left : Option (List ℕ)
   pub got : Option (List ℕ)
@@ -125,7 +129,8 @@ abbrev pub seen : Option (List ℕ) → Option (List ℕ) → ℕ → ℕ → Se
 seen left got compared tested =
     record { left = left; got = got; compared = compared; tested = tested }
 
--- The input of the command answers this outcome, exactly the text that is due came to the sink, and the comparisons and the tests that it needs were made.
+-- The input of the command answers this outcome, exactly the text that is due came to the sink, and
+-- the comparisons and the tests that it needs were made.
 pub record IsAnswered (f : Format) (asked : Command) (old new : Seen)
     (outcome : Outcome) : Type 0 where
   pub input : List ℕ
@@ -134,7 +139,8 @@ pub record IsAnswered (f : Format) (asked : Command) (old new : Seen)
   pub compared : Compares f asked input outcome old.compared new.compared
   pub tested : Tests f asked input outcome old.tested new.tested
 
--- The input of the command answers some outcome, and a proper front of the text that is due came to the sink.
+-- The input of the command answers some outcome, and a proper front of the text that is
+-- due came to the sink.
 pub record IsCutShort (f : Format) (asked : Command) (old new : Seen) : Type 0 where
   pub input : List ℕ
   pub given : IsPartGiven f asked input old.got new.got

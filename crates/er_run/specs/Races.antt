@@ -1,4 +1,5 @@
--- Kept accesses, candidates, races, classes and groups. Lists of records stand newest first, all others oldest first.
+-- Kept accesses, candidates, races, classes and groups. Lists of records stand newest first, all
+-- others oldest first.
 use Rattle.std.specs.Prelude.{◌+◌, List, [], ◌∷◌, Option, Some}
 use Rattle.er_trace.specs.declared.record.Record.{Record}
 use Rattle.er_trace.specs.declared.version.Version.{Version}

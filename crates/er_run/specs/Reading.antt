@@ -1,4 +1,5 @@
--- What is read of a source, chunk by chunk. Lists of records stand oldest first, but for those that a session stands for.
+-- What is read of a source, chunk by chunk. Lists of records stand oldest first, but for those that
+-- a session stands for.
 use Rattle.std.specs.Prelude.{◌≡◌, ◌≢◌, ◌⊎◌, ℕ, ◌<◌, ◌≤◌, List, ◌++◌, reverse, length, Option, Some, None, Result, Err, IsErrOf}
 use Rattle.er_io.specs.Ends.{Gives, IsSpent, Rose, one_more}
 use Rattle.er_text.specs.declared.causes.Cause.{Cause}
@@ -64,13 +65,15 @@ abbrev pub fault_of : Option LineRefusal → Option FeedFault
 fault_of None = None
 fault_of (Some refused) = Some (faults.Refused refused.line refused.cause)
 
--- a line of the bytes is refused, whatever is asked, which no further byte changes; or memory ran out
+-- a line of the bytes is refused, whatever is asked, which no further byte changes; or
+-- memory ran out
 abbrev pub IsFinalFault : Format → List ℕ → FeedFault → Type 0
 IsFinalFault f bytes (faults.Refused n c) =
     ((asked : Command) → FirstIllegal f asked bytes n c) × (c ≢ NoEnd)
 IsFinalFault f bytes faults.NoMemory = Unit {0}
 
--- The `end` line was read and nothing behind it; or a line is refused, where the source is at its end or which no further byte changes.
+-- The `end` line was read and nothing behind it; or a line is refused, where the source is at its
+-- end or which no further byte changes.
 abbrev pub IsEnd : Option (List ℕ) → Option LineRefusal → Type 0
 IsEnd left None = Unit {0}
 IsEnd left (Some refused) = IsSpent left ⊎ (refused.cause ≢ NoEnd)
@@ -88,7 +91,8 @@ pub record Advances (f : Format) (left_old left_new : Option (List ℕ)) (mark :
 abbrev pub IsOpen : Format → List ℕ → List Record → Type 0
 IsOpen f bytes records = ¬ IsTraceOf f bytes records
 
--- With the chunk that was read behind these bytes the reading is at its end, and the session stands for its records.
+-- With the chunk that was read behind these bytes the reading is at its end, and the session stands
+-- for its records.
 pub record Ends (f : Format) (left_old left_new : Option (List ℕ)) (session : Option Session)
     (refused : Option LineRefusal) (bytes : List ℕ) : Type 0 where
   pub chunk : List ℕ
@@ -113,7 +117,8 @@ pub record IsUndecided (f : Format) (left_old left_new : Option (List ℕ))
   pub gave : Gives left_old bytes left_new
   pub fresh : (asked : Command) → IsFinal f asked bytes → ⊥
 
--- How a call that may fail leaves the count of a source's faults: one more where it failed, and else as it was.
+-- How a call that may fail leaves the count of a source's faults: one more where it failed, and
+-- else as it was.
 pub record CountsReads {X : Type 0} (result : Result X InputFault) (old new : ℕ) : Type 0 where
   pub rose : IsErrOf result Failed → Rose old new
   pub once : IsErrOf result Failed → new ≡ one_more old

@@ -19,7 +19,8 @@ use Rattle.er_run.specs.Legal.{IsLegal}
 use Rattle.er_run.specs.Legal as legality
 use Rattle.er_run.specs.Races.{kept}
 
--- the records with their lines: the one at place k, counted from 0 in the order of the trace, stands in line k + 2
+-- the records with their lines: the one at place k, counted from 0 in the order of the trace,
+-- stands in line k + 2
 abbrev pub with_lines : List Record → List Accepted
 with_lines [] = []
 with_lines (x ∷ h) = record { line = length h + 2; read = x } ∷ with_lines h
@@ -69,13 +70,15 @@ pub record MayTake (session : Option Session) (given : Option Version)
   pub few : length list + length records ≤ most_lines
   pub of_version : AreGiven given records
 
--- A record after the list is refused for the first cause against it, with its line; or memory ran out.
+-- A record after the list is refused for the first cause against it, with its line; or
+-- memory ran out.
 abbrev pub IsFaultAfter : Version → List Record → Record → FeedFault → Type 0
 IsFaultAfter v h x (Refused line cause) =
     (line ≡ length h + 2) × (legality.cause (rules v) h x ≡ Some cause)
 IsFaultAfter v h x NoMemory = Unit {0}
 
--- The record of the line is the first that has a cause after those before it, which is the one answered; or memory ran out.
+-- The record of the line is the first that has a cause after those before it, which is the one
+-- answered; or memory ran out.
 abbrev pub IsFaultOf : Version → List Record → FeedFault → Type 0
 IsFaultOf v records (Refused line cause) =
     (at : ℕ) × (line ≡ at + 2) × IsLegal (rules v) (reverse (take at records))
@@ -93,7 +96,8 @@ pub record AreKept (old due new : List Kept) : Type 0 where
   pub same : new ≡ due
   pub room : length old < length due → length old ≢ most_accesses
 
--- The access is refused with its line where there is no room for it; or there is, and memory ran out.
+-- The access is refused with its line where there is no room for it; or there is, and
+-- memory ran out.
 abbrev pub IsFaultOfRoom : FeedFault → Kept → List Kept → Type 0
 IsFaultOfRoom (Refused line cause) x old =
     (line ≡ x.line) × (cause ≡ TooManyAccesses) × IsFull x old

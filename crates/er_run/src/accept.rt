@@ -101,7 +101,8 @@ fn accept_end<L: Lines, R: Threads + Sync, S: Source, G: Gate + Sync>(
     }
 }
 
-/// The refusal of the line that is none; or that of the `end` line before it, where that one has a cause.
+/// The refusal of the line that is none; or that of the `end` line before it, where that
+/// one has a cause.
 fn first_refusal<L: Lines, R: Threads + Sync, G: Gate + Sync>(
     work: &Work<'_, R, G>,
     command: Command,

@@ -12,7 +12,8 @@ use er_lines::format::Lines;
 use er_trace::fault::FeedFault;
 use er_words::Command;
 
-/// Writes the text that is due to the command for what its input came to, and answers how the run ends.
+/// Writes the text that is due to the command for what its input came to, and answers how
+/// the run ends.
 pub(crate) fn answer<L: Lines, K: Sink>(
     asked: Command,
     verdict: Result<Judged, FeedFault>,

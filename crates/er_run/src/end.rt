@@ -108,8 +108,8 @@ fn listing_within<R: Threads + Sync, G: Gate + Sync>(
     }
 }
 
-/// The two orders for the race of this number, unless there is none, or the races or the pairs are over
-/// their limit.
+/// The two orders for the race of this number, unless there is none, or the races or the pairs are
+/// over their limit.
 fn orders_within<R: Threads + Sync, G: Gate + Sync>(
     work: &Work<'_, R, G>,
     session: &Session,

@@ -5,8 +5,8 @@ ghost use Rattle.std.specs.Prelude.{◌≡◌};
 use er_shard::Work;
 use std::alloc::Global;
 
-/// What makes the threads, where memory comes from, and the gate that each shard passes before its first
-/// comparison.
+/// What makes the threads, where memory comes from, and the gate that each shard passes before its
+/// first comparison.
 pub struct Host<'a, R, G> {
     pub rt: &'a R,
     pub alloc: Global,

@@ -45,8 +45,9 @@ enum Step {
     Ended(Option<LineRefusal>),
 }
 
-/// Reads the trace that the source gives, to its `end` line or to the first line that is illegal. Answers
-/// what the records come to, and the line behind them that is no line of a trace, where one is.
+/// Reads the trace that the source gives, to its `end` line or to the first line that is
+/// illegal. Answers what the records come to, and the line behind them that is no line of
+/// a trace, where one is.
 pub(crate) fn read<L: Lines, S: Source>(
     alloc: Global,
     source: &mut S,
@@ -60,7 +61,8 @@ pub(crate) fn read<L: Lines, S: Source>(
     let mut session: Option<Session> = None;
     let mut feed: LineFeed<L> = LineFeed::new(alloc);
     let mut came = Vec::new(alloc);
-    // Each turn reads a byte at least, and as long as no line is refused fewer bytes come than turns may.
+    // Each turn reads a byte at least, and as long as no line is refused fewer bytes come
+    // than turns may.
     for turn in 0..u64::MAX {
         match read_chunk(alloc, source, &mut feed, &mut session, &mut came) {
             Ok(Step::GoesOn) => {}
@@ -76,7 +78,8 @@ pub(crate) fn read<L: Lines, S: Source>(
     unreachable!()
 }
 
-/// Reads the next chunk and judges the records of the lines that end in it. What the list holds goes.
+/// Reads the next chunk and judges the records of the lines that end in it. What the list
+/// holds goes.
 fn read_chunk<L: Lines, S: Source>(
     alloc: Global,
     source: &mut S,
@@ -154,8 +157,8 @@ fn line_at_end<L: Lines>(feed: &LineFeed<L>) -> Option<LineRefusal>
     }
 }
 
-/// Feeds a chunk and judges the records of the lines that end in it, which take the place of what the list
-/// holds. Answers the line that is refused, where one is.
+/// Feeds a chunk and judges the records of the lines that end in it, which take the place of what
+/// the list holds. Answers the line that is refused, where one is.
 fn take_chunk<L: Lines>(
     alloc: Global,
     feed: &mut LineFeed<L>,
@@ -191,8 +194,8 @@ fn take_chunk<L: Lines>(
     }
 }
 
-/// Takes the records one after the other, to the first that is refused, in the version that the first line
-/// gave. Before that line there are none.
+/// Takes the records one after the other, to the first that is refused, in the version that the
+/// first line gave. Before that line there are none.
 fn judge_all(
     alloc: Global,
     session: &mut Option<Session>,

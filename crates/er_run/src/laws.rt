@@ -18,8 +18,8 @@ pub fn longer_input()
     ensures { LongerInput }
 {}
 
-/// To each command, the bytes of a legal trace that lack some of the last are refused for `no-end`, at the
-/// line behind their last LF.
+/// To each command, the bytes of a legal trace that lack some of the last are refused for `no-end`,
+/// at the line behind their last LF.
 pub fn cut_trace()
     ensures { CutTrace }
 {}
@@ -39,8 +39,8 @@ pub fn each_race_names_a_cover()
     ensures { EachRaceNamesACover }
 {}
 
-/// No edge leads back in either order of the actions of a race: the rules keep both, and each shows the two side
-/// by side.
+/// No edge leads back in either order of the actions of a race: the rules keep both, and each shows
+/// the two side by side.
 pub fn orders_keep_rules()
     ensures { OrdersKeepRules }
 {}

@@ -32,15 +32,17 @@ mod tell;
 pub use host::Host;
 pub use meters::Meters;
 
-/// Does what the words ask for: reads the trace that the source gives, at most 4,096 bytes at a time, to its
-/// end or to the chunk that decides a refusal. It writes the report of its races, two orders for one of
-/// them, why two of its actions are ordered, or the refusal, to the sink; or the summary of a generated
-/// trace.
+/// Does what the words ask for: reads the trace that the source gives, at most 4,096 bytes at a
+/// time, to its end or to the chunk that decides a refusal. It writes the report of its races, two
+/// orders for one of them, why two of its actions are ordered, or the refusal, to the sink; or the
+/// summary of a generated trace.
 ///
-/// The words are those of the command, without the program's own name. Each candidate pair of accesses is
-/// compared once, which `compares` of the meters counts; `tests` counts the comparisons that group the races.
-/// The races are listed and grouped by as many shards as the words ask for, each in a thread where one can
-/// be made; each passes the gate before its first comparison. The answer is the same for any number of them.
+/// The words are those of the command, without the program's own name. Each candidate pair of
+/// accesses is compared once, which `compares` of the meters counts; `tests` counts the comparisons
+/// that group the races.
+/// The races are listed and grouped by as many shards as the words ask for, each in a thread where
+/// one can be made; each passes the gate before its first comparison. The answer is the same for
+/// any number of them.
 pub fn run<R: Threads + Sync, S: Source, K: Sink, G: Gate + Sync>(
     host: &Host<'_, R, G>,
     words: &[String],
@@ -49,9 +51,9 @@ pub fn run<R: Threads + Sync, S: Source, K: Sink, G: Gate + Sync>(
     meters: &mut Meters,
 ) -> Outcome
     requires room { HaveRoom meters.old }
-    // The input of the command answers the outcome, the text that is due was written, and with a report
-    // `compares` rose by exactly the number of candidate pairs, `tests` by at most four for each pair of a
-    // class and a group.
+    // The input of the command answers the outcome, the text that is due was written, and with a
+    // report `compares` rose by exactly the number of candidate pairs, `tests` by at most four for
+    // each pair of a class and a group.
     ensures answered { (asked : Asked) → Asks (map string_bytes words.now) asked → IsAnswer result
         → IsAnswered (format_of asked.command) asked.command
         (seen (S.left source.old) (K.got sink.old) meters.old.compares meters.old.tests)
@@ -84,14 +86,15 @@ pub fn run<R: Threads + Sync, S: Source, K: Sink, G: Gate + Sync>(
     // No answer comes over a fault.
     ensures no_fault { IsAnswer result
         → (S.faults source.new ≡ S.faults source.old) × (K.faults sink.new ≡ K.faults sink.old) }
-    // A refused command leaves the source as it was, and so does a generated trace, for which no read fails.
+    // A refused command leaves the source as it was, and so does a generated trace, for
+    // which no read fails.
     ensures unread { result ≡ Outcome.Usage → source.new ≡ source.old }
     ensures generated { (asked : Asked) (n : ℕ) → Asks (map string_bytes words.now) asked
         → asked.command ≡ Command.Gen n → (source.new ≡ source.old) × (result ≢ Outcome.ReadFault) }
     // A refused command, a failed read and out of memory leave the sink as it was.
     ensures unwritten { IsSilent result → sink.new ≡ sink.old }
-    // Where no fault came, the outcome is the answer of all that the command has to judge, unless memory
-    // ran out.
+    // Where no fault came, the outcome is the answer of all that the command has to judge, unless
+    // memory ran out.
     ensures complete { (asked : Asked) → Asks (map string_bytes words.now) asked
         → NoReadFailed asked.command (S.faults source.old) (S.faults source.new)
         → ¬ Rose (K.faults sink.old) (K.faults sink.new)

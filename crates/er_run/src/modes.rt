@@ -26,7 +26,8 @@ use er_trace::fault::FeedFault;
 use er_words::{Command, Input};
 use std::thread::Threads;
 
-/// Judges the trace that the source gives, in lines as the command has them, and writes what is asked for.
+/// Judges the trace that the source gives, in lines as the command has them, and writes
+/// what is asked for.
 pub(crate) fn judge_input<R: Threads + Sync, S: Source, K: Sink, G: Gate + Sync>(
     work: &Work<'_, R, G>,
     command: Command,

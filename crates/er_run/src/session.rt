@@ -36,8 +36,8 @@ impl Drop for Session {
     }
 }
 
-/// What the records of a generated trace come to, in version 1, or the first that is refused. Each is
-/// judged before the next is made.
+/// What the records of a generated trace come to, in version 1, or the first that is refused. Each
+/// is judged before the next is made.
 pub(crate) fn judge(alloc: Global, generator: &mut Generator) -> Result<Session, FeedFault>
     requires room { length generator.old ≤ most_lines }
     requires of_version { list_all (has_record Version.One) generator.old ≡ true }
@@ -75,8 +75,8 @@ impl Session {
         self.records + 2
     }
 
-    /// Takes the records one after the other, to the first that is refused. They are of its version. After
-    /// an error it stands for no list.
+    /// Takes the records one after the other, to the first that is refused. They are of its
+    /// version. After an error it stands for no list.
     pub(crate) fn take_all(&mut self, records: &[Record]) -> Result<(), FeedFault>
         requires some { IsSession self.old }
         requires room { self.old.records + length records.now ≤ most_lines }
@@ -97,8 +97,8 @@ impl Session {
         Ok(())
     }
 
-    /// Takes the records that the generator gives, one after the other, to the first that is refused. They
-    /// are of its version. After an error it stands for no list.
+    /// Takes the records that the generator gives, one after the other, to the first that is
+    /// refused. They are of its version. After an error it stands for no list.
     fn take_generated(&mut self, generator: &mut Generator) -> Result<(), FeedFault>
         requires some { IsSession self.old }
         requires room { self.old.records + length generator.old ≤ most_lines }
@@ -138,8 +138,8 @@ impl Session {
         self.take(&rec)
     }
 
-    /// Takes the next record, or answers why it is not accepted. The limit on accesses is asked last. After
-    /// an error it stands for no list: the graph may have taken the record.
+    /// Takes the next record, or answers why it is not accepted. The limit on accesses is asked
+    /// last. After an error it stands for no list: the graph may have taken the record.
     pub(crate) fn take(&mut self, rec: &Record) -> Result<(), FeedFault>
         requires some { IsSession self.old }
         requires room { self.old.records < most_lines }

@@ -13,8 +13,8 @@ use er_shard::Gate;
 use er_words::Asked;
 use std::thread::Threads;
 
-/// `run` over ends whose calls never fail: what the command has to judge is answered, unless memory runs
-/// out.
+/// `run` over ends whose calls never fail: what the command has to judge is answered,
+/// unless memory runs out.
 pub fn run_surely<R: Threads + Sync, G: Gate + Sync>(
     host: &Host<'_, R, G>,
     words: &[String],

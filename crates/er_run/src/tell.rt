@@ -1,4 +1,5 @@
-//! The text that is due: that of what was found of a legal trace, or a refusal, as the command asks for it.
+//! The text that is due: that of what was found of a legal trace, or a refusal, as the
+//! command asks for it.
 
 ghost use Rattle.std.specs.Prelude.{◌≡◌, ◌≢◌, ◌≤◌, List};
 ghost use Rattle.er_io.specs.Ends.{Puts};

@@ -61,3 +61,5 @@ run_too_late asked = of_record _ asked _ _ _ One (Parse 0 1 kinds.Sync ∷ step 
   begins = refl;
   cause = refl;
 })
+
+pub ruleset worked_causes = (causes_of_records, orders_of_records)

@@ -23,7 +23,8 @@ abbrev pub causes : Version → List Record → List (Option Cause)
 causes v [] = []
 causes v (x ∷ h) = cause (rules v) h x ∷ causes v h
 
--- In this version the records are spelled so, each is legal, they are within the limits, and this is their report.
+-- In this version the records are spelled so, each is legal, they are within the limits, and this
+-- is their report.
 pub record Reports (v : Version) (records : List Record) (spelled reported : List ℕ)
     (none : List (Option Cause)) : Type 0 where
   pub text : same_bytes (text v records) spelled ≡ true
@@ -121,7 +122,8 @@ DeferredScripts spelled reported =
     ∷ Parse 0 3 kinds.Defer ∷ Exec 1 ∷ writes (codes "x") ∷ Exec 3 ∷ reads (codes "x") ∷ [])
     spelled reported (None ∷ None ∷ None ∷ None ∷ None ∷ None ∷ None ∷ None ∷ None ∷ [])
 
--- the step that declared a document is before its parse steps, which are in no order with others of the first
+-- the step that declared a document is before its parse steps, which are in no order with
+-- others of the first
 abbrev pub OtherDocuments : List ℕ → List ℕ → Type 0
 OtherDocuments spelled reported =
     Reports One (ParseFrame 0 1 1 ∷ writes (codes "x") ∷ Parse 1 2 kinds.Plain ∷ writes (codes "x")

@@ -98,8 +98,8 @@ fn status_between(
     outcome.status()
 }
 
-/// Below 1,025 letters and the chunk that brings the last. Of the accesses, two lines, 27 bytes together, those
-/// that may follow, and one byte more decide.
+/// Below 1,025 letters and the chunk that brings the last. Of the accesses, two lines, 27 bytes
+/// together, those that may follow, and one byte more decide.
 #[test]
 fn lines_and_inputs_without_an_end(rt: HostRuntime) {
     let lines = 27 + 10 * 2_097_150 + 1;

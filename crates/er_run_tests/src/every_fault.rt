@@ -1,4 +1,5 @@
-//! The realistic load with each read and each write failing in turn, and cut behind each of its lines.
+//! The realistic load with each read and each write failing in turn, and cut behind each
+//! of its lines.
 
 use crate::realistic::{TRACE, call_of_load, load_through};
 use crate::through::{Call, Done, Written, call_of, through};
@@ -6,7 +7,8 @@ use er_shard::FreeGate;
 use std::alloc::{AllocError, Global};
 use std::thread::Threads;
 
-/// How many reads of 64 bytes a clean run makes: those of the 596 bytes of the load, and one that gives nothing.
+/// How many reads of 64 bytes a clean run makes: those of the 596 bytes of the load, and one that
+/// gives nothing.
 const READS: u32 = 11;
 
 /// How many writes of 16 bytes a clean run makes for the 513 bytes of the report.

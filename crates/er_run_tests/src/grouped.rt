@@ -63,7 +63,8 @@ impl Kept {
         }
     }
 
-    /// Keeps what the record of the next line accesses. Out of memory stands for an action that has gone by, too.
+    /// Keeps what the record of the next line accesses. Out of memory stands for an action that has
+    /// gone by, too.
     fn keep(&mut self, action: u32, rec: &Record) -> Result<(), LineFault> {
         if action < self.action || self.line == u32::MAX {
             return Err(LineFault::NoMemory);

@@ -1,4 +1,5 @@
-//! Rows at a limit: of lines, of a line's length, of actions, of inline dispatches, and of accesses.
+//! Rows at a limit: of lines, of a line's length, of actions, of inline dispatches, and
+//! of accesses.
 
 use crate::inputs::Lines::{Back, Inline, Letter, Read, Step, Variable};
 use crate::inputs::Part::{self, Down, Text, Up};
@@ -19,7 +20,8 @@ const MOST_ACCESSES: u32 = 1_048_576;
 /// The most inline dispatches on the stack.
 const MOST_INLINE: u32 = 256;
 
-/// The parts of an input, the most bytes that a read gives, one call for each, and the answer with its status.
+/// The parts of an input, the most bytes that a read gives, one call for each, and the
+/// answer with its status.
 struct Row {
     parts: &'static [Part],
     chunks: &'static [u32],

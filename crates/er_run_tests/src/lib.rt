@@ -1,4 +1,5 @@
-//! Tests that cross crates: the worked rows through `run`, as tables, and the same rows as laws of the definitions.
+//! Tests that cross crates: the worked rows through `run`, as tables, and the same rows as laws of
+//! the definitions.
 #![tactic(auto)]
 
 ghost use Rattle.er_run_tests.specs.Rows.{Causes, Orders, UnknownTimeout, NotAScript, RunTooLate};
@@ -60,7 +61,7 @@ mod timers;
 mod words;
 
 /// The causes of single records, as the definitions give them.
-#[tactic(auto, using(crate::proofs::Computed::causes_of_records, crate::proofs::Computed::orders_of_records))]
+#[tactic(auto, using(crate::proofs::Computed::worked_causes))]
 pub fn worked_causes()
     ensures naming { Causes }
     ensures order { Orders }

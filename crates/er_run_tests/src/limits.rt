@@ -72,7 +72,8 @@ fn as_many_pairs_as_may_be(rt: HostRuntime) {
     }
 }
 
-/// The begin of an input whose timeouts fire against the order in which they were set, each with a delay that is less.
+/// The begin of an input whose timeouts fire against the order in which they were set, each with a
+/// delay that is less.
 const SCRIPT: Part = Text("parse 0 1 inline\nexec 1\n");
 
 /// Inputs over a limit, and the refusal, which a byte behind the `end` line does not change.
@@ -128,7 +129,8 @@ fn reads_for(text: &str) -> u32 {
     u32::try_from(text.len().div_ceil(4096)).unwrap_or(u32::MAX)
 }
 
-/// Whether the input is refused with the read that brings its last line, and no read comes behind it.
+/// Whether the input is refused with the read that brings its last line, and no read
+/// comes behind it.
 fn is_refused(
     rt: &(impl Threads + Sync),
     alloc: Global,
@@ -153,8 +155,9 @@ fn one_too_many(rt: HostRuntime) {
     }
 }
 
-/// How many timeouts fire against the order in which they were set, so that each races with each other, the words of
-/// the command, and the counts. No race covers another: each is a class, and each class a group.
+/// How many timeouts fire against the order in which they were set, so that each races with each
+/// other, the words of the command, and the counts. No race covers another: each is a class, and
+/// each class a group.
 static APART: [(u32, &str, Counts); 4] = [
     (
         181,
@@ -246,8 +249,9 @@ fn report_of(alloc: Global, count: u32, counts: &Counts) -> Result<String, Alloc
     report(alloc, &races, &groups, counts)
 }
 
-/// Whether the report comes, by one comparison a pair, at most four for each class and group, one read for each 4,096
-/// bytes and one that gives nothing, and at most one write for each 4,096 bytes and one more.
+/// Whether the report comes, by one comparison a pair, at most four for each class and group, one
+/// read for each 4,096 bytes and one that gives nothing, and at most one write for each 4,096 bytes
+/// and one more.
 fn is_each_a_group(
     rt: &(impl Threads + Sync),
     alloc: Global,

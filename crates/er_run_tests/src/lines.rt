@@ -22,8 +22,8 @@ static ASKED: [Asked; 7] = [
         status: 1,
         compares: 1,
     },
-    // Timeouts of one delay, set in two actions that are in order: in version 1 their callbacks are in none, in
-    // version 2 they are.
+    // Timeouts of one delay, set in two actions that are in order: in version 1 their callbacks are
+    // in none, in version 2 they are.
     Asked {
         words: "jsonl",
         input: "[\"webtrace\",1]\n[\"parse\",0,1,\"plain\"]\n[\"set\",1,5]\n[\"parse\",0,2,\"plain\"]\n[\"set\",2,5]\n[\"timer\",1]\n[\"w\",\"var\",0,\"x\"]\n[\"timer\",2]\n[\"r\",\"var\",0,\"x\"]\n[\"end\"]\n",

@@ -1,4 +1,5 @@
-//! A row of a table: a trace, and the report or the refusal that is due for it; a command, and its answer.
+//! A row of a table: a trace, and the report or the refusal that is due for it; a
+//! command, and its answer.
 
 use crate::through::{Call, Done, SOUND, through};
 use std::alloc::{AllocError, Global};

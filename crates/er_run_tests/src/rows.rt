@@ -1,4 +1,5 @@
-//! Worked rows: each function answers a small trace with its report, and its contract is that the definitions give this report for the trace's records.
+//! Worked rows: each function answers a small trace with its report, and its contract is that the
+//! definitions give this report for the trace's records.
 
 ghost use Rattle.er_run_tests.specs.Rows.{TimeoutsThatRace, TimeoutsInOrder, EqualDelays, DelaysThatDisagree, TwoSetters, Repeats, OneAction, TwoReads, ParseSteps, NothingAtAll, BlockingScripts, AsyncScripts, DeferredScripts, OtherDocuments, OneClass, LaterRepresentative, JoinedSetters, CallbacksThatSet};
 ghost use Rattle.er_trace.specs.declared.version.Version.TheVariants.{One, Two};
@@ -140,7 +141,8 @@ pub fn deferred_scripts() -> Worked
     }
 }
 
-/// The step that declared a document is before its parse steps, which are in no order with others of the first.
+/// The step that declared a document is before its parse steps, which are in no order with others
+/// of the first.
 pub fn other_documents() -> Worked
     ensures { OtherDocuments result.trace.now result.report.now }
 {

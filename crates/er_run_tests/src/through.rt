@@ -71,7 +71,8 @@ impl Done {
         self.written == Written::Whole && self.outcome.status() == status
     }
 
-    /// Whether so much was written, by so many reads and writes, of which the one failed that the status tells.
+    /// Whether so much was written, by so many reads and writes, of which the one failed that the
+    /// status tells.
     pub(crate) fn is(&self, status: u8, written: Written, calls: (u32, u32)) -> bool {
         let faults = (u64::from(status == 4), u64::from(status == 5));
         self.outcome.status() == status

@@ -1,4 +1,5 @@
-//! What the words ask for: reports and refusals as lines of JSON, summaries of generated traces, and wrong usage.
+//! What the words ask for: reports and refusals as lines of JSON, summaries of generated traces,
+//! and wrong usage.
 
 use crate::row::Asked;
 use crate::through::{Call, SOUND, Written, through};
@@ -143,7 +144,8 @@ fn commands(rt: HostRuntime) {
 const LINE: &str =
     "usage: er_cli [check|gen|schedule|explain|jsonl] [--shards N] [--json] [--number N] [--race N] [--from N] [--to N]";
 
-/// Whether the words ask for nothing: nothing is read or written, and the line says what may be asked.
+/// Whether the words ask for nothing: nothing is read or written, and the line says what
+/// may be asked.
 fn is_usage(rt: &(impl Threads + Sync), alloc: Global, words: &str) -> Result<bool, AllocError> {
     let call = Call {
         words,

@@ -1,4 +1,5 @@
--- The two orders of a race. An order stands with its first action first; lists of predecessors stand newest first.
+-- The two orders of a race. An order stands with its first action first; lists of predecessors
+-- stand newest first.
 use Rattle.std.specs.Prelude.{◌≡◌, ℕ, Bool, true, List}
 use Rattle.er_paths.specs.orders.Orders.{is_lawful, before_order, after_order}
 

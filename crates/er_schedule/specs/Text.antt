@@ -1,4 +1,5 @@
--- The text of the two orders of a race. Lists of predecessors stand newest first, all others oldest first.
+-- The text of the two orders of a race. Lists of predecessors stand newest first, all
+-- others oldest first.
 use Rattle.std.specs.Prelude.{◌≡◌, ℕ, zero, suc, List, [], ◌++◌, length, codes, slice_get, Option, Some, None}
 use Rattle.er_trace.specs.Trace.{line}
 use Rattle.er_paths.specs.Paths.{joins}

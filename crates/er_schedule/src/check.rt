@@ -12,9 +12,11 @@ use er_clocks::{Clocks, Paths};
 use er_io::NoMemory;
 use std::alloc::Global;
 
-/// Whether the order has each action once and nothing else, no path leads from a member to another, earlier one, and i stands directly before j.
+/// Whether the order has each action once and nothing else, no path leads from a member to another,
+/// earlier one, and i stands directly before j.
 ///
-/// It goes through the links once: an order keeps all paths where each source of a link stands before what it leads to.
+/// It goes through the links once: an order keeps all paths where each source of a link stands
+/// before what it leads to.
 pub fn check_schedule(
     alloc: Global,
     clocks: &Clocks,

@@ -12,9 +12,11 @@ use er_clocks::{Clocks, Paths};
 use er_io::NoMemory;
 use std::alloc::Global;
 
-/// The two orders of two actions that no path joins: all that have a path to one of them come first, then the two, then the others.
+/// The two orders of two actions that no path joins: all that have a path to one of them come
+/// first, then the two, then the others.
 ///
-/// It asks for each action whether it has a path to one of the two, by two comparisons of numbers, and counts none.
+/// It asks for each action whether it has a path to one of the two, by two comparisons of numbers,
+/// and counts none.
 pub fn make_schedules(alloc: Global, clocks: &Clocks, i: u32, j: u32) -> Result<Schedules, NoMemory>
     requires earlier { i < j }
     requires begun { j < length clocks.now }

@@ -9,7 +9,8 @@ use Rattle.er_cover.specs.Parts.{Classing, names_between, once_of}
 abbrev pub begin_of : ℕ → Classing → ℕ → ℕ
 begin_of shards classes s = s * length (once_of classes) / shards
 
--- what the classes of these shards name, by at most two comparisons for each pair of a class and a group
+-- what the classes of these shards name, by at most two comparisons for each pair of a
+-- class and a group
 pub record IsNamed (shards from to : ℕ) (joined : ℕ → ℕ → Bool) (classes : Classing)
     (names : Result (Vec ℕ Global) NoMemory) (made : ℕ) : Type 0 where
   pub named : IfOk names (λ v. v.items

@@ -19,7 +19,8 @@ use er_cover::{Classes, CoverFault, Groups, gather, make_classes, name_part};
 use er_races::Race;
 use std::thread::{Threads, join};
 
-/// Groups the races of a table, as `group` of er_cover does, where the shards of the work name the covers.
+/// Groups the races of a table, as `group` of er_cover does, where the shards of the work
+/// name the covers.
 ///
 /// Each shard passes the gate before its first comparison.
 pub fn group_shards<R: Threads + Sync, G: Gate + Sync>(
@@ -60,7 +61,8 @@ pub fn group_shards<R: Threads + Sync, G: Gate + Sync>(
 }
 
 #[cycle(names)]
-/// What the classes of the shards from `from` on and below `to` name: one alone, or two halves, each in a thread.
+/// What the classes of the shards from `from` on and below `to` name: one alone, or two halves,
+/// each in a thread.
 fn name_between<R: Threads + Sync, G: Gate + Sync>(
     work: &Work<'_, R, G>,
     classes: &Classes,

@@ -15,7 +15,8 @@ pub(crate) struct Names {
     pub(crate) meter: Meter,
 }
 
-/// Where the classes of a shard begin: the shard's number times that of all classes, divided by the number of shards.
+/// Where the classes of a shard begin: the shard's number times that of all classes, divided by the
+/// number of shards.
 #[tactic(auto, using(crate::proofs::NamedLemmas::begins_within))]
 pub(crate) fn begin(count: u32, shards: u32, shard: u32) -> u32
     requires some { 0 < shards }

@@ -8,7 +8,8 @@ ghost use Rattle.er_shard.specs.Parts.{AreBoth, IsPart};
 use er_clocks::Meter;
 use er_races::{ListFault, MOST_RACES, Race};
 
-/// The races of some of the shards, or why they were not listed, and how many comparisons were made.
+/// The races of some of the shards, or why they were not listed, and how many comparisons
+/// were made.
 #[derive(Drop)]
 pub(crate) struct Part {
     pub(crate) races: Result<Vec<Race>, ListFault>,

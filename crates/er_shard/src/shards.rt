@@ -14,10 +14,11 @@ use er_clocks::{Meter, Paths};
 use er_races::{ListFault, Race, list_part};
 use std::thread::{Threads, join};
 
-/// Lists the races in the order of their accesses, as `list` of er_races does, by all shards of the work.
+/// Lists the races in the order of their accesses, as `list` of er_races does, by all
+/// shards of the work.
 ///
-/// A shard works on the locations k with `k % shards == shard`, in a thread where one can be made, and
-/// passes the gate before its first comparison.
+/// A shard works on the locations k with `k % shards == shard`, in a thread where one can be made,
+/// and passes the gate before its first comparison.
 pub fn list_shards<R: Threads + Sync, P: Paths + Sync, G: Gate + Sync>(
     work: &Work<'_, R, G>,
     table: &Table,

@@ -2,8 +2,8 @@
 
 use std::alloc::Global;
 
-/// What makes the threads, where memory comes from, how many shards there are, and the gate that each
-/// passes before its first comparison.
+/// What makes the threads, where memory comes from, how many shards there are, and the gate that
+/// each passes before its first comparison.
 pub struct Work<'a, R, G> {
     pub rt: &'a R,
     pub alloc: Global,

@@ -1,6 +1,6 @@
-//! Lines that are read at the front of some bytes, with no look for their ends: accesses whose names
-//! have no byte that is spelled by digits, parse steps of plain elements, and timeouts that are set
-//! or that fire. Most lines of a trace are one of these.
+//! Lines that are read at the front of some bytes, with no look for their ends: accesses whose
+//! names have no byte that is spelled by digits, parse steps of plain elements, and timeouts that
+//! are set or that fire. Most lines of a trace are one of these.
 
 ghost use Rattle.std.specs.Prelude.{◌≡◌, ◌<◌, ◌≤◌, ◌+◌, ◌^◌, ◌∷◌, ◌++◌, not, length, take, drop, position, IfSome, decimal, codes};
 ghost use Rattle.std.specs.Str.Parse.{AllDigits, digits_value};
@@ -100,8 +100,8 @@ fn plain_end(bytes: &[u8]) -> Option<usize>
     Some(end)
 }
 
-/// The name of so many bytes at the front. For one that needs no memory enough bytes must follow for
-/// a copy of a fixed length.
+/// The name of so many bytes at the front. For one that needs no memory enough bytes must follow
+/// for a copy of a fixed length.
 fn name_of_front(alloc: Global, bytes: &[u8], end: usize) -> Option<Name>
     requires within { end < length bytes.now }
     requires name { IsName (take end bytes.now) }

@@ -1,4 +1,5 @@
--- What the tables of messages, animation callbacks and jobs stand for. Lists of records stand newest first.
+-- What the tables of messages, animation callbacks and jobs stand for. Lists of records stand
+-- newest first.
 use Rattle.std.specs.Prelude.{◌≡◌, ℕ, ◌==◌, Bool, true, false, if◌then◌else◌, List, [], ◌∷◌, length, Option, Some, None, is_some, option_map, map}
 use Rattle.std.specs.List.{list_any}
 use Rattle.er_numbers.specs.Numbers.{found, HasRoomWhere}
@@ -134,7 +135,8 @@ pub record TasksAre (tasks : Tasks) (h : List Record) : Type 0 where
       → AreBegun (found tasks.jobs.declared) (found tasks.jobs.started)
       (tasks_at tasks.queued u)
 
--- there is room for what the record declares and begins of each kind, and in its queuer's list for the job that it begins
+-- there is room for what the record declares and begins of each kind, and in its queuer's list for
+-- the job that it begins
 pub record HaveRoomFor (tasks : Tasks) (x : Record) : Type 0 where
   pub messages : HaveRoom OfMessage tasks.messages x
   pub anims : HaveRoom OfAnim tasks.anims x

@@ -7,14 +7,14 @@
 //! `None` where the list has nothing of the kind.
 //! None takes memory.
 //!
-//! | Asked of | Look-ups |
-//! |---|---|
-//! | a record that comes next | `is_unknown`, `is_again` |
-//! | a message | `message`, `message_piece`, `message_event`; all that have begun: `messages`, `begun_messages` |
-//! | an animation callback | `anim`, `anim_piece`, `anim_event`; all that have begun: `anims`, `begun_anims` |
-//! | a job | `job`, `job_piece`, `job_event`; all that have begun: `jobs`, `begun_jobs` |
-//! | an event | `jobs_queued`, `begun_jobs_of` |
-//! | two notes | `declared_before` |
+//! - a record that comes next: `is_unknown`, `is_again`
+//! - a message: `message`, `message_piece`, `message_event`; all that have begun: `messages`,
+//!   `begun_messages`
+//! - an animation callback: `anim`, `anim_piece`, `anim_event`; all that have begun: `anims`,
+//!   `begun_anims`
+//! - a job: `job`, `job_piece`, `job_event`; all that have begun: `jobs`, `begun_jobs`
+//! - an event: `jobs_queued`, `begun_jobs_of`
+//! - two notes: `declared_before`
 //!
 //! A record is taken in two steps. `make_room` may answer `NoMemory`, and leaves what the tasks
 //! stand for;

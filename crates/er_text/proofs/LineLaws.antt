@@ -58,3 +58,5 @@ first_line_none (b ∷ bytes) h = grind (arith, common_steps, first_line_none by
 pub first_line_some : (bytes : List ℕ) → first_line bytes ≡ None → has_no_lf bytes ≡ true
 first_line_some [] h = refl
 first_line_some (b ∷ bytes) h = grind (arith, common_steps, first_line_some bytes)
+
+pub ruleset takes_line = (first_line_found, first_line_missing)

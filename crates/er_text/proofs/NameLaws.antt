@@ -170,3 +170,7 @@ plain_spelling (b ∷ name) h =
 pub plain_word : (word : List ℕ) (count : ℕ) → IsNameWord word count → count ≡ length word → word ≡ spelled word
 plain_word word count h e =
     h.spelling.same ∙ plain_spelling (spelled word) (sym (ap length h.spelling.same) ∙ (sym e ∙ sym h.counted))
+
+pub ruleset spells_next = (spelled_byte, spelling_ended, spelling_later)
+
+pub ruleset reads_name = (reads_none, reads_more, reads_all, no_name_at, no_long_name, no_empty_name, name_word, name_of_word)

@@ -11,6 +11,7 @@ use Rattle.std.proofs.lemmas.Bool.Decides.{nat_tests}
 use Rattle.er_text.specs.Bytes.{lacks}
 use Rattle.er_text.proofs.ByteLaws.{lacks-append}
 use Rattle.er_text.specs.Number.{IsNumber}
+use Rattle.std.proofs.lemmas.List.{take_all}
 
 -- the first i bytes are digits, and spell the value
 pub record ReadsDigits (digits : List ℕ) (i value : ℕ) : Type 0 where
@@ -102,3 +103,7 @@ lacks-decimal c n small =
     (λ d below. lacks_digit c d small)
     (λ m digits big earlier. lacks-append c digits ((48 + m % 10) ∷ []) ∙ both_true earlier (lacks_digit c (m % 10) small))
     n
+
+pub ruleset reads_value = (reads_digit, reads_no_digits, no_digit_at, take_all)
+
+pub ruleset reads_number = (not_empty_number, not_long_number, no_leading_zero, number_form, number_from_form)

@@ -32,7 +32,8 @@ name_spelling name = flat_map byte_spelling name
 abbrev pub hex_value : ℕ → ℕ
 hex_value c = if nat_lt c 58 then c - 48 else c - 55
 
--- where a reader of a spelling stands: before a byte, after `%`, after `%` and a digit of this value
+-- where a reader of a spelling stands: before a byte, after `%`, after `%` and a digit of
+-- this value
 pub data Place : Type 0 where
   Before : Place
   Percent : Place

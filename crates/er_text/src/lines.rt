@@ -14,7 +14,7 @@ fn first_place(bytes: &[u8], wanted: u8) -> Option<usize>
 }
 
 /// The bytes before the first LF, and those after it. `None` where there is no LF.
-#[tactic(auto, using(crate::proofs::LineLaws::first_line_found, crate::proofs::LineLaws::first_line_missing))]
+#[tactic(auto, using(crate::proofs::LineLaws::takes_line))]
 pub fn take_line(bytes: &[u8]) -> Option<(&[u8], &[u8])>
     ensures { option_map (λ parts. (parts.0.now, parts.1.now)) result ≡ first_line bytes.now }
 {

@@ -98,7 +98,7 @@ impl<'a> Iterator for NameBytes<'a> {
 
     ghost remaining = { item_count (λ s. s) };
 
-    #[tactic(auto, using(crate::proofs::NameLaws::spelled_byte, crate::proofs::NameLaws::spelling_ended, crate::proofs::NameLaws::spelling_later))]
+    #[tactic(auto, using(crate::proofs::NameLaws::spells_next))]
     fn next(&mut self) -> Option<u8> {
         let (byte, rest) = take_byte(self.rest)?;
         self.rest = rest;
@@ -137,7 +137,7 @@ impl<'a> NameWord<'a> {
 }
 
 /// Reads the spelling of a name.
-#[tactic(auto, using(crate::proofs::NameLaws::reads_none, crate::proofs::NameLaws::reads_more, crate::proofs::NameLaws::reads_all, crate::proofs::NameLaws::no_name_at, crate::proofs::NameLaws::no_long_name, crate::proofs::NameLaws::no_empty_name, crate::proofs::NameLaws::name_word, crate::proofs::NameLaws::name_of_word))]
+#[tactic(auto, using(crate::proofs::NameLaws::reads_name))]
 pub fn read_name(word: &[u8]) -> Result<NameWord<'_>, BadToken>
     ensures read { IfOk result (λ name. IsName name × (word.now ≡ name_spelling name)) }
     ensures exact { (name : List ℕ) → IsName name → word.now ≡ name_spelling name

@@ -17,7 +17,7 @@ pub struct BadToken;
 const MOST_DIGITS: usize = 10;
 
 /// The value of some digits, where each byte is a digit.
-#[tactic(auto, using(crate::proofs::NumberLaws::reads_digit, crate::proofs::NumberLaws::reads_no_digits, crate::proofs::NumberLaws::no_digit_at, std::proofs::lemmas::List::take_all))]
+#[tactic(auto, using(crate::proofs::NumberLaws::reads_value))]
 fn value_of(digits: &[u8]) -> Option<u64>
     requires { length digits.now ≤ MOST_DIGITS }
     ensures { SomeIff result (AllDigits 10 digits.now) (digits_value 10 digits.now) }
@@ -32,7 +32,7 @@ fn value_of(digits: &[u8]) -> Option<u64>
     Some(value)
 }
 
-#[tactic(auto, using(crate::proofs::NumberLaws::not_empty_number, crate::proofs::NumberLaws::not_long_number, crate::proofs::NumberLaws::no_leading_zero, crate::proofs::NumberLaws::number_form, crate::proofs::NumberLaws::number_from_form))]
+#[tactic(auto, using(crate::proofs::NumberLaws::reads_number))]
 pub fn read_number(word: &[u8]) -> Result<u32, BadToken>
     ensures read { IfOk result (λ n. IsNumber word.now n) }
     ensures exact { (n : ℕ) → IsNumber word.now n → result ≡ Ok n }

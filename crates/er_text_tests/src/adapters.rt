@@ -1,5 +1,6 @@
 //! The adapters over ends that give and take a byte a call, and of which one call fails, also by an
-//! interruption: it is a fault, the call is not made again, and the next call goes on where it stood.
+//! interruption: it is a fault, the call is not made again, and the next call goes on
+//! where it stood.
 
 use er_io::{Failed, Sink, Source, put_all};
 use er_io_system::{FromRead, ToWrite};

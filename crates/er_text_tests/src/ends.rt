@@ -112,7 +112,8 @@ fn a_chunk_is_put_in_part(rt: HostRuntime) -> Result<(), Fail> {
     Ok(())
 }
 
-/// Whichever of the three calls for a chunk of six bytes fails, it is the last, and the next one is asked as any other.
+/// Whichever of the three calls for a chunk of six bytes fails, it is the last, and the next one is
+/// asked as any other.
 #[test]
 fn each_call_of_a_sink_fails(rt: HostRuntime) -> Result<(), Fail> {
     for (failing, held, next) in [(1, "", "xy"), (2, "ab", "abxy"), (3, "abcd", "abcdxy")] {

@@ -1,4 +1,5 @@
-//! Tokens, names, records, generated traces, lists of words and the ends that there are, through their public calls.
+//! Tokens, names, records, generated traces, lists of words and the ends that there are, through
+//! their public calls.
 #![tactic(auto)]
 
 #[cfg(test)]

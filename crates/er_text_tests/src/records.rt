@@ -91,7 +91,8 @@ static OTHERS: [&str; 32] = [
     "message x",
 ];
 
-/// Lets the record go. The proof of that is long, and a caller that goes through this needs none of its own.
+/// Lets the record go. The proof of that is long, and a caller that goes through this
+/// needs none of its own.
 fn let_go(_rec: Record) {}
 
 fn let_go_of_location(_loc: Loc) {}

@@ -1,4 +1,5 @@
--- The signature of each form of record: where it may stand, by the open dispatches or by the running action; which numbers it uses; which it claims.
+-- The signature of each form of record: where it may stand, by the open dispatches or by the
+-- running action; which numbers it uses; which it claims.
 use Rattle.std.specs.Prelude.{ℕ}
 use Rattle.er_trace.specs.declared.nesting.Nesting.{Nesting}
 use Rattle.er_trace.specs.declared.nesting.Nesting.TheVariants.{Note, Alone, OutsideInline, Called, Under, Behind}
@@ -19,7 +20,8 @@ pub data Uses : Type 0 where
   UsesAnim : (anim : ℕ) → Uses
   UsesJob : (job : ℕ) → Uses
 
--- the numbers that it declares or starts, each of which no other record of a list may declare, or start, again
+-- the numbers that it declares or starts, each of which no other record of a list may declare, or
+-- start, again
 pub data Claims : Type 0 where
   ClaimsNone : Claims
   MakesElement : (element : ℕ) → Claims

@@ -104,7 +104,8 @@ pub enum Loc {
     Slot(u32, Name),
 }
 
-/// A record. Documents, elements, handlers, timeouts, intervals, requests, dispatches, messages, animation callbacks and jobs are numbered apart from each other.
+/// A record. Documents, elements, handlers, timeouts, intervals, requests, dispatches, messages,
+/// animation callbacks and jobs are numbered apart from each other.
 #[derive(Drop)]
 pub enum Record {
     /// A parse step that makes an element.

@@ -38,7 +38,8 @@ with_places =
     (value_option (codes "from")))
     (value_option (codes "to"))
 
--- one simple command: a word for the mode, the options of all modes with a value, and the flag --json
+-- one simple command: a word for the mode, the options of all modes with a value, and the
+-- flag --json
 abbrev pub syntax : App
 syntax = with_rule with_places json_flag
 

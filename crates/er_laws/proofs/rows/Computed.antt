@@ -179,3 +179,29 @@ second_tasks = record { edges = refl; legal = refl }
 
 pub third_tasks : ThirdTasks
 third_tasks = record { edges = refl; legal = refl }
+
+pub ruleset inline_dispatches = (suspended_script, cut_short, in_a_handler, in_a_close, in_callbacks)
+
+pub ruleset closes_for_load = (plain_element_not_for_load, made_element_not_for_load, close_for_load, other_document_not_for_load)
+
+pub ruleset targets_apart = (windows_apart, element_and_window_apart, types_apart)
+
+pub ruleset callbacks_apart = (longer_delay_set_first, shorter_delay_set_last, deferred_of_two_documents)
+
+pub ruleset full_pages = (full_parse, full_script, full_load, full_eload, legal_eload)
+
+pub ruleset full_callbacks = (full_timer, full_timer_of_pieces, full_request, full_begins, full_dispatch)
+
+pub ruleset late_steps = (step_after_deferred_script, step_after_dcl, step_after_load)
+
+pub ruleset late_scripts = (blocking_after_step, blocking_after_deferred, deferred_exchanged, script_after_dcl, script_after_load, script_after_its_load)
+
+pub ruleset late_dispatches = (dcl_after_load, handler_after_greater_group)
+
+pub ruleset random_pages = (first_page, second_page, third_page, fourth_page, fifth_page, sixth_page)
+
+pub ruleset more_random_pages = (seventh_page, eighth_page, ninth_page, tenth_page, eleventh_page, twelfth_page)
+
+pub ruleset random_timers = (first_timers, second_timers, third_timers, fourth_timers)
+
+pub ruleset random_tasks = (first_tasks, second_tasks, third_tasks)

@@ -1,11 +1,13 @@
--- What is apart: lists in which a rule says nothing of events that are near to what it says. Behind each line stands the action that it begins.
+-- What is apart: lists in which a rule says nothing of events that are near to what it says. Behind
+-- each line stands the action that it begins.
 use Rattle.std.specs.Prelude.{[], ◌∷◌, codes}
 use Rattle.er_trace.specs.declared.record.Record.TheVariants.{Parse, ParseFrame, Exec, Timer, Load, Eload, Fire, Wfire, Run, Close, New, On, Set}
 use Rattle.er_trace.specs.declared.record.Kind.TheVariants as kinds
 use Rattle.er_trace.specs.declared.record.NewKind.TheVariants as new_kinds
 use Rattle.er_history.specs.Rows.{IsRow}
 
--- Rule 11: the close of the first load event of a plain element is no source of load, though the element is static.
+-- Rule 11: the close of the first load event of a plain element is no source of load, though the
+-- element is static.
 abbrev pub PlainElementNotForLoad : Type 0
 PlainElementNotForLoad = IsRow (
     (Parse 0 1 kinds.Plain, []) ∷  -- 0
@@ -83,7 +85,8 @@ TypesApart = IsRow (
     (Wfire 4 0 (codes "b"), []) ∷  -- 7
     [])
 
--- Rule 19: a timeout that was set first with the longer delay, and fired first, is no source of the other.
+-- Rule 19: a timeout that was set first with the longer delay, and fired first, is no
+-- source of the other.
 abbrev pub LongerDelaySetFirst : Type 0
 LongerDelaySetFirst = IsRow (
     (Parse 0 1 kinds.Inline, []) ∷  -- 0

@@ -1,4 +1,5 @@
--- Lists at whose end a record is handed as many pieces as `Counts.antt` of er_pieces allows. Lists stand oldest first.
+-- Lists at whose end a record is handed as many pieces as `Counts.antt` of er_pieces allows. Lists
+-- stand oldest first.
 use Rattle.std.specs.Prelude.{◌≡◌, ℕ, List, [], ◌∷◌, map, reverse, codes, length, None}
 use Rattle.er_trace.specs.declared.record.Record.{Record}
 use Rattle.er_trace.specs.declared.record.Record.TheVariants.{Parse, ParseFrame, Exec, Timer, Tick, Dcl, Load, Eload, Fire, Wfire, Reply, Inline, Run, Close, Back, On, Set, Every, Send}
@@ -20,7 +21,8 @@ Next = List Record × Record × ℕ
 abbrev pub records_of : Next → List Record
 records_of n = n.1 ∷ reverse n.0
 
--- In each the record is handed as many pieces as it says, which is the most that is allowed, and no record has a cause.
+-- In each the record is handed as many pieces as it says, which is the most that is allowed, and no
+-- record has a cause.
 pub record AllFullOf (v : Version) (handed : List Record → Record → List ℕ)
     (most : List Record → Record → ℕ) (rows : List Next) : Type 0 where
   pub given : map (λ (n : Next). length (handed (reverse n.0) n.1)) rows
@@ -39,7 +41,8 @@ FullParse = AllFull parse_handed most_parse (
     (ParseFrame 0 1 1 ∷ Parse 1 2 kinds.Plain ∷ [], ParseFrame 1 3 2, 2) ∷
     [])
 
--- The latest blocking run before a parse step; before the run of a deferred script its maker, and the latest parse step, blocking run and deferred run.
+-- The latest blocking run before a parse step; before the run of a deferred script its maker, and
+-- the latest parse step, blocking run and deferred run.
 abbrev pub FullScript : Type 0
 FullScript = AllFull script_handed most_script (
     (Parse 0 1 kinds.Inline ∷ Exec 1 ∷ [], Parse 0 2 kinds.Plain, 1) ∷
@@ -67,7 +70,8 @@ FullLoad = AllFull load_handed most_load ((
 ) ∷
     [])
 
--- The first load event of a frame that has run as a script, behind load of its document. No legal list has it: there the maker and one piece more are handed.
+-- The first load event of a frame that has run as a script, behind load of its document. No legal
+-- list has it: there the maker and one piece more are handed.
 abbrev pub frame_that_ran : List Record
 frame_that_ran = reverse (ParseFrame 0 1 1 ∷ Exec 1 ∷ Load 1 1 ∷ Close 1 ∷ [])
 
@@ -97,7 +101,8 @@ FullTimer = AllFullTimers One ((
     (Parse 0 1 kinds.Inline ∷ Exec 1 ∷ Every 1 5 ∷ Tick 1 ∷ [], Tick 1, 2) ∷
     [])
 
--- In version 2 a timeout behind two that were set in other pieces, which have a path to that in which it was set.
+-- In version 2 a timeout behind two that were set in other pieces, which have a path to that in
+-- which it was set.
 abbrev pub FullTimerOfPieces : Type 0
 FullTimerOfPieces = AllFullTimers Two ((
   Parse 0 1 kinds.Inline ∷ Set 1 0 ∷ Exec 1 ∷ Set 2 0 ∷ Parse 0 2 kinds.Plain ∷ Set 3 0 ∷ Timer 1
@@ -118,7 +123,8 @@ FullRequest = AllFull request_handed most_request (
     (Parse 0 1 kinds.Inline ∷ Exec 1 ∷ Send 1 ∷ Reply 1 1 ∷ Close 1 ∷ [], Reply 2 1, 2) ∷
     [])
 
--- Begins of dispatches: behind a close of the same target and type, inline with the piece that it suspends, and in a document that has a maker.
+-- Begins of dispatches: behind a close of the same target and type, inline with the piece that it
+-- suspends, and in a document that has a maker.
 abbrev pub FullBegins : Type 0
 FullBegins = AllFull dispatch_handed most_dispatch (
     (Parse 0 1 kinds.Plain ∷ Fire 1 1 (codes "a") ∷ Close 1 ∷ [], Fire 2 1 (codes "a"), 2) ∷
@@ -132,7 +138,8 @@ FullBegins = AllFull dispatch_handed most_dispatch (
     (ParseFrame 0 1 1 ∷ [], Load 1 1, 1) ∷
     [])
 
--- Handlers and closes: behind the begin alone, behind two handlers of the greatest group that counts, and at the end of an inline dispatch.
+-- Handlers and closes: behind the begin alone, behind two handlers of the greatest group that
+-- counts, and at the end of an inline dispatch.
 abbrev pub FullDispatch : Type 0
 FullDispatch = AllFull dispatch_handed most_dispatch (
     (Parse 0 1 kinds.Plain ∷ On 1 ∷ Fire 1 1 (codes "a") ∷ [], Run 1 0 1, 2) ∷ (

@@ -9,7 +9,8 @@ use Rattle.er_history.specs.Rules as tables
 use Rattle.er_history.specs.Naming.{naming}
 use Rattle.er_history.specs.Sound.{out_of_order}
 
--- After these records, oldest first, naming accepts each of the others; the late ones are out of order, and those in order are not.
+-- After these records, oldest first, naming accepts each of the others; the late ones are out of
+-- order, and those in order are not.
 pub record Judges (before late ordered : List Record) : Type 0 where
   pub named : map (naming (reverse before)) (late ++ ordered) ≡ map (λ x. None) (late ++ ordered)
   pub late_ones : map (out_of_order (tables.rules One) (reverse before)) late ≡ map (λ x. true) late

@@ -1,4 +1,5 @@
--- What the definitions say where inline dispatches are nested. Behind each line stands the action that it begins.
+-- What the definitions say where inline dispatches are nested. Behind each line stands the action
+-- that it begins.
 use Rattle.std.specs.Prelude.{[], ◌∷◌, codes}
 use Rattle.er_trace.specs.declared.record.Record.TheVariants.{Parse, Exec, Timer, Tick, Fire, Inline, Run, Close, Back, New, On, Set, Every, Access}
 use Rattle.er_trace.specs.declared.record.Kind.TheVariants as kinds
@@ -7,7 +8,8 @@ use Rattle.er_trace.specs.declared.record.Mode.TheVariants as modes
 use Rattle.er_trace.specs.declared.record.Loc.TheVariants.{Var}
 use Rattle.er_history.specs.Rows.{IsRow}
 
--- A script calls an inline dispatch, and goes on as action 5, to which no edge leads from action 2, the begin.
+-- A script calls an inline dispatch, and goes on as action 5, to which no edge leads from
+-- action 2, the begin.
 abbrev pub SuspendedScript : Type 0
 SuspendedScript = IsRow (
     (Parse 0 1 kinds.Inline, []) ∷  -- 0
@@ -59,7 +61,8 @@ InAHandler = IsRow (
     (Back 1, 15 ∷ 1 ∷ 0 ∷ []) ∷  -- 16
     [])
 
--- The close of an inline dispatch calls another, and the close of that a third; the close of a dispatch that is not inline calls two.
+-- The close of an inline dispatch calls another, and the close of that a third; the close of a
+-- dispatch that is not inline calls two.
 abbrev pub InAClose : Type 0
 InAClose = IsRow (
     (Parse 0 1 kinds.Inline, []) ∷  -- 0
@@ -91,7 +94,8 @@ InAClose = IsRow (
     (Close 8, 24 ∷ []) ∷  -- 25
     [])
 
--- A timeout and a tick call inline dispatches at one element, and timeouts are set in pieces of one event.
+-- A timeout and a tick call inline dispatches at one element, and timeouts are set in
+-- pieces of one event.
 abbrev pub InCallbacks : Type 0
 InCallbacks = IsRow (
     (Parse 0 1 kinds.Plain, []) ∷  -- 0

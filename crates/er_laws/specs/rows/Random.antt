@@ -1,4 +1,5 @@
--- What the definitions say of pages that were drawn at random, and of the records that may come next. Behind each line stands the action that it begins.
+-- What the definitions say of pages that were drawn at random, and of the records that may come
+-- next. Behind each line stands the action that it begins.
 use Rattle.std.specs.Prelude.{◌≡◌, map, List, [], ◌∷◌, codes, Option, Some, None}
 use Rattle.er_text.specs.declared.causes.Cause.{Cause}
 use Rattle.er_text.specs.declared.causes.Cause.TheVariants.{Unknown, Again, NotScript, Misplaced, OutOfOrder}

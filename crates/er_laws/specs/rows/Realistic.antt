@@ -1,4 +1,5 @@
--- What the definitions say of a page as it is met. Behind each line stands the action that it begins.
+-- What the definitions say of a page as it is met. Behind each line stands the action
+-- that it begins.
 use Rattle.std.specs.Prelude.{[], ◌∷◌, codes}
 use Rattle.er_trace.specs.declared.record.Record.TheVariants.{Parse, ParseFrame, Exec, Tick, Dcl, Load, Eload, Fire, Reply, Run, Close, On, Every, Send, Access}
 use Rattle.er_trace.specs.declared.record.Kind.TheVariants as kinds

@@ -1,4 +1,5 @@
--- What the definitions say of messages, animation callbacks and jobs, in version 3. Behind each line stands the action that it begins.
+-- What the definitions say of messages, animation callbacks and jobs, in version 3. Behind each
+-- line stands the action that it begins.
 use Rattle.std.specs.Prelude.{List, [], ◌∷◌, codes}
 use Rattle.er_trace.specs.declared.record.Record.{Record}
 use Rattle.er_trace.specs.declared.record.Record.TheVariants.{Parse, Exec, Timer, Tick, Load, Fire, Wfire, Reply, Inline, Run, Close, Back, On, Set, Every, Send, Post, Ask, Queue, Message, Anim, Job}
@@ -6,7 +7,8 @@ use Rattle.er_trace.specs.declared.record.Kind.TheVariants as kinds
 use Rattle.er_trace.specs.declared.version.Version.TheVariants.{Three}
 use Rattle.er_history.specs.Rows.{IsRowOf}
 
--- A script queues a job before an inline dispatch, and another when it goes on. Both come before all that the script declared.
+-- A script queues a job before an inline dispatch, and another when it goes on. Both come before
+-- all that the script declared.
 abbrev pub JobsOfTwoPieces : Type 0
 JobsOfTwoPieces = IsRowOf Three (
     (Parse 0 1 kinds.Inline, []) ∷  -- 0

@@ -1,4 +1,5 @@
--- What the definitions say, in version 2, of pages that were drawn at random and have many timeouts. Behind each line stands the action that it begins.
+-- What the definitions say, in version 2, of pages that were drawn at random and have many
+-- timeouts. Behind each line stands the action that it begins.
 use Rattle.std.specs.Prelude.{List, [], ◌∷◌, codes}
 use Rattle.er_trace.specs.declared.record.Record.{Record}
 use Rattle.er_trace.specs.declared.record.Record.TheVariants.{Parse, ParseFrame, Exec, Timer, Tick, Dcl, Load, Eload, Fire, Wfire, Reply, Inline, Run, Close, Back, New, NewFrame, On, Set, Every, Send}

@@ -1,4 +1,5 @@
--- What lists of tasks that have begun say of the list of records that the tables stand for. Lists of records stand newest first.
+-- What lists of tasks that have begun say of the list of records that the tables stand for. Lists
+-- of records stand newest first.
 use Rattle.std.proofs.Common.{◌≡◌, ℕ, suc, ◌<◌, Bool, true, false, cond, List, [], ◌∷◌, ◌++◌, length, map, filter, get_or, Option, Some, None, option_map, refl, sym, ap, subst, ◌∙◌, arith, inl, inr}
 use Rattle.std.specs.Prelude.{◌==◌, ◌&&◌, ◌||◌, nat_lt, if◌then◌else◌, reverse, AllPairs}
 use Rattle.std.specs.List.{All}

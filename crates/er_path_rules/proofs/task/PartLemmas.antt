@@ -120,7 +120,8 @@ pub each_in_part : (h : List Record) (test : Event → Bool) (most : ℕ) (old n
 each_in_part h test most old new count grew =
     part_of_all (told h).actions test most old (latest_of_each test (told h).actions) new (each_event (λ i. test i.event ≡ true) test h (λ a among e. e)) (omega (arith, each_short test (told h).actions, count)) grew
 
--- pieces of tasks that have begun, where the events that pass are those of the tasks that are as asked
+-- pieces of tasks that have begun, where the events that pass are those of the tasks that
+-- are as asked
 
 any_reverse : (k : ℕ) (ks : List ℕ) → is_among k (reverse ks) ≡ is_among k ks
 any_reverse k [] = refl

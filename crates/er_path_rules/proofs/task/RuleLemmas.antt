@@ -1,4 +1,5 @@
--- From which events the rules of tasks lead to the one that a record begins. Lists of records stand newest first.
+-- From which events the rules of tasks lead to the one that a record begins. Lists of records stand
+-- newest first.
 use Rattle.std.proofs.Common.{◌≡◌, ℕ, ◌<◌, Bool, true, false, List, length, map, Option, Some, None, option_map, refl, sym, ap, ◌∙◌, arith}
 use Rattle.std.specs.Prelude.{◌==◌, ◌&&◌, ◌||◌, not, nat_lt}
 use Rattle.std.specs.List.{list_any}
@@ -27,7 +28,8 @@ use Rattle.er_pieces.proofs.TaskLemmas.{enough_task}
 use Rattle.er_path_rules.specs.task.Counts.{in_order}
 use Rattle.er_path_rules.specs.task.Due.{is_earlier, is_job_of, maker_of, comes_before, due}
 
--- From an event that has begun, to one that begins: the rules that ask which was begun first do so for nothing.
+-- From an event that has begun, to one that begins: the rules that ask which was begun first do so
+-- for nothing.
 eight : (apart before : Bool) (a b c d e f g k : Bool) → apart ≡ true → before ≡ true
     → (apart && (a || ((before && b) || (c || ((before && d) || (e || ((before && f) || ((before && g) || ((before && k) || false)))))))))
     ≡ (a || (b || (c || (d || (e || (f || (g || (k || false))))))))

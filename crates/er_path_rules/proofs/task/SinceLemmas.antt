@@ -1,4 +1,5 @@
--- From the begin of a task on, each piece is of an event that has begun since. Lists of records stand newest first.
+-- From the begin of a task on, each piece is of an event that has begun since. Lists of records
+-- stand newest first.
 use Rattle.std.proofs.Common.{◌≡◌, ℕ, ◌<◌, ◌≤◌, Bool, true, false, List, [], ◌∷◌, length, Option, Some, None, refl, sym, ap, subst, ◌∙◌, arith, inl, inr}
 use Rattle.std.specs.Prelude.{◌||◌, if◌then◌else◌}
 use Rattle.std.specs.List.{list_any}
@@ -14,7 +15,8 @@ use Rattle.er_pieces.proofs.StackLemmas.{On, stack_from, dispatch_at, top_on}
 use Rattle.er_pieces.proofs.CallerLemmas.{among_cases, event_is}
 use Rattle.er_pieces.proofs.StartsLemmas.{lt_or_le, none_open}
 
--- no event that began before action n goes on from there on: no inline dispatch that is open began before
+-- no event that began before action n goes on from there on: no inline dispatch that is
+-- open began before
 pub record Since (n : ℕ) (actions : List Action) (stack : List Open) : Type 0 where
   pub pieces : (a : Action) → Among a actions → n ≤ a.number → n ≤ a.event.number
   pub inlines : (o : Open) → On o stack → is_inline o.dispatch ≡ true → n < o.dispatch.begin

@@ -1,4 +1,5 @@
--- The events of the tasks of a kind are those of the numbers that have begun, as the look-ups tell. Lists of records stand newest first.
+-- The events of the tasks of a kind are those of the numbers that have begun, as the look-ups tell.
+-- Lists of records stand newest first.
 use Rattle.std.proofs.Common.{◌≡◌, ℕ, ◌<◌, Bool, true, false, List, [], ◌∷◌, ◌++◌, length, map, Option, Some, None, refl, sym, ap, subst, ◌∙◌, arith, inl, inr, append_assoc, append-nil}
 use Rattle.std.specs.Prelude.{◌==◌, ◌&&◌, if◌then◌else◌, reverse}
 use Rattle.std.specs.List.{list_any}
@@ -184,7 +185,8 @@ started_is OfAnim _ n e = absurd (cc)
 started_is OfJob (Job j) n e = let same : j ≡ n = cc in eq-eqb j n same
 started_is OfJob _ n e = absurd (cc)
 
--- by functions that tell of each number what declared it and which event it is: those events, of the numbers that pass
+-- by functions that tell of each number what declared it and which event it is: those events, of
+-- the numbers that pass
 abbrev pub events_of : (ℕ → Option Task) → (ℕ → Option ℕ) → (Task → Bool) → List ℕ → List ℕ
 events_of made event test [] = []
 events_of made event test (n ∷ ns) = (if is_some_and test (made n) then listed (event n) else []) ++ events_of made event test ns

@@ -1,4 +1,5 @@
--- The callback of a timeout that fired before another, and that rule 19 puts before it, has a path to it. Lists of records stand newest first.
+-- The callback of a timeout that fired before another, and that rule 19 puts before it, has a path
+-- to it. Lists of records stand newest first.
 use Rattle.std.proofs.Common.{◌≡◌, ℕ, ◌+◌, ◌<◌, ◌≤◌, Bool, true, false, List, [], ◌∷◌, ◌++◌, length, get_or, Option, Some, None, refl, sym, ap, subst, ◌∙◌, arith, inl, inr, append-nil}
 use Rattle.std.specs.Prelude.{◌⊎◌, ◌||◌, nat_lt, if◌then◌else◌}
 use Rattle.std.specs.List.{list_any}

@@ -1,4 +1,5 @@
--- Proof that the look-ups of fired timeouts give the callbacks from which rule 19 leads. Lists of records stand newest first.
+-- Proof that the look-ups of fired timeouts give the callbacks from which rule 19 leads. Lists of
+-- records stand newest first.
 use Rattle.std.proofs.Common.{◌≡◌, ℕ, ◌<◌, Bool, true, false, List, [], ◌∷◌, ◌++◌, length, Option, Some, None, option_map, refl, sym, ap, subst, ◌∙◌, arith, inl, inr, append-nil}
 use Rattle.std.specs.Prelude.{◌==◌, ◌&&◌, nat_lt, nat_le, if◌then◌else◌, reverse}
 use Rattle.std.specs.List.{list_any}
@@ -89,7 +90,8 @@ is_callback pick test w = of_timeout (λ s made. is_some_and (λ (y : Timeout). 
 abbrev pub callback_of : (Timeout → Bool) → (Timeout → Bool) → Event → Bool
 callback_of pick test e = is_callback pick test e.what
 
--- by functions that tell of each timeout how it was set and which event is its callback: those events, of the timeouts that pass
+-- by functions that tell of each timeout how it was set and which event is its callback: those
+-- events, of the timeouts that pass
 abbrev pub events_of : (ℕ → Option Timeout) → (ℕ → Option ℕ) → (Timeout → Bool) → List ℕ → List ℕ
 events_of made fired test [] = []
 events_of made fired test (s ∷ ss) = (if is_some_and test (made s) then listed (fired s) else []) ++ events_of made fired test ss

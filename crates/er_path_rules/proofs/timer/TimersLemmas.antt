@@ -1,4 +1,5 @@
--- What the look-ups of a timeout and of an interval give is what comes before a callback. Lists of records stand newest first.
+-- What the look-ups of a timeout and of an interval give is what comes before a callback. Lists of
+-- records stand newest first.
 use Rattle.std.proofs.Common.{◌≡◌, ℕ, ◌+◌, ◌≤◌, Bool, true, false, List, [], ◌∷◌, ◌++◌, length, take, Option, Some, None, option_map, refl, sym, ap, subst, ◌∙◌, arith, append_assoc, append-nil}
 use Rattle.std.specs.Prelude.{◌&&◌, Result, Ok, Err, OnOk, OnErr}
 use Rattle.er_paths.specs.Paths.{joins, is_among}
@@ -107,7 +108,8 @@ each_append v h t (x ∷ xs) ys = ap (λ ks. handed_for v h t x ++ ks) (each_app
 pub one_alone : (v : Version) (h : List Record) (t s : ℕ) → handed_for_each v h t (s ∷ []) ≡ handed_for v h t s
 one_alone v h t s = append-nil (handed_for v h t s)
 
--- what grows by exactly what is due for each list of the page grows by enough of it for each with its clocks
+-- what grows by exactly what is due for each list of the page grows by enough of it for
+-- each with its clocks
 
 pub whole_timed : {E : Type 0} → (v : Version) (page : Page) (links : List (List ℕ)) (due : List Record → List ℕ) (old new : List ℕ) (r : Result (Unit {0}) E) → ((h : List Record) (k : ℕ) → is_among k (due h) ≡ true → path (rules v) h k k ≡ true)
     → OnOk r (GrewForEach (IsPage page) due old new) → OnOk r (GrewEnoughFor v page links due old new)

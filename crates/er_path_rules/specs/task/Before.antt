@@ -13,7 +13,8 @@ use Rattle.er_path_rules.specs.declared.task.before.Walk.{Walk}
 abbrev pub event_in : BegunTask → ℕ
 event_in x = x.event
 
--- the first was declared before the second, in a piece from which a path leads to that of the second
+-- the first was declared before the second, in a piece from which a path leads to that of
+-- the second
 abbrev pub goes_before : (ℕ → ℕ → Bool) → Task → Task → Bool
 goes_before joined x y = nat_lt x.rank y.rank && joined x.piece y.piece
 
@@ -29,7 +30,8 @@ is_covered joined x (Some y) = goes_before joined x y
 abbrev pub StandsAt : List BegunTask → ℕ → BegunTask → Type 0
 StandsAt begun i x = (i < length begun) × (get_or begun i x ≡ x)
 
--- Of two of these tasks of which the first goes before the other, each piece of the first has a path to each piece of the other; and each has a piece, and was declared in an action.
+-- Of two of these tasks of which the first goes before the other, each piece of the first has a
+-- path to each piece of the other; and each has a piece, and was declared in an action.
 pub record AreJoined (joined : ℕ → ℕ → Bool) (actions : List Action)
     (begun : List BegunTask) : Type 0 where
   pub declared : (i : ℕ) (x : BegunTask) → StandsAt begun i x
@@ -63,7 +65,8 @@ abbrev pub asked_from : (ℕ → ℕ → Bool) → Asked → List BegunTask → 
 asked_from joined asked begun left =
     length (filter (λ (x : BegunTask). passes joined asked x.task) (drop left begun))
 
--- numbers have grown by pieces of tasks that are as asked, and by no more than there are such tasks from this place on
+-- numbers have grown by pieces of tasks that are as asked, and by no more than there are such tasks
+-- from this place on
 pub record HandsSomeOf (joined : ℕ → ℕ → Bool) (actions : List Action) (asked : Asked)
     (begun : List BegunTask) (left : ℕ) (old new : List ℕ) : Type 0 where
   pub handed : List ℕ

@@ -1,4 +1,5 @@
--- The most pieces that the rules of tasks hand for a record in version 3. Lists of records stand newest first.
+-- The most pieces that the rules of tasks hand for a record in version 3. Lists of records stand
+-- newest first.
 use Rattle.std.specs.Prelude.{ℕ, ◌+◌, ◌||◌, Bool, List, length, Option, Some, None}
 use Rattle.er_trace.specs.declared.record.Record.{Record}
 use Rattle.er_trace.specs.declared.record.Record.TheVariants.{Timer, Tick, Close, Message, Anim, Job}
@@ -30,7 +31,9 @@ abbrev pub queued_count : List Record → Option ℕ → ℕ
 queued_count h None = 0
 queued_count h (Some u) = length (jobs_queued h u)
 
--- what declared the task, those of its kind before it, and for a message or an animation callback the jobs of the event that declared it; before a timeout and a tick these jobs; before a close the jobs that began while the dispatch was on the stack
+-- what declared the task, those of its kind before it, and for a message or an animation callback
+-- the jobs of the event that declared it; before a timeout and a tick these jobs; before a close
+-- the jobs that began while the dispatch was on the stack
 abbrev pub most_task : List Record → Record → ℕ
 most_task h (Message m) =
     1 + earlier_count h (Message m) + queued_count h (maker_of (task_made OfMessage h m))

@@ -1,4 +1,5 @@
--- Which events come before the one that a record begins, by the rules of tasks. Lists of records stand newest first.
+-- Which events come before the one that a record begins, by the rules of tasks. Lists of records
+-- stand newest first.
 use Rattle.std.specs.Prelude.{ℕ, Bool, false, ◌==◌, ◌&&◌, ◌||◌, nat_lt, List, Option, Some, None}
 use Rattle.er_trace.specs.declared.record.Record.{Record}
 use Rattle.er_trace.specs.declared.record.Record.TheVariants as records
@@ -48,7 +49,9 @@ maker_of (Some x) = Some x.maker
 abbrev pub comes_before : (ℕ → ℕ → Bool) → TaskKind → Option Task → Event → Bool
 comes_before joined kind made u = made_by (maker_of made) u || is_earlier joined kind made u
 
--- Before a message or an animation callback come besides the jobs of the event that declared it, and before a timeout and a tick these alone; before a close the jobs that began while the dispatch was on the stack.
+-- Before a message or an animation callback come besides the jobs of the event that declared it,
+-- and before a timeout and a tick these alone; before a close the jobs that began while the
+-- dispatch was on the stack.
 abbrev pub due : (ℕ → ℕ → Bool) → List Record → Record → Event → Bool
 due joined h (records.Message m) u = comes_before joined OfMessage (task_made OfMessage h m) u
     || is_job_of (maker_of (task_made OfMessage h m)) u

@@ -1,4 +1,5 @@
--- What is handed is sources by the rules of tasks in version 3, and enough. Lists of records stand newest first.
+-- What is handed is sources by the rules of tasks in version 3, and enough. Lists of records stand
+-- newest first.
 use Rattle.std.specs.Prelude.{ℕ, List}
 use Rattle.er_trace.specs.declared.record.Record.{Record}
 use Rattle.er_trace.specs.declared.version.Version.TheVariants.{Three}

@@ -1,4 +1,5 @@
--- What is handed of the events that pass a test, by the lists that page and clocks stand for. Lists of records stand newest first.
+-- What is handed of the events that pass a test, by the lists that page and clocks stand for. Lists
+-- of records stand newest first.
 use Rattle.std.specs.Prelude.{◌≡◌, ℕ, ◌≤◌, Bool, true, List, ◌++◌, length}
 use Rattle.std.specs.List.{list_any}
 use Rattle.er_trace.specs.declared.record.Record.{Record}

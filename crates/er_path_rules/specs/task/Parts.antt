@@ -1,4 +1,5 @@
--- What is due for each form of record, and how many pieces it may be. Lists of records stand newest first.
+-- What is due for each form of record, and how many pieces it may be. Lists of records
+-- stand newest first.
 use Rattle.std.specs.Prelude.{ℕ, ◌+◌, ◌||◌, Bool, List, length, Option}
 use Rattle.er_trace.specs.declared.record.Record.{Record}
 use Rattle.er_trace.specs.declared.version.Version.TheVariants.{Three}

@@ -1,4 +1,5 @@
--- What is handed is exactly what the rules of timers of a version hand, sources and enough. Lists of records stand newest first.
+-- What is handed is exactly what the rules of timers of a version hand, sources and enough. Lists
+-- of records stand newest first.
 use Rattle.std.specs.Prelude.{ℕ, List}
 use Rattle.er_trace.specs.declared.record.Record.{Record}
 use Rattle.er_trace.specs.declared.version.Version.{Version}

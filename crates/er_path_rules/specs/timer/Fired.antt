@@ -1,4 +1,5 @@
--- The timeouts whose callbacks have begun and come before another, by the look-ups. Lists of records stand newest first.
+-- The timeouts whose callbacks have begun and come before another, by the look-ups. Lists of
+-- records stand newest first.
 use Rattle.std.specs.Prelude.{ℕ, Bool, true, false, ◌&&◌, nat_le, if◌then◌else◌, List, [], ◌∷◌, ◌++◌, reverse, Option, Some, None}
 use Rattle.er_trace.specs.declared.record.Record.{Record}
 use Rattle.er_trace.specs.declared.version.Version.{Version}
@@ -27,7 +28,8 @@ asks_for_path One = false
 asks_for_path Two = true
 asks_for_path Three = true
 
--- in versions 2 and 3 a path must lead to it besides; of version 1 it is asked of timeouts of one event alone (fired_before)
+-- in versions 2 and 3 a path must lead to it besides; of version 1 it is asked of timeouts of one
+-- event alone (fired_before)
 abbrev pub goes_before : Version → List Record → ℕ → ℕ → Bool
 goes_before One h s t = goes_off_first h s t
 goes_before Two h s t =

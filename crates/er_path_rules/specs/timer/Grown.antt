@@ -1,4 +1,5 @@
--- Numbers that have grown by some of what is due, and by enough of it. Lists of records stand newest first.
+-- Numbers that have grown by some of what is due, and by enough of it. Lists of records stand
+-- newest first.
 use Rattle.std.specs.Prelude.{◌≡◌, ℕ, ◌≤◌, Bool, true, List, ◌++◌, length}
 use Rattle.std.specs.List.{list_any}
 use Rattle.er_trace.specs.declared.record.Record.{Record}

@@ -1,4 +1,5 @@
--- A page with clocks that are those of its actions in a version. Lists of records stand newest first.
+-- A page with clocks that are those of its actions in a version. Lists of records stand
+-- newest first.
 use Rattle.std.specs.Prelude.{ℕ, List}
 use Rattle.er_trace.specs.declared.record.Record.{Record}
 use Rattle.er_trace.specs.declared.version.Version.{Version}

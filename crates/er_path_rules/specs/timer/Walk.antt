@@ -1,4 +1,5 @@
--- A walk over timeouts that have fired, from the last to the first. Lists of records stand newest first.
+-- A walk over timeouts that have fired, from the last to the first. Lists of records
+-- stand newest first.
 use Rattle.std.specs.Prelude.{◌≡◌, ◌⊎◌, ℕ, ◌<◌, ◌≤◌, Bool, true, false, List, ◌++◌, length, map, reverse, drop, get_or, Option, Some, None, IfSome}
 use Rattle.std.specs.List.{All, list_any}
 use Rattle.er_trace.specs.declared.record.Record.{Record}
@@ -41,7 +42,8 @@ abbrev pub IsReached : Version → List Record → ℕ → List ℕ → Type 0
 IsReached v h s handed = (k : ℕ) → is_among k (latest_of (timer_event h s) (told h).actions) ≡ true
     → list_any (λ m. path (rules v) h k m) handed ≡ true
 
--- of two of these of which the first goes before the other, a path leads so to what is handed of the other
+-- of two of these of which the first goes before the other, a path leads so to what is
+-- handed of the other
 abbrev pub AreJoined : Version → List Record → List FiredTimeout → Type 0
 AreJoined v h xs = (i j : ℕ) (x y : FiredTimeout) → i < j → StandsAt xs i x → StandsAt xs j y
     → goes_before v h x.set.timeout y.set.timeout ≡ true

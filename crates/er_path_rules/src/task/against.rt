@@ -9,9 +9,11 @@ ghost use Rattle.er_history.specs.Sound.{leads_back};
 use er_page::page::Page;
 use er_trace::record::Record;
 
-/// Whether a rule from 24 to 31 leads from the event that the record would begin to one that has begun. It takes no memory.
+/// Whether a rule from 24 to 31 leads from the event that the record would begin to one that has
+/// begun. It takes no memory.
 ///
-/// It never does: the event that declared a task has begun, and all else is ordered as it is recorded.
+/// It never does: the event that declared a task has begun, and all else is ordered as it
+/// is recorded.
 #[tactic(auto, using(er_history::proofs::OrderLemmas::task_rules_never_lead_back))]
 pub fn against(page: &Page, rec: &Record) -> bool
     ensures { (joined : ℕ → ℕ → Bool) (h : List Record)

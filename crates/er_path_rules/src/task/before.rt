@@ -24,19 +24,22 @@ use smallvec::SmallVec;
 /// What is asked of a task that has begun.
 #[derive(Clone, Copy)]
 pub(crate) enum Asked {
-    /// That it was declared before this task, in a piece from which a path leads to the piece of this one.
+    /// That it was declared before this task, in a piece from which a path leads to the
+    /// piece of this one.
     Before(Task),
     Nothing,
 }
 
-/// How far a walk over tasks has come, from the last to the first: how many are left, and which was handed last.
+/// How far a walk over tasks has come, from the last to the first: how many are left, and which was
+/// handed last.
 #[derive(Clone, Copy)]
 pub(crate) struct Walk {
     left: usize,
     handed: Option<Task>,
 }
 
-/// Whether the first was declared before the second, in a piece from which a path leads to that of the second.
+/// Whether the first was declared before the second, in a piece from which a path leads
+/// to that of the second.
 fn goes_before(clocks: &Clocks, first: Task, second: Task) -> bool
     ensures { Tells clocks.now (λ lists. result ≡ says.goes_before (joins lists) first second) }
 {
@@ -66,9 +69,11 @@ fn is_covered(clocks: &Clocks, task: Task, handed: Option<Task>) -> bool
     }
 }
 
-/// Goes on by the last task that is left: hands its latest piece, if it is as asked and goes not before the one that was handed last.
+/// Goes on by the last task that is left: hands its latest piece, if it is as asked and goes not
+/// before the one that was handed last.
 ///
-/// The tasks of its run go before it. So they need not be asked where it was handed, or goes before one that was.
+/// The tasks of its run go before it. So they need not be asked where it was handed, or goes before
+/// one that was.
 fn walk_on(
     page: &Page,
     clocks: &Clocks,
@@ -109,7 +114,8 @@ fn walk_on(
     })
 }
 
-/// Hands latest pieces of tasks that are as asked: so many that each other one goes before one of them.
+/// Hands latest pieces of tasks that are as asked: so many that each other one goes
+/// before one of them.
 pub(crate) fn hand_before(
     page: &Page,
     clocks: &Clocks,

@@ -23,7 +23,10 @@ use er_page::page::Page;
 use er_trace::record::Record;
 use smallvec::SmallVec;
 
-/// Hands the latest pieces of events that come before the event which the record begins, in version 3: of the one that declared a task, of tasks of its kind, of jobs that the event which declared it queued, and of the jobs that began while a dispatch was on the stack. Any other record is handed nothing. The clocks are those of the page's actions in version 3.
+/// Hands the latest pieces of events that come before the event which the record begins, in version
+/// 3: of the one that declared a task, of tasks of its kind, of jobs that the event which declared
+/// it queued, and of the jobs that began while a dispatch was on the stack. Any other record is
+/// handed nothing. The clocks are those of the page's actions in version 3.
 ///
 /// Of events that come one before the other the last may be handed alone.
 pub fn predecessors(
@@ -74,7 +77,8 @@ fn hand(
     }
 }
 
-/// Hands what comes before a message or an animation callback: what comes before a task, and the jobs of the event that declared it.
+/// Hands what comes before a message or an animation callback: what comes before a task, and the
+/// jobs of the event that declared it.
 fn hand_callback(
     page: &Page,
     clocks: &Clocks,

@@ -24,7 +24,8 @@ use er_page::page::Page;
 use er_trace::version::Version;
 use smallvec::SmallVec;
 
-/// How far a walk over timeouts that have fired has come, from the last to the first: how many are left, and which was handed last.
+/// How far a walk over timeouts that have fired has come, from the last to the first: how many are
+/// left, and which was handed last.
 #[derive(Clone, Copy)]
 pub(crate) struct Walk {
     left: usize,
@@ -40,7 +41,8 @@ fn goes_off_first(first: SetTimeout, second: SetTimeout) -> bool
     first.delay <= second.delay && first.rank < second.rank
 }
 
-/// Whether the callback of the earlier timeout comes before that of the next, where rule 19 of the version says so.
+/// Whether the callback of the earlier timeout comes before that of the next, where rule 19 of the
+/// version says so.
 fn goes_before(clocks: &Clocks, version: Version, earlier: SetTimeout, next: SetTimeout) -> bool
     ensures { (page : Page) (h : List Record) → IsTimed version page clocks.now h
         → IsSet page.claimed earlier → IsSet page.claimed next
@@ -83,7 +85,8 @@ fn is_covered(
     }
 }
 
-/// How many right before the earlier one have a greater delay than the next, or were set no earlier.
+/// How many right before the earlier one have a greater delay than the next, or were set
+/// no earlier.
 fn missed(earlier: FiredTimeout, next: SetTimeout) -> u16
     ensures { (xs : List FiredTimeout) (place : ℕ) → IsCounted xs place earlier
         → StandSo Misses xs place next result }
@@ -97,9 +100,11 @@ fn missed(earlier: FiredTimeout, next: SetTimeout) -> u16
     0
 }
 
-/// Goes on by the last timeout that is left: hands the latest piece of its callback, if that is to come before the next one's (rule 19) and comes not before the one that was handed last.
+/// Goes on by the last timeout that is left: hands the latest piece of its callback, if that is to
+/// come before the next one's (rule 19) and comes not before the one that was handed last.
 ///
-/// What comes before it need not be asked where it was handed, or comes before one that was; nor do those that are as far from coming before the next as it is.
+/// What comes before it need not be asked where it was handed, or comes before one that was; nor do
+/// those that are as far from coming before the next as it is.
 fn walk_on(
     page: &Page,
     clocks: &Clocks,
@@ -142,7 +147,8 @@ fn walk_on(
     })
 }
 
-/// Hands of these timeouts, which have fired, so many that each other one that is to come before the next comes before one of them.
+/// Hands of these timeouts, which have fired, so many that each other one that is to come before
+/// the next comes before one of them.
 pub(crate) fn hand_fired(
     page: &Page,
     clocks: &Clocks,

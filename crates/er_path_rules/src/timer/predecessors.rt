@@ -27,7 +27,10 @@ use er_trace::record::Record;
 use er_trace::version::Version;
 use smallvec::SmallVec;
 
-/// Hands the latest pieces of the events that come before a callback: of the one that set its timeout, and of callbacks of timeouts from which rule 19 of the version leads; or of the one that set its interval, and of the latest callback of that. Any other record is handed nothing. The clocks are those of the page's actions in this version.
+/// Hands the latest pieces of the events that come before a callback: of the one that set its
+/// timeout, and of callbacks of timeouts from which rule 19 of the version leads; or of the one
+/// that set its interval, and of the latest callback of that. Any other record is handed nothing.
+/// The clocks are those of the page's actions in this version.
 ///
 /// Of callbacks that come one before the other the last may be handed alone.
 pub fn predecessors(
@@ -94,7 +97,8 @@ fn hand_for_timer(
     }
 }
 
-/// The timeouts that have fired and may come before one that this event set: in version 1 those that it set itself.
+/// The timeouts that have fired and may come before one that this event set: in version 1 those
+/// that it set itself.
 fn fired_before(page: &Page, version: Version, setter: u32) -> &[FiredTimeout]
     ensures numbers { (h : List Record) → IsPage page.now h
         → map number_of (sets result.now) ≡ says.fired_before version h setter }
@@ -107,7 +111,8 @@ fn fired_before(page: &Page, version: Version, setter: u32) -> &[FiredTimeout]
     }
 }
 
-/// Hands the event that set the timeout, and of the timeouts that have fired those that come before.
+/// Hands the event that set the timeout, and of the timeouts that have fired those that
+/// come before.
 fn hand_set_by(
     page: &Page,
     clocks: &Clocks,

@@ -1,5 +1,7 @@
--- Chains: each action, in order, joins the lowest chain whose last member has a path to it, else it begins a new one.
--- Lists of predecessors stand newest first, and so do the members of a chain. Chains stand lowest first.
+-- Chains: each action, in order, joins the lowest chain whose last member has a path to it, else it
+-- begins a new one.
+-- Lists of predecessors stand newest first, and so do the members of a chain. Chains
+-- stand lowest first.
 use Rattle.std.specs.Prelude.{ℕ, suc, Bool, false, ◌==◌, List, [], ◌∷◌, length, slice_index_or, if◌then◌else◌}
 use Rattle.er_paths.specs.Paths.{joins, is_among}
 

@@ -11,7 +11,8 @@ abbrev pub last_leads : List ℕ → List (List ℕ) → ℕ → Bool
 last_leads p older c =
     last_passes (λ i. joins (p ∷ older) i (length older)) (members (chains older) c)
 
--- The newest action joins a chain whose last member has a path to it, and no lower chain has such a one; or it begins the next chain. It is that chain's last member, and no other chain changes.
+-- The newest action joins a chain whose last member has a path to it, and no lower chain has such a
+-- one; or it begins the next chain. It is that chain's last member, and no other chain changes.
 abbrev pub IsFirstFit : List ℕ → List (List ℕ) → ℕ → Type 0
 IsFirstFit p older chain =
     (chain ≤ length (chains older))
@@ -51,7 +52,8 @@ abbrev pub ChainsOfPaths : Type 0
 ChainsOfPaths = (lists others : List (List ℕ)) → length lists ≡ length others
     → ((i j : ℕ) → joins lists i j ≡ joins others i j) → chains lists ≡ chains others
 
--- A link is a pair of different actions with a path from the one to the other, and with no third action on any path between them.
+-- A link is a pair of different actions with a path from the one to the other, and with no third
+-- action on any path between them.
 abbrev pub LinksAreDirect : Type 0
 LinksAreDirect = (lists : List (List ℕ)) (i j : ℕ)
     → (is_link lists i j ≡ true)

@@ -1,4 +1,5 @@
--- Links: pairs of different actions with a path between them and no third action on it. They are the edges of least number with the same paths.
+-- Links: pairs of different actions with a path between them and no third action on it. They are
+-- the edges of least number with the same paths.
 use Rattle.std.specs.Prelude.{ℕ, zero, suc, ◌+◌, Bool, not, ◌==◌, ◌&&◌, List, [], ◌∷◌, ◌++◌, length}
 use Rattle.std.specs.List.{list_any, filter}
 use Rattle.er_paths.specs.Paths.{joins}
@@ -30,7 +31,8 @@ abbrev pub links_to : List (List ℕ) → ℕ → List (List ℕ)
 links_to lists zero = []
 links_to lists (suc n) = links_of lists n ∷ links_to lists n
 
--- all links: the sources of those into each action, newest first, so that they are lists of predecessors too
+-- all links: the sources of those into each action, newest first, so that they are lists of
+-- predecessors too
 abbrev pub links : List (List ℕ) → List (List ℕ)
 links lists = links_to lists (length lists)
 

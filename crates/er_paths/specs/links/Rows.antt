@@ -1,4 +1,5 @@
--- Worked rows: small lists of predecessors, newest first, with their chains, lowest first, and the links, newest first. The members of a chain stand newest first.
+-- Worked rows: small lists of predecessors, newest first, with their chains, lowest first, and the
+-- links, newest first. The members of a chain stand newest first.
 use Rattle.std.specs.Prelude.{◌≡◌, ℕ, List, [], ◌∷◌, length}
 use Rattle.er_paths.specs.links.Chains.{chains, place_of, entry}
 use Rattle.er_paths.specs.links.Links.{numbers_below, links, link_count}
@@ -40,7 +41,8 @@ TwoTimeoutsInOrder = Gives ((1 ∷ 2 ∷ []) ∷ (1 ∷ []) ∷ (0 ∷ []) ∷ [
     ((3 ∷ 2 ∷ 1 ∷ 0 ∷ []) ∷ []) (0 ∷ 1 ∷ 2 ∷ 3 ∷ []) (4 ∷ [])
     ((2 ∷ []) ∷ (1 ∷ []) ∷ (0 ∷ []) ∷ [] ∷ []) 3 3
 
--- two dispatches, each with its piece after it, of which the second joins neither, or the first joins the second
+-- two dispatches, each with its piece after it, of which the second joins neither, or the first
+-- joins the second
 abbrev pub ImageAfterLoad : Type 0
 ImageAfterLoad = Gives
     ((5 ∷ 0 ∷ []) ∷ (0 ∷ []) ∷ (3 ∷ 2 ∷ 0 ∷ []) ∷ (2 ∷ 1 ∷ []) ∷ (1 ∷ []) ∷ (0 ∷ []) ∷ [] ∷ [])
@@ -70,7 +72,8 @@ abbrev pub NoEdge : Type 0
 NoEdge = Gives ([] ∷ [] ∷ [] ∷ []) ((0 ∷ []) ∷ (1 ∷ []) ∷ (2 ∷ []) ∷ []) (0 ∷ 0 ∷ 0 ∷ [])
     (0 ∷ 0 ∷ 1 ∷ []) ([] ∷ [] ∷ [] ∷ []) 0 2
 
--- of two chains whose last members have a path to it, an action joins the lower; its own place is after the last member's, however late the other is
+-- of two chains whose last members have a path to it, an action joins the lower; its own place is
+-- after the last member's, however late the other is
 abbrev pub LowerChain : Type 0
 LowerChain = Gives ((0 ∷ 2 ∷ 2 ∷ []) ∷ (1 ∷ []) ∷ [] ∷ [] ∷ []) ((3 ∷ 0 ∷ []) ∷ (2 ∷ 1 ∷ []) ∷ [])
     (0 ∷ 0 ∷ 1 ∷ 1 ∷ []) (2 ∷ 2 ∷ []) ((0 ∷ 2 ∷ []) ∷ (1 ∷ []) ∷ [] ∷ [] ∷ []) 3 3

@@ -1,4 +1,5 @@
--- Worked rows: small lists of predecessors, newest first, with two orders, and orders that are none.
+-- Worked rows: small lists of predecessors, newest first, with two orders, and orders
+-- that are none.
 use Rattle.std.specs.Prelude.{◌≡◌, ℕ, Bool, true, false, List, [], ◌∷◌, length}
 use Rattle.er_paths.specs.Paths.{joins}
 use Rattle.er_paths.specs.orders.Orders.{is_lawful, is_schedule, before_order, after_order}
@@ -20,7 +21,8 @@ abbrev pub WorkedOrders : Type 0
 WorkedOrders = HasOrders two_timeouts 2 3 (0 ∷ 1 ∷ 2 ∷ 3 ∷ []) (0 ∷ 1 ∷ 3 ∷ 2 ∷ [])
     × HasOrders two_pairs 2 5 (0 ∷ 1 ∷ 4 ∷ 2 ∷ 5 ∷ 3 ∷ []) (0 ∷ 1 ∷ 4 ∷ 5 ∷ 2 ∷ 3 ∷ [])
 
--- this order of the two timeouts is one in which action 2 stands directly before action 3, or is none
+-- this order of the two timeouts is one in which action 2 stands directly before action
+-- 3, or is none
 abbrev pub is_told : List ℕ → Bool → Type 0
 is_told order told = is_schedule (joins two_timeouts) 4 order 2 3 ≡ told
 

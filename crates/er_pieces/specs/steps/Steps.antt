@@ -1,4 +1,6 @@
--- Why a path leads from one action to another: a list of links, each with the least number of a rule that makes it. Lists of records and of predecessors stand newest first, steps stand first step first.
+-- Why a path leads from one action to another: a list of links, each with the least
+-- number of a rule that makes it. Lists of records and of predecessors stand newest
+-- first, steps stand first step first.
 use Rattle.std.specs.Prelude.{ℕ, zero, suc, Bool, ◌==◌, nat_lt, if◌then◌else◌, List, [], ◌∷◌, ◌++◌, Option, Some, None}
 use Rattle.std.specs.List.{filter}
 use Rattle.er_trace.specs.declared.record.Record.{Record}
@@ -31,7 +33,8 @@ rule_of_events table joined u v = if u.number == v.number then None else least_r
 abbrev pub rule_of_pieces : Action → Action → Option ℕ
 rule_of_pieces i j = lesser (given (around_inline i j) 22) (given (of_one_event i j) 23)
 
--- the least number of a rule that makes an edge from i to j; the rules are told of the paths among the actions before event j
+-- the least number of a rule that makes an edge from i to j; the rules are told of the paths among
+-- the actions before event j
 abbrev pub rule_between : List (ℕ × Rule) → (ℕ → ℕ → Bool) → Action → Action → Option ℕ
 rule_between table joined i j =
     if nat_lt i.number j.number
@@ -74,7 +77,8 @@ then_link rule before j None = []
 then_link rule before j (Some k) =
     before k ++ record { source = k; target = j; rule = number_of (rule k) } ∷ []
 
--- The steps from i to j: those from i to the least source, and the link from there. So many at most.
+-- The steps from i to j: those from i to the least source, and the link from there. So
+-- many at most.
 abbrev pub steps_within : (ℕ → ℕ → Option ℕ) → List (List ℕ) → ℕ → ℕ → ℕ → List Step
 steps_within rule lists zero i j = []
 steps_within rule lists (suc n) i j =

@@ -1,4 +1,5 @@
--- What the look-ups of a dispatch give is what comes before a record of it. Lists of records stand newest first.
+-- What the look-ups of a dispatch give is what comes before a record of it. Lists of records stand
+-- newest first.
 use Rattle.std.proofs.Common.{◌≡◌, ℕ, List, ◌++◌, Option, Some, None, sym, ap, ◌∙◌}
 use Rattle.std.specs.Prelude.{◌==◌, reverse, Result, Ok, Err, OnOk, OnErr}
 use Rattle.er_trace.specs.declared.record.Record.{Record}

@@ -1,4 +1,5 @@
--- Proof that a handler is late exactly where one of a greater group of its dispatch has run, and no other record is. Lists of records stand newest first.
+-- Proof that a handler is late exactly where one of a greater group of its dispatch has run, and no
+-- other record is. Lists of records stand newest first.
 use Rattle.std.proofs.Common.{◌≡◌, ℕ, Bool, true, false, List, [], ◌∷◌, length, Option, Some, None, refl, sym, ap, ◌∙◌, arith}
 use Rattle.std.specs.Prelude.{◌==◌, ◌&&◌, ◌||◌, not, nat_lt, if◌then◌else◌}
 use Rattle.std.specs.List.{list_any}

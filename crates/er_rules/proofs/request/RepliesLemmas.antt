@@ -1,4 +1,5 @@
--- What the look-ups of a request give is what comes before a reply of it. Lists of records stand newest first.
+-- What the look-ups of a request give is what comes before a reply of it. Lists of records stand
+-- newest first.
 use Rattle.std.proofs.Common.{◌≡◌, ℕ, List, ◌++◌, Option}
 use Rattle.er_trace.specs.declared.record.Record.{Record}
 use Rattle.er_history.specs.History.{told}

@@ -13,7 +13,8 @@ use Rattle.er_history.specs.LookUps.{last_group}
 abbrev pub is_greater : ℕ → Option ℕ → Bool
 is_greater g group = is_some_and (λ (k : ℕ). nat_lt g k) group
 
--- A handler comes too late where one of a greater group of its dispatch has run; no other record does.
+-- A handler comes too late where one of a greater group of its dispatch has run; no other
+-- record does.
 abbrev pub is_late : List Record → Record → Bool
 is_late h (Run p g x) = is_greater g (last_group h p)
 is_late h _ = false

@@ -8,7 +8,8 @@ use Rattle.er_history.specs.Kinds.{is_run_of, is_static_async, runs_element, clo
 use Rattle.er_history.specs.LookUps.{close_event, load_of, inner_of}
 use Rattle.er_pieces.specs.HandedPieces.{dcl_handed, inner_close}
 
--- Before load of the window: the close of DOMContentLoaded, what was parsed and run, the async runs, and the closes of first load events.
+-- Before load of the window: the close of DOMContentLoaded, what was parsed and run, the async
+-- runs, and the closes of first load events.
 
 abbrev pub dcl_part : ℕ → History → List ℕ
 dcl_part d h = newest (closes (is_dcl_of d)) h.actions
@@ -22,7 +23,8 @@ static_part d h = latest_of_each (closes (is_static_load_of d)) h.actions
 abbrev pub window_parts : ℕ → History → List ℕ
 window_parts d h = dcl_part d h ++ dcl_handed h d ++ async_part d h ++ static_part d h
 
--- Before the first load event of an element: its maker, the run of it, and the close of load of its inner document.
+-- Before the first load event of an element: its maker, the run of it, and the close of load of its
+-- inner document.
 
 abbrev pub maker_part : ℕ → History → List ℕ
 maker_part e h = latest_of (element_maker h.entries e) h.actions

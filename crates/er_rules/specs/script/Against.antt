@@ -27,7 +27,8 @@ abbrev pub is_passed : List Record → ℕ → Option Element → Bool
 is_passed h d y =
     is_some_and (λ (last : ℕ). is_parsed_before y (element_made h last)) (last_deferred_element h d)
 
--- the run of a blocking script comes too late: the document was parsed on, or one of its deferred scripts has run
+-- the run of a blocking script comes too late: the document was parsed on, or one of its deferred
+-- scripts has run
 abbrev pub is_blocking_late : List Record → ℕ → Option Element → Bool
 is_blocking_late h d y = blocks y && (is_parsed_past h d y || has_deferred_run h d)
 

@@ -13,9 +13,11 @@ ghost use Rattle.er_rules.specs.dispatch.Against as says;
 use er_page::page::Page;
 use er_trace::record::Record;
 
-/// Whether a rule from 14 to 17 leads from the event that the record would begin to one that has begun. It takes no memory.
+/// Whether a rule from 14 to 17 leads from the event that the record would begin to one that has
+/// begun. It takes no memory.
 ///
-/// Only rule 16 ever does, from a handler of a smaller group to one of a greater: what made a target or registered a handler has begun, and dispatches are ordered as they are recorded.
+/// Only rule 16 ever does, from a handler of a smaller group to one of a greater: what made a
+/// target or registered a handler has begun, and dispatches are ordered as they are recorded.
 pub fn against(page: &Page, rec: &Record) -> bool
     ensures { (table : List (ℕ × Rule)) (h : List Record) → IsPage page.now h
         → IsNamed h → naming h rec.now ≡ None

@@ -32,7 +32,8 @@ pub(crate) fn hand_group(
     }
 }
 
-/// Hands what comes before the run of a handler: the event that registered it (rule 15), and what ran in the smaller groups (rule 16).
+/// Hands what comes before the run of a handler: the event that registered it (rule 15), and what
+/// ran in the smaller groups (rule 16).
 pub(crate) fn hand_for_run(
     page: &Page,
     dispatch: u32,

@@ -17,9 +17,11 @@ use er_page::page::Page;
 use er_trace::record::Record;
 use smallvec::SmallVec;
 
-/// Hands the pieces that come before a piece of a dispatch, or before the one that `back` begins. Any other record is handed nothing.
+/// Hands the pieces that come before a piece of a dispatch, or before the one that `back` begins.
+/// Any other record is handed nothing.
 ///
-/// What is handed is enough for edges between events by rules 14 to 17 and for those between pieces by rules 22 and 23.
+/// What is handed is enough for edges between events by rules 14 to 17 and for those between pieces
+/// by rules 22 and 23.
 pub fn predecessors(page: &Page, rec: &Record, out: &mut SmallVec<u32, 8>) -> Result<(), NoMemory>
     requires some { ∥ IsSomePage page.now ∥₁ }
     ensures exact { OnOk result

@@ -30,7 +30,8 @@ pub(crate) fn hand_document(
     hand_latest(page, page.maker_of_document(doc), out)
 }
 
-/// Hands the event that made the element (rule 14), and the latest close of a dispatch of the type at it (rule 17).
+/// Hands the event that made the element (rule 14), and the latest close of a dispatch of the type
+/// at it (rule 17).
 pub(crate) fn hand_at_element(
     page: &Page,
     element: u32,
@@ -47,7 +48,8 @@ pub(crate) fn hand_at_element(
     hand_some(page.last_element_close(element, name), out)
 }
 
-/// Hands the event that declared the document (rule 14), and the latest close of a dispatch of the type at its window (rule 17).
+/// Hands the event that declared the document (rule 14), and the latest close of a dispatch of the
+/// type at its window (rule 17).
 pub(crate) fn hand_at_window(
     page: &Page,
     doc: u32,
@@ -64,7 +66,8 @@ pub(crate) fn hand_at_window(
     hand_some(page.last_window_close(doc, name), out)
 }
 
-/// Hands what comes before the begin of an inline dispatch: what does before any at the element, and the running piece, which it suspends (rule 22).
+/// Hands what comes before the begin of an inline dispatch: what does before any at the element,
+/// and the running piece, which it suspends (rule 22).
 pub(crate) fn hand_in_piece(
     page: &Page,
     element: u32,

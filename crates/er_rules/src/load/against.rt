@@ -15,9 +15,11 @@ ghost use Rattle.er_rules.specs.load.Against as says;
 use er_page::page::Page;
 use er_trace::record::{Kind, Record};
 
-/// Whether a rule from 8 to 13 leads from the event that the record would begin to one that has begun. It takes no memory.
+/// Whether a rule from 8 to 13 leads from the event that the record would begin to one that has
+/// begun. It takes no memory.
 ///
-/// Rules 11 and 13 never do: they go by the order of the records. Nor does rule 12 from the event that made an element, which has begun.
+/// Rules 11 and 13 never do: they go by the order of the records. Nor does rule 12 from the event
+/// that made an element, which has begun.
 pub fn against(page: &Page, rec: &Record) -> bool
     ensures { (table : List (ℕ × Rule)) (h : List Record) → IsPage page.now h
         → HasFamily table load_rules → IsSound table h → naming h rec.now ≡ None
@@ -26,7 +28,8 @@ pub fn against(page: &Page, rec: &Record) -> bool
     is_late(page, rec)
 }
 
-/// Whether the record comes too late: a parse step, the run of a script or DOMContentLoaded, behind DOMContentLoaded or load of the document or the first load event of the script.
+/// Whether the record comes too late: a parse step, the run of a script or DOMContentLoaded, behind
+/// DOMContentLoaded or load of the document or the first load event of the script.
 fn is_late(page: &Page, rec: &Record) -> bool
     ensures { (h : List Record) → IsPage page.now h → result ≡ says.is_late h rec.now }
 {
@@ -39,14 +42,16 @@ fn is_late(page: &Page, rec: &Record) -> bool
     }
 }
 
-/// Whether DOMContentLoaded of the document has begun: a parse step, and the run of a blocking or deferred script, comes too late then (rule 8).
+/// Whether DOMContentLoaded of the document has begun: a parse step, and the run of a blocking or
+/// deferred script, comes too late then (rule 8).
 fn has_dcl(page: &Page, doc: u32) -> bool
     ensures { (h : List Record) → IsPage page.now h → result ≡ says.has_dcl h doc }
 {
     page.dcl_of(doc).is_some()
 }
 
-/// Whether load of the document has begun: a parse step, the run of a static script (rule 10) and DOMContentLoaded (rule 9) come too late then.
+/// Whether load of the document has begun: a parse step, the run of a static script (rule 10) and
+/// DOMContentLoaded (rule 9) come too late then.
 fn has_load(page: &Page, doc: u32) -> bool
     ensures { (h : List Record) → IsPage page.now h → result ≡ says.has_load h doc }
 {
@@ -60,7 +65,8 @@ fn is_step_late(page: &Page, doc: u32) -> bool
     has_dcl(page, doc) || has_load(page, doc)
 }
 
-/// Whether the run of the script comes too late: in its document, or behind its own load event (rule 12).
+/// Whether the run of the script comes too late: in its document, or behind its own load
+/// event (rule 12).
 fn is_run_late(page: &Page, element: u32) -> bool
     ensures { (h : List Record) → IsPage page.now h
         → result ≡ says.is_run_late h element (element_made h element) }
@@ -80,7 +86,8 @@ fn is_late_in_document(page: &Page, element: u32) -> bool
         || page.is_static(element) && has_load(page, doc)
 }
 
-/// Whether it is a blocking or a deferred script: a parse step made it, and it is of the kind `inline`, `sync` or `defer`.
+/// Whether it is a blocking or a deferred script: a parse step made it, and it is of the kind
+/// `inline`, `sync` or `defer`.
 fn runs_before_dcl(page: &Page, element: u32) -> bool
     ensures { (h : List Record) → IsPage page.now h
         → result ≡ is_some_and says.runs_before_dcl (element_made h element) }

@@ -15,7 +15,8 @@ use er_page::page::Page;
 use er_trace::record::Record;
 use smallvec::SmallVec;
 
-/// Hands what is due before the record: before DOMContentLoaded the latest parse step and runs of the document (rule 8).
+/// Hands what is due before the record: before DOMContentLoaded the latest parse step and runs of
+/// the document (rule 8).
 pub(crate) fn hand_due(
     page: &Page,
     rec: &Record,
@@ -68,7 +69,8 @@ fn hand_async(page: &Page, doc: u32, out: &mut SmallVec<u32, 8>) -> Result<(), N
     hand_each(page, page.async_runs(doc), out)
 }
 
-/// Hands the closes of the first load events of the static elements of the document that are not plain (rule 11).
+/// Hands the closes of the first load events of the static elements of the document that are not
+/// plain (rule 11).
 fn hand_static(page: &Page, doc: u32, out: &mut SmallVec<u32, 8>) -> Result<(), NoMemory>
     requires some { ∥ IsSomePage page.now ∥₁ }
     ensures whole { OnOk result (GrewFor page.now (static_part doc) out.old.items out.new.items) }

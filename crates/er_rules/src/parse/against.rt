@@ -9,9 +9,11 @@ ghost use Rattle.er_history.specs.Sound.{leads_back};
 use er_page::page::Page;
 use er_trace::record::Record;
 
-/// Whether rule 1 or 2 leads from the event that the record would begin to one that has begun. It takes no memory.
+/// Whether rule 1 or 2 leads from the event that the record would begin to one that has begun. It
+/// takes no memory.
 ///
-/// Neither ever does: rule 1 goes by the order of the records, and the event that declared a document has begun.
+/// Neither ever does: rule 1 goes by the order of the records, and the event that declared a
+/// document has begun.
 #[tactic(auto, using(er_history::proofs::OrderLemmas::parse_rules_never_lead_back))]
 pub fn against(page: &Page, rec: &Record) -> bool
     ensures { (joined : ℕ → ℕ → Bool) (h : List Record)

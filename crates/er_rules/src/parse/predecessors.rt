@@ -13,9 +13,11 @@ use er_page::page::Page;
 use er_trace::record::Record;
 use smallvec::SmallVec;
 
-/// Hands, before a parse step, the latest one of the document and the latest piece of the event that declared it (rules 1 and 2).
+/// Hands, before a parse step, the latest one of the document and the latest piece of the event
+/// that declared it (rules 1 and 2).
 ///
-/// They are sources of edges, and each other source has a path to one of them. Before another record nothing is handed.
+/// They are sources of edges, and each other source has a path to one of them. Before another
+/// record nothing is handed.
 pub fn predecessors(page: &Page, rec: &Record, out: &mut SmallVec<u32, 8>) -> Result<(), NoMemory>
     requires some { ∥ IsSomePage page.now ∥₁ }
     ensures exact { OnOk result

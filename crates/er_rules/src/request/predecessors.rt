@@ -17,7 +17,8 @@ use er_page::page::Page;
 use er_trace::record::Record;
 use smallvec::SmallVec;
 
-/// Hands the latest piece of the event that sent the request of a reply, and that of the close of its latest closed reply. Any other record is handed nothing.
+/// Hands the latest piece of the event that sent the request of a reply, and that of the close of
+/// its latest closed reply. Any other record is handed nothing.
 pub fn predecessors(page: &Page, rec: &Record, out: &mut SmallVec<u32, 8>) -> Result<(), NoMemory>
     requires some { ∥ IsSomePage page.now ∥₁ }
     ensures exact { OnOk result

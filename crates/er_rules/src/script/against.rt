@@ -16,7 +16,8 @@ use crate::script::elements::{is_blocking, is_deferred, is_parsed_before};
 use er_page::page::Page;
 use er_trace::record::Record;
 
-/// Whether a rule from 3 to 7 leads from the event that the record would begin to one that has begun. It takes no memory.
+/// Whether a rule from 3 to 7 leads from the event that the record would begin to one that has
+/// begun. It takes no memory.
 ///
 /// Rule 3 never does: the event that made a script has begun.
 pub fn against(page: &Page, rec: &Record) -> bool
@@ -27,7 +28,8 @@ pub fn against(page: &Page, rec: &Record) -> bool
     is_late(page, rec)
 }
 
-/// Whether the record comes too late: a parse step or the run of a script, after a deferred script of the document, a later parse step, or a deferred script that was parsed later.
+/// Whether the record comes too late: a parse step or the run of a script, after a deferred script
+/// of the document, a later parse step, or a deferred script that was parsed later.
 fn is_late(page: &Page, rec: &Record) -> bool
     ensures { (h : List Record) → IsPage page.now h → result ≡ says.is_late h rec.now }
 {
@@ -39,7 +41,8 @@ fn is_late(page: &Page, rec: &Record) -> bool
     }
 }
 
-/// Whether a deferred script of the document has run: a parse step (rule 5) or a blocking script (rule 6) comes too late then.
+/// Whether a deferred script of the document has run: a parse step (rule 5) or a blocking script
+/// (rule 6) comes too late then.
 fn has_deferred_run(page: &Page, doc: u32) -> bool
     ensures { (h : List Record) → IsPage page.now h → result ≡ says.has_deferred_run h doc }
 {
@@ -57,7 +60,8 @@ fn is_run_late(page: &Page, element: u32) -> bool
     is_blocking_late(page, element, doc) || is_deferred_late(page, element, doc)
 }
 
-/// Whether it is a blocking script, and its run comes too late in the document: behind a later parse step (rule 4) or the run of a deferred script (rule 6).
+/// Whether it is a blocking script, and its run comes too late in the document: behind a later
+/// parse step (rule 4) or the run of a deferred script (rule 6).
 fn is_blocking_late(page: &Page, element: u32, doc: u32) -> bool
     ensures { (h : List Record) → IsPage page.now h
         → result ≡ says.is_blocking_late h doc (element_made h element) }
@@ -66,7 +70,8 @@ fn is_blocking_late(page: &Page, element: u32, doc: u32) -> bool
         && (is_parsed_past(page, element, doc) || has_deferred_run(page, doc))
 }
 
-/// Whether it is a deferred script, and its run comes too late in the document: behind that of one which was parsed after it (rule 7).
+/// Whether it is a deferred script, and its run comes too late in the document: behind that of one
+/// which was parsed after it (rule 7).
 fn is_deferred_late(page: &Page, element: u32, doc: u32) -> bool
     ensures { (h : List Record) → IsPage page.now h
         → result ≡ says.is_deferred_late h doc (element_made h element) }

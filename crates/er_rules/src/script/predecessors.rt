@@ -13,9 +13,12 @@ use er_page::page::Page;
 use er_trace::record::Record;
 use smallvec::SmallVec;
 
-/// Hands, before a parse step, the latest run of a blocking script of the document; before the run of a script the event that made it, and for a deferred one the latest parse step, blocking run and deferred run of its document too (rules 3 to 7).
+/// Hands, before a parse step, the latest run of a blocking script of the document; before the run
+/// of a script the event that made it, and for a deferred one the latest parse step, blocking run
+/// and deferred run of its document too (rules 3 to 7).
 ///
-/// They are sources of edges, and each other source has a path to one of them. Before another record nothing is handed.
+/// They are sources of edges, and each other source has a path to one of them. Before another
+/// record nothing is handed.
 pub fn predecessors(page: &Page, rec: &Record, out: &mut SmallVec<u32, 8>) -> Result<(), NoMemory>
     requires some { ∥ IsSomePage page.now ∥₁ }
     ensures exact { OnOk result
