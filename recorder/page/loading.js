@@ -9,6 +9,8 @@ class Loading {
     this.recording = page.recording;
     this.hasBegunDomContentLoaded = false;
     this.hasBegunLoad = false;
+    /** The next page in the window of an empty one: the browser may parse it at once, and tells no listener so. */
+    this.isHeardLate = false;
     this.loaded = new WeakSet();
     /** The dispatch `dcl` or `load` that events at the same moment of loading join, in groups of their own. */
     this.moment = null;
@@ -40,6 +42,16 @@ class Loading {
     return moment;
   }
 
+  /** DOMContentLoaded has come before load, and no handler has run. */
+  writeUnheard() {
+    const { recording, page } = this;
+    const dispatch = { number: recording.next('dispatch'), group: -1, isInline: false };
+    this.beginEnd(dispatch, 'dcl');
+    page.dispatches.readSlots([page.document, page.window], 'DOMContentLoaded');
+    recording.push(dispatch);
+    recording.finishTop();
+  }
+
   /** Writes the begin of a dispatch that belongs to loading. Answers whether it does. */
   begin(dispatch) {
     const { event, target } = dispatch;
@@ -52,7 +64,10 @@ class Loading {
     const { event } = dispatch;
     const state = this.page.document.readyState;
     const isComplete = event.type === 'readystatechange' && state === 'complete';
-    if ((event.type === 'load' || isComplete) && !this.hasBegunLoad) return this.beginEnd(dispatch, 'load');
+    if ((event.type === 'load' || isComplete) && !this.hasBegunLoad) {
+      if (this.isHeardLate && !this.hasBegunDomContentLoaded) this.writeUnheard();
+      return this.beginEnd(dispatch, 'load');
+    }
     const isParsed = event.type === 'readystatechange' && state === 'interactive' && !this.page.elements.pendingDeferred.size;
     const isFirst = !this.hasBegunDomContentLoaded && !this.hasBegunLoad;
     if ((event.type === 'DOMContentLoaded' || isParsed) && isFirst) return this.beginEnd(dispatch, 'dcl');

@@ -70,6 +70,7 @@ class Page {
     if (this.loading.hasBegunLoad) recording.elementNumbers.delete(window); // its load has looked for no handlers of the next page
     this.elements.stop();
     this.takeDocument(number);
+    this.loading.isHeardLate = true;
     this.beginDocument();
     this.dispatches.captureAgain();
     this.elements.start('parser');

@@ -632,6 +632,11 @@ exports.cases = [
     races: ['#own'],
   },
   {
+    page: 'frame-late.html', // the browser parses its page at once, and no listener hears the end of that
+    due: ['new iframe#inside frame', 'w early', 'parse p#own plain', 'w #own', 'dcl', 'load', 'eload iframe#inside', 'run filled', 'r #own', 'w found'],
+    races: [],
+  },
+  {
     page: 'frame-lazy.html',
     due: [
       'parse iframe#inside plain', 'new iframe#inside frame', 'parse p#child plain', 'exec script', 'dcl', 'load', 'eload iframe#inside', 'run load', 'w whole',
