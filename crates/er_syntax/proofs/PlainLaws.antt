@@ -10,7 +10,7 @@ use Rattle.er_text.specs.Bytes.{space, line_end}
 use Rattle.er_text.specs.Number.{IsNumber}
 use Rattle.er_text.proofs.NumberLaws.{number_from_form}
 use Rattle.er_text.specs.Name.{most_name, IsName, name_spelling, stands_for_itself}
-use Rattle.er_trace.specs.declared.record.Record.TheVariants.{Parse, Timer, Set, Access}
+use Rattle.er_trace.specs.declared.record.Record.TheVariants.{Parse, Timer, Tick, Close, Set, Access}
 use Rattle.er_trace.specs.declared.record.Kind.TheVariants as kinds
 use Rattle.er_trace.specs.declared.record.Mode.{Mode}
 use Rattle.er_trace.specs.declared.record.Mode.TheVariants as modes
@@ -129,3 +129,13 @@ pub timer_at : (bytes after_word left : List ℕ) (t : ℕ)
     → bytes ≡ codes "timer " ++ after_word → after_word ≡ decimal t ++ line_end ∷ left
     → bytes ≡ spelling (Timer t) ++ line_end ∷ left
 timer_at bytes after_word left t word timeout = word ∙ ap (λ l. codes "timer " ++ l) timeout
+
+pub tick_at : (bytes after_word left : List ℕ) (i : ℕ)
+    → bytes ≡ codes "tick " ++ after_word → after_word ≡ decimal i ++ line_end ∷ left
+    → bytes ≡ spelling (Tick i) ++ line_end ∷ left
+tick_at bytes after_word left i word interval = word ∙ ap (λ l. codes "tick " ++ l) interval
+
+pub close_at : (bytes after_word left : List ℕ) (p : ℕ)
+    → bytes ≡ codes "close " ++ after_word → after_word ≡ decimal p ++ line_end ∷ left
+    → bytes ≡ spelling (Close p) ++ line_end ∷ left
+close_at bytes after_word left p word dispatch = word ∙ ap (λ l. codes "close " ++ l) dispatch

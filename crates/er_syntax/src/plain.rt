@@ -1,6 +1,6 @@
 //! Lines that are read at the front of some bytes, with no look for their ends: accesses whose
-//! names have no byte that is spelled by digits, parse steps of plain elements, and timeouts that
-//! are set or that fire. Most lines of a trace are one of these.
+//! names have no byte that is spelled by digits, parse steps of plain elements, timeouts that are
+//! set or that fire, ticks, and closes. Most lines of a trace are one of these.
 
 ghost use Rattle.std.specs.Prelude.{◌≡◌, ◌<◌, ◌≤◌, ◌+◌, ◌^◌, ◌∷◌, ◌++◌, not, length, take, drop, position, IfSome, decimal, codes};
 ghost use Rattle.std.specs.Str.Parse.{AllDigits, digits_value};
@@ -241,6 +241,30 @@ fn timer_line(bytes: &[u8]) -> Option<(Record, &[u8])>
     Some((Record::Timer { timeout }, left))
 }
 
+/// The callback of an interval whose line stands at the front, and what stands behind the LF.
+#[tactic(auto, using(crate::proofs::PlainLaws::tick_at))]
+fn tick_line(bytes: &[u8]) -> Option<(Record, &[u8])>
+    ensures { IfSome result (λ pair. IsPlainLine bytes.now pair.0 pair.1.now) }
+{
+    let [b't', b'i', b'c', b'k', b' ', later @ ..] = bytes else {
+        return None;
+    };
+    let (interval, left) = number_before(later, b'\n')?;
+    Some((Record::Tick { interval }, left))
+}
+
+/// The close of a dispatch whose line stands at the front, and what stands behind the LF.
+#[tactic(auto, using(crate::proofs::PlainLaws::close_at))]
+fn close_line(bytes: &[u8]) -> Option<(Record, &[u8])>
+    ensures { IfSome result (λ pair. IsPlainLine bytes.now pair.0 pair.1.now) }
+{
+    let [b'c', b'l', b'o', b's', b'e', b' ', later @ ..] = bytes else {
+        return None;
+    };
+    let (dispatch, left) = number_before(later, b'\n')?;
+    Some((Record::Close { dispatch }, left))
+}
+
 /// The record whose line stands at the front, and what stands behind the LF, where it is one of
 /// those that are read so. `None` says nothing. Accesses are the most frequent: no other
 /// first word has one letter.
@@ -252,7 +276,9 @@ pub fn plain_line(alloc: Global, bytes: &[u8]) -> Option<(Record, &[u8])>
         [_, b' ', ..] => access_line(alloc, bytes),
         [b'p', ..] => parse_line(bytes),
         [b's', ..] => set_line(bytes),
-        [b't', ..] => timer_line(bytes),
+        [b't', b'i', b'm', ..] => timer_line(bytes),
+        [b't', ..] => tick_line(bytes),
+        [b'c', ..] => close_line(bytes),
         _ => None,
     }
 }
