@@ -11,7 +11,7 @@ const CONTENT = 'another content';
 exports.isAt = (text, location) => text.replace(/(first used at \S+):\d+$/, '$1') === location;
 
 exports.cases = [
-  { page: 'race-async-parser.html', location: '#offer', worst: 'an uncaught error', differs: /error in the (recorded|other) order alone: TypeError.*text in the (recorded|other) order alone: "Two for one"/ },
+  { page: 'race-async-parser.html', location: '#offer', worst: 'an uncaught error', differs: /error in the (recorded|other) order alone: TypeError.*text in the (recorded|other) order alone: "(Two for one|nothing)"/ },
   { page: 'race-async-async.html', location: 'theme', worst: CONTENT, isLong: true, differs: last('light', 'dark') },
   { page: 'race-reply-reply.html', location: 'shown', isLong: true, worst: CONTENT, differs: last('found for te', 'found for tea') },
   { page: 'race-timeouts.html', location: 'price', worst: CONTENT, differs: last('price 0', 'price 7') },
