@@ -1,7 +1,10 @@
 'use strict';
-// The end of a command: a pipe that is read slowly takes what was written later than it was written.
+// The end of a command: a pipe that is read slowly gets all that was written before the process exits.
 
-/** Ends this process with a status, once standard output and standard error have taken all, or take no more. */
+/**
+ * Ends this process with a status, once standard output and standard error have taken everything, or take no more.
+ * @param {number} status
+ */
 function endWith(status) {
   const left = new Set([process.stdout, process.stderr]);
   for (const stream of [...left]) {

@@ -1,129 +1,172 @@
 'use strict';
-// er_page URL: records a page, asks the program, and writes trace, names, report and view into a folder of the page's name.
+// er_page URL: records a page, queries the analyzer, and writes trace, names, report and view into a folder of the page's name.
 
 const fs = require('node:fs');
 const path = require('node:path');
+const { print, printError } = require('./common/output.js');
 const { resolveAddress } = require('./browser/folder.js');
-const { endWith } = require('./ending.js');
-const { Known, KnownFault } = require('./list/known.js');
+const { runCommand, printHelp } = require('./command.js');
+const { redacted } = require('./common/secrets.js');
+const { STATUS } = require('./common/status.js');
+const { stoppable } = require('./common/stoppable.js');
+const { makeFolder } = require('./common/whole-file.js');
+const { judgeAndView } = require('./judged.js');
+const { Known } = require('./list/known.js');
 const { Listing } = require('./list/listing.js');
-const { writeOutputs, tellLines } = require('./list/outputs.js');
-const { writeWhole, makeFolder, WriteFault } = require('./list/whole-file.js');
-const { parseOptions, UsageFault, USAGE } = require('./options.js');
+const { writeOutputs, tellLines, totalsOf } = require('./list/outputs.js');
+const { parseCommand, UsageFault } = require('./recording/options.js');
+const { phase } = require('./phase.js');
+const { Recorder } = require('./recording/recorder.js');
+const { listPages } = require('./many-pages.js');
 const { recordInto } = require('./record.js');
-const { Recorder } = require('./recorder.js');
-const { canReplay, replayRaces } = require('./replay/command.js');
+const { canReplay, replayRaces } = require('./replay-command.js');
 const { withEnd, chance } = require('./replay/replay.js');
-const { stoppable, STOPPED } = require('./stoppable.js');
-const { NEWEST_VERSION } = require('./trace/spelling.js');
-const { askAhead, endAsking, programState, runProgram, NO_PROGRAM } = require('./view/program.js');
-const { view, besides } = require('./view.js');
+const { askAhead, endAsking, programState } = require('./races/program.js');
+const { writePage } = require('./view.js');
 
-const USAGE_STATUS = 2;
-const WRITE_STATUS = 5;
+/** @typedef {import('./recording/options.js').CommandOptions} CommandOptions */
+/** @typedef {import('./view.js').View} View */
+/** @typedef {{given: string, folder: string, options: CommandOptions}} Call */
 
-/** The folder for a page: by its name, in the current one. */
+/**
+ * The folder for a page: by its name, in the current one.
+ * @param {string} given
+ */
 function folderFor(given) {
   const words = given.replace(/[?#].*$/, '').replace(/^\w+:\/\//, '').replace(/\/index\.html?$/, '').replace(/\.x?html?$/, '').split('/');
   const last = words.filter((word) => word && word !== '.' && word !== '..').pop() || 'page';
   return `${last.replace(/[^\w.-]+/g, '-')}.races`;
 }
 
-/** The report is that of the trace as it is then: what the program can't take is left out of it. */
-async function judgeAndView(traceFile, known) {
-  const [answer, told] = await Promise.all([view(traceFile, 'er_page', known), runProgram([], traceFile)]);
-  const { output } = answer.isRewritten ? await runProgram([], traceFile) : told;
-  if (output) writeWhole(besides(traceFile, '.report'), output);
-  return answer;
-}
-
-/** A run's files: those of the first one stand in the folder, those of the others in `runs`. */
+/**
+ * The trace of a run: that of the first one is in the folder, those of the others are in `runs`.
+ * @param {string} folder
+ * @param {number} k
+ */
 function fileOfRun(folder, k) {
   if (k === 0) return path.join(folder, 'page.trace');
   fs.mkdirSync(path.join(folder, 'runs'), { recursive: true });
   return path.join(folder, 'runs', `${k + 1}.trace`);
 }
 
-const folderOf = (given, options) => resolveAddress(given, options.root).folder;
+/** @param {Call} call */
+const servedFolder = ({ given, options }) => resolveAddress(given, options.root).folder;
 
-/** Records a page as often as is asked. Answers the traces of the runs before one that failed, and the status of that one. */
-async function recordRuns(given, folder, options, first) {
+/**
+ * Records a page as often as requested. Returns the traces of the runs before one that failed, the status of that one, and that of incomplete runs.
+ * @param {Call} call
+ * @param {Recorder} first
+ */
+async function recordRuns({ given, folder, options }, first) {
   const files = [];
+  let incomplete = STATUS.ok;
   for (let k = 0; k < options.runs; k++) {
     const own = { ...options, seed: options.seed + k, salt: k };
     const file = fileOfRun(folder, k);
-    const status = await recordInto(given, file, own, k === 0 ? first : new Recorder(given, own));
-    if (status !== 0) return { files, failed: status };
+    const ending = await recordInto(given, file, own, k === 0 ? first : new Recorder(given, own));
+    if (ending.failed) return { files, failed: ending.failed, incomplete };
+    incomplete = Math.max(incomplete, ending.incomplete);
     files.push(file);
   }
-  return { files, failed: 0 };
+  return { files, failed: STATUS.ok, incomplete };
 }
 
-/** Has the runs judged, and writes their views. Answers what the program and the list say of each before one that was not judged, and the status of that one. */
-async function judgeRuns(files, known) {
+/**
+ * Has the runs analyzed, and writes their views. Returns the views before a run that was not analyzed, and the status of that one.
+ * @param {string[]} files
+ * @param {Known|null} known
+ * @param {boolean} isReplayed
+ */
+async function judgeRuns(files, known, isReplayed) {
   await askAhead(files);
+  /** @type {View[]} */
   const runs = [];
   for (const file of files) {
-    const run = await judgeAndView(file, known);
-    if (!run.model) return { runs, failed: run.status };
-    runs.push(run);
+    const { status, view } = await judgeAndView(file, 'er_page', known, isReplayed);
+    if (!view) return { runs, failed: status };
+    runs.push(view);
   }
-  return { runs, failed: 0 };
+  return { runs, failed: STATUS.ok };
 }
 
-async function pageRaces(given, options) {
-  const known = options.known ? Known.readFile(options.known, options.writesKnown) : null;
-  const folder = folderFor(given);
+/**
+ * Removes what an earlier call has written into the folder and this one might not.
+ * @param {string} folder
+ */
+function prepareFolder(folder) {
   makeFolder(folder);
   fs.rmSync(path.join(folder, 'runs'), { recursive: true, force: true });
   fs.rmSync(path.join(folder, 'page.replay.json'), { force: true });
+}
+
+/** @param {Call} call */
+async function pageRaces(call) {
+  const { given, folder, options } = call;
+  const known = options.known ? Known.readFile(options.known, options.writesKnown) : null;
+  prepareFolder(folder);
   const first = new Recorder(given, options.isReplayed ? withEnd({ ...options, keepsBrowser: true, fixed: chance(options) }) : options);
   try {
-    const recorded = await recordRuns(given, folder, options, first);
-    const judged = await stoppable(() => endAsking(STOPPED), () => judgeRuns(recorded.files, known)); // a browser may still run
+    const recorded = await recordRuns(call, first);
+    const judging = () => phase('analyzing the trace and writing the view', () => judgeRuns(recorded.files, known, options.isReplayed));
+    const judged = await stoppable(() => endAsking(STATUS.stopped), judging); // a browser may still run
     const { runs } = judged;
     const failed = judged.failed || recorded.failed;
     if (!runs.length) return failed;
-    if (failed) console.error(`er_page: run ${runs.length + 1} of ${options.runs} failed: the list is that of the runs before`);
-    const status = await tellRuns(runs, known, first, { given, folder, options });
+    if (failed) printError(`er_page: run ${runs.length + 1} of ${options.runs} failed; the list covers only the runs before it`);
+    const status = await listRuns(call, runs, known, first, recorded.incomplete);
     return failed || status;
   } finally {
-    if (options.isReplayed) await first.browser?.close();
+    if (options.isReplayed) await first.closeKeptBrowser();
   }
 }
 
-/** Tells the list of all runs. Answers the status: 0 where no race came, or none that is not known. */
-async function tellRuns(runs, known, recorder, { given, folder, options }) {
-  const listing = new Listing(runs.map(({ problems }) => problems), known, options);
-  const status = listing.failing().length ? 1 : 0;
+/**
+ * The status of a list. A step that could not be done makes another recording than the one that was meant; a recording that was cut might lack races.
+ * @param {boolean} isFailing
+ * @param {number} incomplete
+ */
+function statusOfList(isFailing, incomplete) {
+  if (incomplete === STATUS.notDone || !isFailing) return incomplete;
+  return STATUS.race;
+}
+
+/**
+ * Prints the list of all runs, and replays its races if requested. Returns the status: 0 if there is no race that is not known.
+ * @param {Call} call
+ * @param {View[]} runs
+ * @param {Known|null} known
+ * @param {Recorder} recorder of the first run
+ * @param {number} incomplete
+ */
+async function listRuns(call, runs, known, recorder, incomplete) {
+  const { given, folder, options } = call;
+  const listing = await phase('listing the races', () => new Listing(runs.map(({ problems }) => problems), known, { ...options, folder: servedFolder(call) }));
+  const status = statusOfList(listing.failing().length > 0, incomplete);
   const files = runs.map((run, k) => fileOfRun(folder, k));
-  tellLines(listing, options);
-  const [{ report, model }] = runs;
+  const [{ report, model, linked }] = runs;
   const hasReplays = options.isReplayed && model.groups.length > 0;
-  const replayed = hasReplays ? await replayRaces(recorder, options, files[0], { report, model, listing }) : 0;
-  writeOutputs(listing, options, { page: given, status, files, folder: folderOf(given, options) });
+  const replayed = hasReplays ? await replayRaces(recorder, { ...options, name: 'er_page' }, files[0], { report, model, linked, listing }) : STATUS.ok;
+  if (options.isReplayed && !hasReplays) writePage(files[0], await linked);
+  tellLines(listing, options, !incomplete);
+  writeOutputs(listing, options, { page: redacted(given), status, files, folder: servedFolder(call) });
   const others = [...hasReplays ? ['page.replay.json'] : [], ...runs.length > 1 ? [`runs/2 to runs/${runs.length}`] : []];
-  (options.isJson ? console.error : console.log)(`${folder}: ${['page.trace', 'page.names.json', 'page.report', 'page.html', ...others].join(', ')}`);
+  const printLine = options.isJson ? printError : print;
+  printLine(`${folder}: ${['page.trace', 'page.names.json', 'page.report', 'page.html', ...others].join(', ')}`);
+  printLine(`${totalsOf(listing)}; the view is ${path.join(folder, 'page.html')}`);
   return replayed || status;
 }
 
-async function main(words) {
-  try {
-    const options = parseOptions(words, NEWEST_VERSION, 1);
-    if (options.attach) throw new UsageFault('--attach is an option of er_record');
-    if (options.isRaw) throw new UsageFault('--raw is an option of er_record: it records nothing that has races');
-    if (programState() === 'missing' || (options.isReplayed && !canReplay('er_page'))) return NO_PROGRAM;
-    return await pageRaces(options.words[0], options);
-  } catch (fault) {
-    if (fault instanceof KnownFault || fault instanceof WriteFault) {
-      console.error(`er_page: ${fault.message}`);
-      return fault instanceof KnownFault ? USAGE_STATUS : WRITE_STATUS;
-    }
-    if (!(fault instanceof UsageFault)) throw fault;
-    if (fault.message) console.error(`er_page: ${fault.message}`);
-    console.error(USAGE.er_page);
-    return USAGE_STATUS;
-  }
+/** @param {string[]} args */
+async function main(args) {
+  const { options, positionals, isHelp } = parseCommand('er_page', args);
+  if (isHelp) return printHelp('er_page');
+  const isOfMany = !!(options.list || options.sitemap);
+  if (positionals.length !== (isOfMany ? 0 : 1)) throw new UsageFault('');
+  if (!isOfMany && (options.junit || options.html)) throw new UsageFault('--junit and --html require --list FILE or --sitemap URL');
+  if (programState() === 'missing' || (options.isReplayed && !canReplay('er_page'))) return STATUS.noProgram;
+  if (isOfMany) return listPages(options);
+  const [given] = positionals;
+  return pageRaces({ given, folder: folderFor(given), options });
 }
 
-main(process.argv.slice(2)).then(endWith);
+runCommand('er_page', main);

@@ -1,30 +1,41 @@
 'use strict';
-// The line on standard error that tells how a recording goes.
+// The line on standard error that shows how a recording goes, or the runs of a replay.
+
+const ON_TERMINAL = 250;
+const ELSEWHERE = 5000;
 
 class Progress {
-  constructor(stream, tell) {
+  /**
+   * @param {NodeJS.WriteStream} stream
+   * @param {() => string} inWords what is shown after the seconds
+   */
+  constructor(stream, inWords) {
     this.stream = stream;
-    this.tell = tell;
-    this.begin = Date.now();
+    this.inWords = inWords;
+    this.start = Date.now();
     this.last = '';
-    this.timer = setInterval(() => this.show(), stream.isTTY ? 250 : 5000);
+    this.timer = setInterval(() => this.show(), stream.isTTY ? ON_TERMINAL : ELSEWHERE);
   }
 
   seconds() {
-    return (Date.now() - this.begin) / 1000;
+    return (Date.now() - this.start) / 1000;
   }
 
   show() {
-    const { actions, requests } = this.tell();
-    const line = `${this.seconds().toFixed(1)} s, ${actions} actions, ${requests} open requests`;
+    const line = `${this.seconds().toFixed(1)} s, ${this.inWords()}`;
     if (this.stream.isTTY) this.stream.write(`\r\x1b[K${line}`);
     else if (line !== this.last) this.stream.write(`${line}\n`);
     this.last = line;
   }
 
+  /** Makes room for another line. */
+  clear() {
+    if (this.stream.isTTY) this.stream.write('\r\x1b[K');
+  }
+
   end() {
     clearInterval(this.timer);
-    if (this.stream.isTTY) this.stream.write('\r\x1b[K');
+    this.clear();
   }
 }
 

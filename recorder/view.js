@@ -1,115 +1,162 @@
 'use strict';
 // er_view OUT.trace: writes OUT.html, the races of a recorded page in words, with their places in its source.
-// er_view OUT.trace --why A B: tells why action A comes before action B, where the program has the mode `explain`.
+// er_view OUT.trace --why A B: prints why action A comes before action B, if the analyzer has the subcommand `explain`.
 
 const fs = require('node:fs');
-const { called } = require('./called.js');
-const { HELP } = require('./help.js');
+const { print, printError } = require('./common/output.js');
+const { runCommand, printHelp, CommandFault } = require('./command.js');
+const { called } = require('./common/called.js');
+const { STATUS } = require('./common/status.js');
+const { stoppable } = require('./common/stoppable.js');
+const { writeWhole } = require('./common/whole-file.js');
 const { Listing } = require('./list/listing.js');
 const { Problems } = require('./list/problems.js');
-const { writeWhole, WriteFault } = require('./list/whole-file.js');
-const { stoppable, STOPPED } = require('./stoppable.js');
-const { Actions } = require('./view/actions.js');
-const { Model } = require('./view/model.js');
+const { parseArguments, UsageFault } = require('./options/parse.js');
+const { atSignalsMercy } = require('./phase.js');
+const { Actions } = require('./races/actions.js');
+const { linksBetween } = require('./races/links.js');
+const { endAsking, programState } = require('./races/program.js');
+const { judgeWithin } = require('./races/within-limits.js');
+const { Model, MOST_LINKS } = require('./view/model.js');
+const { quoted } = require('./view/quoted.js');
 const { renderPage } = require('./view/html.js');
-const { linksBetween } = require('./view/links.js');
-const { endAsking, programState, NO_PROGRAM } = require('./view/program.js');
-const { judgeWithin } = require('./view/within-limits.js');
 const { why } = require('./view/why.js');
 
-const STATUS = { usage: 2, noFile: 4, noView: 5 };
-/** Of a trace with more actions the program is not asked why these are ordered: each question takes as long as the report, seconds. */
-const MOST_TO_ASK = 8000;
-const NO_NAMES = { files: [], elements: {}, documents: {}, handlers: {}, timeouts: {}, intervals: {}, requests: {}, messages: {}, dispatches: {}, objects: {}, places: {} };
+/** @typedef {import('./list/known.js').Known} Known */
 
+/** @typedef {import('./view/types').ViewModel} Shown what a view shows */
+
+/**
+ * A trace with its view: `model` is what the view shows, `linked` the same with all links between actions. `isRewritten` if something was left out of the
+ * trace.
+ * @typedef {{status: number, report: import('./races/types').Report, isRewritten: boolean, model: Shown, problems: Problems, linked: Promise<Shown>}} View
+ */
+
+/** Of a trace with more actions it is not queried why these are ordered: each query takes as long as the report, seconds. */
+const MOST_TO_QUERY = 8000;
+const NO_NAMES = {
+  files: [], elements: {}, documents: {}, handlers: {}, timeouts: {}, intervals: {}, requests: {}, messages: {}, dispatches: {}, objects: {}, places: {},
+};
+
+/**
+ * @param {string} traceFile
+ * @param {string} ending
+ */
 const besides = (traceFile, ending) => traceFile.replace(/\.trace$/, '') + ending;
 
-/** The names beside a trace; a trace without them is shown with its numbers. */
+/**
+ * The names beside a trace. A trace without them is shown with its numbers.
+ * @param {string} traceFile
+ */
 function readNames(traceFile) {
   try {
     return JSON.parse(fs.readFileSync(besides(traceFile, '.names.json'), 'utf8'));
   } catch {
-    return { ...NO_NAMES, page: traceFile };
+    return { ...NO_NAMES, page: traceFile }; // no file, or one of something else
   }
 }
 
-/** What the view shows of a problem. */
-function plainProblem({ name, words, look, groups, races, first, isKnown }) {
-  return { name, words, first, look: look.name, rank: look.rank, part: look.part, seen: look.seen, groups, races, isKnown };
+/**
+ * @template T
+ * @param {() => T} work
+ */
+const doNow = (work) => work();
+
+/**
+ * Writes the view of an analyzed trace; if its links come later, without them.
+ * @param {string} traceFile
+ * @param {import('./races/types').Report} report
+ * @param {Known|null} known
+ * @param {boolean} isLinkedLater
+ */
+async function writeView(traceFile, report, known, isLinkedLater) {
+  const text = fs.readFileSync(traceFile, 'utf8');
+  const names = readNames(traceFile);
+  const busy = isLinkedLater ? doNow : atSignalsMercy; // a browser that runs for a replay ends only by a handler
+  const { model, problems } = busy(() => ({ model: new Model(report, names, new Actions(text.replace(/end\n$/, ''))), problems: new Problems(text, names, report) }));
+  const queried = report.actions <= MOST_TO_QUERY ? linksBetween(traceFile, model.pairsToExplain()) : Promise.resolve([]);
+  const links = isLinkedLater ? [] : await queried;
+  const listing = busy(() => new Listing([problems], known));
+  const nameOf = (/** @type {number} */ race) => problems.ofRaces[race].problem;
+  const ordered = { problems: listing.problems, nameOf, leads: problems.leads, summaryOf: listing.summaryOf.bind(listing) };
+  const trace = quoted(traceFile);
+  const commands = { viewer: called('er_view'), trace: traceFile, command: `${called('er_view')} ${trace}`, report: `${called('er_cli')} < ${trace}` };
+  /** @type {Shown} */
+  const shown = { ...busy(() => model.build(links || [], ordered)), leftOut: problems.leftOut, ofLibraries: problems.ofLibraries, isUnproved: !links, ...commands };
+  busy(() => writePage(traceFile, shown));
+  const linked = queried.then((all) => ({ ...shown, links: (all || []).slice(0, MOST_LINKS), isUnproved: !all }));
+  linked.catch(() => {}); // its fault is that of the command that waits for it
+  return { model: shown, problems, linked };
 }
 
 /**
- * Writes the view of a judged trace.
- * @returns {Promise<{model: object, problems: Problems}>} what it shows, and its races folded
+ * @param {string} traceFile
+ * @param {Shown} shown
  */
-async function writeView(traceFile, report, known) {
-  const text = fs.readFileSync(traceFile, 'utf8');
-  const names = readNames(traceFile);
-  const model = new Model(report, names, new Actions(text.replace(/end\n$/, '')));
-  const problems = new Problems(text, names, report);
-  const links = report.actions <= MOST_TO_ASK ? await linksBetween(traceFile, model.pairsToExplain()) : [];
-  const built = model.build(links || []);
-  const groups = built.groups.map((group, k) => ({ ...group, race: problems.leads[k] }));
-  const shown = { ...built, groups, problems: new Listing([problems], known).problems.map(plainProblem), leftOut: problems.leftOut, ofLibraries: problems.ofLibraries, isUnproved: !links, command: `${called('er_view')} ${traceFile}` };
-  writePage(traceFile, shown);
-  return { model: shown, problems };
-}
-
 function writePage(traceFile, shown) {
   writeWhole(besides(traceFile, '.html'), renderPage(shown));
 }
 
-/** Judges a trace and writes its view. Answers the exit status, and the model and the problems where there are some. */
-async function view(traceFile, name, known = null) {
+/**
+ * Has a trace analyzed and writes its view.
+ * @param {string} traceFile
+ * @param {string} command whose name messages start with
+ * @param {Known|null} [known]
+ * @param {boolean} [isLinkedLater]
+ * @returns {Promise<{status: number, view?: View}>} no view if the trace was refused, or there is no report
+ */
+async function viewTrace(traceFile, command, known = null, isLinkedLater = false) {
   const { status, report, fault, leftOut } = await judgeWithin(traceFile);
-  if (fault) {
-    console.error(`${name}: the program gave no report: ${fault}`);
+  if (!report) {
+    printError(`${command}: the program gave no report: ${fault}`);
     return { status };
   }
   if (report.refused) {
-    console.error(`${name}: the trace is refused at line ${report.refused.line}: ${report.refused.cause}`);
+    printError(`${command}: the trace is refused at line ${report.refused.line}: ${report.refused.cause}`);
     return { status };
   }
-  const shown = await writeView(traceFile, report, known);
-  if (leftOut.length) console.error(`${name}: ${traceFile} is written again, since it had more than the program takes`);
-  shown.problems.leftOut.forEach((one) => console.error(`${name}: not judged: ${one.words}, with ${one.accesses} accesses and ${one.pairs} pairs`));
-  return { status, report, isRewritten: leftOut.length > 0, ...shown };
+  const shown = await writeView(traceFile, report, known, isLinkedLater);
+  if (leftOut.length) printError(`${command}: ${traceFile} is written again, since it had more than the program takes`);
+  for (const { words, accesses, pairs } of shown.problems.leftOut) {
+    printError(`${command}: not judged: ${words}, with ${accesses} accesses and ${pairs} pairs`);
+  }
+  return { status, view: { status, report, isRewritten: leftOut.length > 0, ...shown } };
 }
 
-/** Tells why two actions are ordered. */
-async function tellWhy(traceFile, from, to) {
-  const { status, lines } = await why(traceFile, readNames(traceFile), Number(from), Number(to));
-  lines.forEach((line) => (status === 0 ? console.log(line) : console.error(`er_view: ${line}`)));
+/**
+ * Prints why two actions are ordered. Returns the exit status.
+ * @param {string} traceFile
+ * @param {number} from
+ * @param {number} to
+ */
+async function printWhy(traceFile, from, to) {
+  const { status, lines } = await why(traceFile, readNames(traceFile), from, to);
+  for (const line of lines) {
+    if (status === 0) print(line);
+    else printError(`er_view: ${line}`);
+  }
   return status;
 }
 
-async function main(words) {
-  const asksWhy = words.length === 4 && words[1] === '--why' && words.slice(2).every((word) => /^\d{1,9}$/.test(word));
-  if ((words.length !== 1 && !asksWhy) || words[0].startsWith('--')) {
-    console.error(HELP.er_view);
-    return STATUS.usage;
-  }
-  if (!fs.existsSync(words[0])) {
-    console.error(`er_view: there is no file ${words[0]}`);
-    return STATUS.noFile;
-  }
-  if (programState() === 'missing') return NO_PROGRAM;
-  return stoppable(() => endAsking(STOPPED), () => (asksWhy ? tellWhy(words[0], words[2], words[3]) : tellView(words[0])));
+/** @param {string[]} args */
+async function main(args) {
+  const options = { isWhy: false };
+  /** @type {import('./options/parse.js').OptionTable<typeof options>} */
+  const table = { why: { isFlag: true, take: (given) => { given.isWhy = true; } } };
+  const { positionals, isHelp } = parseArguments(args, table, options);
+  if (isHelp) return printHelp('er_view');
+  const [traceFile, ...actions] = positionals;
+  const areNumbers = actions.length === 2 && actions.every((one) => /^\d{1,9}$/.test(one));
+  if (options.isWhy && !areNumbers) throw new UsageFault('--why takes the numbers of two actions, after OUT.trace');
+  if (!traceFile || (!options.isWhy && actions.length)) throw new UsageFault('');
+  if (!fs.existsSync(traceFile)) throw new CommandFault(`there is no file ${traceFile}`, STATUS.noPage);
+  if (programState() === 'missing') return STATUS.noProgram;
+  return stoppable(() => endAsking(STATUS.stopped), async () => {
+    if (options.isWhy) return printWhy(traceFile, Number(actions[0]), Number(actions[1]));
+    return (await viewTrace(traceFile, 'er_view')).status;
+  });
 }
 
-/** Answers the exit status. */
-async function tellView(traceFile) {
-  try {
-    return (await view(traceFile, 'er_view')).status;
-  } catch (fault) {
-    if (!(fault instanceof WriteFault)) throw fault;
-    console.error(`er_view: ${fault.message}`);
-    return STATUS.noView;
-  }
-}
+module.exports = { viewTrace, writePage, besides };
 
-module.exports = { view, writePage, besides };
-
-if (require.main === module) {
-  main(process.argv.slice(2)).then((status) => { process.exitCode = status; });
-}
+if (require.main === module) runCommand('er_view', main);

@@ -136,13 +136,5 @@ def batches(edits, crate):
     return [it for it in found if len(it) > 1], alone
 
 
-def write_batch(batch, file):
-    """One edit that is all edits of the batch."""
-    with open(file, "w", encoding="utf-8") as out:
-        for _, edit in batch:
-            for path, old, new in pairs_of(edit):
-                out.write(f"file: {path}\nold: {old}\nnew: {new}\n")
-
-
 def name_of(edit):
     return os.path.basename(edit).removesuffix(".edit")

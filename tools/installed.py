@@ -6,15 +6,22 @@ import subprocess
 import time
 
 from fresh_root import LONGEST, TESTER, changes
-from staging import TOP, read
+from staging import TOP
 
 HOME = f"/home/{TESTER}"
 WORK, TEMPORARY = f"{HOME}/work", f"{HOME}/temporary"
 EXAMPLES = "/usr/share/doc/eventracer/examples"
 SHOP = f"{EXAMPLES}/shop/index.html"
-COMMANDS = ("er_cli", "er_page", "er_record", "er_replay", "er_view")
+COMMANDS = ("er_cli", "er_page", "er_record", "er_replay", "er_suite", "er_view")
+# the names and values that completion offers after some words
+COMPLETE = """
+. /usr/share/bash-completion/completions/er_page
+COMP_WORDS=(er_page "$@") COMP_CWORD=$#
+_er_page
+printf '%s\\n' "${COMPREPLY[@]}"
+"""
+MODULE = "console.log(require('eventracer/package.json').version, Object.keys(require('eventracer')).sort().join(' '))"
 OPTION = re.compile(r"--[a-z][a-z-]*")
-TAKEN = {"options.js": ("er_page", "er_record"), "replay-race.js": ("er_replay",), "view.js": ("er_view",)}
 TRACES = len(glob.glob(f"{TOP}/examples/*.trace"))
 EACH_TRACE = """
 for trace in *.trace; do
@@ -59,12 +66,28 @@ class Installed:
             page = OPTION.findall(self.run("zcat", f"/usr/share/man/man1/{name}.1.gz")[1].replace("\\-", "-"))
             yield f"the manual page of {name} names each option", {*told} - {*page} or (None if told else "no options")
 
+    def check_browser(self):
+        """er_browser is Chromium by its words, and has a manual page of its own."""
+        status, output, fault = self.run("er_browser", "--version")
+        yield "er_browser --version is that of Chromium", None if status == 0 and output.startswith("Chromium ") else (status, output, fault)
+        page = self.run("zcat", "/usr/share/man/man1/er_browser.1.gz")[1]
+        yield "the manual page of er_browser names its variables", None if "ER_TRACES" in page and "ER_OPTIONS" in page else page
+
+    def check_completion(self):
+        """What bash offers for options, and for values that are words."""
+        offered = self.run("bash", "-c", COMPLETE, "bash", "--kno")[1].split()
+        yield "bash completes an option", None if offered == ["--known"] else offered
+        offered = self.run("bash", "-c", COMPLETE, "bash", "--depth", "")[1].split()
+        yield "bash completes a value", None if offered == ["globals", "objects"] else offered
+
+    def check_module(self):
+        """The interface for programs has the package's version."""
+        status, output, fault = self.run("node", "-e", MODULE, NODE_PATH="/usr/share/nodejs")  # where Debian's Node looks without it
+        due = f"{self.version.split('~')[0]}.0 EventRacerError attach judge list record replay"
+        yield "require('eventracer')", None if status == 0 and output.strip() == due else (status, output, fault)
+
     def check_options(self):
-        """The options that the commands take, by their own texts, are told by one of the commands that take them."""
-        for script, names in TAKEN.items():
-            taken = re.findall(r"'(--[a-z-]+)'", read(f"{TOP}/recorder/{script}"))
-            told = [it for name in names for it in OPTION.findall(self.run(name, "--help")[1])]
-            yield f"--help tells each option of {script}", {*taken} - {*told} or (None if taken else "no options")
+        """The options that er_cli takes are in its help. For the other commands recorder/test/options.test.js compares them."""
         taken, told = OPTION.findall(self.run("er_cli", "word")[2]), OPTION.findall(self.run("er_cli", "--help")[1])
         yield "--help tells each option of the program", {*taken} - {*told} or (None if taken else "no options")
 
@@ -76,7 +99,7 @@ class Installed:
 
     def check_page(self):
         seconds, status, output, fault = self.first_race()
-        yield "the races of the shop", None if status == 1 and re.search(r"^1\. .*nothing orders them", output, re.M) else (status, output, fault)
+        yield "the races of the shop", None if status == 1 and re.search(r"^\S+:\d+  `#offer` may not be in the page yet", output, re.M) else (status, output, fault)
         yield f"its files, the first race after {seconds:.1f} s", None if self.files(f"{WORK}/shop.races") == FILES else self.files(f"{WORK}/shop.races")
         status, output, fault = self.run("bash", "-c", "er_cli < page.trace | cmp - page.report", cwd=f"{WORK}/shop.races")
         yield "its report is that of its trace", None if status == 0 else (output, fault)
@@ -142,7 +165,7 @@ class Installed:
 
     def check_all(self):
         before = self.written()
-        for check in (self.check_words, self.check_options, self.check_traces, self.check_page, self.check_sandbox, self.check_folders):
+        for check in (self.check_words, self.check_browser, self.check_completion, self.check_module, self.check_options, self.check_traces, self.check_page, self.check_sandbox, self.check_folders):
             yield from check()
         yield "nothing is written beside the current folder", changes(before, self.written()) or None
         yield from self.check_no_browser()

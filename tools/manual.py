@@ -3,16 +3,23 @@ import re
 from collections import Counter
 
 PURPOSES = {
+    "er_browser": "a browser for test suites that records each page load",
     "er_cli": "lists the races of a recorded page load",
     "er_page": "records a web page and lists its races",
     "er_record": "records the load of a web page as a trace",
     "er_replay": "runs a race of a recorded page in the other order",
+    "er_suite": "lists the races of the page loads of a test suite",
     "er_view": "writes the view of a recorded page",
 }
+# its --help and --version are those of Chromium, so recorder/help.js has its text
+OF_CHROMIUM = "er_browser"
 SYNOPSIS = re.compile(r"(?:usage|   or): (.*)")
 # what is explained begins with two spaces, and its words stand behind a gap or in lines that are set in further
 ENTRY = re.compile(r"  (\S.*?)(?:  +(\S.*))?")
 FURTHER = re.compile(r"   +(\S.*)")
+HEADING = re.compile(r"([A-Z][a-z ]+):")
+# headings that are sections of a manual page of their own; the others are parts of OPTIONS
+SECTIONS = ("Examples", "Exit status")
 
 
 def escape(text):
@@ -35,6 +42,9 @@ class Help:
         called, entry, further = (form.fullmatch(line) for form in (SYNOPSIS, ENTRY, FURTHER))
         if called:
             self.synopsis.append(called[1])
+        elif heading := HEADING.fullmatch(line):
+            if heading[1] != "Options":  # the section has this name
+                self.entries.append((heading[1], None))
         elif further and self.entries:
             self.entries[-1][1].append(further[1])
         elif entry:
@@ -57,10 +67,13 @@ def manual(name, text, version, date):
         command, _, words = called.partition(" ")
         lines += [f".B {command}", escape(words), ".br"]
     lines.append(".SH DESCRIPTION")
-    lines += [escape(line.removesuffix(" Options:")) for line in told.above] or [f"The command {name} {PURPOSES[name]}."]
+    lines += [escape(line) for line in told.above] or [f"The command {name} {PURPOSES[name]}."]
     if told.entries:
         lines.append(".SH OPTIONS")
     for words, meaning in told.entries:
+        if meaning is None:
+            lines.append(f".SH {words.upper()}" if words in SECTIONS else f".SS {words}")
+            continue
         lines += [".TP", f".B {escape(words)}", *map(escape, meaning)]
     if told.below:
         lines += [".SH NOTES", *map(escape, told.below)]

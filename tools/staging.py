@@ -2,20 +2,25 @@
 import gzip
 import hashlib
 import io
+import json
 import os
 import subprocess
 import tarfile
 import textwrap
 import time
 
-from manual import PURPOSES, manual
+from completion import completion
+from manual import OF_CHROMIUM, PURPOSES, manual
 
 TOP = os.path.dirname(os.path.dirname(os.path.abspath(__file__)))
 OWN = f"{TOP}/tools/debian"
 SHARED, PROGRAM, DOCUMENTS, MANUALS = "usr/share/eventracer", "usr/lib/eventracer/er_cli", "usr/share/doc/eventracer", "usr/share/man/man1"
+COMPLETIONS = "usr/share/bash-completion/completions"
+# where Debian's Node finds the module eventracer
+MODULE = "usr/share/nodejs/eventracer"
 # of the commit: what the commands need, and what a reader does
 PARTS = {SHARED: [*PURPOSES, "recorder"], DOCUMENTS: ["README.md", "docs", "examples", "recorder/README.md"]}
-NOT_OF = {SHARED: ["recorder/test", "recorder/run-tests", "recorder/README.md"], DOCUMENTS: []}
+NOT_OF = {SHARED: ["recorder/test", "recorder/*.test.js", "recorder/run-tests", "recorder/README.md"], DOCUMENTS: []}
 
 
 def run(*words, cwd=TOP, **more):
@@ -58,6 +63,7 @@ class Stage:
         for name in ("program", "version"):
             write(self.path(f"{SHARED}/tools/{name}"), self.told(name), 0o755)
         self.write_commands()
+        self.write_module()
         self.write_documents()
         self.write_control()
         self.settle()
@@ -85,19 +91,35 @@ class Stage:
         date = time.strftime("%Y-%m-%d", time.gmtime(self.facts["time"]))
         for name in PURPOSES:
             os.symlink(f"../share/eventracer/{name}", self.path(f"usr/bin/{name}"))
-            told = run(self.path(f"usr/bin/{name}"), "--help")
+            told = self.help_of(name)
             write_packed(self.path(f"{MANUALS}/{name}.1.gz"), manual(name, told, self.facts["version"], date))
+            if name != OF_CHROMIUM:
+                write(self.path(f"{COMPLETIONS}/{name}"), completion(name, told))
+
+    def help_of(self, name):
+        if name == OF_CHROMIUM:
+            return run("node", self.path(f"{SHARED}/recorder/help.js"), name)
+        return run(self.path(f"usr/bin/{name}"), "--help")
+
+    def write_module(self):
+        """The interface for programs, with this version."""
+        path = self.path(f"{SHARED}/recorder/package.json")
+        facts = json.loads(read(path))
+        major_minor = self.facts["version"].split("~")[0]
+        write(path, json.dumps({**facts, "version": major_minor + ".0" * (2 - major_minor.count("."))}, indent=2) + "\n")
+        os.makedirs(os.path.dirname(self.path(MODULE)), exist_ok=True)
+        os.symlink("../eventracer/recorder", self.path(MODULE))
 
     def write_documents(self):
         write(self.path(f"{DOCUMENTS}/copyright"), self.told("copyright"))
         write_packed(self.path(f"{DOCUMENTS}/changelog.gz"), self.changes())
 
     def changes(self):
-        """docs/CHANGELOG.md's newest version as Debian spells changes, and in the words that it has."""
+        """docs/CHANGELOG.md's newest version in the form of Debian's changelogs."""
         version, lines = newest_changes(read(f"{TOP}/docs/CHANGELOG.md"))
         date = time.strftime("%a, %d %b %Y %H:%M:%S +0000", time.gmtime(self.facts["time"]))
         told = [f"eventracer ({self.facts['version']}) unstable; urgency=medium", ""]
-        told += [textwrap.fill(line, 78, initial_indent="  * ", subsequent_indent="    ") for line in [*lines, "What came before is told in /usr/share/doc/eventracer/docs/CHANGELOG.md."]]
+        told += [textwrap.fill(line, 78, initial_indent="  * ", subsequent_indent="    ") for line in [*lines, "Earlier changes are in /usr/share/doc/eventracer/docs/CHANGELOG.md."]]
         return "\n".join([*told, "", f" -- {self.facts['maintainer']}  {date}", ""])
 
     def write_control(self):
@@ -133,6 +155,11 @@ class Stage:
 
 
 def newest_changes(text):
-    """The newest version of docs/CHANGELOG.md, and its lines."""
-    head, *lines = text.partition("\n## ")[2].partition("\n## ")[0].splitlines()
-    return head.strip(), [line.removeprefix("- ") for line in lines if line.startswith("- ")]
+    """The newest released version of docs/CHANGELOG.md, and the lines of what changed in it and since."""
+    changes = []
+    for part in text.split("\n## ")[1:]:
+        head, *lines = part.splitlines()
+        changes += [line.removeprefix("- ") for line in lines if line.startswith("- ")]
+        if head.strip() != "Unreleased":
+            return head.partition(" - ")[0].strip(), changes
+    return "", changes

@@ -2,15 +2,25 @@
 // A Chromium that someone else started and drives, with --remote-debugging-port: its protocol over a WebSocket, and its first tab.
 
 const http = require('node:http');
+const { withoutCredentials } = require('../common/address.js');
+const { printErrorOnce } = require('../common/output.js');
+const { shown } = require('../common/shown.js');
 const { Protocol, BrowserFault } = require('./protocol.js');
 const { Tab } = require('./tab.js');
 const { WebSocketClient } = require('./web-socket.js');
 
+/** @typedef {import('./web-socket.js').Endpoint} Endpoint */
+
 const LONGEST_ANSWER = 5000;
-/** Debugging gives all of a browser away, so only that of this machine is asked. */
+const LARGEST_ANSWER = 1 << 20;
+/** Who debugs a browser has all that it has, so only one of this machine is asked. */
 const LOOPBACK = /^(?:localhost|127(?:\.\d{1,3}){3}|::1)$/;
 
-/** @returns {{host: string, port: number}|null} what HOST:PORT says, where it is of this machine */
+/**
+ * The endpoint of HOST:PORT, or null if it is not one of this machine.
+ * @param {string|undefined} text
+ * @returns {Endpoint|null}
+ */
 function parseEndpoint(text) {
   const found = /^(?:\[([^\]]+)\]|([^:\s]+)):(\d{1,5})$/.exec(text || '');
   if (!found || Number(found[3]) < 1 || Number(found[3]) > 65535) return null;
@@ -18,68 +28,104 @@ function parseEndpoint(text) {
   return LOOPBACK.test(host) ? { host: host === 'localhost' ? '127.0.0.1' : host, port: Number(found[3]) } : null;
 }
 
-/** A JSON answer of the browser's own small web server. */
-function ask({ host, port }, path) {
+/** @param {NodeJS.ErrnoException} fault */
+const connectFault = (fault) => new BrowserFault(fault.code === 'ECONNREFUSED' ? 'there is no browser at this port' : fault.message);
+
+/**
+ * A JSON answer of the browser's own small web server.
+ * @param {Endpoint} endpoint
+ * @param {string} path
+ * @returns {Promise<unknown>}
+ */
+function request({ host, port }, path) {
   return new Promise((resolve, reject) => {
-    const request = http.get({ host, port, path, timeout: LONGEST_ANSWER }, (response) => {
-      const pieces = [];
-      response.on('data', (piece) => pieces.push(piece));
+    const asked = http.get({ host, port, path, timeout: LONGEST_ANSWER }, (response) => {
+      let text = '';
+      response.setEncoding('utf8');
+      response.on('data', (piece) => {
+        text += piece;
+        if (text.length > LARGEST_ANSWER) asked.destroy(new Error('what answers there is no browser'));
+      });
       response.on('end', () => {
         try {
-          resolve(JSON.parse(Buffer.concat(pieces).toString()));
+          resolve(JSON.parse(text));
         } catch {
+          // no JSON
           reject(new BrowserFault('what answers there is no browser'));
         }
       });
     });
-    request.on('timeout', () => request.destroy(new Error('no answer')));
-    request.on('error', (fault) => reject(new BrowserFault(fault.code === 'ECONNREFUSED' ? 'there is no browser at this port' : fault.message)));
+    asked.on('timeout', () => asked.destroy(new Error('no answer')));
+    asked.on('error', (fault) => reject(connectFault(fault)));
   });
 }
 
+/**
+ * The path of the browser's WebSocket.
+ * @param {Endpoint} endpoint
+ */
+async function pathOfSocket(endpoint) {
+  const version = /** @type {{webSocketDebuggerUrl?: unknown}|null} */ (await request(endpoint, '/json/version'));
+  const address = version?.webSocketDebuggerUrl;
+  if (typeof address !== 'string' || !address) throw new BrowserFault('what answers there is no browser');
+  return new URL(address).pathname;
+}
+
 class AttachedChromium extends Protocol {
+  constructor() {
+    super();
+    /** @type {WebSocketClient|null} */
+    this.socket = null;
+  }
+
+  /** @param {Endpoint} endpoint */
   static async connect(endpoint) {
     const browser = new AttachedChromium();
-    const { webSocketDebuggerUrl } = await ask(endpoint, '/json/version');
-    if (!webSocketDebuggerUrl) throw new BrowserFault('what answers there is no browser');
-    const path = new URL(webSocketDebuggerUrl).pathname;
+    const path = await pathOfSocket(endpoint);
     try {
       browser.socket = await WebSocketClient.open({ ...endpoint, path }, LONGEST_ANSWER);
     } catch (fault) {
-      throw new BrowserFault(fault.message);
+      throw new BrowserFault(/** @type {Error} */ (fault).message);
     }
-    browser.socket.on('message', (text) => browser.receive(JSON.parse(text)));
+    browser.socket.on('message', (text) => browser.receiveText(text));
     browser.socket.on('close', (why) => browser.end(why));
     return browser;
   }
 
+  /** @param {string} text */
   write(text) {
-    this.socket.send(text);
+    this.socket?.send(text);
   }
 
   /** The browser is another's: it stays. */
   close() {
-    this.socket.shut('closed');
+    this.socket?.shut('closed');
   }
 }
 
 /** The first tab of a browser, as it is. */
 class AttachedTab extends Tab {
+  /** @param {Protocol} browser */
   static async first(browser) {
     const { targetInfos } = await browser.send('Target.getTargets');
-    const page = targetInfos.filter(({ type, url }) => type === 'page' && !url.startsWith('devtools:')).pop();
+    const pages = /** @type {import('./protocol.js').ProtocolObject[]} */ (targetInfos).filter(({ type, url }) => type === 'page' && !url.startsWith('devtools:'));
+    const page = pages.pop();
     if (!page) throw new BrowserFault('the browser has no tab');
+    if (pages.length) printErrorOnce(`The browser has ${pages.length + 1} tabs: the one at ${shown(withoutCredentials(page.url))} is recorded.`);
     const { sessionId } = await browser.send('Target.attachToTarget', { targetId: page.targetId, flatten: true });
     return new AttachedTab(browser, { contextId: page.browserContextId, targetId: page.targetId, sessionId });
   }
 
   /** The tab stays; what the recorder set in its session goes with the session. */
   async close() {
-    this.listeners.forEach(([method, listener]) => this.browser.off(method, listener));
+    this.removeListeners();
     await this.browser.send('Target.detachFromTarget', { sessionId: this.sessionId });
   }
 
-  /** Windows that the page opens are the driver's: they are counted. */
+  /**
+   * Windows that the page opens are the driver's: they are counted.
+   * @param {() => void} note
+   */
   async closeOpenedWindows(note) {
     this.onAny('Target.targetCreated', ({ targetInfo }) => {
       if (targetInfo.type === 'page' && targetInfo.openerId === this.targetId) note();

@@ -5,36 +5,43 @@ const { spawn } = require('node:child_process');
 const fs = require('node:fs');
 const os = require('node:os');
 const path = require('node:path');
+const { printErrorOnce } = require('../common/output.js');
+const { within } = require('../common/time.js');
 const { Protocol, BrowserFault } = require('./protocol.js');
-const { within } = require('./time.js');
+
+/**
+ * With `userDataDir` the profile is in that folder, which stays; with `isHeaded` the window is shown.
+ * @typedef {{width: number, height: number, ignoresCertificateErrors?: boolean, userDataDir?: string|null, isHeaded?: boolean}} LaunchOptions
+ */
 
 const PROGRAM = process.env.CHROMIUM || '/usr/bin/chromium';
 const FLAGS = [
   '--headless', '--disable-gpu', '--no-first-run', '--disable-background-networking', '--disable-component-update',
   '--disable-sync', '--disable-default-apps', '--disable-extensions', '--mute-audio', '--disable-dev-shm-usage',
   '--disable-background-timer-throttling', '--disable-renderer-backgrounding', '--disable-backgrounding-occluded-windows',
+  // no keyring, no dialogs of the browser itself, the same colors on each machine
+  '--password-store=basic', '--no-default-browser-check', '--disable-hang-monitor', '--disable-prompt-on-repost', '--force-color-profile=srgb',
   // one process for a page and all its frames, so that their actions come in one order
   '--disable-site-isolation-trials', '--disable-features=IsolateOrigins,site-per-process,BackForwardCache,Prerender2',
   '--remote-debugging-pipe',
 ];
+// Not among them, as a page would do something else than in a user's browser: --disable-ipc-flooding-protection (a page that floods its
+// history is throttled), --allow-pre-commit-input (no user clicks before there is a picture), --hide-scrollbars (these take room).
 
-/** The limit of any other answer stands in protocol.js. */
+/** In milliseconds. The limit of any other answer is in protocol.js. */
 const LONGEST_START = 120000;
 const LONGEST_END = 2000;
 
-/** What the browser and its libraries read of a user's home, where it is there: certificates and fonts. */
+/** What the browser and its libraries read of a user's home, if it is there: certificates and fonts. */
 const READ_OF_HOME = ['.pki', '.local/share/pki', '.fonts', '.local/share/fonts', '.config/fontconfig'];
 /** The names of the environment that say where folders of the home are. */
 const OF_HOME = /^XDG_(CONFIG_HOME|CACHE_HOME|DATA_HOME|STATE_HOME|RUNTIME_DIR)$/;
-const NO_SANDBOX = 'it has no sandbox of its own here, which the package chromium-sandbox brings';
+const NO_SANDBOX = 'it has no sandbox of its own here: install the package chromium-sandbox';
 
-let isTold = false;
-
-/** The browser does not run as root with its sandbox, which is said once. */
+/** The browser does not run as root with its sandbox. */
 function sandboxFlags() {
   if (!process.getuid || process.getuid() !== 0) return [];
-  if (!isTold) console.error("Chromium's own sandbox is off: it does not start with it for root.");
-  isTold = true;
+  printErrorOnce("Chromium's own sandbox is off: it does not start with it for root.");
   return ['--no-sandbox'];
 }
 
@@ -43,15 +50,18 @@ function temporaryFolder() {
   try {
     return fs.mkdtempSync(path.join(os.tmpdir(), 'er-record-'));
   } catch (fault) {
-    throw new BrowserFault(`no temporary folder can be made: ${fault.message}`);
+    throw new BrowserFault(`no temporary folder can be made: ${/** @type {Error} */ (fault).message}`);
   }
 }
 
-/** The browser's home is a folder, so that nothing is written into the user's own; what it reads there is linked. */
+/**
+ * The browser's home is a folder, so that nothing is written into the user's own; what it reads there is linked.
+ * @param {string} folder
+ */
 function environmentIn(folder) {
   const own = process.env.HOME;
   for (const name of own ? READ_OF_HOME : []) {
-    if (!fs.existsSync(path.join(own, name))) continue;
+    if (!own || !fs.existsSync(path.join(own, name))) continue;
     fs.mkdirSync(path.dirname(path.join(folder, name)), { recursive: true });
     fs.symlinkSync(path.resolve(own, name), path.join(folder, name));
   }
@@ -59,10 +69,25 @@ function environmentIn(folder) {
   return { ...Object.fromEntries(others), HOME: folder, TMPDIR: folder }; // what the browser leaves there when it is killed goes with the folder
 }
 
+/**
+ * A browser's process, with the pipes of its protocol.
+ * @param {string[]} flags
+ * @param {string} folder
+ * @param {string} log the file for its standard error
+ */
+function spawnBrowser(flags, folder, log) {
+  const errors = fs.openSync(log, 'wx');
+  const child = spawn(PROGRAM, flags, { stdio: ['ignore', 'ignore', errors, 'pipe', 'pipe'], detached: true, env: environmentIn(folder) });
+  fs.closeSync(errors);
+  const [, , , input, output] = child.stdio;
+  return { child, input: /** @type {import('node:stream').Writable} */ (input), output: /** @type {import('node:stream').Readable} */ (output) };
+}
+
 class Chromium extends Protocol {
-  static async launch({ width, height }) {
+  /** @param {LaunchOptions} options */
+  static async launch(options) {
     const browser = new Chromium();
-    browser.start(width, height);
+    browser.start(options);
     try {
       await browser.hasStarted();
     } catch (fault) {
@@ -72,43 +97,58 @@ class Chromium extends Protocol {
     return browser;
   }
 
-  start(width, height) {
-    this.folder = temporaryFolder();
-    const words = [...FLAGS, ...sandboxFlags(), `--user-data-dir=${this.folder}`, `--window-size=${width},${height}`, 'about:blank'];
-    const said = fs.openSync(this.saidFile(), 'w');
-    this.process = spawn(PROGRAM, words, { stdio: ['ignore', 'ignore', said, 'pipe', 'pipe'], detached: true, env: environmentIn(this.folder) });
-    fs.closeSync(said);
-    this.process.on('error', (fault) => this.end(fault.message));
-    this.process.on('exit', () => this.end(this.whyEnded()));
-    this.process.stdio[3].on('error', () => {});
+  constructor() {
+    super();
+    this.folder = '';
+    /** @type {import('node:child_process').ChildProcess|null} */
+    this.process = null;
+    /** @type {import('node:stream').Writable|null} */
+    this.input = null;
     this.onProcessExit = () => this.killNow();
-    process.on('exit', this.onProcessExit);
-    this.readMessages();
   }
 
-  /** Where the browser says what it has to say. */
-  saidFile() {
+  /** @param {LaunchOptions} options */
+  start({ width, height, ignoresCertificateErrors = false, userDataDir = null, isHeaded = false }) {
+    this.folder = temporaryFolder();
+    const flags = [...FLAGS.filter((flag) => !isHeaded || flag !== '--headless'), ...sandboxFlags(), ...(ignoresCertificateErrors ? ['--ignore-certificate-errors'] : []),
+      `--user-data-dir=${userDataDir ? path.resolve(userDataDir) : this.folder}`, `--window-size=${width},${height}`, 'about:blank'];
+    const { child, input, output } = spawnBrowser(flags, this.folder, this.logFile());
+    this.process = child;
+    this.input = input;
+    child.on('error', (fault) => this.end(fault.message));
+    child.on('exit', () => this.end(this.whyEnded()));
+    input.on('error', () => {}); // the exit of the process is reported
+    process.on('exit', this.onProcessExit);
+    this.readMessages(output);
+  }
+
+  /** Where the browser's standard error goes. */
+  logFile() {
     return path.join(this.folder, 'said');
   }
 
   whyEnded() {
-    const said = fs.existsSync(this.saidFile()) ? fs.readFileSync(this.saidFile(), 'utf8') : '';
-    return said.includes('No usable sandbox') ? NO_SANDBOX : 'the browser ended';
+    const text = fs.existsSync(this.logFile()) ? fs.readFileSync(this.logFile(), 'utf8') : '';
+    return text.includes('No usable sandbox') ? NO_SANDBOX : 'the browser ended';
   }
 
-  /** A message ends with a zero. A long one comes in many pieces, which are joined once. */
-  readMessages() {
+  /**
+   * A message ends with a zero. A long one comes in many pieces, which are joined once.
+   * @param {import('node:stream').Readable} output
+   */
+  readMessages(output) {
+    /** @type {string[]} */
     let pieces = [];
-    this.process.stdio[4].setEncoding('utf8');
-    this.process.stdio[4].on('data', (text) => {
+    output.setEncoding('utf8');
+    output.on('data', (/** @type {string} */ text) => {
       const ends = text.split('\0');
       const rest = ends.pop();
       for (const end of ends) {
         const message = [...pieces, end].join('');
         pieces = [];
-        this.receive(JSON.parse(message));
+        this.receiveText(message);
       }
-      pieces.push(rest);
+      if (rest) pieces.push(rest);
     });
   }
 
@@ -117,13 +157,14 @@ class Chromium extends Protocol {
     return this.send('Browser.getVersion', {}, undefined, LONGEST_START);
   }
 
+  /** @param {string} text */
   write(text) {
-    this.process.stdio[3].write(`${text}\0`);
+    this.input?.write(`${text}\0`);
   }
 
   killNow() {
     try {
-      process.kill(-this.process.pid, 'SIGKILL'); // the browser and its own processes, which are a group
+      if (this.process?.pid) process.kill(-this.process.pid, 'SIGKILL'); // the browser and its own processes, which are a group
     } catch {
       // they have ended
     }
@@ -132,8 +173,8 @@ class Chromium extends Protocol {
 
   async close() {
     if (!this.process) return;
-    const ended = this.isGone ? Promise.resolve() : new Promise((resolve) => this.once('gone', resolve));
-    this.send('Browser.close', {}, undefined, LONGEST_END).catch(() => {});
+    const ended = this.isGone ? Promise.resolve() : new Promise((resolve) => { this.once('gone', resolve); });
+    this.send('Browser.close', {}, undefined, LONGEST_END).catch(() => {}); // a browser that does not answer is killed
     await within(ended, LONGEST_END);
     process.off('exit', this.onProcessExit);
     this.killNow();

@@ -1,66 +1,109 @@
 'use strict';
-// Content policies. The copy of a page keeps its own: what a policy allows by the hash of its text is allowed with its marks too.
+// Content policies of a page. Its copy keeps them: what a policy allows by the hash of its text is allowed in its instrumented form too.
 
 const { createHash } = require('node:crypto');
 
 /** The name of what a replay puts into a page, so that the page waits for it. */
 const HOLD_NAME = '__er-hold';
-/** By what a policy lets that come. */
-const holdAt = (address) => ({ address: new URL(`/${HOLD_NAME}`, address).href, nonce: HOLD_NAME });
+
+/**
+ * @typedef {{address: string, nonce: string, isInline?: boolean}} Hold what a replay puts into a page, by what a policy allows it: `isInline` has its code in
+ *   the page
+ * @typedef {Iterable<[own: string, marked: string]>} Texts scripts and handler attributes, as they are and instrumented
+ */
+
+/**
+ * @param {string} address
+ * @returns {Hold}
+ */
+const holdAt = (address, isInline = false) => ({ address: new URL(`/${HOLD_NAME}`, address).href, nonce: HOLD_NAME, isInline });
 
 const OF_SCRIPTS = /^(script-src(-elem|-attr)?|default-src)$/;
 /** What a replay puts into a page is a script, or an image. */
 const OF_HOLDS = /^(script-src(-elem)?|img-src|default-src)$/;
-/** They would refuse the recorder's marks in handler attributes that a script sets. */
+/** They would refuse what is inserted into handler attributes that a script sets. */
 const OF_TYPES = /^(trusted-types|require-trusted-types-for)$/;
+const OF_INTEGRITY = /^integrity-policy(-report-only)?$/i;
 const HASH = /^'(sha(?:256|384|512))-([\w+/-]+=*)'$/i;
-/** Beside one of these a source that is an address, or `'unsafe-inline'`, may be none. */
+/** A source list with one of these ignores addresses, or `'unsafe-inline'`. */
 const STRICT = /^'(nonce-|sha(256|384|512)-|strict-dynamic)/i;
 
+/** @param {string} hash */
 const inPlainBase64 = (hash) => hash.replace(/-/g, '+').replace(/_/g, '/');
-/** The browser hashes a text as it reads it. */
+
+/**
+ * The hash of a text as the browser reads it.
+ * @param {string} text
+ * @param {string} algorithm
+ */
 const hashOf = (text, algorithm) => createHash(algorithm).update(text.replace(/\r\n?/g, '\n')).digest('base64');
 
-/** The hashes with which a list of sources allows marked texts whose own ones it allows. */
+/**
+ * The hashes by which a source list allows the instrumented forms of texts that it allows.
+ * @param {string[]} sources
+ * @param {Texts} texts
+ */
 function hashesOfMarked(sources, texts) {
+  /** @type {string[]} */
   const found = [];
   for (const source of sources) {
     const [, algorithm, hash] = HASH.exec(source) || [];
-    if (!hash) continue;
-    for (const [own, marked] of texts) {
-      if (hashOf(own, algorithm.toLowerCase()) === inPlainBase64(hash)) found.push(`'${algorithm.toLowerCase()}-${hashOf(marked, algorithm.toLowerCase())}'`);
-    }
+    if (!algorithm || !hash) continue;
+    const name = algorithm.toLowerCase();
+    for (const [own, marked] of texts) if (hashOf(own, name) === inPlainBase64(hash)) found.push(`'${name}-${hashOf(marked, name)}'`);
   }
   return found;
 }
 
-/** The sources that let a replay's script or image come. */
-function holdSources(name, sources, { address, nonce }) {
+/**
+ * The sources that allow what a replay puts into the page.
+ * @param {string} name
+ * @param {string[]} sources
+ * @param {Hold} hold
+ */
+function holdSources(name, sources, { address, nonce, isInline }) {
   if (!OF_HOLDS.test(name)) return [];
-  return name !== 'img-src' && sources.some((one) => STRICT.test(one)) ? [`'nonce-${nonce}'`, address] : [address];
+  const isStrict = sources.some((source) => STRICT.test(source));
+  if (isInline) return name === 'img-src' || (sources.includes("'unsafe-inline'") && !isStrict) ? [] : [`'nonce-${nonce}'`];
+  return name !== 'img-src' && isStrict ? [`'nonce-${nonce}'`, address] : [address];
 }
 
-function directiveWithMarks(text, texts, hold) {
-  const [name = '', ...sources] = text.trim().split(/\s+/);
+/**
+ * @param {string} directive
+ * @param {Texts} texts
+ * @param {Hold|null} hold
+ */
+function directiveWithMarks(directive, texts, hold) {
+  const [name = '', ...sources] = directive.trim().split(/\s+/);
   const added = [
     ...(OF_SCRIPTS.test(name.toLowerCase()) ? hashesOfMarked(sources, texts) : []),
     ...(hold ? holdSources(name.toLowerCase(), sources, hold) : []),
   ];
-  if (!added.length) return text;
-  return ` ${[name, ...sources.filter((one) => !/^'none'$/i.test(one)), ...added].join(' ')}`;
+  if (!added.length) return directive;
+  return ` ${[name, ...sources.filter((source) => !/^'none'$/i.test(source)), ...added].join(' ')}`;
 }
 
+/** @param {string} directive */
 const isOfTypes = (directive) => OF_TYPES.test(directive.trim().split(/\s/)[0].toLowerCase());
 
 /**
- * A header or an attribute that has content policies, for the marked copy of a page.
- * @param {Iterable<[own: string, marked: string]>} texts the scripts and handler attributes that got marks
- * @param {{address: string, nonce: string}|null} hold where a replay puts something into the page
+ * A header or an attribute with content policies, for the instrumented copy of a page.
+ * @param {string} policies
+ * @param {Texts} texts
+ * @param {Hold|null} hold
  */
 function policyWithMarks(policies, texts, hold = null) {
-  return policies.split(',').map((policy) => policy.split(';').filter((one) => !isOfTypes(one)).map((one) => directiveWithMarks(one, texts, hold)).join(';')).join(',');
+  const withMarks = (/** @type {string} */ policy) => policy.split(';').filter((one) => !isOfTypes(one)).map((one) => directiveWithMarks(one, texts, hold)).join(';');
+  return policies.split(',').map(withMarks).join(',');
 }
 
+/** @param {string} policies */
 const hasTypes = (policies) => policies.split(/[,;]/).some(isOfTypes);
 
-module.exports = { policyWithMarks, hasTypes, holdAt, HOLD_NAME };
+/**
+ * Whether a header demands `integrity` of scripts.
+ * @param {string} name
+ */
+const isOfIntegrity = (name) => OF_INTEGRITY.test(name);
+
+module.exports = { policyWithMarks, hasTypes, isOfIntegrity, holdAt, HOLD_NAME };

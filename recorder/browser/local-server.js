@@ -1,35 +1,36 @@
 'use strict';
-// Asks a web server on this machine, as a developer's own, for files that the browser will ask for too.
+// Which servers are on this machine, and the requests that the recorder itself makes: source maps.
 
-const http = require('node:http');
 const os = require('node:os');
+const { originOf } = require('../common/address.js');
+
+/**
+ * @typedef {{status: number, type: string, body: Buffer}} Answer
+ * @typedef {import('./folder.js').Folder} Folder
+ */
 
 const LOCAL_NAME = /^(?:(?:[\w-]+\.)*localhost|127(?:\.\d+){3})$/;
-/** No answer is waited for longer than this. */
+/** In milliseconds. */
 const LONGEST_ANSWER = 2000;
+/** In bytes. */
+const LARGEST_ANSWER = 128 * 1024 * 1024;
 const MOST_REDIRECTS = 5;
 
-function ask(address) {
-  return new Promise((resolve) => {
-    const signal = AbortSignal.timeout(LONGEST_ANSWER);
-    const request = http.get(address, { signal, agent: false, headers: { accept: '*/*', 'accept-encoding': 'identity' } }, (response) => {
-      const pieces = [];
-      const { 'content-type': type = '', 'content-encoding': encoding, location } = response.headers;
-      response.on('data', (piece) => pieces.push(piece));
-      response.on('end', () => resolve(encoding ? null : { status: response.statusCode, type, location, body: Buffer.concat(pieces) }));
-      response.on('error', () => resolve(null));
-    });
-    request.on('error', () => resolve(null));
-  });
+/** @param {string} address */
+function timeout(address) {
+  const controller = new AbortController();
+  setTimeout(() => controller.abort(new Error(`no answer of ${address}`)), LONGEST_ANSWER).unref();
+  return controller.signal;
 }
 
-const addressesOfMachine = () => Object.values(os.networkInterfaces()).flat().map(({ address, family }) => (family === 'IPv4' ? address : `[${address}]`));
+const addressesOfMachine = () => Object.values(os.networkInterfaces()).flatMap((some) => some || []).map(({ address, family }) => (family === 'IPv4' ? address : `[${address}]`));
 
 class LocalServer {
   constructor() {
     this.own = new Set(addressesOfMachine());
   }
 
+  /** @param {string} address */
   has(address) {
     try {
       const { protocol, hostname } = new URL(address);
@@ -38,46 +39,76 @@ class LocalServer {
       return false; // no address
     }
   }
+}
+
+/**
+ * The bytes of a response, or null if it is too large.
+ * @param {Response} response
+ */
+async function bodyOf(response) {
+  const pieces = [];
+  let size = 0;
+  const reader = response.body?.getReader();
+  for (let part = await reader?.read(); part && !part.done; part = await reader?.read()) {
+    size += part.value.length;
+    if (size > LARGEST_ANSWER) {
+      await reader?.cancel();
+      return null;
+    }
+    pieces.push(part.value);
+  }
+  return Buffer.concat(pieces);
+}
+
+/** The server that a script came from, for the source map that the script names. No other origin is asked, also not by a redirect. */
+class ServerOfScript {
+  /** @param {string} script its address */
+  constructor(script) {
+    this.origin = originOf(script);
+  }
+
+  /** @param {string} address */
+  has(address) {
+    return this.origin !== null && originOf(address) === this.origin;
+  }
 
   /**
-   * What the server answers, behind its redirects; null where nothing comes in time, or comes compressed.
-   * @returns {Promise<{address: string, status: number, type: string, body: Buffer}|null>}
+   * @param {string} given
+   * @returns {Promise<Answer|null>} null if it names another place, or nothing comes in time
    */
   async answer(given) {
-    let address = given;
-    for (let k = 0; k <= MOST_REDIRECTS && this.has(address); k++) {
-      const answer = await ask(address);
-      if (!answer || !answer.location) return answer && { address, ...answer };
-      address = new URL(answer.location, address).href;
+    try {
+      let address = given;
+      for (let k = 0; k <= MOST_REDIRECTS && this.has(address); k++) {
+        const response = await fetch(address, { redirect: 'manual', signal: timeout(address) });
+        const location = response.status >= 300 && response.status < 400 && response.headers.get('location');
+        if (!location) {
+          const body = await bodyOf(response);
+          return body && { status: response.status, type: '', body };
+        }
+        await response.body?.cancel();
+        address = new URL(location, address).href;
+      }
+    } catch {
+      // no answer, or none in time
     }
     return null;
   }
 }
 
-/** The server that a script came from, for the map that this one names. */
-class ServerOfScript {
-  constructor(script) {
-    this.script = script;
-  }
-
-  has(address) {
-    try {
-      const { protocol, origin } = new URL(address);
-      return /^https?:$/.test(protocol) && origin === new URL(this.script).origin;
-    } catch {
-      return false; // no address
-    }
-  }
-
-  /** What it answers by itself; null where it names another place, or nothing comes in time. */
-  async answer(address) {
-    try {
-      const answer = await fetch(address, { redirect: 'error', signal: AbortSignal.timeout(LONGEST_ANSWER) });
-      return { address, status: answer.status, type: '', body: Buffer.from(await answer.arrayBuffer()) };
-    } catch {
-      return null;
-    }
-  }
+/**
+ * The text of a script's source map: from the served folder if the script came from it, else from the script's own origin; null if there is none.
+ * @param {string} address of the map
+ * @param {string} script its address
+ * @param {Folder|null} folder
+ * @returns {Promise<string|null>}
+ */
+async function readMapOf(address, script, folder) {
+  const isOfFolder = folder !== null && folder.has(script);
+  const server = new ServerOfScript(script);
+  if (isOfFolder ? !folder.has(address) : !server.has(address)) return null;
+  const answer = isOfFolder ? folder.answer(address) : await server.answer(address);
+  return answer && answer.status === 200 ? answer.body.toString() : null;
 }
 
-module.exports = { LocalServer, ServerOfScript };
+module.exports = { LocalServer, ServerOfScript, readMapOf };

@@ -1,43 +1,105 @@
 'use strict';
 // One tab of the browser: its session of the DevTools protocol.
 
+/**
+ * @typedef {import('./protocol.js').Protocol} Protocol
+ * @typedef {import('./protocol.js').ProtocolObject} ProtocolObject
+ * @typedef {(params: ProtocolObject, sessionId?: string) => void} Listener
+ */
+
+const { keepSecret, SHORTEST_FOUND } = require('../common/secrets.js');
+const { within } = require('../common/time.js');
+
+/** In milliseconds. */
+const LONGEST_COOKIES = 1000;
 /** What a browser asks its user for before a page reaches servers of this machine, and of the network around it. */
 const LOCAL_NETWORK = ['loopback-network', 'local-network'];
 
 class Tab {
-  static async open(browser, { width, height }) {
-    const { browserContextId } = await browser.send('Target.createBrowserContext');
+  /**
+   * @param {Protocol} browser
+   * @param {{width: number, height: number}} size
+   * @param {boolean} [isOfProfile] whether it has the cookies and the storage of the browser's profile; else those are its own
+   */
+  static async open(browser, { width, height }, isOfProfile = false) {
+    const browserContextId = isOfProfile ? undefined : (await browser.send('Target.createBrowserContext')).browserContextId;
     await browser.send('Browser.setDownloadBehavior', { behavior: 'deny', browserContextId });
-    const { targetId } = await browser.send('Target.createTarget', { url: 'about:blank', browserContextId, width, height });
+    const { targetId } = await browser.send('Target.createTarget', { url: 'about:blank', browserContextId, width, height, newWindow: true });
     const { sessionId } = await browser.send('Target.attachToTarget', { targetId, flatten: true });
     return new Tab(browser, { contextId: browserContextId, targetId, sessionId });
   }
 
+  /**
+   * @param {Protocol} browser
+   * @param {{contextId: string|undefined, targetId: string, sessionId: string}} numbers without a context it is of the browser's profile
+   */
   constructor(browser, { contextId, targetId, sessionId }) {
-    Object.assign(this, { browser, contextId, targetId, sessionId });
+    this.browser = browser;
+    this.contextId = contextId;
+    this.targetId = targetId;
+    this.sessionId = sessionId;
+    /** @type {[method: string, listener: Listener][]} */
     this.listeners = [];
+    /**
+     * The world of `evaluateApart`.
+     * @type {number|null}
+     */
+    this.world = null;
   }
 
-  /** Pages of an origin may ask servers of this machine and of its network. A browser that knows no such permission needs none. */
+  /**
+   * Pages of an origin may ask servers of this machine and of its network.
+   * @param {string} origin
+   */
   async allowLocalNetwork(origin) {
     const grant = { setting: 'granted', origin, browserContextId: this.contextId };
+    // a browser that knows no such permission needs none
     await Promise.all(LOCAL_NETWORK.map((name) => this.browser.send('Browser.setPermission', { permission: { name }, ...grant }).catch(() => {})));
   }
 
-  /** Closes the tab and forgets what its page stored. */
+  /** Takes note of the values of the browser's cookies: no file and no output has them. */
+  async keepCookies() {
+    const answer = this.browser.send('Storage.getCookies', { browserContextId: this.contextId }).catch(() => ({ cookies: [] })); // the browser has gone
+    const { cookies } = await within(answer, LONGEST_COOKIES, { cookies: [] });
+    cookies.forEach((/** @type {{value: string}} */ { value }) => keepSecret(value, SHORTEST_FOUND));
+  }
+
+  /** Closes the tab and forgets what its page stored, unless that is of the profile. */
   async close() {
-    this.listeners.forEach(([method, listener]) => this.browser.off(method, listener));
+    this.removeListeners();
+    if (!this.contextId) {
+      await this.browser.send('Target.closeTarget', { targetId: this.targetId });
+      return;
+    }
     await this.browser.send('Target.disposeBrowserContext', { browserContextId: this.contextId });
   }
 
+  removeListeners() {
+    this.listeners.forEach(([method, listener]) => this.browser.off(method, listener));
+  }
+
+  /**
+   * @param {string} method
+   * @param {ProtocolObject} [params]
+   * @param {number} [limit] in milliseconds
+   */
   send(method, params, limit) {
     return this.browser.send(method, params, this.sessionId, limit);
   }
 
+  /**
+   * @param {string} method
+   * @param {(params: ProtocolObject) => void} listener
+   */
   on(method, listener) {
     this.onAny(method, (params, sessionId) => sessionId === this.sessionId && listener(params));
   }
 
+  /**
+   * Listens to the events of every session.
+   * @param {string} method
+   * @param {Listener} listener
+   */
   onAny(method, listener) {
     this.listeners.push([method, listener]);
     this.browser.on(method, listener);
@@ -46,28 +108,55 @@ class Tab {
   /**
    * Closes each window that the page opens. It would run in the page's own process, with no recorder in it: its dialogs and
    * its endless loops would stop the page.
+   * @param {() => void} note
    */
   async closeOpenedWindows(note) {
     this.onAny('Target.targetCreated', ({ targetInfo }) => {
-      if (targetInfo.type !== 'page' || targetInfo.browserContextId !== this.contextId || targetInfo.targetId === this.targetId) return;
+      const isOfTab = this.contextId ? targetInfo.browserContextId === this.contextId : targetInfo.openerId === this.targetId;
+      if (targetInfo.type !== 'page' || !isOfTab || targetInfo.targetId === this.targetId) return;
       note();
-      this.browser.send('Target.closeTarget', { targetId: targetInfo.targetId }).catch(() => {});
+      this.browser.send('Target.closeTarget', { targetId: targetInfo.targetId }).catch(() => {}); // it has closed itself
     });
     await this.browser.send('Target.setDiscoverTargets', { discover: true });
   }
 
+  /** @returns {Promise<string>} */
   async mainFrame() {
     return (await this.send('Page.getFrameTree')).frameTree.frame.id;
   }
 
-  /** The value of an expression in a world of its own, where the page's objects are not the recorder's wrapped ones. */
+  /**
+   * The value of an expression in a world of its own, in which the page has replaced nothing.
+   * @param {string} expression
+   * @returns {Promise<any>} whatever the page answers
+   */
   async evaluateApart(expression) {
+    try {
+      if (this.world) return await this.evaluateIn(this.world, expression);
+    } catch (fault) {
+      if (!/context/.test(/** @type {Error} */ (fault).message)) throw fault; // else the world was that of an earlier document
+    }
     const frameId = await this.mainFrame();
     const { executionContextId } = await this.send('Page.createIsolatedWorld', { frameId });
-    const { result } = await this.send('Runtime.evaluate', { expression, returnByValue: true, contextId: executionContextId });
+    this.world = executionContextId;
+    return this.evaluateIn(executionContextId, expression);
+  }
+
+  /**
+   * @param {number} contextId
+   * @param {string} expression
+   * @returns {Promise<any>} whatever the page answers
+   */
+  async evaluateIn(contextId, expression) {
+    const { result } = await this.send('Runtime.evaluate', { expression, returnByValue: true, contextId });
     return result.value;
   }
 
+  /**
+   * The value of an expression in the page's own world.
+   * @param {string} expression
+   * @returns {Promise<any>} whatever the page answers
+   */
   async evaluate(expression) {
     const { result } = await this.send('Runtime.evaluate', { expression, returnByValue: true });
     return result.value;

@@ -1,153 +1,190 @@
 'use strict';
 // What a user does: clicks, keys and waits, by the browser's own input, so that the page sees trusted events.
 
-const { sleep, within } = require('./time.js');
+const { keepSecret } = require('../common/secrets.js');
+const { sleep, within } = require('../common/time.js');
+const { chordOf, chordOfCharacter, eventsOf } = require('./input/keyboard.js');
+const { findTarget, isSecretField, pickTarget } = require('./input/targets.js');
 
-const KEY_CODES = { Escape: 27, Enter: 13, Tab: 9, Backspace: 8, Delete: 46, ArrowDown: 40, ArrowUp: 38, ArrowRight: 39, ArrowLeft: 37, ' ': 32 };
+/**
+ * @typedef {import('./input/targets.js').Point} Point
+ * @typedef {import('./input/targets.js').Spot} Spot
+ * @typedef {import('../options/step.js').Step} Step
+ * @typedef {{isDone: true}|{isDone: false, reason: 'target'|'key'}} Outcome of an act: `reason` is what there is none of
+ * @typedef {Spot & {kind: 'spot', isEarly: false, said: string, number?: number, text?: undefined}} SpotAct what the seed has picked
+ */
+
+/** In milliseconds. */
 const KEY_PAUSE = 30;
 const ACTION_PAUSE = 120;
 const LONGEST_ACTION = 8000;
 const EARLY_POLL = 10;
 
-/** Runs in the page: where an element of a selector can be clicked, or null. `inside` is the place in it that was clicked before. */
-function findTarget(selector, inside) {
-  const element = document.querySelector(selector);
-  if (!element) return null;
-  let box = element.getBoundingClientRect();
-  if (box.top < 0 || box.bottom > innerHeight || box.left < 0 || box.right > innerWidth) {
-    element.scrollIntoView({ block: 'center', inline: 'center' });
-    box = element.getBoundingClientRect();
-  }
-  if (box.width < 1) return null;
-  const usual = { x: box.left + Math.min(box.width / 2, 200), y: box.top + Math.min(box.height / 2, 100) };
-  if (!inside) return usual;
-  const boxes = [...element.getClientRects()].map(({ left, top, width, height }) => ({ x: left + width / 2, y: top + height / 2 }));
-  const isHit = ({ x, y }) => element.contains(document.elementFromPoint(x, y));
-  return [{ x: box.left + inside.x, y: box.top + inside.y }, ...boxes].find(isHit) || usual;
-}
+/** @type {Outcome} */
+const DONE = { isDone: true };
 
-/** Runs in the page: one of the things in view that a user may click, by the seed; those that react come first. */
-function pickTarget(seed) {
-  const SELECTOR = 'a[href],a[onclick],button,input,select,textarea,label,[onclick],[role=button],[role=tab],summary,[tabindex],li';
-  const REACTS = 'button,input,select,textarea,summary,label,[onclick],[role],a[href^="#"],a[href^="javascript:"]';
-  const spots = [...document.querySelectorAll(SELECTOR)].filter((element) => element.type !== 'file').map((element) => {
-    const box = element.getBoundingClientRect();
-    const x = box.left + Math.min(box.width / 2, 60);
-    const y = box.top + Math.min(box.height / 2, 30);
-    const isInView = box.width >= 4 && box.height >= 4 && x >= 0 && y >= 0 && x < innerWidth && y < innerHeight;
-    const hit = isInView && document.elementFromPoint(x, y);
-    return hit && (hit === element || element.contains(hit)) ? { element, x, y } : null;
-  }).filter(Boolean);
-  const first = spots.filter(({ element }) => element.matches(REACTS));
-  const pool = first.length ? first : spots;
-  if (!pool.length) return null;
-  const { element, x, y } = pool[((seed * 1664525 + 1013904223) >>> 0) % pool.length];
-  /** By the next id above it, and by its place alone: a script may have given the id. */
-  const pathOf = (one, isById) => {
-    if (one === document.documentElement) return 'html';
-    if (isById && one.id && document.querySelectorAll(`#${CSS.escape(one.id)}`).length === 1) return `#${CSS.escape(one.id)}`;
-    const same = [...one.parentElement.children].filter((other) => other.localName === one.localName);
-    return `${pathOf(one.parentElement, isById)} > ${CSS.escape(one.localName)}:nth-of-type(${same.indexOf(one) + 1})`;
-  };
-  const hit = document.elementFromPoint(x, y);
-  const { left, top } = hit.getBoundingClientRect();
-  const isText = element.matches('textarea,input:not([type]),input[type=text],input[type=search]');
-  return { x, y, isText, what: element.localName + (element.id ? `#${element.id}` : ''), target: pathOf(hit, true), place: pathOf(hit, false), inside: { x: x - left, y: y - top } };
-}
+/**
+ * @param {Step|SpotAct} action
+ * @returns {action is SpotAct}
+ */
+const isSpot = (action) => action.kind === 'spot';
 
 class User {
+  /** @param {import('./tab.js').Tab} tab */
   constructor(tab) {
     this.tab = tab;
-    this.did = [];
-    /** What the seed has picked, as acts that can be done again. */
+    /**
+     * What the seed has picked, as acts that can be done again.
+     * @type {SpotAct[]}
+     */
     this.picks = [];
-    /** Called before each letter that is typed, with its number. */
+    /**
+     * Called before each letter that is typed, with its number.
+     * @type {((number: number) => Promise<void>)|null}
+     */
     this.beforeLetter = null;
   }
 
-  /** What a function answers in the page; null where it does not answer in time, as in a loop without an end, or fails. */
-  call(found, ...words) {
-    const answer = this.tab.evaluateApart(`(${found})(${words.map((word) => JSON.stringify(word)).join(', ')})`).catch(() => null);
+  /**
+   * What a function answers in the page; null if it fails or does not answer in time, as in a loop without an end.
+   * @template {unknown[]} P
+   * @template R
+   * @param {(...parameters: P) => R} found
+   * @param {P} parameters
+   * @returns {Promise<R|null>}
+   */
+  call(found, ...parameters) {
+    const answer = this.tab.evaluateApart(`(${found})(${parameters.map((one) => JSON.stringify(one)).join(', ')})`).catch(() => null); // the page has gone
     return within(answer, LONGEST_ACTION, null);
   }
 
+  /** @param {Point} point */
   async click({ x, y }) {
+    /** @param {string} type */
     const send = (type) => this.tab.send('Input.dispatchMouseEvent', { type, x, y, button: 'left', clickCount: 1 });
     await this.tab.send('Input.dispatchMouseEvent', { type: 'mouseMoved', x, y });
     await send('mousePressed');
     await send('mouseReleased');
   }
 
-  async press(key, text) {
-    const code = KEY_CODES[key] || key.toUpperCase().charCodeAt(0);
-    const event = { key, code: key.length > 1 ? key : undefined, windowsVirtualKeyCode: code };
-    await this.tab.send('Input.dispatchKeyEvent', { type: text ? 'keyDown' : 'rawKeyDown', ...event, text });
-    await this.tab.send('Input.dispatchKeyEvent', { type: 'keyUp', ...event });
+  /** @param {import('./input/keyboard.js').Chord} chord */
+  async press(chord) {
+    for (const event of eventsOf(chord)) await this.tab.send('Input.dispatchKeyEvent', event);
   }
 
+  /**
+   * A character without a key comes as from an input method.
+   * @param {string} character
+   */
+  async typeCharacter(character) {
+    const chord = chordOfCharacter(character);
+    if (chord) await this.press(chord);
+    else await this.tab.send('Input.insertText', { text: character });
+  }
+
+  /** @param {string} text */
   async type(text) {
     let number = 0;
     for (const letter of text) {
       number++;
       await this.beforeLetter?.(number);
-      await this.guarded(this.press(letter, letter));
+      await this.guarded(this.typeCharacter(letter));
       await sleep(KEY_PAUSE);
     }
   }
 
-  /** An action that opens a dialog or stops in the page does not hold the recording up. */
+  /**
+   * An action that opens a dialog or stops in the page does not hold the recording up.
+   * @param {Promise<void>} work
+   */
   async guarded(work) {
-    await within(work.catch(() => {}), LONGEST_ACTION);
+    await within(work.catch(() => {}), LONGEST_ACTION); // what it did until then is the recording
   }
 
+  /** @param {Step|SpotAct} action */
   async act(action) {
-    if (action.kind === 'wait') await sleep(Number(action.target));
-    else if (action.kind === 'spot') await this.clickSpot(action);
-    else if (action.kind === 'key') await this.guarded(this.press(action.target, textOfKey(action.target)));
-    else await this.actAt(action, await this.call(findTarget, action.target));
+    const outcome = await this.tryAct(action);
     await sleep(ACTION_PAUSE);
+    return outcome;
   }
 
+  /**
+   * @param {Step|SpotAct} action
+   * @returns {Promise<Outcome>}
+   */
+  async tryAct(action) {
+    if (action.kind === 'key') return this.pressKey(action);
+    if (isSpot(action)) await this.clickSpot(action);
+    else if (action.kind === 'wait') await sleep(Number(action.target));
+    else return this.actAt(action, await this.call(findTarget, action.target));
+    return DONE;
+  }
+
+  /**
+   * @param {Step} action
+   * @returns {Promise<Outcome>}
+   */
+  async pressKey({ target }) {
+    const chord = chordOf(target);
+    if (chord) await this.guarded(this.press(chord));
+    else if ([...target].length === 1) await this.guarded(this.typeCharacter(target));
+    else return { isDone: false, reason: 'key' };
+    return DONE;
+  }
+
+  /**
+   * @param {Step} action
+   * @param {Point|null} target
+   * @returns {Promise<Outcome>}
+   */
   async actAt(action, target) {
-    if (!target) {
-      this.did.push(`not done, as there is no target: ${action.said}`);
-      return;
-    }
+    if (!target) return { isDone: false, reason: 'target' };
+    if (action.kind === 'type' && await this.call(isSecretField, action.target)) keepSecret(action.text || '');
     await this.guarded(this.click(target));
-    if (action.kind === 'type') await this.type(action.text);
-    this.did.push(action.said);
+    if (action.kind === 'type') await this.type(action.text || '');
+    return DONE;
   }
 
-  /** Waits until the target of an early action is there. */
+  /**
+   * Waits until the target of an early action is there.
+   * @param {Step|SpotAct} action
+   * @param {number} until
+   */
   async waitFor(action, until) {
     if (action.kind === 'wait' || action.kind === 'key') return;
     while (Date.now() < until && !(await this.call(findTarget, action.target))) await sleep(EARLY_POLL);
   }
 
-  /** Clicks at what the seed picks; `around` does each. */
-  async clickAround(clicks, seed, around = (spot, act) => act()) {
+  /**
+   * Clicks at what the seed picks; `around` does each.
+   * @param {number} clicks
+   * @param {number} seed
+   * @param {(label: string, act: () => Promise<Outcome>) => Promise<unknown>} around
+   * @param {RegExp|null} avoided
+   */
+  async clickAround(clicks, seed, around, avoided = null) {
     for (let k = 0; k < clicks; k++) {
-      const target = await this.call(pickTarget, seed * 7919 + k * 104729);
+      const target = await this.call(pickTarget, seed * 7919 + k * 104729, avoided && avoided.source);
       if (!target) return;
-      const spot = { isEarly: false, kind: 'spot', ...target, said: `click:${target.what}` };
+      const { label, ...place } = target;
+      /** @type {SpotAct} */
+      const spot = { isEarly: false, kind: 'spot', ...place, said: `click:${target.what}` };
       this.picks.push(spot);
-      await around(spot, () => this.act(spot));
+      await around(label, () => this.act(spot));
     }
   }
 
-  /** What the seed has picked in another run may stand elsewhere now. */
+  /**
+   * What the seed has picked in another run may be at another place now.
+   * @param {SpotAct} spot
+   */
   async clickSpot(spot) {
-    const find = async (selector) => !this.picks.includes(spot) && this.call(findTarget, selector, spot.inside);
+    /** @param {string} selector */
+    const find = async (selector) => (this.picks.includes(spot) ? null : this.call(findTarget, selector, spot.inside));
     const found = await find(spot.target) || await find(spot.place);
     await this.guarded(this.click(found || spot));
     if (spot.isText) await this.type('in');
-    this.did.push(spot.said);
   }
-}
-
-function textOfKey(key) {
-  if (key === 'Enter') return '\r';
-  return key.length === 1 ? key : undefined;
 }
 
 module.exports = { User };

@@ -1,24 +1,37 @@
 'use strict';
-// A client of the WebSocket protocol (RFC 6455), as far as the browser's remote debugging takes it: texts, over a connection to this machine.
+// A client of the WebSocket protocol (RFC 6455), as far as the browser's remote debugging needs it: texts, over a connection to this machine.
 
 const { createHash, randomBytes } = require('node:crypto');
 const { EventEmitter } = require('node:events');
 const net = require('node:net');
 
+/** @typedef {{host: string, port: number}} Endpoint */
+
 const MAGIC = '258EAFA5-E914-47DA-95CA-C5AB0DC85B11';
+const CONTINUATION = 0;
 const TEXT = 1;
 const CLOSE = 8;
 const PING = 9;
 const PONG = 10;
+/** Of a frame's first byte: whether it is the last of its message, bits that no extension has agreed on, and its kind. */
+const LAST = 0x80;
+const RESERVED = 0x70;
+const KIND = 0x0f;
+const MASKED = 0x80;
+const LONGEST_CONTROL = 125;
 const LONGEST_HEAD = 16384;
 const LONGEST_MESSAGE = 1 << 29;
 
-/** The frame of a message, masked as a client's has to be. */
+/**
+ * The frame of a message, masked as a client's must be.
+ * @param {number} kind
+ * @param {Buffer} payload
+ */
 function frame(kind, payload) {
   const short = payload.length < 126;
   const head = short ? Buffer.alloc(2) : payload.length < 65536 ? Buffer.alloc(4) : Buffer.alloc(10);
-  head[0] = 0x80 | kind;
-  head[1] = 0x80 | (short ? payload.length : head.length === 4 ? 126 : 127);
+  head[0] = LAST | kind;
+  head[1] = MASKED | (short ? payload.length : head.length === 4 ? 126 : 127);
   if (head.length === 4) head.writeUInt16BE(payload.length, 2);
   if (head.length === 10) head.writeBigUInt64BE(BigInt(payload.length), 2);
   const mask = randomBytes(4);
@@ -27,9 +40,52 @@ function frame(kind, payload) {
   return Buffer.concat([head, mask, masked]);
 }
 
+/** Bytes that came in pieces. Each byte is copied at most twice, however many pieces a message has. */
+class Received {
+  constructor() {
+    /** @type {Buffer[]} */
+    this.pieces = [];
+    this.size = 0;
+  }
+
+  /** @param {Buffer} piece */
+  add(piece) {
+    this.pieces.push(piece);
+    this.size += piece.length;
+  }
+
+  /**
+   * The first bytes, which must be there: at least `size`. Only as many pieces are joined as these bytes need.
+   * @param {number} size
+   */
+  first(size) {
+    let [count, length] = [0, 0];
+    while (length < size) length += this.pieces[count++].length;
+    if (count > 1) this.pieces.splice(0, count, Buffer.concat(this.pieces.slice(0, count)));
+    return this.pieces[0] || Buffer.alloc(0);
+  }
+
+  /**
+   * Takes the first bytes away.
+   * @param {number} size
+   */
+  take(size) {
+    const start = this.first(size);
+    const rest = start.subarray(size);
+    this.pieces.splice(0, 1, ...(rest.length ? [rest] : []));
+    this.size -= size;
+    return start.subarray(0, size);
+  }
+}
+
 /** Events: `message` with a text, and `close` with the reason, once. */
 class WebSocketClient extends EventEmitter {
-  /** Opens a connection. Fails with the reason where it does not come. */
+  /**
+   * Opens a connection. Fails with the reason if it can not be opened.
+   * @param {Endpoint & {path: string}} place
+   * @param {number} longest in milliseconds
+   * @returns {Promise<WebSocketClient>}
+   */
   static open({ host, port, path }, longest) {
     return new Promise((resolve, reject) => {
       const client = new WebSocketClient(host, port, path);
@@ -39,26 +95,38 @@ class WebSocketClient extends EventEmitter {
     });
   }
 
+  /**
+   * @param {string} host
+   * @param {number} port
+   * @param {string} path
+   */
   constructor(host, port, path) {
     super();
     this.key = randomBytes(16).toString('base64');
     this.isOpen = false;
-    this.pieces = [];
-    this.size = 0;
+    this.isShut = false;
+    this.received = new Received();
+    /**
+     * The parts of the message that is not complete.
+     * @type {Buffer[]}
+     */
     this.parts = [];
+    this.size = 0;
     this.socket = net.connect({ host, port });
     this.socket.setNoDelay(true);
     this.socket.on('connect', () => this.socket.write([`GET ${path} HTTP/1.1`, `Host: ${host.includes(':') ? `[${host}]` : host}:${port}`, 'Upgrade: websocket', 'Connection: Upgrade',
       `Sec-WebSocket-Key: ${this.key}`, 'Sec-WebSocket-Version: 13', '', ''].join('\r\n')));
-    this.socket.on('data', (data) => this.take(data));
+    this.socket.on('data', (data) => this.receive(data));
     this.socket.on('error', (fault) => this.shut(fault.message));
     this.socket.on('close', () => this.shut('the connection was closed'));
   }
 
+  /** @param {string} text */
   send(text) {
     this.socket.write(frame(TEXT, Buffer.from(text)));
   }
 
+  /** @param {string} why */
   shut(why) {
     if (this.isShut) return;
     this.isShut = true;
@@ -68,86 +136,90 @@ class WebSocketClient extends EventEmitter {
 
   // ---- what comes
 
-  take(data) {
-    this.pieces.push(data);
-    this.size += data.length;
-    this.takeAll();
+  /** @param {Buffer} data */
+  receive(data) {
+    this.received.add(data);
+    this.receiveAll();
   }
 
-  takeAll() {
-    while (!this.isShut && (this.isOpen ? this.takeFrame() : this.takeHead()));
+  receiveAll() {
+    while (!this.isShut && (this.isOpen ? this.receiveFrame() : this.receiveHead()));
   }
 
-  /** All that came and was not read, in one piece; the next `size` bytes at least have to be there. */
-  joined(size) {
-    if (this.size < size) return null;
-    if (this.pieces.length > 1) this.pieces = [Buffer.concat(this.pieces)];
-    return this.pieces[0] || Buffer.alloc(0);
-  }
-
-  drop(count) {
-    this.pieces = [this.pieces[0].subarray(count)];
-    this.size -= count;
-  }
-
-  takeHead() {
-    const all = this.joined(1);
-    const end = all ? all.indexOf('\r\n\r\n') : -1;
+  receiveHead() {
+    const end = this.received.first(this.received.size).indexOf('\r\n\r\n');
     if (end < 0) {
-      if (this.size > LONGEST_HEAD) this.shut('no answer of a WebSocket');
+      if (this.received.size > LONGEST_HEAD) this.shut('no answer of a WebSocket');
       return false;
     }
-    const head = all.subarray(0, end).toString('latin1');
+    const head = this.received.take(end + 4).toString('latin1');
     const due = createHash('sha1').update(this.key + MAGIC).digest('base64');
     const accepted = /^sec-websocket-accept: *(\S+)/im.exec(head)?.[1];
-    this.drop(end + 4);
     if (!/^HTTP\/1\.1 101 /.test(head) || accepted !== due) {
       this.shut(`no WebSocket: ${head.split('\r\n')[0]}`);
       return false;
     }
     this.isOpen = true;
     this.emit('open');
-    setImmediate(() => this.takeAll()); // who waits for the connection listens by then
+    setImmediate(() => this.receiveAll()); // who waits for the connection listens by then
     return false;
   }
 
-  /** The length of the head and of the payload of the next frame, or null where they have not come whole. */
-  nextSizes() {
-    const start = this.joined(2);
-    if (!start) return null;
-    const short = start[1] & 0x7f;
+  /** The next frame's first byte, second byte, and the lengths of its head and payload; null if its head is not complete. */
+  nextFrame() {
+    if (this.received.size < 2) return null;
+    const [first, second] = this.received.first(2);
+    const short = second & ~MASKED;
     const head = short === 126 ? 4 : short === 127 ? 10 : 2;
-    const whole = this.joined(head);
-    if (!whole) return null;
-    const payload = head === 2 ? short : head === 4 ? whole.readUInt16BE(2) : Number(whole.readBigUInt64BE(2));
-    return { head, payload };
+    if (this.received.size < head) return null;
+    const bytes = this.received.first(head);
+    const payload = head === 2 ? short : head === 4 ? bytes.readUInt16BE(2) : Number(bytes.readBigUInt64BE(2));
+    return { first, second, head, payload };
   }
 
-  takeFrame() {
-    const sizes = this.nextSizes();
-    if (!sizes) return false;
-    if (sizes.payload > LONGEST_MESSAGE) {
-      this.shut('a message that is too long');
+  receiveFrame() {
+    const next = this.nextFrame();
+    if (!next) return false;
+    const why = this.whyRefused(next);
+    if (why) {
+      this.shut(why);
       return false;
     }
-    const all = this.joined(sizes.head + sizes.payload);
-    if (!all) return false;
-    const isLast = (all[0] & 0x80) !== 0;
-    const kind = all[0] & 0x0f;
-    const payload = Buffer.from(all.subarray(sizes.head, sizes.head + sizes.payload));
-    this.drop(sizes.head + sizes.payload);
-    this.takePayload(kind, payload, isLast);
+    const { first, head, payload } = next;
+    if (this.received.size < head + payload) return false;
+    const bytes = this.received.take(head + payload).subarray(head);
+    this.receivePayload(first & KIND, bytes, (first & LAST) !== 0);
     return true;
   }
 
-  takePayload(kind, payload, isLast) {
+  /**
+   * Why a client must refuse a frame, or ''.
+   * @param {{first: number, second: number, payload: number}} frame
+   */
+  whyRefused({ first, second, payload }) {
+    const kind = first & KIND;
+    if (first & RESERVED || second & MASKED) return 'a frame that no server may send';
+    if (kind === CLOSE || kind === PING || kind === PONG) return first & LAST && payload <= LONGEST_CONTROL ? '' : 'a control frame that is too long';
+    if (kind !== TEXT && kind !== CONTINUATION) return 'a message that is no text';
+    if ((kind === CONTINUATION) !== this.parts.length > 0) return 'parts of messages in no order';
+    return this.size + payload > LONGEST_MESSAGE ? 'a message that is too long' : '';
+  }
+
+  /**
+   * @param {number} kind
+   * @param {Buffer} payload
+   * @param {boolean} isLast
+   */
+  receivePayload(kind, payload, isLast) {
     if (kind === CLOSE) this.shut('the browser closed the connection');
     else if (kind === PING) this.socket.write(frame(PONG, payload));
     else if (kind !== PONG) {
       this.parts.push(payload);
+      this.size += payload.length;
       if (!isLast) return;
       const text = Buffer.concat(this.parts).toString();
       this.parts = [];
+      this.size = 0;
       this.emit('message', text);
     }
   }

@@ -1,11 +1,12 @@
 'use strict';
-// Marks the scripts that a page of this machine names while the browser starts, so that the page does not wait for them.
+// Instruments the scripts that a page of a served folder names while the browser starts, so that the page does not wait for them. A web server is not asked
+// ahead: it would get each request twice, without the browser's cookies and headers, and a link that is valid once would be used up.
 
 const { readText } = require('../browser/text.js');
-const { scanTags, attributeOf, decodeValue } = require('./html-scanner.js');
-const { kindOfScript } = require('./page.js');
+const { kindOfScript, sourceOf } = require('./page.js');
+const { readTags } = require('./tags.js');
 
-/** Names that every window has. It is not asked yet, and the others are left out when the code runs. */
+/** Names that every window has. The browser is not asked yet; the other names are left out when the code runs. */
 const COMMON_NAMES = [
   'window', 'self', 'globalThis', 'top', 'parent', 'frames', 'document', 'navigator', 'location', 'history', 'screen', 'console', 'performance',
   'localStorage', 'sessionStorage', 'event', 'name', 'length', 'alert', 'confirm', 'prompt', 'open', 'close', 'fetch', 'XMLHttpRequest',
@@ -16,30 +17,55 @@ const COMMON_NAMES = [
   'isNaN', 'isFinite', 'encodeURIComponent', 'decodeURIComponent', 'encodeURI', 'decodeURI', 'escape', 'unescape',
 ];
 
-/** The address of the script that a start tag names, or null. */
+/**
+ * @typedef {{address: string, status: number, type: string, body: Buffer}} Answer
+ * @typedef {Pick<import('../browser/folder.js').Folder, 'has'|'answer'>} Place where a page comes from
+ * @typedef {import('../texts/sources.js').Sources} Sources
+ */
+
+/**
+ * The address of the script that a start tag names, or null.
+ * @param {import('./tags.js').Tag} tag
+ * @param {string} page
+ */
 function addressOfScript(tag, page) {
-  const source = tag.name === 'script' && kindOfScript(tag) && attributeOf(tag, 'src');
+  const source = tag.name === 'script' && kindOfScript(tag) && sourceOf(tag);
   if (!source) return null;
   try {
-    return new URL(decodeValue(source.value) ?? source.value, page).href.replace(/#.*$/, '');
+    return new URL(source.value, page).href.replace(/#.*$/, '');
   } catch {
     return null; // no address
   }
 }
 
-const isWhole = (answer) => answer !== null && answer.status === 200;
-
-/** The answers for the scripts that a page names and that stand in the same place as the page. */
-async function scriptsOf(page, place) {
-  const { text, charset, label } = readText(page.body, page.type, true);
-  const tags = scanTags(text);
-  const addresses = new Set(tags.map((tag) => addressOfScript(tag, page.address)).filter((address) => address && place.has(address)));
-  const answers = await Promise.all([...addresses].map(async (address) => ({ address, ...await place.answer(address) })));
-  return answers.filter(isWhole).map((answer) => ({ ...answer, ofPage: charset ? label : null }));
+/**
+ * @param {Place} place
+ * @param {string} address
+ * @returns {Answer|null} null if it is no whole answer
+ */
+function answerOf(place, address) {
+  const answer = place.answer(address);
+  return answer && answer.status === 200 ? { address, ...answer } : null;
 }
 
-/** A script that can't be marked is tried again when the browser asks for it, and told then. */
-function isMarked(sources, { address, type, body, ofPage }) {
+/**
+ * The answers for the scripts that a page names and that come from the same place as the page.
+ * @param {Answer} page
+ * @param {Place} place
+ */
+function scriptsOf(page, place) {
+  const { text, ofScripts: ofPage } = readText(page.body, page.type, true);
+  const addresses = new Set(readTags(text).map((tag) => addressOfScript(tag, page.address)));
+  const answers = [...addresses].map((address) => (address && place.has(address) ? answerOf(place, address) : null));
+  return answers.flatMap((answer) => (answer ? [{ ...answer, ofPage }] : []));
+}
+
+/**
+ * A script that cannot be instrumented is tried again when the browser asks for it, and reported then.
+ * @param {Sources} sources
+ * @param {Answer & {ofPage: string|null}} script
+ */
+function isInstrumented(sources, { address, type, body, ofPage }) {
   try {
     sources.rewriteScript(address, readText(body, type, false, ofPage).text);
     return true;
@@ -49,16 +75,16 @@ function isMarked(sources, { address, type, body, ofPage }) {
 }
 
 /**
- * @param {import('../sources.js').Sources} sources
- * @param {import('../browser/folder.js').Folder|import('../browser/local-server.js').LocalServer} place where the page comes from
+ * @param {Sources} sources
+ * @param {Place} place
  * @param {string} address the page's address
- * @returns {Promise<number>} how many scripts were marked
+ * @returns {number} how many scripts were instrumented
  */
-async function markAhead(sources, place, address) {
-  const page = { address, ...await place.answer(address.replace(/#.*$/, '')) };
-  if (!isWhole(page)) return 0;
+function markAhead(sources, place, address) {
+  const page = answerOf(place, address.replace(/#.*$/, ''));
+  if (!page) return 0;
   sources.builtins.set(COMMON_NAMES, false);
-  return (await scriptsOf(page, place)).filter((script) => isMarked(sources, script)).length;
+  return scriptsOf(page, place).filter((script) => isInstrumented(sources, script)).length;
 }
 
-module.exports = { markAhead };
+module.exports = { markAhead, COMMON_NAMES };

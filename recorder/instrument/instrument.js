@@ -1,110 +1,152 @@
 'use strict';
-// Marks a script, a module or the text of a handler attribute: its reads and writes, and the begin and end of its run.
-// What is inserted calls the helpers of page/main.js and stands between marks, so that the page sees its own text in `toString`.
+// Marks a script, a module or the text of a handler attribute: its reads and writes, and the start and end of its run.
+// What is inserted calls the helpers of page/helpers/ and is between delimiters, so that the page sees its own text in `toString`.
 
-const acorn = require('/usr/share/nodejs/acorn');
-const { quote, IDLE } = require('./marks.js');
-const { Scope, ModuleScope, addHoisted, addLexical } = require('./scopes.js');
-const { importsOf, exportsOf } = require('./imports.js');
-const { GlobalInstrumenter, mayWait, KEPT } = require('./globals.js');
-const { ObjectInstrumenter } = require('./objects.js');
+const { quote } = require('./marks/quote.js');
+const { IDLE } = require('./marks/helpers.js');
+const { mayWait } = require('./syntax/children.js');
+const { importsOf, exportsOf, sourcesOf } = require('./syntax/imports.js');
+const { parse, faultOf } = require('./syntax/parse.js');
+const { topScope } = require('./syntax/scopes.js');
+const { CallMarks } = require('./insert/call-marks.js');
+const { ClosureVariables } = require('./walk/closures.js');
+const { lookAhead } = require('./walk/look.js');
+const { KEPT } = require('./insert/marks.js');
+const { Variables } = require('./walk/variables.js');
+const { WindowMarks } = require('./insert/window-marks.js');
 
-/** Which regular expressions there are is the browser's to say: it knows newer ones. */
-const Parser = acorn.Parser.extend((Base) => class extends Base {
-  validateRegExpFlags() {}
-  validateRegExpPattern() {}
-});
+/**
+ * @typedef {import('./syntax/types').Program} Program
+ * @typedef {import('./syntax/types').Options} Options
+ * @typedef {import('./syntax/types').Statement} Statement
+ * @typedef {import('./syntax/scopes').Scope} Scope
+ * @typedef {import('./insert/marks').Marks} Marks
+ * @typedef {{name: string, isVar: boolean}[]} Taken names of the browser that a script takes for its own
+ */
 
-function topScope(program, kind) {
-  if (kind === 'module') return new ModuleScope(program);
-  const scope = new Scope(null);
-  if (kind === 'handler') {
-    program.body.forEach((statement) => addHoisted(statement, scope.names));
-    addLexical(program.body, scope.names);
-  }
-  return scope;
-}
+/**
+ * The text of a `javascript:` address can be the page that the browser shows, so only `use strict` is a directive there.
+ * @param {Statement} statement
+ * @param {Options['kind']} kind
+ */
+const isDirective = (statement, kind) => statement.type === 'ExpressionStatement'
+  && (kind === 'address' ? statement.directive === 'use strict' : statement.directive !== undefined);
 
-const isDirective = (statement) => statement.type === 'ExpressionStatement' && statement.directive !== undefined;
-
-/** Where the run's first call may stand: behind the directives, which count only at the begin. */
-function placeOfBegin(program, code) {
-  const first = program.body.findIndex((statement) => !isDirective(statement));
-  const directives = first < 0 ? program.body : program.body.slice(0, first);
+/**
+ * Where the run's first call can be: after the directives, which count only at the start.
+ * @param {Program} program
+ * @param {string} code
+ * @param {Options['kind']} kind
+ */
+function startOfRun({ body }, code, kind) {
+  const first = body.findIndex((statement) => !isDirective(statement, kind));
+  const directives = first < 0 ? body : body.slice(0, first);
   if (directives.length) return directives[directives.length - 1].end;
-  if (program.body.length) return program.body[0].start;
+  if (body.length) return body[0].start;
   return code.startsWith('#!') || code.includes('<!--') ? code.length : 0;
 }
 
-function placeOfEnd(program, begin) {
-  return program.body.length ? program.body[program.body.length - 1].end : begin;
-}
-
-/** The functions that a script declares: they become global variables before its first statement runs. */
-function declaredFunctions(instrumenter, program, scope) {
-  return program.body
-    .filter((statement) => statement.type === 'FunctionDeclaration' && !instrumenter.options.builtins.has(statement.id.name))
-    .filter((statement) => scope.where(statement.id.name) === 'global')
-    .map((statement) => [statement.id.name, instrumenter.options.site(statement.id.start)]);
-}
-
-/** A class that a script declares becomes a global variable where it stands. */
-function markClass(instrumenter, statement, scope) {
-  const write = instrumenter.call('w', statement.id.name, scope, statement.id.start);
-  if (write) instrumenter.insert(statement.end, `;${write},${statement.id.name});`);
-}
-
-/** What is inserted behind a statement is handed in before what is inserted at the begin of the next one. */
-function visitProgram(instrumenter, program, scope, kind) {
-  for (const statement of program.body) {
-    instrumenter.visit(statement, scope);
-    if (statement.type === 'ClassDeclaration' && kind !== 'handler') markClass(instrumenter, statement, scope);
-  }
+/**
+ * The functions that a script declares, with their sites: they become global variables before its first statement runs.
+ * @param {Options} options
+ * @param {Program} program
+ * @param {Scope} scope
+ */
+function declaredFunctions({ builtins, site }, { body }, scope) {
+  const names = body.flatMap((statement) => (statement.type === 'FunctionDeclaration' && statement.id ? [statement.id] : []));
+  return names.filter(({ name }) => !builtins.has(name) && scope.where(name) === 'global').map(({ name, start }) => [name, site(start)]);
 }
 
 /**
- * The edits that mark a script, a module or the text of a handler attribute.
- * @returns {{edits: {start: number, end: number, insert: string}[]}|{fault: string}} `fault` where the text is no JavaScript
+ * A class that a script declares becomes a global variable where it is.
+ * @param {Marks} marks
+ * @param {Statement} statement
+ * @param {Scope} scope
  */
-function instrument(code, options) {
-  let program;
-  try {
-    program = Parser.parse(code, {
-      ecmaVersion: 'latest',
-      sourceType: options.kind === 'module' ? 'module' : 'script',
-      allowReturnOutsideFunction: options.kind === 'handler',
-      allowHashBang: true,
-    });
-  } catch (fault) {
-    return { fault: String(fault.message) };
-  }
-  const taken = options.kind === 'script' && options.builtins.take ? options.builtins.take(program) : [];
-  const instrumenter = new (options.depth === 'objects' ? ObjectInstrumenter : GlobalInstrumenter)(code, options);
-  const scope = topScope(program, options.kind);
-  if (options.kind === 'module') instrumenter.setModule(scope, importsOf(program), exportsOf(program));
-  instrumenter.lookAhead(() => visitProgram(instrumenter, program, scope, options.kind), scope);
-  const begin = placeOfBegin(program, code);
-  instrumenter.insert(begin, beginCall(instrumenter, program, scope, taken));
-  visitProgram(instrumenter, program, scope, options.kind);
-  instrumenter.insert(placeOfEnd(program, begin), endCall(options));
-  return { edits: instrumenter.edits };
+function markClass({ variables, inserter, options }, statement, scope) {
+  if (statement.type !== 'ClassDeclaration' || !statement.id || options.kind === 'handler') return;
+  const write = variables.call('w', statement.id.name, scope, statement.id.start);
+  if (write) inserter.insert(statement.end, `;${write},${statement.id.name});`);
 }
 
-function beginCall(instrumenter, program, scope, taken) {
-  const { options } = instrumenter;
+/**
+ * @param {Options} options
+ * @param {Program} program
+ * @param {Scope} scope
+ * @param {Marks} marks
+ * @param {Taken} taken
+ */
+function beginCall(options, program, scope, { variables }, taken) {
   const site = options.site(0);
   if (options.kind === 'handler') return `;__er.handlerBegins(this,event,${quote(options.type)});try{`;
   if (options.kind === 'address') return ';__er.addressBegins();try{';
-  if (options.kind === 'module') return `;${IDLE}__er.moduleBegins(import.meta.url,${site});${mayWait(program) ? `var ${KEPT};` : ''}${instrumenter.declareModule()}${instrumenter.declareExports()}`;
-  const functions = declaredFunctions(instrumenter, program, scope);
+  if (options.kind === 'module') {
+    const kept = mayWait(program) ? `var ${KEPT};` : '';
+    const sources = sourcesOf(program);
+    const before = sources.length ? `,${quote(sources)}` : '';
+    return `;${IDLE}__er.moduleBegins(import.meta.url,${site}${before});${kept}${variables.declareModule()}${variables.declareExports()}`;
+  }
+  const functions = declaredFunctions(options, program, scope);
   const own = taken.length ? `,${JSON.stringify(taken.map(({ name, isVar }) => [name, isVar]))}` : '';
   return `;${IDLE}__er.scriptBegins(globalThis.document&&document.currentScript,${site},${JSON.stringify(functions)}${own});`;
 }
 
+/** @param {Options} options */
 function endCall({ kind }) {
   if (kind === 'handler') return '}finally{__er.handlerEnds()}';
   if (kind === 'address') return '}finally{__er.addressEnds()}';
   return kind === 'module' ? ';__er.moduleEnds(import.meta.url);' : ';__er.scriptEnds();';
+}
+
+/**
+ * The walk that marks a program.
+ * @param {string} code
+ * @param {Options} options
+ * @param {Program} program
+ * @param {Scope} top
+ * @returns {Marks}
+ */
+function marksOf(code, options, program, top) {
+  const imports = importsOf(program);
+  const module = options.kind === 'module' ? { scope: top, imports, exported: exportsOf(program, imports) } : null;
+  if (options.depth !== 'objects') return new WindowMarks(code, options, new Variables(options, module));
+  lookAhead(program, top, module, !!options.keepsAll);
+  return new CallMarks(code, options, new ClosureVariables(options, module, top));
+}
+
+/**
+ * @param {string} code
+ * @param {Options} options
+ * @param {Program} program
+ */
+function editsOf(code, options, program) {
+  const taken = options.kind === 'script' && options.builtins.take ? options.builtins.take(program) : [];
+  const top = topScope(program, options.kind);
+  const marks = marksOf(code, options, program, top);
+  const start = startOfRun(program, code, options.kind);
+  marks.inserter.insert(start, beginCall(options, program, top, marks, taken));
+  for (const statement of program.body) {
+    marks.visit(statement, top);
+    markClass(marks, statement, top); // so its mark is before those at the start of the next statement
+  }
+  marks.inserter.insert(program.body.at(-1)?.end ?? start, endCall(options));
+  return marks.inserter.edits;
+}
+
+/**
+ * The edits that mark a script, a module or the text of a handler attribute; or why it stays as it is.
+ * @param {string} code
+ * @param {Options} options
+ * @returns {{edits: import('./syntax/types').Edit[], fault?: undefined} | {edits?: undefined, fault: import('./syntax/types').Fault}}
+ */
+function instrument(code, options) {
+  try {
+    return { edits: editsOf(code, options, parse(code, options.kind)) };
+  } catch (error) {
+    const fault = faultOf(error, code);
+    if (!fault) throw error;
+    return { fault };
+  }
 }
 
 module.exports = { instrument };

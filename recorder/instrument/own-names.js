@@ -1,24 +1,38 @@
 'use strict';
-// Names of the browser's that a page takes for variables of its own: `var status`, `function find()`, `class Animation`. From then on they are global
+// Names of the browser that a page takes for variables of its own: `var status`, `function find()`, `class Animation`. From then on they are global
 // variables like others, in all scripts of the page.
 
-const { addDeclared, addHoisted, addLexical } = require('./scopes.js');
+const { addDeclared, addHoisted, addLexical } = require('./syntax/names.js');
+
+/**
+ * @typedef {import('./syntax/types').Program} Program
+ * @typedef {import('./syntax/types').Expression} Expression
+ */
 
 /** `var self = this` and the like reach the window by the browser's own name. */
 const IS_WINDOW = /^(window|self|globalThis)$/;
-const isWindow = (node) => !!node && (node.type === 'ThisExpression' || (node.type === 'Identifier' && IS_WINDOW.test(node.name)));
 /** No script can put anything in the place of these. */
 const FIXED = ['window', 'document', 'location', 'top'];
 
-/** The names that a script declares at its top by `var`, and by other words. */
+/** @param {Expression|null} node */
+const isWindow = (node) => !!node && (node.type === 'ThisExpression' || (node.type === 'Identifier' && IS_WINDOW.test(node.name)));
+
+/**
+ * The names that a script declares at its top, and whether by `var`.
+ * @param {Program} program
+ */
 function declaredNames({ body }) {
+  /** @type {Set<string>} */
   const all = new Set();
+  /** @type {Set<string>} */
   const variables = new Set();
   body.forEach((statement) => addHoisted(statement, all));
   addLexical(body, all);
   for (const statement of body) {
     if (statement.type !== 'VariableDeclaration') continue;
-    statement.declarations.filter(({ init }) => isWindow(init)).forEach(({ id }) => all.delete(id.name));
+    for (const { id, init } of statement.declarations) {
+      if (id.type === 'Identifier' && isWindow(init)) all.delete(id.name);
+    }
     if (statement.kind === 'var') addDeclared(statement, variables);
   }
   FIXED.forEach((name) => all.delete(name));
@@ -27,9 +41,14 @@ function declaredNames({ body }) {
 
 class BrowserNames {
   constructor() {
+    /** @type {Set<string>} */
     this.names = new Set();
     /** Whether the names are all of the browser's. */
     this.areAll = true;
+    /**
+     * Those that scripts have taken.
+     * @type {Set<string>}
+     */
     this.own = new Set();
   }
 
@@ -39,13 +58,15 @@ class BrowserNames {
     this.areAll = areAll;
   }
 
+  /** @param {string} name */
   has(name) {
     return this.names.has(name) && !this.own.has(name);
   }
 
   /**
-   * Takes the names that a script declares at its top and that are the browser's, or may be where not all of these are known yet.
-   * @returns {{name: string, isVar: boolean}[]} a `var` takes a name only where the browser lets it be written
+   * Takes the names that a script declares at its top and that are the browser's, or might be while not all of these are known.
+   * @param {Program} program
+   * @returns {{name: string, isVar: boolean}[]} a `var` takes a name only if the browser lets it be written
    */
   take(program) {
     const taken = declaredNames(program).filter(({ name }) => this.names.has(name) || !this.areAll);

@@ -1,136 +1,261 @@
 'use strict';
-// The copy of a page that the browser gets: its scripts, handler attributes and `javascript:` addresses marked,
-// its content policies so that they allow that, and `integrity` attributes, which would stop it, dropped.
+// The copy of a page that the browser gets: its scripts, handler attributes and `javascript:` addresses are instrumented, its content policies allow that, and
+// `integrity`, which would refuse it, is dropped. Everything else in its text stays as it is.
 
-const { EditedText } = require('./edits.js');
 const { policyWithMarks, hasTypes, holdAt } = require('../browser/content-policy.js');
+const { codeOfAddress, scriptType } = require('../common/html.js');
+const { encodeValue } = require('./attribute-text.js');
+const { EditedText } = require('./edits.js');
+const { withoutIntegrity } = require('./import-map.js');
 const { instrument } = require('./instrument.js');
-const { scanTags, attributeOf, decodeValue, encodeValue } = require('./html-scanner.js');
+const { SvgText, canInsert } = require('./svg-text.js');
+const { readTags, attributeOf, SVG, MATH } = require('./tags.js');
 
-const SCRIPT_TYPE = /^(text|application)\/(x-)?(java|ecma|j)script(1\.\d)?$/;
-const DOES_NOTHING = /^\s*(void\s*\(?\s*0\s*\)?)?\s*;?\s*$/;
+/**
+ * @typedef {import('./tags.js').Tag} Tag
+ * @typedef {import('./tags.js').Attribute} Attribute
+ * @typedef {import('./tags.js').Range} Range
+ * @typedef {import('./syntax/types').Edit} Edit
+ * @typedef {import('./syntax/types').Fault} Fault
+ * @typedef {import('./syntax/types').Options} InstrumentOptions
+ * @typedef {(address: string, html: string) => Edit[]} Insertions what a replay puts into a page
+ * @typedef {Edit & {again?: (insertions: Insertions) => string}} PageEdit `again` makes what is inserted in a further run
+ */
 
-/** 'script', 'module', or null for a data block. */
+/**
+ * @typedef {object} PageSources
+ * @property {(address: string, html: string, insertions: Insertions) => string} rewritePage
+ * @property {Map<string, string>} markedTexts
+ * @property {ReadonlySet<string>} handlerNames the event handler attributes that the browser has
+ */
+
+/**
+ * Where the places of a page are noted: texts/sources.js.
+ * @typedef {object} PageSource
+ * @property {string} address
+ * @property {PageSources} sources
+ * @property {(kind: 'script'|'module'|'handler'|'address', offset: number, more?: {wholeAtStart?: boolean, isFile?: boolean}) => InstrumentOptions} options those of `instrument`
+ * @property {(name: string, known: {id?: string, source?: string}, offset: number) => void} noteTag
+ * @property {(own: string, marked: string) => void} noteMarked
+ * @property {(what: string) => void} drop
+ * @property {(what: 'scripts'|'handler attributes'|'javascript: addresses', fault: Fault, start: number, offset?: number) => void} miss
+ * @property {(what: string) => void} leave
+ */
+
+/**
+ * The elements whose attribute may have a `javascript:` address that runs.
+ * @type {Record<string, string[]>}
+ */
+const ADDRESSES = {
+  'href': ['a', 'area'], 'xlink:href': ['a'], 'src': ['iframe', 'frame'], 'action': ['form'], 'formaction': ['button', 'input'],
+};
+const LONGEST_SOURCE = 200;
+
+/** @param {Tag} tag */
+const typeOf = (tag) => scriptType(attributeOf(tag, 'type')?.value ?? null, tag.namespace === SVG ? null : attributeOf(tag, 'language')?.value ?? null);
+
+/**
+ * 'script', 'module', or null for a data block.
+ * @param {Tag} tag
+ */
 function kindOfScript(tag) {
-  const type = (attributeOf(tag, 'type')?.value || '').trim().toLowerCase();
-  if (type === 'module') return 'module';
-  const language = attributeOf(tag, 'language')?.value;
-  if (type === '') return language === undefined || /^javascript/i.test(language) ? 'script' : null;
-  return SCRIPT_TYPE.test(type) ? 'script' : null;
+  const type = typeOf(tag);
+  return type === 'classic' ? 'script' : type === 'module' ? type : null;
+}
+
+/**
+ * The attribute that names the file of a script.
+ * @param {Tag} tag
+ */
+const sourceOf = (tag) => (tag.namespace === SVG ? attributeOf(tag, 'href') || attributeOf(tag, 'xlink:href') : attributeOf(tag, 'src'));
+
+/** @param {Tag} tag */
+const isStyle = (tag) => tag.name === 'link' && /(^|\s)stylesheet(\s|$)/i.test(attributeOf(tag, 'rel')?.value || '');
+
+/**
+ * Instrumenter options for code whose places are not those of the page.
+ * @param {InstrumentOptions} options
+ * @param {SvgText} text
+ * @param {number} start of the code in the page
+ * @returns {InstrumentOptions}
+ */
+function inPage(options, text, start) {
+  const place = (/** @type {number} */ inCode) => text.placeInPage(inCode) - start;
+  return {
+    ...options,
+    site: (/** @type {number} */ offset, /** @type {any} */ about) => options.site(place(offset), about?.object ? { ...about, object: about.object.map(place) } : about),
+    named: (/** @type {number} */ from, /** @type {number} */ to, /** @type {string} */ name) => options.named?.(place(from), place(to), name),
+  };
 }
 
 class PageRewriter {
   /**
    * @param {string} html
-   * @param {import('../sources.js').Source} source where the page's places are noted
+   * @param {PageSource} source
    */
   constructor(html, source) {
     this.html = html;
     this.source = source;
+    /** @type {PageEdit[]} */
     this.edits = [];
+    this.frames = 0;
   }
 
   rewrite() {
-    const tags = scanTags(this.html);
-    for (const tag of tags) if (tag.name === 'script' && tag.text && !attributeOf(tag, 'src')) this.rewriteScript(tag); // first: what they declare, attributes use
+    const tags = readTags(this.html);
+    for (const tag of tags) if (tag.name === 'script' && tag.text && tag.namespace !== MATH && !sourceOf(tag)) this.rewriteScript(tag, tag.text); // first: attributes use what they declare
     for (const tag of tags) this.rewriteTag(tag);
-    for (const tag of tags) if (tag.name === 'meta') this.rewritePolicy(tag); // last: it knows all marks
+    for (const tag of tags) if (tag.name === 'meta') this.rewritePolicy(tag); // last: it allows all that is instrumented
     return this.edits;
   }
 
+  /** @param {Tag} tag */
   rewriteTag(tag) {
     for (const attribute of tag.attributes) this.rewriteAttribute(tag, attribute);
-    if (!tag.inTemplate) this.source.noteTag(tag.name, this.knownBy(tag), tag.start);
+    if (!tag.inTemplate) this.source.noteTag(tag.name, { id: attributeOf(tag, 'id')?.value, source: attributeOf(tag, 'src')?.value.slice(0, LONGEST_SOURCE) }, tag.start);
   }
 
-  knownBy(tag) {
-    return { id: attributeOf(tag, 'id')?.value, source: attributeOf(tag, 'src')?.value.slice(0, 200) };
-  }
-
+  /**
+   * @param {Tag} tag
+   * @param {Attribute} attribute
+   */
   rewriteAttribute(tag, attribute) {
-    if (attribute.name === 'integrity') {
+    const { name } = attribute;
+    if (name === 'integrity' && !isStyle(tag)) {
       this.edits.push({ start: attribute.start, end: attribute.end, insert: '' });
       this.source.drop('integrity attributes');
-    } else if (attribute.name === 'srcdoc') this.rewriteSrcdoc(attribute);
-    else if (/^on[a-z]+$/.test(attribute.name)) this.rewriteHandler(attribute);
-    else if (attribute.name === 'href' && /^\s*javascript:/i.test(attribute.value)) this.rewriteAddress(attribute);
+    } else if (name === 'srcdoc' && tag.name === 'iframe') this.rewriteSrcdoc(attribute);
+    else if (this.source.sources.handlerNames.has(name)) this.rewriteHandler(attribute);
+    else if (Object.hasOwn(ADDRESSES, name) && ADDRESSES[name].includes(tag.name)) this.rewriteAddress(attribute);
   }
 
-  /** The page inside a frame may stand in an attribute. */
+  /**
+   * The page inside a frame may be in an attribute. Its places need an address of its own; a replay does not tell such pages apart.
+   * @param {Attribute} attribute
+   */
   rewriteSrcdoc(attribute) {
-    const page = decodeValue(attribute.value);
-    if (page === null) return;
-    const text = (insertions) => this.spell(attribute, this.source.sources.rewritePage(`${this.source.address} (srcdoc)`, page, insertions));
-    this.edits.push({ start: attribute.start, end: attribute.end, insert: text(), again: text });
+    const first = `${this.source.address} (srcdoc)`;
+    const own = this.frames++ ? first.replace(/\)$/, ` ${this.frames})`) : first;
+    const text = (/** @type {Insertions} */ insertions) => {
+      const inside = (/** @type {string} */ address, /** @type {string} */ html) => insertions(address === own ? first : address, html);
+      return this.spell(attribute, this.source.sources.rewritePage(own, attribute.value, inside));
+    };
+    this.edits.push({ start: attribute.start, end: attribute.end, insert: text(() => []), again: text });
   }
 
+  /** @param {Tag} tag */
   rewritePolicy(tag) {
     const content = attributeOf(tag, 'content');
-    const policy = content && /^content-security-policy$/i.test(attributeOf(tag, 'http-equiv')?.value.trim() || '') ? decodeValue(content.value) : null;
-    if (policy === null) return;
+    if (!content || !/^content-security-policy$/i.test(attributeOf(tag, 'http-equiv')?.value.trim() || '')) return;
     const { address, sources } = this.source;
-    if (hasTypes(policy)) this.source.drop('trusted types of content policies');
-    const text = (insertions) => {
+    if (hasTypes(content.value)) this.source.drop('trusted types of content policies');
+    const text = (/** @type {Insertions} */ insertions) => {
       const hold = insertions(address, this.html).length ? holdAt(address) : null;
-      return this.spell(content, policyWithMarks(policy, sources.markedTexts, hold));
+      return this.spell(content, policyWithMarks(content.value, sources.markedTexts, hold));
     };
     this.edits.push({ start: content.start, end: content.end, insert: '', again: text });
   }
 
-  rewriteScript(tag) {
-    const kind = kindOfScript(tag);
-    const { start, end } = tag.text;
+  /**
+   * @param {Tag} tag
+   * @param {Range} range
+   */
+  rewriteScript(tag, { start, end }) {
+    const type = typeOf(tag);
     const code = this.html.slice(start, end);
-    if (!kind || !code) return;
-    const result = instrument(code, this.source.options(kind, start));
-    if (result.fault) this.source.miss('scripts that are no JavaScript', result.fault);
+    if (!code) return;
+    if (type === 'importmap') this.rewriteImportMap(code, start);
+    else if (!type) return;
+    else if (tag.namespace === SVG) this.rewriteMarkup(new SvgText(this.html, start, end), type, start);
     else {
-      this.source.noteMarked(code, new EditedText(code, result.edits).text);
-      for (const edit of result.edits) this.edits.push({ ...edit, start: edit.start + start, end: edit.end + start });
+      const edits = this.editsOf(code, this.source.options(type === 'module' ? type : 'script', start), start);
+      this.edits.push(...edits.map((edit) => ({ ...edit, start: edit.start + start, end: edit.end + start })));
     }
   }
 
-  /** The marked text of a piece of code in an attribute, or null where it has to stay. */
-  markValue(code, kind, attribute, type) {
-    const options = { ...this.source.options(kind, attribute.start, { wholeAtStart: true }), type };
-    const result = instrument(code, options);
-    if (result.fault) {
-      this.source.miss('handler attributes that are no JavaScript', result.fault);
-      return null;
-    }
-    return new EditedText(code, result.edits).text;
+  /**
+   * A script in SVG.
+   * @param {SvgText} text
+   * @param {'classic'|'module'} type
+   * @param {number} start
+   */
+  rewriteMarkup(text, type, start) {
+    const options = this.source.options(type === 'module' ? type : 'script', start);
+    const edits = text.isText ? this.editsOf(text.code, inPage(options, text, start), start) : [];
+    if (text.isText && edits.every((edit) => canInsert(text, edit))) this.edits.push(...edits.map((edit) => text.editOfPage(edit)));
+    else this.source.leave('SVG scripts with other elements inside');
   }
 
+  /**
+   * @param {string} code
+   * @param {InstrumentOptions} options
+   * @param {number} start where the code is in the page
+   * @returns {Edit[]}
+   */
+  editsOf(code, options, start) {
+    const { edits, fault } = instrument(code, options);
+    if (fault) this.source.miss('scripts', fault, start);
+    else this.source.noteMarked(code, new EditedText(code, edits).text);
+    return edits || [];
+  }
+
+  /**
+   * @param {string} code
+   * @param {number} start
+   */
+  rewriteImportMap(code, start) {
+    const edits = withoutIntegrity(code);
+    if (!edits.length) return;
+    this.source.drop('integrity of import maps');
+    this.source.noteMarked(code, new EditedText(code, edits).text);
+    for (const edit of edits) this.edits.push({ ...edit, start: edit.start + start, end: edit.end + start });
+  }
+
+  /**
+   * The instrumented text of code in an attribute, or null if the code has to stay.
+   * @param {string} code
+   * @param {'handler'|'address'} kind
+   * @param {Attribute} attribute
+   */
+  markValue(code, kind, attribute) {
+    const { edits, fault } = instrument(code, { ...this.source.options(kind, attribute.start, { wholeAtStart: true }), type: attribute.name.slice(2) });
+    if (edits) return new EditedText(code, edits).text;
+    this.source.miss(kind === 'handler' ? 'handler attributes' : 'javascript: addresses', fault, attribute.start, attribute.start);
+    return null;
+  }
+
+  /** @param {Attribute} attribute */
   rewriteHandler(attribute) {
-    const code = decodeValue(attribute.value);
-    if (code === null || !code.trim()) return;
-    const text = this.markValue(code, 'handler', attribute, attribute.name.slice(2));
+    const code = attribute.value;
+    const text = code.trim() ? this.markValue(code, 'handler', attribute) : null;
     if (text === null) return;
     this.source.noteMarked(code, text);
     this.replace(attribute, text);
   }
 
+  /** @param {Attribute} attribute */
   rewriteAddress(attribute) {
-    const value = decodeValue(attribute.value);
-    if (value === null) return;
-    let code = value.replace(/^\s*javascript:/i, '');
-    try {
-      code = decodeURIComponent(code);
-    } catch {
-      // a `%` that escapes nothing stands for itself
-    }
-    if (DOES_NOTHING.test(code)) return;
-    const text = this.markValue(code, 'address', attribute);
+    const code = codeOfAddress(attribute.value, decodeURIComponent);
+    if (code === undefined) this.source.leave('javascript: addresses that are not UTF-8');
+    const text = code ? this.markValue(code, 'address', attribute) : null;
     if (text !== null) this.replace(attribute, `javascript:${encodeURIComponent(text)}`);
   }
 
+  /**
+   * @param {Attribute} attribute
+   * @param {string} text
+   */
   replace(attribute, text) {
     this.edits.push({ start: attribute.start, end: attribute.end, insert: this.spell(attribute, text) });
   }
 
-  spell({ name, value }, text) {
-    return `${name}=${encodeValue(text, value)}`;
+  /**
+   * @param {Attribute} attribute
+   * @param {string} text
+   */
+  spell({ name, start, end }, text) {
+    return `${this.html.slice(start, start + name.length)}=${encodeValue(text, this.html.slice(start, end))}`;
   }
 }
 
-module.exports = { PageRewriter, kindOfScript };
+module.exports = { PageRewriter, kindOfScript, sourceOf };

@@ -1,11 +1,13 @@
 'use strict';
-// Code to mark before the page's own comes, so that its first script does not wait for a cold program.
+// Code that is marked before the page's own comes, so that its first script does not wait for a cold program.
 
 const fs = require('node:fs');
 const { instrument } = require('./instrument.js');
+const { readTags } = require('./tags.js');
 
 const TIMES_READABLE = 3;
 const TIMES_MINIFIED = 400;
+const TIMES_PAGE = 200;
 
 /** A piece of code that is written as minified scripts are. */
 const MINIFIED = '(function(a,b){var c=a.d||(a.d={}),e=/x[a-z]+/gi,z;function f(g,h){"x"==typeof g&&(g=[g]);return g?h&&g.i(h,function(j){'
@@ -14,12 +16,17 @@ const MINIFIED = '(function(a,b){var c=a.d||(a.d={}),e=/x[a-z]+/gi,z;function f(
   + 'while(z--)if(z>2&&(z&4||z/2)){continue}a.x=new f(1,2);do a.x.y();while(0);return this})(window,document);'
   + 'c.prototype={get:function(){return this.a.b.c("d",e)},set:function(a){this.a=a;throw Error("x"+a)}};';
 
-/** Marks code that nobody asked for: a readable script, and a minified one. */
+/** A piece of a page, by which the parser of pages is loaded too. */
+const PAGE = '<div class="a" id=b><p>Some text &amp; <a href="c.html" title=\'d\'>more</a><img src=e><table><tr><td>f</table><select><option>g</select></div><script src=h></script>';
+
+/** Marks code that no page has: a readable script, and a minified one. */
 function warmUp() {
   const readable = fs.readFileSync(require.resolve('/usr/share/nodejs/acorn'), 'utf8');
+  /** @type {import('./syntax/types').Options} */
   const options = { kind: 'script', builtins: new Set(['window', 'document']), site: () => 0 };
   for (let k = 0; k < TIMES_READABLE; k++) instrument(readable, options);
   instrument(MINIFIED.repeat(TIMES_MINIFIED), options);
+  readTags(PAGE.repeat(TIMES_PAGE));
 }
 
 module.exports = { warmUp, MINIFIED };

@@ -1,9 +1,25 @@
 'use strict';
-// The list as one object for other tools (docs/viewing.md).
+// The list as one object for other tools (docs/ci.md).
 
 const { placesOf, plainPlace } = require('./places.js');
 
-/** One race of a problem in a run. */
+/** The sum of the two orders. */
+const BOTH_ORDERS = 3;
+
+/**
+ * @typedef {import('../browser/folder.js').Folder} Folder
+ * @typedef {import('./listing.js').Listing} Listing
+ * @typedef {import('./listing.js').Listed} Listed
+ */
+/**
+ * What is known of the list as a whole; `loads` are those of a suite.
+ * @typedef {{page: string, status: number, files: string[], folder: Folder|null, loads?: import('./types').Load[]}} ListFacts
+ */
+
+/**
+ * One race of a problem in a run.
+ * @param {import('./problems.js').Problems} problems @param {number} race @param {number} run @param {Folder|null} folder
+ */
 function plainRace(problems, race, run, folder) {
   const one = problems.report.races[race];
   return {
@@ -18,31 +34,53 @@ function plainRace(problems, race, run, folder) {
   };
 }
 
-function plainProblem(listing, problem, failing, folder) {
+/** @param {Listing} listing @param {Listed} problem @param {{failing: Set<Listed>, lines: Set<Listed>}} sets @param {Folder|null} folder */
+function plainProblem(listing, problem, { failing, lines }, folder) {
   const { name, look, words, isKnown, runs, orders, seen } = problem;
-  const names = [...seen].map(([one, { runs: inRuns, orders: own }]) => ({ name: one, runs: [...inRuns], bothOrders: own.size > 1 }));
-  const races = listing.runs.flatMap((run, k) => (run.list.find((one) => one.name === name)?.races || []).map((race) => plainRace(run, race, k, folder)));
-  return { name, look: look.name, part: look.part, seen: look.seen, words, isKnown, fails: failing.has(problem), hasLine: listing.lines.includes(problem), runs, bothOrders: orders.size > 1, names, races, ...replayOf(listing, problem) };
+  const names = [...seen].map(([one, { runs: inRuns, orders: own }]) => ({ name: one, runs: inRuns, bothOrders: own === BOTH_ORDERS }));
+  const races = listing.runs.flatMap((run, k) => (listing.problemOf(k, name)?.races || []).map((race) => plainRace(run, race, k, folder)));
+  return {
+    name,
+    look: look.name,
+    part: look.part,
+    seen: look.seen,
+    words,
+    summary: listing.summaryOf(problem),
+    rank: { number: listing.problems.indexOf(problem) + 1, reason: listing.rankOf(problem).reason },
+    isKnown,
+    fails: failing.has(problem),
+    hasLine: lines.has(problem),
+    runs,
+    bothOrders: orders.size > 1,
+    names,
+    races,
+    ...replayOf(listing, problem),
+  };
 }
 
-/** What came of it in the other order, where it was run again. */
+/**
+ * What came of it in the other order, if it was run again.
+ * @param {Listing} listing @param {Listed} problem
+ */
 function replayOf(listing, problem) {
   const found = listing.verdictOf(problem);
   return found ? { replay: { race: found.race, verdict: found.verdict, differs: !!found.effect, effect: found.effect, words: found.words } } : {};
 }
 
-/** @param {{page: string, status: number, files: string[], folder: import('../browser/folder.js').Folder|null}} facts */
-function plainListing(listing, { page, status, files, folder }) {
-  const failing = new Set(listing.failing());
+/** @param {Listing} listing @param {ListFacts} facts */
+function plainListing(listing, { page, status, files, folder, loads }) {
+  const sets = { failing: new Set(listing.failing()), lines: new Set(listing.lines) };
   return {
     races: 1,
     page,
     status,
     runs: listing.runs.length,
     files,
+    ...(loads ? { loads } : {}),
     leftOut: listing.runs.map(({ leftOut }) => leftOut),
     ofLibraries: listing.runs.map(({ ofLibraries }) => ofLibraries),
-    problems: listing.problems.map((problem) => plainProblem(listing, problem, failing, folder)),
+    unmarked: listing.runs.map(({ unmarked }) => unmarked),
+    problems: listing.problems.map((problem) => plainProblem(listing, problem, sets, folder)),
     notSeen: listing.notSeen(),
   };
 }

@@ -1,36 +1,46 @@
 'use strict';
-// The file of known problems: one line each, its name with its words behind it; lines that begin with # are comments and stay where they are.
+// The file of known problems: in each line a name and its words. Lines that begin with # are comments and keep their position.
 
 const fs = require('node:fs');
 
 const LINE = /^([0-9a-f]{12}(?:\.[0-9a-f]{6})?)(?: +(.*))?$/;
-const HEAD = ['# Races that are known (./er_page --known, docs/viewing.md): a name a line, its words behind it. Take a line away to be told again.'];
+const HEAD = ['# Known races (./er_page --known, docs/ci.md): in each line a name and its words. Without its line, a race is reported as new.'];
+/** The first line of files of version 1.2 and before. */
+const OLD_HEAD = '# Races that are known (./er_page --known, docs/viewing.md): a name a line, its words behind it. Take a line away to be told again.';
+
+/**
+ * @typedef {{name: string, seen: Map<string, unknown>}} Named  `seen` has the names of its races
+ * @typedef {{name: string, words: string, comments: string[]}} Entry
+ */
 
 class KnownFault extends Error {}
 
 class Known {
-  /** @param {string} text what the file holds; fails with a KnownFault that names the first bad line */
+  /** @param {string} text the content of the file; throws a KnownFault that names the first bad line @param {string} file */
   constructor(text, file) {
     this.file = file;
     /** @type {Map<string, {words: string, comments: string[]}>} by name, in the order of the file; `comments` are the lines above */
     this.entries = new Map();
+    /** @type {string[]} the comments after the last entry */
     this.rest = [];
     text.split(/\r?\n/).forEach((line, k) => this.read(line, k + 1));
     if (this.rest[this.rest.length - 1] === '') this.rest.pop();
   }
 
-  /** @param {boolean} mayLack whether the file may still have to be written */
+  /** @param {string} file @param {boolean} mayLack whether the file may still have to be written */
   static readFile(file, mayLack) {
     let text;
     try {
       text = fs.readFileSync(file, 'utf8');
-    } catch (fault) {
-      if (fault.code === 'ENOENT' && mayLack) return new Known(HEAD.join('\n'), file);
-      throw new KnownFault(`${file}: ${fault.code === 'ENOENT' ? 'there is no such file' : fault.message}`);
+    } catch (error) {
+      const { code, message } = /** @type {NodeJS.ErrnoException} */ (error);
+      if (code === 'ENOENT' && mayLack) return new Known(HEAD.join('\n'), file);
+      throw new KnownFault(`${file}: ${code === 'ENOENT' ? 'there is no such file' : message}`);
     }
     return new Known(text, file);
   }
 
+  /** @param {string} line @param {number} number */
   read(line, number) {
     if (!line.trim() || line.startsWith('#')) {
       this.rest.push(line);
@@ -43,22 +53,32 @@ class Known {
     this.rest = [];
   }
 
-  /** Whether a problem is known, by its own name or by those of all its races. */
-  hasProblem({ name, raceNames }) {
-    return this.entries.has(name) || [...raceNames].every((one) => this.entries.has(one));
+  /**
+   * Whether a problem is known, by its own name or by those of all its races.
+   * @param {Named} problem
+   */
+  hasProblem({ name, seen }) {
+    return this.entries.size > 0 && (this.entries.has(name) || [...seen.keys()].every((one) => this.entries.has(one)));
   }
 
-  /** The lines of which nothing came. */
+  /**
+   * The lines whose problem or race did not come.
+   * @param {Named[]} problems
+   */
   notSeen(problems) {
-    const seen = new Set(problems.flatMap(({ name, raceNames }) => [name, ...raceNames]));
+    const seen = new Set(problems.flatMap(({ name, seen: races }) => [name, ...races.keys()]));
     return [...this.entries].filter(([name]) => !seen.has(name)).map(([name, { words }]) => ({ name, words }));
   }
 
-  /** The file with some more problems. What stands in it stays as it is, and each new line comes where it belongs by its words. */
+  /**
+   * The text of the file with some more problems. Its lines stay as they are, and each new line is added where it belongs by its words.
+   * @param {(Named & {words: string})[]} problems
+   */
   textWith(problems) {
+    /** @type {Entry[]} */
     const lines = [...this.entries].map(([name, { words, comments }]) => ({ name, words, comments }));
     const [first] = lines;
-    const head = first ? headOf(first) : this.rest;
+    const head = first ? takeHead(first) : this.rest;
     for (const one of problems.filter((problem) => !this.hasProblem(problem))) lines.push({ name: one.name, words: oneLine(one.words), comments: [] });
     lines.sort((a, b) => compareTexts(a.words, b.words) || compareTexts(a.name, b.name));
     const body = lines.flatMap(({ name, words, comments }) => [...comments, `${name} ${words}`.trim()]);
@@ -66,15 +86,20 @@ class Known {
   }
 }
 
-/** Takes the comments at the begin of the file, up to a blank line or the whole block, off the first entry: they are of the file. */
-function headOf(entry) {
+/**
+ * Takes the comments at the start of the file, up to a blank line or the whole block, off the first entry: they belong to the file.
+ * @param {Entry} entry
+ */
+function takeHead(entry) {
   const blank = entry.comments.lastIndexOf('');
-  const isOwn = blank < 0 && entry.comments[0] !== HEAD[0];
+  const isOwn = blank < 0 && entry.comments[0] !== HEAD[0] && entry.comments[0] !== OLD_HEAD;
   const count = isOwn ? 0 : blank < 0 ? 1 : blank + 1;
   return entry.comments.splice(0, count);
 }
 
+/** @param {string} words */
 const oneLine = (words) => words.replace(/\s+/g, ' ');
+/** @param {string} a @param {string} b */
 const compareTexts = (a, b) => (a < b ? -1 : a > b ? 1 : 0);
 
 module.exports = { Known, KnownFault };

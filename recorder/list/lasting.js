@@ -1,38 +1,70 @@
 'use strict';
-// Names of races and problems that last: the same in each recording of the page, also where lines above were added or files were renamed
-// by a build. A race's name is that of its problem and a second part, so that whoever knows the problem knows the race.
+// Stable names of races and problems: the same in each recording of the page, also if lines were added above or a build renamed files.
+// A race's name is that of its problem and a second part, so whoever knows the problem knows the race.
 
 const { createHash } = require('node:crypto');
-const { Keys, FIRST_MODULE, FIRST_OBJECT, isByValue, withoutKeys } = require('../replay/keys.js');
-const { SourceText, shortAddress, lastingAddress } = require('./source-text.js');
+const { FIRST_MODULE, FIRST_OBJECT } = require('../common/numbers.js');
+const { Keys } = require('../races/keys.js');
+const { isByValue, withoutKeys } = require('../races/spelled-locations.js');
+const { SourceText, shortAddress, lastingAddress } = require('../races/source-text.js');
 
-/** Events of which the target is no part of a problem: what a user clicked at. */
+/**
+ * @typedef {import('./types').Race} Race
+ * @typedef {import('./types').Names} Names
+ * @typedef {{location: string, mode: string, action: number, line: number}} Side
+ */
+
+/** Events whose target is no part of a problem: what a user clicked at. */
 const EVENTS = new Set(['fire', 'wfire', 'inline']);
 const LENGTH = 12;
 const LENGTH_OF_RACE = 6;
 
+/** @param {string} text @param {number} length */
 const hashed = (text, length) => createHash('sha256').update(text).digest('hex').slice(0, length);
+/** @param {string} text */
 const withoutNumbers = (text) => text.replace(/\d+/g, '0');
-/** A number that is this long is made anew in each run, as the time or one by chance. */
+/**
+ * A number that is this long is new in each run, as the time or a random one.
+ * @param {string} text
+ */
 const withoutLongNumbers = (text) => text.replace(/\d{5,}/g, '0');
 
+/** @type {WeakMap<Names, SourceText>} */
 const textsOf = new WeakMap();
 
+/** @param {string[]} sides @returns {0|1|2} */
 function orderOf([first, second]) {
   if (first === second) return 0;
   return first < second ? 1 : 2;
 }
 
 class LastingNames extends Keys {
+  /** @param {string} text a trace @param {Names} names */
   constructor(text, names) {
     super(text, names, true);
-    /** An access stands in many races: its side by its line. */
+    /** @type {Names} */
+    this.names = names;
+    /**
+     * An access is in many races: its side by its line.
+     * @type {Map<number, string>}
+     */
     this.sites = new Map();
+    /** @type {Map<number, string>} by action */
     this.details = new Map();
+    /** @type {Map<string, string>} by location */
+    this.wheres = new Map();
+    /** @type {Map<string, string>} by location */
+    this.locations = new Map();
+    /**
+     * Names of problems, by what is hashed.
+     * @type {Map<string, string>}
+     */
+    this.problems = new Map();
   }
 
-  // ---- what a name of a replay has, and a lasting one has not
+  // ---- what a replay's name has, and a stable one has not
 
+  /** @param {string} name */
   counted(name) {
     return name;
   }
@@ -41,29 +73,41 @@ class LastingNames extends Keys {
     return '';
   }
 
-  /** The constructor asks for places before anything of this class is there. */
+  /**
+   * Called by the constructor of `Keys`, before the fields of this class exist.
+   * @param {import('./types').Place|null|undefined} place
+   */
   place(place) {
     if (!place) return '';
-    if (!textsOf.has(this.names)) textsOf.set(this.names, new SourceText(this.names));
-    return textsOf.get(this.names).at(place);
+    let texts = textsOf.get(this.names);
+    if (!texts) textsOf.set(this.names, texts = new SourceText(this.names));
+    return texts.at(place);
   }
 
+  /** @param {string} number @returns {string} */
   document(number) {
     return lastingAddress(super.document(number));
   }
 
+  /** @param {string} number @returns {string} */
   request(number) {
-    return shortAddress(super.request(number).replace(/^(\S*) (\S*)/, (whole, method, url) => `${method} ${shortAddress(url)}`));
+    return shortAddress(super.request(number).replace(/^(\S*) (\S*)/, (/** @type {string} */ whole, /** @type {string} */ method, /** @type {string} */ url) => `${method} ${shortAddress(url)}`));
   }
 
   // ---- sides
 
-  /** The place of an access that code makes. */
+  /**
+   * The place of an access that code makes.
+   * @param {Side} side
+   */
   placeOfSide({ location, mode, line }) {
     return location.startsWith('slot') && mode === 'r' ? '' : this.place(this.names.places[line]);
   }
 
-  /** What kind of code or event acts: a handler and an event with their types. */
+  /**
+   * What kind of code or event acts: a handler and an event with their types.
+   * @param {number} number @returns {string}
+   */
   kindOf(number) {
     const action = this.actions.list[this.actions.list[number].first];
     const [word, , , c] = action.words;
@@ -72,7 +116,10 @@ class LastingNames extends Keys {
     return word === 'tick' ? 'timer' : word;
   }
 
-  /** One side of a problem: the place of its code; where none is known, what acts. */
+  /**
+   * One side of a problem: the place of its code; if that is not known, what acts.
+   * @param {Side} side
+   */
   site(side) {
     const kind = this.kindOf(side.action);
     const place = this.placeOfSide(side);
@@ -81,13 +128,16 @@ class LastingNames extends Keys {
     return `${mode} ${kind} ${kind.startsWith('event') || kind === 'parse' ? '' : withoutNumbers(this.action(side.action))}`;
   }
 
+  /** @param {Side} side */
   siteOf(side) {
     const line = isByValue(side.location) ? this.firstLine(side) : side.line;
-    if (!this.sites.has(line)) this.sites.set(line, this.site({ ...side, line }));
-    return this.sites.get(line);
+    return found(this.sites, line, () => this.site({ ...side, line }));
   }
 
-  /** The line of an action's first access to a location: that of a write that changes nothing does not stand in the trace. */
+  /**
+   * The line of an action's first access to a location: the trace lacks that of a write that changes nothing.
+   * @param {Side} side
+   */
   firstLine({ action, location, line }) {
     const own = [`r ${location}`, `w ${location}`];
     for (let k = this.actions.list[action].line; k < line; k++) {
@@ -96,38 +146,58 @@ class LastingNames extends Keys {
     return line;
   }
 
+  /** @param {Side} side */
   detailsOf({ action }) {
-    if (!this.details.has(action)) this.details.set(action, withoutLongNumbers(this.action(action)));
-    return this.details.get(action);
+    return found(this.details, action, () => withoutLongNumbers(this.action(action)));
   }
 
+  /** @param {Race} race @returns {Side[]} */
   sidesOf({ location, modes, actions, lines }) {
     return [0, 1].map((k) => ({ location, mode: modes[k], action: actions[k], line: lines[k] }));
   }
 
-  /** What a race is at. The items of an array are one; an object is known by what made it, and a closure by the text of its function. */
+  /**
+   * The location of a race. The items of an array are one; an object is known by what made it, and a closure by the text of its function.
+   * @param {string} location
+   */
   where(location) {
-    const [kind, number, name] = location.split(' ');
+    const [kind, digits, name] = location.split(' ');
+    const number = Number(digits);
     if (kind !== 'var' || number < FIRST_MODULE) return this.words.location(location).text;
-    if (number < FIRST_OBJECT) return `${name} of the module ${lastingAddress(this.names.objects[number]?.module)}`;
-    const isItem = this.names.objects[number]?.made === 'array' && /^(\d+(\.\.)?|\(items\)|length)$/.test(name);
+    const facts = this.names.objects?.[number];
+    if (number < FIRST_OBJECT) return `${name} of the module ${lastingAddress(facts?.module || '')}`;
+    const isItem = facts?.made === 'array' && /^(\d+(\.\.)?|\(items\)|length)$/.test(name);
     return `${isItem ? '(items)' : withoutKeys(name)} of ${this.object(number)}`;
   }
 
   /**
    * The names of a race of the report and of its problem; `sites` tells the two sides apart in any run.
-   * @returns {{problem: string, name: string, sites: string[], order: number, ownOrder: number}} `order` is 1 or 2, by which place came first, and
-   *   `ownOrder` by which side; 0 where they are equal
+   * @param {Race} race
+   * @returns {{problem: string, name: string, sites: string[], order: 0|1|2, ownOrder: 0|1|2}} `order` is 1 or 2, by which place came first, and
+   *   `ownOrder` by which side; 0 if they are equal
    */
   nameRace(race) {
     const sides = this.sidesOf(race);
     const sites = sides.map((side) => this.siteOf(side));
-    const where = withoutNumbers(this.where(race.location));
-    const problem = hashed([race.location.split(' ')[0], where, ...[...sites].sort()].join('\n'), LENGTH);
+    const where = found(this.wheres, race.location, () => withoutNumbers(this.where(race.location)));
+    const whole = [race.location.split(' ')[0], where, ...[...sites].sort()].join('\n');
+    const problem = found(this.problems, whole, () => hashed(whole, LENGTH));
     const details = sides.map((side, k) => `${sites[k]} ${this.detailsOf(side)}`);
-    const own = hashed([withoutLongNumbers(this.location(race.location, 'w')), ...[...details].sort()].join('\n'), LENGTH_OF_RACE);
+    const location = found(this.locations, race.location, () => withoutLongNumbers(this.location(race.location, 'w')));
+    const own = hashed([location, ...[...details].sort()].join('\n'), LENGTH_OF_RACE);
     return { problem, name: `${problem}.${own}`, sites, order: orderOf(sites), ownOrder: orderOf(details) };
   }
+}
+
+/**
+ * What a map has for a key; found if it has nothing yet.
+ * @template K, V
+ * @param {Map<K, V>} known @param {K} key @param {() => V} find
+ */
+function found(known, key, find) {
+  let value = known.get(key);
+  if (value === undefined) known.set(key, value = find());
+  return value;
 }
 
 module.exports = { LastingNames };

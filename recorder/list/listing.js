@@ -1,81 +1,146 @@
 'use strict';
-// The list of one or more recordings of a page: each problem once, in how many of them it was seen, whether in both orders, and whether it is known.
+// The list over one or more recordings of a page: each problem once, in how many recordings it was seen, whether in both orders, and whether it is known.
 
-const { APART } = require('./looks.js');
+const { Entries } = require('./entries.js');
+const { APART } = require('./patterns/table.js');
+const { hasLine } = require('./problems.js');
+const { rankOf, sortByRank } = require('./rank.js');
+
+/**
+ * @typedef {import('./problems.js').Problem} Problem
+ * @typedef {import('./problems.js').Problems} Problems
+ * @typedef {import('./types').Verdict} Verdict
+ * @typedef {import('../browser/folder.js').Folder} Folder
+ */
+/**
+ * In which runs a race was seen (from 1), and in which orders: the sum of 1 and 2.
+ * @typedef {{runs: number[], orders: number}} Seen
+ */
+/**
+ * A problem of all runs. `run` is the index of the first one, of which the other members are; `seen` has the races by name.
+ * @typedef {Problem & {run: number, runs: number[], seen: Map<string, Seen>, orders: Set<number>, hasLine: boolean, isKnown: boolean}} Listed
+ */
+/**
+ * A line of the list, with the other problems that it stands for.
+ * @typedef {{line: Listed, others: Listed[]}} Line
+ */
 
 class Listing {
   /**
-   * @param {import('./problems.js').Problems[]} runs
+   * @param {Problems[]} runs
    * @param {import('./known.js').Known|null} known
-   * @param {{countsActs?: boolean}} options whether two acts of a user against each other fail a build too
+   * @param {{countsActs?: boolean, folder?: Folder|null}} options whether two acts of a user against each other fail a build too, and the served folder
    */
-  constructor(runs, known, { countsActs = false } = {}) {
+  constructor(runs, known, { countsActs = false, folder = null } = {}) {
     this.runs = runs;
     this.known = known;
+    /** @type {Map<number, Verdict>[]} by run, and by the index of the race */
     this.verdicts = [];
     this.countsActs = countsActs;
-    this.problems = this.merge().sort((a, b) => a.isKnown - b.isKnown || a.look.rank - b.look.rank || a.run - b.run || a.races[0] - b.races[0]);
+    this.entries = new Entries(this, folder);
+    /** The problems of each run by name. */
+    this.byName = runs.map(({ list }) => new Map(list.map((one) => [one.name, one])));
+    this.problems = this.sorted(this.merge());
+    const covered = this.coveredByKnown();
     /** Those with a line: no other problem's line covers them. */
-    this.lines = this.problems.filter((one) => one.hasLine || (!one.isKnown && this.isCoveredByKnown(one)));
+    this.lines = this.problems.filter((one) => one.hasLine || (!one.isKnown && covered.has(one.name)));
   }
 
-  /** What came of the races of a run in the other order: the members of OUT.replay.json, by the index of the race. */
+  /**
+   * What came of the races of a run in the other order: the members of OUT.replay.json.
+   * @param {number} run @param {Verdict[]} races
+   */
   setVerdicts(run, races) {
     this.verdicts[run] = new Map(races.map((race) => [race.race - 1, race]));
+    this.problems = this.sorted(this.problems);
+    this.lines = this.sorted(this.lines);
   }
 
-  /** The verdict of the first race of a problem that was run again, or undefined. */
+  /** @param {Listed} problem */
+  rankOf(problem) {
+    return rankOf(problem.look, this.verdictOf(problem));
+  }
+
+  /**
+   * By the consequence; then by the pattern, the run and the race.
+   * @param {Listed[]} problems
+   */
+  sorted(problems) {
+    const list = [...problems].sort((a, b) => a.look.rank - b.look.rank || a.run - b.run || a.races[0] - b.races[0]);
+    return sortByRank(list, (one) => ({ rank: this.rankOf(one), part: one.look.part, isKnown: one.isKnown }));
+  }
+
+  /**
+   * The verdict of the first race of a problem that was run again.
+   * @param {{name: string}} problem @returns {Verdict|undefined}
+   */
   verdictOf({ name }) {
     for (const [k, verdicts] of this.verdicts.entries()) {
-      const races = this.runs[k].list.find((one) => one.name === name)?.races || [];
-      const race = races.find((one) => verdicts?.has(one));
+      const race = this.problemOf(k, name)?.races.find((one) => verdicts?.has(one));
       if (race !== undefined) return verdicts.get(race);
     }
     return undefined;
   }
 
+  /**
+   * A problem of a run, if that has it.
+   * @param {number} run @param {string} name
+   */
+  problemOf(run, name) {
+    return this.byName[run].get(name);
+  }
+
+  /** @returns {Listed[]} */
   merge() {
+    /** @type {Map<string, Listed>} */
     const all = new Map();
     this.runs.forEach((run, k) => run.list.forEach((problem) => {
-      if (!all.has(problem.name)) all.set(problem.name, { ...problem, run: k, runs: [], raceNames: new Set(), seen: new Map(), orders: new Set(), hasLine: false });
-      this.add(all.get(problem.name), problem, k);
+      let one = all.get(problem.name);
+      if (!one) {
+        one = { ...problem, run: k, runs: [], seen: new Map(), orders: new Set(), hasLine: false, isKnown: false };
+        all.set(problem.name, one);
+      }
+      this.add(one, problem, k);
     }));
     const problems = [...all.values()];
     for (const one of problems) one.isKnown = !!this.known && this.known.hasProblem(one);
     return problems;
   }
 
+  /** @param {Listed} one @param {Problem} problem @param {number} k */
   add(one, problem, k) {
     const { ofRaces } = this.runs[k];
     one.runs.push(k + 1);
-    one.hasLine = one.hasLine || problem.groups.length > 0;
+    one.hasLine = one.hasLine || hasLine(problem);
     for (const race of problem.races) {
-      one.raceNames.add(ofRaces[race].name);
-      this.noteRace(one.seen, ofRaces[race], k);
-      if (ofRaces[race].order) one.orders.add(ofRaces[race].order);
+      const { name, order, ownOrder } = ofRaces[race];
+      noteRace(one.seen, name, ownOrder, k);
+      if (order) one.orders.add(order);
     }
   }
 
-  /** In which runs a race was seen, and in which orders. */
-  noteRace(seen, { name, ownOrder }, k) {
-    if (!seen.has(name)) seen.set(name, { runs: new Set(), orders: new Set() });
-    seen.get(name).runs.add(k + 1);
-    if (ownOrder) seen.get(name).orders.add(ownOrder);
-  }
-
-  isCoveredByKnown({ name }) {
+  /** The names of the problems of which a race is covered by the line of a known one. */
+  coveredByKnown() {
+    /** @type {Set<string>} */
+    const covered = new Set();
     const known = new Set(this.problems.filter((one) => one.isKnown).map((one) => one.name));
-    return this.runs.some((run) => run.list.filter((one) => one.name === name).some(({ races }) => races.some((race) => {
-      const lead = run.leads[run.report.races[race].group - 1];
-      return known.has(run.ofRaces[lead].problem);
-    })));
+    if (!known.size) return covered;
+    for (const { report, ofRaces, leads } of this.runs) {
+      report.races.forEach(({ group }, race) => {
+        if (known.has(ofRaces[leads[group - 1]].problem)) covered.add(ofRaces[race].problem);
+      });
+    }
+    return covered;
   }
 
   fresh() {
     return this.lines.filter(({ isKnown }) => !isKnown);
   }
 
-  /** Whether a problem counts where it is not known: that a user may do two things in another order is no fault of the page. */
+  /**
+   * Whether a problem counts if it is not known: that a user may do two things in another order is no fault of the page.
+   * @param {Problem} problem
+   */
   counts({ look }) {
     return this.countsActs || look.part !== APART;
   }
@@ -86,22 +151,27 @@ class Listing {
   }
 
   /**
-   * The lines of the list: what is new at one location, and in one part of the list, is told once. In a build each problem is a line, with its name.
-   * @returns {{line: object, others: object[]}[]}
+   * The lines of the list: what is new at one location, and in one section of the list, is one line. In a build each problem is a line, with its name.
+   * @returns {Line[]}
    */
   told() {
+    /** @type {Map<string, Line>} */
     const lines = new Map();
     for (const line of this.fresh()) {
       const key = this.known ? line.name : `${line.look.part} ${line.run} ${this.locationOf(line)}`;
-      if (lines.has(key)) lines.get(key).others.push(line);
+      const known = lines.get(key);
+      if (known) known.others.push(line);
       else lines.set(key, { line, others: [] });
     }
     return [...lines.values()];
   }
 
-  /** All that stands in the style of an element is one. */
-  locationOf({ run, first, races }) {
-    return this.runs[run].report.races[first ?? races[0]].location.replace(/ style(?:\.\S+)?$/, ' style');
+  /**
+   * All properties of the style of an element are one location.
+   * @param {Listed} problem
+   */
+  locationOf({ run, first }) {
+    return this.runs[run].report.races[first].location.replace(/ style(?:\.\S+)?$/, ' style');
   }
 
   knownLines() {
@@ -112,14 +182,20 @@ class Listing {
     return this.known ? this.known.notSeen(this.problems) : [];
   }
 
-  /** How many races stand under a line: those of its groups. */
+  /**
+   * How many races a line stands for: those of its groups.
+   * @param {Listed} problem
+   */
   size({ name, races, run }) {
-    const { report, list } = this.runs[run];
-    const groups = list.find((one) => one.name === name).groups.map((group) => report.groups[group]);
+    const { report } = this.runs[run];
+    const groups = (this.problemOf(run, name)?.groups || []).map((group) => report.groups[group]);
     return groups.reduce((sum, { size }) => sum + size, 0) || races.length;
   }
 
-  /** In how many runs, and in which orders; where the first one has it not, where it is shown. */
+  /**
+   * In how many runs, and in which orders; if the first run lacks it, where it is shown.
+   * @param {Listed} problem
+   */
   seenInWords({ runs, orders }) {
     if (this.runs.length === 1) return '';
     const both = orders.size > 1 ? ', in both orders' : '';
@@ -127,12 +203,29 @@ class Listing {
     return `seen in ${runs.length} of ${this.runs.length} runs${both}${where}`;
   }
 
-  inWords(line, others = []) {
-    const size = [line, ...others].reduce((sum, one) => sum + this.size(one), 0);
-    const inProblems = others.length ? ` in ${others.length + 1} problems` : '';
-    const told = [line.look.seen, size > 1 ? `and ${size - 1} more${inProblems}` : '', this.seenInWords(line)].filter(Boolean);
-    return `${line.words}${told.map((one) => ` (${one})`).join('')}`;
+  /**
+   * What is said of a problem: a sentence with its place, the two sides, and more.
+   * @param {Listed} line @param {Listed[]} [others]
+   */
+  entryOf(line, others = []) {
+    return this.entries.of(line, others);
   }
+
+  /**
+   * The first line of a problem.
+   * @param {Listed} line
+   */
+  summaryOf(line) {
+    return this.entries.summaryOf(line);
+  }
+}
+
+/** @param {Map<string, Seen>} seen @param {string} name @param {number} order @param {number} run */
+function noteRace(seen, name, order, run) {
+  let one = seen.get(name);
+  if (!one) seen.set(name, one = { runs: [run + 1], orders: order });
+  else if (one.runs[one.runs.length - 1] !== run + 1) one.runs.push(run + 1);
+  one.orders |= order;
 }
 
 module.exports = { Listing };

@@ -1,51 +1,100 @@
 'use strict';
-// What er_page gives out of the list: lines for a reader, one object for other tools, SARIF, and the file of known races.
+// The outputs of the list: lines for a reader, one object for other tools, SARIF, and the file of known races.
 
-const { plainListing } = require('./json.js');
-const { APART } = require('./looks.js');
-const { sarifOf } = require('./sarif.js');
-const { writeWhole } = require('./whole-file.js');
+const { printStyled } = require('../common/output.js');
+const { jsonText } = require('../common/shown.js');
+const { writeWhole } = require('../common/whole-file.js');
+const { linesOfEntry, styleOf } = require('./entry-lines.js');
 const { librariesInWords } = require('../trace/accesses.js');
+const { plainListing } = require('./json.js');
+const { APART } = require('./patterns/table.js');
+const { sarifOf } = require('./sarif.js');
 
-/** The list in lines: what is new first, part by part; then what is known. */
-function linesOf(listing) {
+/**
+ * @typedef {import('./listing.js').Listing} Listing
+ * @typedef {import('./entry-lines.js').Style} Style
+ * @typedef {{isJson?: boolean, color?: string, sarif?: string|null, known?: string|null, writesKnown?: boolean}} OutputOptions
+ */
+
+/** @type {Style} */
+const PLAIN = { hasColor: false, width: 100, isTerminal: false };
+
+/**
+ * The list in lines: what is new, section by section; then what is known.
+ * @param {Listing} listing
+ * @param {boolean} isComplete false if the recording lacks something of what was to be recorded
+ * @param {Style} style
+ */
+function linesOf(listing, isComplete = true, style = PLAIN) {
   const lines = [];
   let part = '';
   const told = listing.told();
   const parts = new Set(told.map(({ line }) => line.look.part));
   const hasParts = parts.size > 1 || parts.has(APART);
-  told.forEach(({ line, others }, k) => {
+  told.forEach(({ line, others }) => {
     if (hasParts && line.look.part !== part) lines.push(`-- ${line.look.part}`);
     part = line.look.part;
-    lines.push(`${k + 1}. ${listing.inWords(line, others)}${listing.known ? ` [${line.name}]` : ''}`);
+    lines.push(...linesOfEntry(listing.entryOf(line, others), style), '');
   });
-  if (!told.length) lines.push(listing.known && listing.problems.length ? 'No race that is not known.' : 'No race.');
+  const none = listing.known && listing.problems.length ? 'No race that is not known' : 'No race';
+  if (!told.length) lines.push(isComplete ? `${none}.` : `${none} in what was recorded, which is not complete.`);
   return [...lines, ...knownLines(listing), ...librariesLine(listing)];
 }
 
+/** @param {Listing} listing */
 function knownLines(listing) {
   const known = listing.knownLines();
-  const head = known.length ? [`Known, in ${listing.known.file}:`] : [];
-  return [...head, ...known.map((one) => `  ${one.name} ${listing.inWords(one)}`),
+  const head = known.length ? [`Known, in ${listing.known?.file}:`] : [];
+  return [...head, ...known.map((one) => `  ${one.name} ${listing.summaryOf(one)}`),
     ...listing.notSeen().map(({ name, words }) => `Known, and not seen: ${name} ${words}`.trim())];
 }
 
-/** The last line: what was left out by choice; of several runs that of the one with the most. */
+/**
+ * The last line of all: how many problems there are by section, how many are known, and what replays found.
+ * @param {Listing} listing
+ */
+function totalsOf(listing) {
+  const told = listing.told();
+  const parts = [...new Set(told.map(({ line }) => line.look.part))];
+  const counts = parts.map((part) => `${told.filter(({ line }) => line.look.part === part).length} ${part}`);
+  const known = listing.knownLines().length;
+  const verdicts = listing.verdicts.flatMap((some) => [...some?.values() || []]);
+  const differ = verdicts.filter(({ effect }) => effect).length;
+  return [`${told.length} problem${told.length === 1 ? '' : 's'}${counts.length ? ` (${counts.join('; ')})` : ''}`, ...(known ? [`${known} known`] : []),
+    ...(verdicts.length ? [`${differ} of ${verdicts.length} differ in the other order`] : [])].join(', ');
+}
+
+/**
+ * The last line: what was left out by choice; of several runs, in the run that left out the most.
+ * @param {Listing} listing
+ */
 function librariesLine({ runs }) {
-  const most = runs.map(({ ofLibraries }) => ofLibraries).filter(Boolean).sort((a, b) => b.accesses - a.accesses)[0];
+  const [most] = runs.flatMap(({ ofLibraries }) => ofLibraries || []).sort((a, b) => b.accesses - a.accesses);
   return most ? [`${librariesInWords(most)}.`] : [];
 }
 
-/** Tells the list to a reader. */
-function tellLines(listing, options) {
-  if (!options.isJson) linesOf(listing).forEach((line) => console.log(line));
+/**
+ * Prints the list for a reader.
+ * @param {Listing} listing
+ * @param {OutputOptions} options
+ * @param {boolean} isComplete
+ */
+function tellLines(listing, options, isComplete = true) {
+  if (!options.isJson) linesOf(listing, isComplete, styleOf(process.stdout, process.env, options.color)).forEach((line) => printStyled(line));
 }
 
-/** Writes what was asked for. Fails with a WriteFault. */
+/**
+ * Writes what was requested. Throws a WriteFault.
+ * @param {Listing} listing
+ * @param {OutputOptions} options
+ * @param {import('./json.js').ListFacts} facts
+ */
 function writeOutputs(listing, options, facts) {
-  if (options.sarif) writeWhole(options.sarif, `${JSON.stringify(sarifOf(listing, facts), null, 1)}\n`);
-  if (options.writesKnown) writeWhole(options.known, listing.known.textWith(listing.problems.filter((one) => listing.counts(one))));
-  if (options.isJson) process.stdout.write(`${JSON.stringify(plainListing(listing, facts))}\n`);
+  if (options.sarif) writeWhole(options.sarif, `${jsonText(sarifOf(listing, facts), 1)}\n`);
+  if (options.writesKnown && options.known && listing.known) {
+    writeWhole(options.known, listing.known.textWith(listing.problems.filter((one) => listing.counts(one))));
+  }
+  if (options.isJson) process.stdout.write(`${jsonText(plainListing(listing, facts))}\n`);
 }
 
-module.exports = { writeOutputs, tellLines, linesOf };
+module.exports = { writeOutputs, tellLines, linesOf, totalsOf };

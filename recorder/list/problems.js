@@ -1,54 +1,72 @@
 'use strict';
-// Problems: the races that touch the same thing from the same two places are one. Nothing is dropped: each race stands in one problem.
+// Problems of one recording: the races that touch the same thing from the same two places are one. Each race is in exactly one problem.
 
+const { isOfTree } = require('../races/spelled-locations.js');
 const { LastingNames } = require('./lasting.js');
-const { Looks, isHarm } = require('./looks.js');
-const { isOfTree } = require('../replay/keys.js');
-
-const MOST_TOLD = 4;
+const { Looks } = require('./looks.js');
+const { isHarm, isAlwaysTold } = require('./patterns/table.js');
+const { ProblemWords, listed } = require('./problem-words.js');
 
 /**
- * @typedef {{name: string, races: number[], groups: number[], look: object, sites: string[]}} Problem
- *   `races` and `groups` are indices in the report: all races of the problem, and the groups whose first race is one of them
+ * @typedef {import('./types').Race} Race
+ * @typedef {import('./patterns/table.js').Look} Look
+ * @typedef {ReturnType<LastingNames['nameRace']> & {look: Look}} NamedRace
  */
+/**
+ * `races` and `groups` are indices in the report: all races of the problem, and the groups whose first race is one of them. `first` is the race that is
+ * shown; `isTold`, whether it has a line of its own although another line covers it; `worst`, the race that it covers and of which it has the pattern.
+ * @typedef {{name: string, races: number[], groups: number[], look: Look, sites: string[], first: number, words: string, isTold?: boolean, worst?: number}} Problem
+ * @typedef {Omit<Problem, 'first'|'words'>} Folded
+ */
+
 class Problems {
   /**
    * @param {string} text the trace
-   * @param {object} names what OUT.names.json holds
-   * @param {object} report the program's
+   * @param {import('./types').Names} names
+   * @param {import('./types').Report} report
    */
   constructor(text, names, report) {
     this.report = report;
+    this.names = names;
     this.lasting = new LastingNames(text, names);
     this.words = this.lasting.words;
+    this.inWords = new ProblemWords(this.words, report.races);
     const looks = new Looks(report, names, this.words);
-    this.ofRaces = report.races.map((race) => ({ ...this.lasting.nameRace(race), look: looks.look(race) }));
-    /** The race by which each group is told. */
+    this.userActs = looks.userActs;
+    /** @type {NamedRace[]} */
+    this.ofRaces = report.races.map((race) => Object.assign(this.lasting.nameRace(race), { look: looks.look(race) }));
+    /** The race that is shown for each group. */
     this.leads = report.groups.map(({ race }) => race - 1);
     report.races.forEach((race, k) => this.mayLead(race, k));
-    /** @type {Problem[]} */
     this.list = this.fold();
-    /** What was left out of the trace since the program can't take it. */
+    /** What was left out of the trace since the program cannot take it. */
     this.leftOut = (names.leftOut || []).map(({ location, accesses, pairs }) => ({ location, words: `"${this.words.location(location).text}"`, accesses, pairs }));
     /** What only libraries touch, counted: it is left out of the trace. */
     this.ofLibraries = names.ofLibraries || null;
+    /** The scripts and handler attributes that were recorded without marks, and why. */
+    this.unmarked = names.unmarked || [];
   }
 
+  /** @returns {Problem[]} */
   fold() {
+    /** @type {Map<string, Folded>} */
     const problems = new Map();
     this.ofRaces.forEach(({ problem, look, sites }, k) => {
-      if (!problems.has(problem)) problems.set(problem, { name: problem, races: [], groups: [], look, sites });
-      const one = problems.get(problem);
+      let one = problems.get(problem);
+      if (!one) problems.set(problem, one = { name: problem, races: [], groups: [], look, sites });
       one.races.push(k);
       if (look.rank < one.look.rank) one.look = look;
     });
-    this.leads.forEach((race, k) => problems.get(this.ofRaces[race].problem).groups.push(k));
-    return [...problems.values()].map((one) => this.complete(one)).sort((a, b) => a.look.rank - b.look.rank || a.races[0] - b.races[0]);
+    this.leads.forEach((race, k) => problems.get(this.ofRaces[race].problem)?.groups.push(k));
+    const list = [...problems.values()].map((one) => this.complete(one));
+    this.lookBehind(list);
+    return list.sort((a, b) => a.look.rank - b.look.rank || a.races[0] - b.races[0]);
   }
 
   /**
-   * Of a group's first pair of actions that race tells most which has the most places in the page's own code, and which is at a variable rather
-   * than at what the page shows of it; unless the first one does harm.
+   * Of a group's first pair of actions the race is shown that has the most places in the page's own code, and is at a variable rather than at what the
+   * page shows of it; unless the first one does harm.
+   * @param {Race} race @param {number} k
    */
   mayLead(race, k) {
     const group = race.group - 1;
@@ -58,69 +76,102 @@ class Problems {
     if (!isHarm(look) || this.ofRaces[k].look.rank <= look.rank) this.leads[group] = k;
   }
 
-  /** Whether two races are of one group and of the same two actions. */
+  /**
+   * Whether two races are of one group and of the same two actions.
+   * @param {number} race @param {number} other
+   */
   isOnePair(race, other) {
     const [a, b] = [this.report.races[race], this.report.races[other]];
-    return a.group === b.group && a.actions.join(' ') === b.actions.join(' ');
+    return a.group === b.group && a.actions[0] === b.actions[0] && a.actions[1] === b.actions[1];
   }
 
-  /** How many of the two places are not known, or in a library; and whether the race is at the page's tree. */
+  /**
+   * How many of the two places are not known, or in a library; and whether the race is at the page's tree.
+   * @param {Race} race
+   */
   distance({ lines, location }) {
-    const foreign = lines.map((line) => this.words.placeOfLine(line)).filter((place) => !place || this.words.names.files[place[0]].isLibrary).length;
-    return 2 * foreign + isOfTree(location);
+    const foreign = lines.map((line) => this.words.placeOfLine(line)).filter((place) => !place || this.names.files[place[0]].isLibrary).length;
+    return 2 * foreign + Number(isOfTree(location));
   }
 
-  /** The race that is told is that of a group, where the problem has one, or one of the same two actions, and looks like the problem does. */
+  /**
+   * The race that is shown is that of a group, if the problem has one, or one of the same two actions, and has the problem's pattern.
+   * @param {Folded} problem @returns {Problem}
+   */
   complete(problem) {
     const leads = problem.groups.map((group) => this.leads[group]);
-    const beside = problem.races.filter((race) => leads.some((lead) => this.isOnePair(lead, race)));
-    const likes = (races) => races.find((race) => this.ofRaces[race].look.look === problem.look.look);
-    const first = likes(leads) ?? likes(beside) ?? leads[0] ?? likes(problem.races);
+    const ofGroup = new Map(leads.map((lead) => [this.report.races[lead].group, lead]));
+    const isBeside = (/** @type {number} */ race) => {
+      const lead = ofGroup.get(this.report.races[race].group);
+      return lead !== undefined && this.isOnePair(lead, race);
+    };
+    const isLike = (/** @type {number} */ race) => this.ofRaces[race].look.look === problem.look.look;
+    const first = leads.find(isLike) ?? problem.races.find((race) => isLike(race) && isBeside(race)) ?? leads[0] ?? problem.races.find(isLike) ?? problem.races[0];
     const group = this.report.races[first].group - 1;
     if (problem.groups.includes(group)) this.leads[group] = first;
-    return { ...problem, first, words: this.wordsOf(problem, first) };
+    return { ...problem, first, words: this.inWords.of(problem, first, (race) => this.ofRaces[race].sites[0]) };
   }
 
-  /** The first race in words, and what else has the same two places. */
-  wordsOf(problem, first) {
-    const told = this.words.race(this.report.races[first]);
-    const more = this.othersInWords(problem, first);
-    return more ? `${told} ${more}` : told;
+  /**
+   * What is lost has a line of its own if the line of its group has another pattern: the first problem of each such pattern. Otherwise a line has the
+   * pattern of the worst race that it covers; the words of that race come after its own, and its name stays.
+   * @param {Problem[]} list
+   */
+  lookBehind(list) {
+    const byName = new Map(list.map((one) => [one.name, one]));
+    const problemOf = (/** @type {number} */ race) => /** @type {Problem} */ (byName.get(this.ofRaces[race].problem));
+    /** @type {number[][]} */
+    const races = this.report.groups.map(() => []);
+    this.report.races.forEach(({ group }, k) => races[group - 1].push(k));
+    races.forEach((ofGroup, group) => tellApart(new Set(ofGroup.map(problemOf)), problemOf(this.leads[group])));
+    for (const one of list.filter(({ groups }) => groups.length)) {
+      const covered = one.groups.flatMap((group) => races[group]).filter((race) => !hasLine(problemOf(race)) && !isAlwaysTold(this.ofRaces[race].look));
+      this.lookAs(one, this.worstOf(covered));
+    }
   }
 
-  /** "6 of this kind: the mousedown at a#link1, a#link6, ..": where the sides differ, else nothing. */
-  othersInWords({ races, sites }, first) {
-    if (races.length < 2) return '';
-    const [one, two] = sites;
-    const sidesOf = (race) => (this.ofRaces[race].sites[0] === one || one === two ? [0, 1] : [1, 0]);
-    const texts = [0, 1].map((side) => [...new Set([first, ...races].map((race) => this.words.action(this.report.races[race].actions[sidesOf(race)[side]])))]);
-    const places = [...new Set([first, ...races].map((race) => this.words.location(this.report.races[race].location).text))];
-    const varied = [places, ...texts].filter((some) => some.length > 1).sort((a, b) => b.length - a.length)[0];
-    return varied ? `${varied.length} such: ${listed(varied)}` : '';
+  /**
+   * The first race of the worst pattern.
+   * @param {number[]} races @returns {number|undefined}
+   */
+  worstOf(races) {
+    /** @type {number|undefined} */
+    let worst;
+    for (const race of races) {
+      if (worst === undefined || this.ofRaces[race].look.rank < this.ofRaces[worst].look.rank) worst = race;
+    }
+    return worst;
   }
 
-  /** The problems with a line of their own: those that have the first race of a group. */
+  /** @param {Problem} one @param {number|undefined} race */
+  lookAs(one, race) {
+    if (race === undefined || this.ofRaces[race].look.rank >= one.look.rank) return;
+    const { look } = this.ofRaces[race];
+    const behind = `and behind it, ${look.seen ? `${look.seen}: ` : ''}${this.words.race(this.report.races[race])}`;
+    one.look = { ...look, seen: [one.look.seen, behind].filter(Boolean).join('; ') };
+    one.worst = race;
+  }
+
+  /** The problems with a line of their own: those that have the first race of a group, and what is lost and covered by it. */
   lines() {
-    return this.list.filter(({ groups }) => groups.length);
+    return this.list.filter(hasLine);
   }
 }
 
-/** The first few of a list; the words with which all begin and end are told once. */
-function listed(texts) {
-  const some = texts.slice(0, MOST_TOLD).map((text) => text.split(' '));
-  const shortest = Math.min(...some.map(({ length }) => length));
-  const countCommon = (wordAt, most) => {
-    let count = 0;
-    while (count < most && some.every((words) => wordAt(words, count) === wordAt(some[0], count))) count++;
-    return count;
-  };
-  const begin = countCommon((words, k) => words[k], shortest - 1);
-  const end = countCommon((words, k) => words[words.length - 1 - k], shortest - 1 - begin);
-  const middles = some.map((words) => words.slice(begin, words.length - end).join(' '));
-  const comma = middles.every((middle) => middle.endsWith(',')) ? ',' : '';
-  const middle = middles.map((one) => (comma ? one.slice(0, -1) : one)).join(', ') + (texts.length > MOST_TOLD ? ', ..' : '') + comma;
-  const told = [...some[0].slice(0, begin), middle, ...some[0].slice(some[0].length - end)].join(' ');
-  return told.endsWith('..') ? told : `${told}.`;
+/**
+ * Gives a line to problems of one group, beside the one that has its line.
+ * @param {Set<Problem>} problems @param {Problem} line
+ */
+function tellApart(problems, line) {
+  const told = new Set([...problems].filter(hasLine).map(({ look }) => look.look).concat(line.look.look));
+  for (const one of problems) {
+    if (!isAlwaysTold(one.look) || told.has(one.look.look)) continue;
+    told.add(one.look.look);
+    one.isTold = true;
+  }
 }
 
-module.exports = { Problems, listed };
+/** @param {{groups: number[], isTold?: boolean}} problem */
+const hasLine = ({ groups, isTold }) => groups.length > 0 || !!isTold;
+
+module.exports = { Problems, listed, hasLine };

@@ -1,36 +1,44 @@
 'use strict';
-// Watches a run for one access, or its action without it: what a replay waits for. The page sends its lines when a task is over, so what
+// Looks in the log of a run for one access, or for its action without the access: what a hold waits for. The page sends its lines when a task is over, so what
 // has come is over too.
 
-const { readRun } = require('../record.js');
-const { Keys } = require('./keys.js');
+const { readKeys } = require('./read-run.js');
 
-/** The records of the log that begin an action, by the first word of its key. */
-const BEGINS = { timer: 'timer|tick', tick: 'tick|module', event: 'fire|inline|wfire', exec: 'exec|module' };
+/**
+ * The records of the log that start an action, by the first word of its key.
+ * @type {{[word: string]: string}}
+ */
+const STARTS = { timer: 'timer|tick', tick: 'tick|module', event: 'fire|inline|wfire', exec: 'exec|module' };
 
 class Due {
   /**
-   * @param {object} wanted what `Keys.identify` gives
-   * @param {object} options of the recording
+   * @param {import('../races/types').AccessIdentity} wanted
+   * @param {Parameters<typeof readKeys>[1]} options of the recording
    * @param {boolean} isLoose how the keys are made
    */
   constructor(wanted, options, isLoose) {
-    Object.assign(this, { wanted, options, isLoose });
+    this.wanted = wanted;
+    this.options = options;
+    this.isLoose = isLoose;
     this.seen = 0;
-    this.line = new RegExp(`^(${BEGINS[wanted.actionKey.split(' ')[0]] || wanted.actionKey.split(' ')[0]}|back) `);
+    const [word] = wanted.actionKey.split(' ');
+    this.line = new RegExp(`^(${STARTS[word] || word}|back) `);
   }
 
-  /** Only an action of its kind can bring it. */
+  /**
+   * Whether there are new lines that start an action of the wanted kind.
+   * @param {{text: string}[]} entries
+   */
   mayHaveCome(entries) {
     const isNew = entries.slice(this.seen);
     this.seen = entries.length;
     return isNew.some(({ text }) => this.line.test(text));
   }
 
+  /** @param {import('../recording/recorder.js').Recorder} recorder */
   hasCome(recorder) {
     if (!this.mayHaveCome(recorder.intake.entries)) return false;
-    const { text, names } = readRun(recorder, this.options);
-    const keys = new Keys(text, names.facts(), this.isLoose);
+    const { keys } = readKeys(recorder, this.options, this.isLoose);
     return (keys.find(this.wanted) || keys.findAction(this.wanted)) !== null;
   }
 }

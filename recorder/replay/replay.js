@@ -1,369 +1,178 @@
 'use strict';
-// Runs a recorded page again, once a race, so that the race's two accesses come in the other order; and tells what differs then.
+// Runs a recorded page again so that the two accesses of a race come in the other order, and finds what differs then.
 
-const fs = require('node:fs');
 const path = require('node:path');
-const { called } = require('../called.js');
-const { Recorder, RecordingFault, numberOfAct } = require('../recorder.js');
-const { readRun } = require('../record.js');
-const { judgeWithin } = require('../view/within-limits.js');
-const { Causes } = require('./causes.js');
-const { compare } = require('./compare.js');
-const { Due } = require('./due.js');
-const { takeEnd } = require('./end-state.js');
-const { Keys } = require('./keys.js');
-const { checkOrder } = require('./lawful.js');
-const { Orders, isOnePair } = require('./orders.js');
-const { Pictures } = require('./pictures.js');
-const { Steering } = require('./steering.js');
-const { mostFrequent, countTurns } = require('./turns.js');
+const { allOf } = require('../common/at-once.js');
+const { RecordingFault } = require('../recording/recorder.js');
+const { Confirm } = require('./confirm.js');
+const { Differences } = require('./found/differences.js');
+const { checkOrder } = require('./found/lawful.js');
+const { countTurns } = require('./found/turns.js');
+const { FreeRun } = require('./free-run.js');
+const { InOrder } = require('./in-order.js');
+const { Recorded } = require('./recorded.js');
+const { countedIn } = require('./reversal.js');
+const { Runs, withEnd, isStop, runsAtOnce } = require('./runs.js');
+
+/** @typedef {import('../races/types').Race} Race */
+/** @typedef {import('./types').Attempt} Attempt */
+/** @typedef {import('./types').Cause} Cause */
+/** @typedef {import('./types').Result} Result */
+/** @typedef {import('./types').Reversal} Reversal */
+/** @typedef {import('./types').Reversed} Reversed */
 
 /** How many causes are tried for a race, one after the other, and how many runs with each. */
 const MOST_CAUSES = 2;
 const MOST_TRIES = 3;
-const MOST_RUNS = 3;
-/** What is kept back is let go so many milliseconds behind the length of the recorded run. */
-const GRACE = 3000;
-/** Points of a picture that may differ: fewer are a matter of fonts and edges. */
-const FEWEST_POINTS = 12;
 const SEED = 1;
-const STOPPED = 130;
 
-/** Options of a recording whose end is looked at: the page stands still then. */
-function withEnd(options) {
-  return { ...options, standsStill: true, whenOver: async (recorder) => { recorder.end = await takeEnd(recorder); recorder.endTime = Date.now(); } };
-}
-
-/** A line with the time in it is another one in each run. */
-const withoutNumbers = (text) => text.replace(/[0-9a-f]{8,}|\d+/gi, '#');
-const isLike = ({ kind, subject }) => (one) => one.kind === kind && withoutNumbers(one.subject) === withoutNumbers(subject);
-
+/**
+ * What `page/core/chance.js` gets so that each run has the same random numbers and clock.
+ * @param {{isLive: boolean}} options
+ */
 const chance = (options) => (options.isLive ? null : { seed: SEED, date: Date.now() });
 
 class Replay {
   /**
-   * @param {Recorder} recorder the recorded run, whose browser still runs
-   * @param {object} options its options
+   * @param {import('../recording/recorder.js').Recorder} recorder of the recorded run, whose browser still runs
+   * @param {import('./types').ReplayOptions} options
    * @param {string} traceFile
-   * @param {object} report the program's
+   * @param {import('../races/types').Report} report
    */
   constructor(recorder, options, traceFile, report) {
-    Object.assign(this, { recorder, options, traceFile, report });
-    this.folder = path.join(path.dirname(traceFile), 'replays');
-    fs.rmSync(this.folder, { recursive: true, force: true });
-    this.acts = [...options.actions, ...(recorder.user?.picks || [])];
-    this.recorded = this.readRecorded();
-    this.orders = new Orders(report, this.recorded.keys);
-    this.length = recorder.endTime - (recorder.until - options.time * 1000);
-    this.pictures = new Pictures(recorder.browser);
-    this.unsteady = [];
-    /** What keeps a page going that never rests: other runs end behind as many of these turns. */
-    this.turns = recorder.isRestless ? mostFrequent(recorder.intake.entries) : null;
-    this.causes = this.causesIn(this.recorded);
+    this.recorder = recorder;
+    this.traceFile = traceFile;
+    this.recorded = new Recorded(recorder, options, traceFile, report);
+    this.runs = new Runs(this.recorded, options);
+    this.differences = new Differences(/** @type {import('../browser/protocol.js').Protocol} */ (recorder.browser));
+    this.inOrder = new InOrder(this.recorded, this.runs);
+    this.free = new FreeRun(this.recorded, this.inOrder, this.differences);
+    this.confirm = new Confirm(this.recorded, this.runs, this.differences, this.free, this.inOrder);
   }
 
-  causesIn({ keys, recorder }) {
-    return new Causes(keys, recorder.intake, this.numberedActs(), (file) => this.recorder.sources.files[file]);
+  /** What differs with nothing reversed. */
+  get unsteady() {
+    return this.free.unsteady;
   }
 
-  numberedActs() {
-    return [...this.acts.filter(({ isEarly }) => isEarly), ...this.acts.filter(({ isEarly }) => !isEarly)].map((act, k) => ({ ...act, number: numberOfAct(k) }));
-  }
-
-  read(recorder) {
-    const { text, names } = readRun(recorder, this.options);
-    return { recorder, text, keys: new Keys(text, names.facts()), end: recorder.end, names };
-  }
-
-  /** The recorded run as it was judged: what the program can't take is left out of its file. */
-  readRecorded() {
-    const text = fs.readFileSync(this.traceFile, 'utf8');
-    const names = JSON.parse(fs.readFileSync(this.traceFile.replace(/trace$/, 'names.json'), 'utf8'));
-    return { name: 'recorded', text, keys: new Keys(text, names), end: this.recorder.end, recorder: this.recorder };
-  }
-
-  // ---- runs
-
-  /** Stops the run that is under way. */
+  /** Stops the runs that are under way. */
   interrupt() {
-    this.isStopped = true;
-    this.current?.interrupt();
+    this.runs.interrupt();
   }
 
-  async runAgain(name, steering) {
-    if (this.isStopped) throw new RecordingFault('stopped', STOPPED);
-    const { browser, sources, given } = this.recorder;
-    const { fixed } = this.recorder.options;
-    const time = this.options.time + Math.ceil(this.longest() / 1000);
-    const own = { actions: this.acts, clicks: 0, time, browser, sources, fixed, steering, turns: this.turns, isGuarded: !this.options.mayChange };
-    this.current = new Recorder(given, withEnd({ ...this.options, ...own }));
-    await this.current.record();
-    if (this.isStopped) throw new RecordingFault('stopped', STOPPED);
-    await this.current.readMaps();
-    const run = { name, ...this.read(this.current), file: path.join(this.folder, `${name}.trace`) };
-    this.write(run);
-    return run;
+  runFreely() {
+    return this.free.run();
   }
 
-  write({ file, text, names }) {
-    fs.mkdirSync(this.folder, { recursive: true });
-    fs.writeFileSync(file, text);
-    fs.writeFileSync(file.replace(/trace$/, 'names.json'), names.toJson({ page: this.recorder.given, trace: path.basename(file) }));
-  }
-
-  longest() {
-    return this.length + GRACE;
-  }
-
-  due(side, isLoose = false) {
-    return new Due(side, this.options, isLoose);
-  }
-
-  steer(turned, kept) {
-    const first = turned && { ...turned, due: turned.length === undefined ? this.due(turned.sides[1], turned.isLoose) : null };
-    return new Steering(first, kept.map((keeper) => ({ ...keeper, due: this.due(keeper.side) })), this.longest());
+  close() {
+    return this.differences.close();
   }
 
   /**
-   * Runs the page until the other races stand in their recorded order too, or as often as is tried: a race that has not is kept in it by
-   * what is kept back in the next run.
-   * @param {{cause: object, race: object, sides: object[], needed: number, isLoose: boolean}|null} turned
+   * Runs the page so that a race comes in the other order. Races that are reversed at once share runs.
+   * @param {Race} race
+   * @param {number} number of the race in the report
+   * @returns {Promise<Result>}
    */
-  async runInOrder(name, turned) {
-    const keepers = new Map();
-    let best = null;
-    let run = null;
-    for (let k = 0; k < MOST_RUNS; k++) {
-      const kept = [...keepers.values()].filter(Boolean);
-      const steering = turned || kept.length ? this.steer(turned, kept) : null;
-      run = await this.runAgain(name, steering);
-      const judged = turned ? await this.judgeTurn(run, steering.first, turned) : { isTurned: true };
-      const astray = await this.racesAstray(run, turned?.race);
-      const one = { ...judged, run, astray, kept, heldFor: steering?.first?.heldFor };
-      if (!best || (one.isTurned && (!best.isTurned || astray.length < best.astray.length))) best = one;
-      const left = astray.filter((race) => !keepers.has(race));
-      if (!left.length) break;
-      for (const race of left) keepers.set(race, await this.keeperOf(race));
-      if (!left.some((race) => keepers.get(race))) break;
+  async reverse(race, number) {
+    this.confirm.expect();
+    let hasArrived = false;
+    const arrive = () => {
+      if (!hasArrived) this.confirm.arrive();
+      hasArrived = true;
+    };
+    try {
+      return await this.tryCauses(race, number, arrive);
+    } finally {
+      arrive();
     }
-    if (best.run !== run) { // another run of this name stands there
-      this.write(best.run);
-      await judgeWithin(best.run.file);
-    }
-    this.orders.note(best.run, { steered: best.kept.map(({ race }) => race), turned: turned?.race, astray: best.astray });
-    return best;
   }
-
-  /** Runs the page with no race turned: what differs then does so by itself. */
-  async runFreely() {
-    this.orders.note(this.recorded);
-    const { run, astray } = await this.runInOrder('free', null);
-    this.free = run;
-    if (astray.length) return; // what differs may come from these races
-    this.unsteady = await this.differences(this.recorded, this.free);
-  }
-
-  // ---- other races
-
-  /** The races that came in another order than recorded, and did not have to. */
-  async racesAstray(run, turned) {
-    const astray = [];
-    for (const race of this.orders.watched) {
-      if (isOnePair(race, turned) || this.orders.orderIn(run, race) !== 'turned') continue;
-      if (!turned || !(await this.hasToTurn(race, turned))) astray.push(race);
-    }
-    return astray;
-  }
-
-  /** A race turns with another one where a path leads from that one's first action to its own, and from its second to that one's. */
-  async hasToTurn({ actions: [first, second] }, turned) {
-    return await this.causes.isBefore(this.traceFile, turned.actions[0], first) && await this.causes.isBefore(this.traceFile, second, turned.actions[1]);
-  }
-
-  /** What keeps a race in its recorded order: the second access comes when the first one has. */
-  async keeperOf(race) {
-    const { causes } = await this.causes.toDelay(this.traceFile, race.actions[1], race.actions[0]);
-    return causes.length ? { cause: causes[0], race, side: this.orders.sidesOf(race)[0], needed: this.lastActBefore(race.actions[0]) } : null;
-  }
-
-  lastActBefore(action) {
-    return Math.max(0, ...this.causes.actsBefore(action));
-  }
-
-  // ---- one race
 
   /**
-   * @param {{lines: number[], modes: string, actions: number[], location: string}} race of the report
-   * @returns {Promise<object>} the verdict
+   * @param {Race} race
+   * @param {number} number
+   * @param {() => void} arrive called once the race needs no more runs of its own
+   * @returns {Promise<Result>}
    */
-  async turn(race, number) {
-    const { causes, why } = await this.causes.toDelay(this.traceFile, ...race.actions);
+  async tryCauses(race, number, arrive) {
+    const { causes, why } = await this.recorded.toReverse(race);
     if (!causes.length) return { verdict: 'not turned', why };
-    const tries = [];
+    /** @type {string[]} */
+    const whys = [];
     const left = causes.slice(0, MOST_CAUSES).map((cause) => ({ cause, isLoose: false }));
-    while (left.length && tries.length < MOST_TRIES) {
-      const { cause, isLoose } = left.shift();
-      const one = await this.tryCause({ cause, race, isLoose }, `${number}${tries.length ? `-${tries.length + 1}` : ''}`);
-      tries.push({ cause, ...one });
-      if (one.isTurned) return { verdict: 'turned', means: cause.words, ...await this.found(one, race, number) };
-      if (one.counted) left.unshift({ cause: one.counted, isLoose });
-      else if (one.isLate && !isLoose) left.unshift({ cause, isLoose: true });
+    for (let tries = 1; left.length && tries <= MOST_TRIES; tries++) {
+      const { cause, isLoose } = left.splice(0, 1)[0];
+      const one = await this.tryCause({ cause, race, isLoose }, number, tries);
+      if ('run' in one && one.isTurned) return { verdict: 'turned', means: cause.words, ...await this.found(one, number, arrive) };
+      whys.push(`${cause.words}: ${one.why}${amongOthers(cause)}`);
+      if ('counted' in one && one.counted) left.unshift({ cause: one.counted, isLoose });
+      else if ('isLate' in one && one.isLate && !isLoose) left.unshift({ cause, isLoose: true });
     }
-    const whys = tries.map(({ cause, why: said }) => `${cause.words}: ${said}${amongOthers(cause)}`);
     return { verdict: 'not turned', why: [...new Set(whys)].join('; ') };
   }
 
-  async tryCause({ cause, race, isLoose }, name) {
+  /**
+   * @param {Pick<Reversal, 'cause'|'race'|'isLoose'>} wanted
+   * @param {number} number
+   * @param {number} tries
+   * @returns {Promise<Reversed & {counted: Cause|null} | {isTurned: false, why: string}>} `counted` is what is to be held back in place of the cause
+   */
+  async tryCause({ cause, race, isLoose }, number, tries) {
+    const { recorded } = this;
     try {
-      const sides = isLoose ? this.orders.identify(race, this.recorded.keys.loose()) : this.orders.sidesOf(race);
-      const turned = { cause, race, sides, isLoose, needed: this.lastActBefore(race.actions[1]) };
-      const one = await this.runInOrder(name, turned);
-      return { ...one, turned, counted: one.isTurned ? null : this.countedIn(one.run, turned) };
-    } catch (fault) {
-      if (!(fault instanceof RecordingFault) || fault.status === STOPPED || this.recorder.browser.isGone) throw fault;
-      return { isTurned: false, why: fault.message };
+      const sides = isLoose ? recorded.orders.identify(race, recorded.run.keys.loose()) : recorded.orders.sidesOf(race);
+      const reversal = { cause, race, sides, isLoose, needed: recorded.lastActBefore(race.actions[1]) };
+      const one = await this.inOrder.run(tries > 1 ? `${number}-${tries}` : `${number}`, number, reversal);
+      return { ...one, reversal, counted: one.isTurned ? null : countedIn(recorded, one.run, reversal) };
+    } catch (error) {
+      if (!(error instanceof RecordingFault) || isStop(error) || this.recorder.browser?.isGone) throw error;
+      return { isTurned: false, why: error.message };
     }
   }
 
+  // ---- what is found in the other order
+
   /**
-   * What is kept back, as a run that was not turned has it: of several that are asked for at one place in the code another one may be the one that is meant.
-   * Null where it is the same.
+   * What differs, whether the run agrees with the analyzer's order, and what it says of other races.
+   * @param {Reversed} one
+   * @param {number} number
+   * @param {() => void} arrive
    */
-  countedIn(run, { cause, sides: [side], isLoose }) {
-    const keys = isLoose ? run.keys.loose() : run.keys;
-    const there = keys.find(side) || keys.findAction(side);
-    const causes = there ? this.causesIn(run).of(there.action) : [];
-    const found = causes.find((one) => one.means === cause.means && one.word === cause.word && one.place === cause.place && one.address === cause.address);
-    const isSame = !found || (found.nth === cause.nth && found.way === cause.way && found.event?.nth === cause.event?.nth);
-    return isSame ? null : { ...found, action: cause.action, words: cause.words };
-  }
-
-  whyNot(hold) {
-    if (!hold.heldAt) return 'it was not met again';
-    return hold.isReached ? 'the first access came before all the same' : 'the second access did not come meanwhile';
-  }
-
-  /** Whether the two accesses came in the other order in a run; the program says whether they race there too. */
-  async judgeTurn(run, hold, { sides, isLoose }) {
-    const keys = isLoose ? run.keys.loose() : run.keys;
-    const [first, access] = sides.map((side) => keys.find(side));
-    const second = access || keys.findAction(sides[1]);
-    if (!second) return { isTurned: false, isLate: true, why: 'the second access did not come meanwhile' };
-    if (first && first.line < second.line) return { isTurned: false, isLate: !hold.isReached, why: this.whyNot(hold) };
-    if (!first && !hold.isReached) return { isTurned: false, why: this.whyNot(hold) };
-    const notes = [first ? '' : 'the access that was recorded first did not come any more', access ? '' : 'what was recorded second came first, and without this access'];
-    if (!first || !access) return { isTurned: true, isListed: false, note: notes.filter(Boolean).join('; ') };
-    const { report, fault, leftOut } = await judgeWithin(run.file);
-    if (fault || report.refused) return { isTurned: false, why: `the program gave no report of this run: ${fault || report.refused.cause}` };
-    const pair = [second.action, first.action];
-    const isListed = report.races.some((race) => race.actions.join(' ') === pair.join(' '));
-    return { isTurned: true, isListed, pair, note: isListed ? '' : this.whyUnlisted(run, second.line, pair, leftOut) };
-  }
-
-  /** Why the program lists no race of two accesses in a run; `line` is that of one of them. */
-  whyUnlisted(run, line, pair, leftOut) {
-    const location = run.keys.actions.lines[line - 1].slice(2);
-    if (leftOut.some((one) => one.location === location)) return 'in this run the accesses there are more than the program takes, so it was not asked about them';
-    return `in this run the rules order them: ${called('er_view')} ${run.file} --why ${pair.join(' ')}`;
-  }
-
-  // ---- what is found in a turned run
-
-  /** What differs, what is seen again, what the delay alone does, and what the run says of other races. */
-  async found(one, race, number) {
-    const { run, pair, turned, note } = one;
-    const result = await this.seeTwice(await this.difference(one, race), one, number);
-    const told = await this.seeDelay(result, one, race, number);
-    const order = pair && await checkOrder({ traceFile: this.traceFile, keys: this.recorded.keys, race, number }, { file: run.file, keys: run.keys, pair });
+  async found(one, number, arrive) {
+    const { run, reversal: { race, isLoose }, note = '' } = one;
+    const { recorded, traceFile } = this;
+    const found = this.confirm.find(one, number, arrive);
+    const ordered = one.pair ? checkOrder({ traceFile, keys: recorded.run.keys, race, number }, { file: run.file, keys: run.keys, pair: one.pair }) : null;
+    await allOf(/** @type {Promise<unknown>[]} */ ([found, ordered]), isStop);
     return {
-      ...told,
-      note: [turned.isLoose ? 'found again by looser names' : '', note].filter(Boolean).join('; '),
-      group: this.orders.ofGroup(run, race),
-      order: order || undefined,
+      ...await found,
+      note: [isLoose ? 'found again by looser names' : '', note].filter(Boolean).join('; '),
+      group: recorded.orders.ofGroup(run, race),
+      order: await ordered || undefined,
       comparedAt: this.comparedAt(run),
-      unsent: [...new Set(run.recorder.responses.refused)],
-      trace: path.relative(path.dirname(this.traceFile), run.file),
+      unsent: [...new Set(run.recorder.responses?.refused || [])],
+      trace: path.relative(path.dirname(traceFile), run.file),
     };
-  }
-
-  /** Behind what the ends of a restless page are compared, in words. */
-  comparedAt(run) {
-    if (!this.recorder.isRestless) return undefined;
-    if (!this.turns) return 'the page never rests: the runs are compared at the same time';
-    const { count } = this.turns;
-    const came = countTurns(run.recorder.intake.entries, this.turns);
-    return came === count ? `the page never rests: compared behind ${count} of its own turns in each run` : `the page never rests: compared behind ${count} of its own turns and ${came}`;
-  }
-
-  /** The differences between two runs, and those of their pictures. */
-  async differences(one, other) {
-    const all = compare(one, other);
-    const found = await this.pictures.compare(one.end.picture, other.end.picture);
-    if (found && found.differing >= FEWEST_POINTS) {
-      all.push({ kind: 'picture', subject: 'the picture', isSeen: true, recorded: 'as recorded', other: `${found.differing} of ${found.points} points differ`, boxes: found.boxes });
-    }
-    return all;
-  }
-
-  /** What a free run has in the recorded order too does not tell anything. */
-  isFreeInOrder(race) {
-    return !!this.free && this.orders.orderIn(this.free, race) === 'kept';
-  }
-
-  /** What differs from the recorded run, and from the one with nothing turned too, where that has the recorded order. */
-  async difference({ run, isListed, astray }, race) {
-    const isSteady = this.isFreeInOrder(race);
-    const unsteady = isSteady ? this.unsteady : [];
-    const all = await this.differences(this.recorded, run);
-    const again = isSteady ? await this.differences(this.free, run) : all;
-    const isAgain = ({ kind, subject }) => again.some((one) => one.kind === kind && one.subject === subject);
-    return this.sorted(all.filter(isAgain), unsteady, { isListed, isSteady, astray, picture: run.end.picture?.small });
-  }
-
-  /** What differs is looked for in a second run that is turned in the same way: what does not differ there differs by itself. */
-  async seeTwice(result, { turned, kept }, number) {
-    if (!result.differences.length) return result;
-    const steering = this.steer(turned, kept);
-    const run = await this.runAgain(`${number}-again`, steering);
-    if (!(await this.judgeTurn(run, steering.first, turned)).isTurned) return { ...result, isSeenTwice: false };
-    const again = await this.differences(this.recorded, run);
-    const [steady, unsteady] = split(result.differences, (one) => again.some(isLike(one)));
-    return { ...result, isSeenTwice: true, differences: steady, unsteady: [...result.unsteady, ...unsteady] };
   }
 
   /**
-   * What differs is looked for in a run in which the same thing is late by the same time, and the two come in their recorded order: what differs there
-   * too comes from the delay, as a page that says that the network is slow.
+   * After what the ends of a restless page are compared, in words.
+   * @param {import('./types').FurtherRun} run
    */
-  async seeDelay(result, { turned, kept, heldFor }, race, number) {
-    const keeper = result.differences.length && heldFor > 0 ? await this.keeperOf(race) : null;
-    const isMoved = turned.cause.means === 'act' && turned.cause.behind > turned.cause.act;
-    if (!keeper || isMoved || keeper.cause.words === turned.cause.words) return result;
-    const run = await this.runAgain(`${number}-late`, this.steer({ ...turned, length: heldFor }, [...kept, keeper]));
-    if (this.orders.orderIn(run, race) !== 'kept') return result;
-    const late = await this.differences(this.recorded, run);
-    const [byDelay, differences] = split(result.differences, (one) => late.some(isLike(one)));
-    return { ...result, isSeenWithDelay: true, differences, byDelay };
-  }
-
-  /** Those that differ by themselves stand apart, and so do those that no user sees. */
-  sorted(all, unsteady, facts) {
-    const [shaky, steady] = split(all, (one) => unsteady.some(isLike(one)));
-    return {
-      ...facts,
-      astray: facts.astray.map((one) => this.report.races.indexOf(one) + 1),
-      differences: steady.filter((one) => one.isSeen),
-      beside: steady.filter((one) => !one.isSeen),
-      unsteady: shaky,
-      byDelay: [],
-    };
+  comparedAt(run) {
+    const { turns } = this.runs;
+    if (!this.recorder.isRestless) return undefined;
+    if (!turns) return 'the page never rests: the runs are compared at the same time';
+    const { count } = turns;
+    const came = countTurns(run.recorder.intake.entries, turns);
+    return came === count ? `the page never rests: compared behind ${count} of its own turns in each run` : `the page never rests: compared behind ${count} of its own turns and ${came}`;
   }
 }
 
-/** What is one of several that only their order tells apart, in words. */
-const amongOthers = ({ means, of }) => (means === 'callback' && of > 1 ? `, where ${of} are asked for in one way and told apart by their order alone` : '');
+/**
+ * A note on a cause that is one of several which only their order tells apart.
+ * @param {Cause} cause
+ */
+const amongOthers = ({ means, of = 1 }) => (means === 'callback' && of > 1 ? `, where ${of} are asked for in one way and told apart by their order alone` : '');
 
-/** Those of a list that are meant, and the others. */
-const split = (list, isMeant) => [list.filter(isMeant), list.filter((one) => !isMeant(one))];
-
-module.exports = { Replay, withEnd, chance };
+module.exports = { Replay, withEnd, chance, isStop, runsAtOnce };

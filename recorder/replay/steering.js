@@ -1,144 +1,99 @@
 'use strict';
-// The driver's side of a replay: what is kept back in a run, each until something else has come.
+// What one run of a replay holds back, each thing until something else has come.
 
 const { HOLD_NAME } = require('../browser/content-policy.js');
+const { ofRecording } = require('../recording/page-script.js');
+const { Hold } = require('./hold.js');
 
-const isReply = (type) => type === 'XHR' || type === 'Fetch';
+/** @typedef {import('./types').Act} Act */
+/** @typedef {import('./types').Wanted} Wanted */
+/**
+ * A request that the browser has paused, as the protocol's Fetch domain reports it.
+ * @typedef {{request: {url: string}, resourceType: string, redirectedRequestId?: string, networkId?: string, requestId: string}} Paused
+ */
+
+/** @param {Pick<Paused, 'networkId'|'requestId'>} request */
 const keyOf = ({ networkId, requestId }) => networkId ?? requestId;
-const withoutHash = (address) => address.replace(/#.*$/, '');
-/** Between two looks at the log stands so many times the length of the first. */
+/** The pause between two looks at the log, in lengths of the first look. */
 const PATIENCE = 2;
-/** Where a page has been quiet for so long, and all acts are done, what is waited for does not come. */
-const QUIET_WITH_OTHERS = 500;
-const QUIET_WITH_FIRST = 2000;
-/** Between two looks at the clock. */
+/** If a page has been quiet for so many milliseconds, and all acts are done, what it waits for does not come. */
+const QUIET_WITH_ORDER_HOLDS = 500;
+const QUIET_WITH_REVERSALS = 2000;
+/** Milliseconds between two looks at the clock. */
 const TICK = 20;
 
-/** One thing that is kept back. */
-class Hold {
+class RunSteering {
   /**
-   * @param {object} wanted
-   * @param {import('./causes.js').Cause} wanted.cause what is kept back
-   * @param {import('./due.js').Due} wanted.due what has to come before
-   * @param {number} wanted.needed the last act of the user that this takes
-   * @param {number|null} wanted.length it is let go after so many milliseconds, whatever has come
-   * @param {number} id
+   * @param {Wanted[]} reversals what is held back so that races come in the other order
+   * @param {Wanted[]} orderHolds what is held back so that other races come in their recorded order
+   * @param {number} longest milliseconds after the start of the navigation at which everything is released
+   * @param {number} others how many runs go on at once, each with its looks at the log
    */
-  constructor({ cause, due, needed = 0, length = null }, id) {
-    Object.assign(this, { cause, due, needed, length, id });
-    this.isLet = false;
-    /** Whether what had to come before came. */
-    this.isReached = false;
-    /** When it began to wait, or 0. */
-    this.heldAt = 0;
-    /** For how many milliseconds it has waited. */
-    this.heldFor = 0;
-    this.met = 0;
-    this.requests = new Set();
-    this.over = new Promise((resolve) => { this.open = resolve; });
-  }
-
-  /** In the page: what page/steering.js takes, or null. */
-  forPage() {
-    const { means, word, place, way, nth, address, event } = this.cause;
-    if (means === 'callback' || means === 'event') return { id: this.id, word, place, way, nth, event };
-    if (means === 'load') return { id: this.id, word: 'load', address, source: this.source(address) };
-    return null;
-  }
-
-  /** The address at which the parser or the load waits. */
-  source(address) {
-    return new URL(`/${HOLD_NAME}?${this.id}`, address).href;
-  }
-
-  isOfPage(address) {
-    return this.cause.means === 'parser' && this.cause.address === address && !this.isLet;
-  }
-
-  /** Whether a request is the one to keep back. */
-  meets({ request, resourceType, redirectedRequestId }) {
-    const { means, address, isReply: asksReply, nth } = this.cause;
-    if (means !== 'response' || this.isLet || redirectedRequestId) return false;
-    if (withoutHash(request.url) !== address || isReply(resourceType) !== asksReply) return false;
-    this.met++;
-    return this.met === nth;
-  }
-
-  /** It waits now, where it does not yet. */
-  hold() {
-    if (!this.heldAt) this.heldAt = Date.now();
-  }
-
-  /** Whether the time is over for which it is to wait. */
-  isOver() {
-    return this.length !== null && this.heldAt > 0 && Date.now() - this.heldAt >= this.length;
-  }
-
-  async wait(key) {
-    if (this.isLet) return;
-    this.hold();
-    if (key) this.requests.add(key);
-    await this.over;
-  }
-
-  letGo() {
-    this.isLet = true;
-    this.heldFor = this.heldAt ? Date.now() - this.heldAt : 0;
-    this.requests.clear();
-    this.open();
-  }
-}
-
-class Steering {
-  /**
-   * @param {object|null} turned what is kept back so that a race is turned (`wanted` of Hold)
-   * @param {object[]} keepers what is kept back so that other races stay in their order
-   * @param {number} longest so many milliseconds after the begin of the navigation all is let go
-   */
-  constructor(turned, keepers, longest) {
-    this.holds = [...(turned ? [turned] : []), ...keepers].map((wanted, k) => new Hold(wanted, k + 1));
-    this.first = turned ? this.holds[0] : null;
+  constructor(reversals, orderHolds, longest, others = 1) {
+    this.holds = [...reversals, ...orderHolds].map((wanted, k) => new Hold(wanted, k + 1));
+    this.reversals = this.holds.slice(0, reversals.length);
+    this.orderHolds = this.holds.slice(reversals.length);
     this.longest = longest;
+    /** Whether the code of what it inserts into a page is inline (browser/content-policy.js). */
+    this.isInline = false;
+    this.patience = PATIENCE * others;
+    /**
+     * The holds of each request that waits.
+     * @type {Map<string, Hold[]>}
+     */
     this.met = new Map();
     this.nextLook = 0;
+    /** @type {NodeJS.Timeout|null} */
     this.later = null;
+    /** @type {NodeJS.Timeout|undefined} */
+    this.timer = undefined;
+    /** @type {NodeJS.Timeout|undefined} */
+    this.clock = undefined;
+    /**
+     * The run that is steered.
+     * @type {import('../recording/recorder.js').Recorder|null}
+     */
+    this.recorder = null;
   }
 
   // ---- its course
 
+  /** @param {import('../recording/recorder.js').Recorder} recorder */
   begin(recorder) {
     this.recorder = recorder;
-    this.timer = setTimeout(() => this.holds.forEach((hold) => this.letGo(hold)), this.longest);
+    this.timer = setTimeout(() => this.holds.forEach((hold) => this.release(hold)), this.longest);
     this.timer.unref();
-    if (this.first && this.first.length !== null) this.clock = setInterval(() => this.letGoInTime(), TICK);
-    this.clock?.unref();
+    if (!this.reversals.some(({ length }) => length !== null)) return;
+    this.clock = setInterval(() => this.releaseInTime(), TICK);
+    this.clock.unref();
   }
 
-  /** What is only late by a time is let go when that is over. */
-  letGoInTime() {
+  /** Releases the holds whose length is over. */
+  releaseInTime() {
     this.noteHeld();
-    if (this.first.isOver()) this.letGo(this.first);
+    this.reversals.filter((hold) => hold.isOver()).forEach((hold) => this.release(hold));
   }
 
-  /** The page has told what waits in it. */
+  /** Notes what waits in the page, as its log says. */
   noteHeld() {
-    this.recorder.intake.names.forEach(({ kind, number }) => { if (kind === 'held') this.holds[number - 1].hold(); });
+    this.recorder?.intake.names.forEach(({ kind, number }) => { if (kind === 'held') this.holds[Number(number) - 1]?.hold(); });
   }
 
-  /** New lines of the log have come. */
+  /** Called when new lines of the log have come: releases the holds for which what they wait for is among them. */
   look() {
-    if (!this.recorder || this.isLet() || this.isLookingLater()) return;
-    const begin = Date.now();
+    const { recorder } = this;
+    if (!recorder || this.isReleased() || this.isLookingLater()) return;
+    const start = Date.now();
     this.noteHeld();
-    for (const hold of this.holds.filter(({ isLet, due }) => !isLet && due)) {
-      if (!hold.due.hasCome(this.recorder)) continue;
+    for (const hold of this.holds.filter(({ isReleased }) => !isReleased)) {
+      if (!hold.due?.hasCome(recorder)) continue;
       hold.isReached = true;
-      this.letGo(hold);
+      this.release(hold);
     }
-    this.nextLook = Date.now() + PATIENCE * (Date.now() - begin);
+    this.nextLook = Date.now() + this.patience * (Date.now() - start);
   }
 
-  /** A look at a long log takes long: the driver has other things to do too. */
+  /** Whether the next look comes later. A look at a long log takes long, and the driver has other things to do. */
   isLookingLater() {
     const wait = this.nextLook - Date.now();
     if (wait <= 0) return false;
@@ -146,38 +101,42 @@ class Steering {
     return true;
   }
 
-  letGo(hold) {
-    if (hold.isLet) return;
-    hold.letGo();
-    if (hold === this.first) clearInterval(this.clock);
-    if (this.isLet()) clearTimeout(this.timer);
+  /** @param {Hold} hold */
+  release(hold) {
+    if (hold.isReleased) return;
+    hold.release();
+    if (this.reversals.every(({ isReleased }) => isReleased)) clearInterval(this.clock);
+    if (this.isReleased()) clearTimeout(this.timer);
     if (!hold.forPage()) return;
-    this.recorder.tab.evaluate(`typeof __er === 'object' && __er.recording && __er.recording.steering.letGo(${hold.id})`).catch(() => {});
+    const { recorder } = this;
+    const answer = recorder?.tab?.evaluate(ofRecording(recorder.ownNames, `.steering.letGo(${hold.id})`));
+    answer?.catch(() => {}); // a page that has gone holds nothing back
   }
 
-  isLet() {
-    return this.holds.every(({ isLet }) => isLet);
+  isReleased() {
+    return this.holds.every(({ isReleased }) => isReleased);
   }
 
-  /** How long a page is quiet before it is held up by what is kept back alone. */
+  /** Milliseconds of quiet after which only what is held back can keep a page from going on. */
   quiet() {
-    return this.others().length ? QUIET_WITH_OTHERS : QUIET_WITH_FIRST;
+    return this.waitingOrderHolds().length ? QUIET_WITH_ORDER_HOLDS : QUIET_WITH_REVERSALS;
   }
 
-  others() {
-    return this.holds.filter((hold) => hold !== this.first && !hold.isLet);
+  waitingOrderHolds() {
+    return this.orderHolds.filter(({ isReleased }) => !isReleased);
   }
 
-  /** Nothing comes any more: the order of other races is given up first. What waits for a time does so. */
+  /** Releases something, as nothing comes any more: first what holds other races in their order. What waits for a length does so. */
   giveUp() {
-    if (this.first && this.first.length !== null && this.first.heldAt && !this.first.isLet) return;
-    const others = this.others();
-    (others.length ? others : [this.first]).forEach((hold) => this.letGo(hold));
+    if (this.reversals.some((hold) => hold.isTimed())) return;
+    const others = this.waitingOrderHolds();
+    const given = others.length ? others : this.reversals.filter(({ isReleased }) => !isReleased).slice(0, 1);
+    given.forEach((hold) => this.release(hold));
   }
 
-  /** Whether the page may wait for what the driver keeps back. */
+  /** Whether the page may wait for a request that is held back. */
   isHolding() {
-    return this.holds.some(({ isLet, requests }) => !isLet && requests.size > 0);
+    return this.holds.some(({ isReleased, requests }) => !isReleased && requests.size > 0);
   }
 
   // ---- in the page
@@ -186,7 +145,11 @@ class Steering {
     return this.holds.map((hold) => hold.forPage()).filter(Boolean);
   }
 
-  /** What a page gets so that its parser waits. */
+  /**
+   * What is inserted into a page so that its parser waits.
+   * @param {string} address
+   * @param {string} text
+   */
   insertions(address, text) {
     return this.holds.filter((hold) => hold.isOfPage(address)).map((hold) => {
       const start = hold.cause.offset ?? text.length;
@@ -196,54 +159,75 @@ class Steering {
 
   // ---- requests
 
-  /** Whether a request is one to keep back. */
-  meets(event) {
-    const holds = this.holds.filter((hold) => hold.meets(event));
-    if (holds.length) this.met.set(keyOf(event), holds);
+  /**
+   * Whether a request is to be held back.
+   * @param {Paused} request
+   */
+  meets(request) {
+    const holds = this.holds.filter((hold) => hold.meets(request));
+    if (holds.length) this.met.set(keyOf(request), holds);
     return holds.length > 0;
   }
 
-  isMet(event) {
-    return this.met.has(keyOf(event));
+  /** @param {Paused} request */
+  isMet(request) {
+    return this.met.has(keyOf(request));
   }
 
-  async hold(event) {
-    await Promise.all((this.met.get(keyOf(event)) || []).map((hold) => hold.wait(keyOf(event))));
+  /** @param {Paused} request */
+  async hold(request) {
+    const key = keyOf(request);
+    await Promise.all((this.met.get(key) || []).map((hold) => hold.wait(key)));
   }
 
-  /** The parser or the load waits. */
-  async holdFor(id, event) {
-    await this.holds[id - 1]?.wait(keyOf(event));
+  /**
+   * Holds back what the parser or the load waits for.
+   * @param {number} id
+   * @param {Paused} request
+   */
+  async holdFor(id, request) {
+    await this.holds[id - 1]?.wait(keyOf(request));
   }
 
-  /** How many of the open requests are kept back. */
+  /**
+   * How many of the open requests are held back.
+   * @param {Set<string>} open
+   */
   countHeld(open) {
     return new Set(this.holds.flatMap(({ requests }) => [...requests]).filter((one) => open.has(one))).size;
   }
 
   // ---- the user
 
-  /** The user's acts: one that is kept back comes behind those that what is waited for needs. */
+  /**
+   * The user's acts in the order of this run: an act that is held back comes after those that its race needs.
+   * @template {Act} T
+   * @param {{early: T[], late: T[]}} acts
+   */
   actions({ early, late }) {
-    if (this.first?.cause.means !== 'act') return { early, late };
-    const { act, behind } = this.first.cause;
-    if (behind < act) return { early, late };
+    const moved = this.reversals.map(({ cause }) => cause).find(({ means, act = 0, after = 0 }) => means === 'act' && after >= act);
+    if (!moved) return { early, late };
     const all = [...early, ...late];
-    const held = all.find(({ number }) => number === act);
+    const held = all.find(({ number }) => number === moved.act);
+    if (!held) return { early, late };
     const rest = all.filter((one) => one !== held);
-    rest.splice(Math.max(all.indexOf(held), rest.findIndex(({ number }) => number === behind) + 1), 0, held);
+    rest.splice(Math.max(all.indexOf(held), rest.findIndex(({ number }) => number === moved.after) + 1), 0, held);
     const split = rest.findIndex(({ isEarly }) => !isEarly);
     return split < 0 ? { early: rest, late: [] } : { early: rest.slice(0, split), late: rest.slice(split) };
   }
 
-  /** Whether an act has to wait: it is kept back, or nothing that is waited for needs it. */
+  /**
+   * Whether an act has to wait: it is held back, or nothing that a hold waits for needs it.
+   * @param {Pick<Act, 'number'|'kind'>} act
+   */
   blocks({ number, kind }) {
     if (kind === 'wait') return false;
-    const isKept = ({ cause }) => cause.means === 'act' && cause.act === number;
-    const blocking = this.holds.filter((hold) => !hold.isLet && (isKept(hold) || number > hold.needed));
-    blocking.filter(isKept).forEach((hold) => hold.hold());
+    /** @param {Hold} hold */
+    const isHeld = ({ cause }) => cause.means === 'act' && cause.act === number;
+    const blocking = this.holds.filter((hold) => !hold.isReleased && (isHeld(hold) || number > hold.needed));
+    blocking.filter(isHeld).forEach((hold) => hold.hold());
     return blocking.length > 0;
   }
 }
 
-module.exports = { Steering };
+module.exports = { RunSteering };

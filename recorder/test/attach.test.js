@@ -8,17 +8,20 @@ const net = require('node:net');
 const path = require('node:path');
 const { after, before, test } = require('node:test');
 const { AttachedChromium, AttachedTab } = require('../browser/attached.js');
-const { sleep } = require('../browser/time.js');
-const { PROGRAM } = require('../view/program.js');
+const { sleep } = require('../common/time.js');
+const { PROGRAM } = require('../races/program.js');
 const { run, start, temporaryFolder } = require('./cleanup.js');
-const { serveFolder } = require('./server.js');
+const { listen, serveFolder } = require('./server.js');
 
 const TOP = path.join(__dirname, '..', '..');
 const CHROMIUM = process.env.CHROMIUM || '/usr/bin/chromium';
 const LIMIT = { timeout: 120000 };
 const LONGEST_RUN = 90000;
+/** @typedef {import('../browser/tab.js').Tab} Tab */
 const folder = temporaryFolder('attach-test');
+/** @type {Awaited<ReturnType<typeof serveFolder>>} */
 let server;
+/** @type {string} */
 let address;
 before(async () => {
   server = await serveFolder(path.join(TOP, 'examples', 'shop'));
@@ -28,35 +31,47 @@ after(() => server.close());
 
 async function freePort() {
   const one = net.createServer();
-  await new Promise((resolve) => one.listen(0, '127.0.0.1', resolve));
-  const { port } = one.address();
+  const port = await listen(one);
   await new Promise((resolve) => one.close(resolve));
   return port;
 }
 
-async function waitFor(isThere, what) {
+/**
+ * Waits until there is something.
+ * @template T
+ * @param {() => T|null|false|Promise<T|null|false>} find
+ * @param {string} what
+ * @returns {Promise<T>}
+ */
+async function waitFor(find, what) {
   for (let k = 0; k < 600; k++) {
-    if (await isThere()) return;
+    const found = await find();
+    if (found) return found;
     await sleep(100);
   }
   throw new Error(`waited in vain for ${what}`);
 }
 
-/** A browser that this test drives over its port, as a driver does. */
+/**
+ * A browser that this test drives over its port, as a driver does.
+ * @param {string} name
+ */
 async function startDriven(name) {
   const port = await freePort();
   const words = ['--headless', '--no-sandbox', '--disable-gpu', '--no-first-run', `--remote-debugging-port=${port}`, `--user-data-dir=${path.join(folder, name)}`, 'about:blank'];
   const browser = spawn(CHROMIUM, words, { stdio: 'ignore' });
   process.on('exit', () => browser.kill('SIGKILL'));
-  let driver = null;
-  const connect = () => AttachedChromium.connect({ host: '127.0.0.1', port }).then((one) => { driver = one; return true; }, () => false);
-  await waitFor(connect, 'the browser');
-  let tab = null;
-  await waitFor(() => AttachedTab.first(driver).then((one) => { tab = one; return true; }, () => false), 'its tab');
+  const driver = await waitFor(() => AttachedChromium.connect({ host: '127.0.0.1', port }).catch(() => null), 'the browser');
+  const tab = await waitFor(() => AttachedTab.first(driver).catch(() => null), 'its tab');
   await tab.send('Page.enable');
   return { port, driver, tab, end: () => driver.send('Browser.close').catch(() => {}) };
 }
 
+/**
+ * @param {number} port
+ * @param {string} name
+ * @param {string[]} words
+ */
 async function attach(port, name, words = []) {
   const file = path.join(folder, `${name}.trace`);
   const recorder = start(path.join(TOP, 'er_record'), ['--attach', `127.0.0.1:${port}`, file, ...words]);
@@ -64,17 +79,26 @@ async function attach(port, name, words = []) {
   return { file, recorder };
 }
 
+/**
+ * @param {Tab} tab
+ * @param {string} to
+ */
 async function load(tab, to) {
   const loaded = new Promise((resolve) => tab.on('Page.loadEventFired', resolve));
   await tab.send('Page.navigate', { url: to });
   await loaded;
 }
 
+/**
+ * @param {Tab} tab
+ * @param {string} selector
+ */
 async function click(tab, selector) {
   const spot = await tab.evaluate(`(() => { const box = document.querySelector('${selector}').getBoundingClientRect(); return { x: box.left + 5, y: box.top + 5 }; })()`);
   for (const type of ['mousePressed', 'mouseReleased']) await tab.send('Input.dispatchMouseEvent', { type, ...spot, button: 'left', clickCount: 1 });
 }
 
+/** @param {string} file */
 const lines = (file) => fs.readFileSync(file, 'utf8').trimEnd().split('\n');
 
 test('what a driver loads and clicks, until it ends the browser', LIMIT, async () => {
@@ -120,8 +144,26 @@ test('another page in its place, a second recorder, a driver that loads nothing,
   await end();
 });
 
+test('a page of this machine can send requests to another port of it', LIMIT, async () => {
+  const other = await serveFolder(path.join(TOP, 'examples', 'shop'));
+  const site = path.join(folder, 'ports');
+  fs.mkdirSync(site);
+  const target = other.addressOf('http://localhost/index.html');
+  fs.writeFileSync(path.join(site, 'index.html'), `<!doctype html><title>p</title><script>fetch('${target}', { mode: 'no-cors' }).then(() => { document.title = 'came'; }, () => { document.title = 'failed'; });</script>`);
+  const own = await serveFolder(site);
+  const driven = await startDriven('ports-browser');
+  const { recorder } = await attach(driven.port, 'ports');
+  await load(driven.tab, own.addressOf('http://localhost/index.html'));
+  await waitFor(async () => /came|failed/.test(await driven.tab.evaluate('document.title')), 'the answer');
+  assert.strictEqual(await driven.tab.evaluate('document.title'), 'came', recorder.said);
+  await driven.end();
+  assert.strictEqual(await recorder.ended, 0, recorder.said);
+  other.close();
+  own.close();
+});
+
 test('no browser at the port, and what is no browser', LIMIT, async () => {
-  const words = (port) => ['--attach', `127.0.0.1:${port}`, path.join(folder, 'none.trace')];
+  const words = (/** @type {number|string} */ port) => ['--attach', `127.0.0.1:${port}`, path.join(folder, 'none.trace')];
   const none = await run(path.join(TOP, 'er_record'), words(await freePort()), { longest: LONGEST_RUN });
   assert.strictEqual(none.status, 5);
   assert.match(none.stderr, /there is no browser at this port/);

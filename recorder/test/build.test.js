@@ -15,21 +15,30 @@ const LONGEST_RUN = 120000;
 const SARIF_CHECK = path.join(__dirname, 'drivers', 'check_sarif.py');
 const hasSarifClasses = fs.existsSync('/usr/lib/python3/dist-packages/sarif_om');
 const folder = temporaryFolder('build-test');
+/**
+ * @typedef {{name: string, isKnown: boolean, hasLine: boolean}} Problem of the one object for other tools
+ * @typedef {{partialFingerprints: {[name: string]: string}, locations?: unknown[], relatedLocations?: unknown[]}} SarifResult
+ */
+/** @type {(name: string, ...words: string[]) => ReturnType<typeof run>} */
 const pageOf = (name, ...words) => run(path.join(TOP, 'er_page'), [path.join(PAGES, name), ...words], { cwd: folder, longest: LONGEST_RUN });
+/** @param {string[]} words */
 const page = (...words) => pageOf('race-timeouts.html', ...words);
+/** @param {string} name */
 const read = (name) => fs.readFileSync(path.join(folder, name), 'utf8');
 
 test('a build fails on a new race alone', LIMIT, async () => {
   const first = await page('--known', 'known', '--write-known', '--sarif', 'out.sarif');
   assert.strictEqual(first.status, 1, first.stderr);
-  assert.match(first.stdout, /^1\. .* \[[0-9a-f]{12}\]$/m);
+  assert.match(first.stdout, /^ {4}[0-9a-f]{12} \(for races\.known\)/m);
   assert.match(read('known'), /^[0-9a-f]{12} ".*; nothing orders them\.$/m);
   const again = await page('--known', 'known', '--json');
   assert.strictEqual(again.status, 0, again.stdout);
+  /** @type {{status: number, problems: Problem[], notSeen: unknown[]}} */
   const { status, problems, notSeen } = JSON.parse(again.stdout);
   assert.strictEqual(status, 0);
   assert.ok(problems.length > 0 && problems.every(({ isKnown }) => isKnown));
   assert.deepStrictEqual(notSeen, []);
+  /** @type {{runs: {results: SarifResult[]}[]}} */
   const sarif = JSON.parse(read('out.sarif'));
   const names = sarif.runs[0].results.map(({ partialFingerprints }) => partialFingerprints['raceName/v1']);
   assert.deepStrictEqual(names.sort(), problems.filter(({ hasLine }) => hasLine).map(({ name }) => name).sort());
@@ -40,17 +49,17 @@ test('a build fails on a new race alone', LIMIT, async () => {
 test('several runs are one list', LIMIT, async () => {
   const { status, stdout, stderr } = await page('--runs', '2');
   assert.strictEqual(status, 1, stderr);
-  assert.match(stdout, /^1\. .*\(seen in 2 of 2 runs/m);
+  assert.match(stdout, /^ {4}runs: seen in 2 of 2 runs/m);
   assert.ok(fs.existsSync(path.join(folder, 'race-timeouts.races', 'runs', '2.html')));
 });
 
 test('two acts of a user against each other fail no build unless it is asked for', LIMIT, async () => {
-  const words = ['two-buttons.html', '--do', 'click:#list', '--do', 'click:#table', '--known', 'acts'];
-  const plain = await pageOf(...words, '--write-known');
+  const words = ['--do', 'click:#list', '--do', 'click:#table', '--known', 'acts'];
+  const plain = await pageOf('two-buttons.html', ...words, '--write-known');
   assert.strictEqual(plain.status, 0, plain.stderr);
-  assert.match(plain.stdout, /^-- another input, not another order\n1\. "mode" is written by the click handler at two-buttons\.html:5/m);
+  assert.match(plain.stdout, /^-- another input, not another order\n\S*two-buttons\.html:\d+ {2}Two acts of a user reach `mode`/m);
   assert.strictEqual(read('acts').split('\n').filter((line) => line && !line.startsWith('#')).length, 0);
-  const asked = await pageOf(...words, '--acts');
+  const asked = await pageOf('two-buttons.html', ...words, '--acts');
   assert.strictEqual(asked.status, 1, asked.stderr);
 });
 
@@ -58,13 +67,13 @@ test('a page of more steps than the program takes', LIMIT, async () => {
   const { status, stdout, stderr } = await pageOf('many-steps.html');
   assert.strictEqual(status, 1, stderr);
   assert.match(stderr, /^er_page: not judged: "steps", with \d{5} accesses and \d{8} pairs$/m);
-  assert.match(stdout, /^1\. "word" is written by the timeout soon set at many-steps\.html:6/m);
+  assert.match(stdout, /^\S*many-steps\.html:\d+ {2}`word` may change before or after it is written/m);
   assert.match(read('many-steps.races/page.html'), /Not judged, since it is more than the program takes: the accesses to .*steps/);
   assert.match(read('many-steps.races/page.report'), /^report 1$/m);
 });
 
-/** The job that docs/viewing.md has to copy. */
-const jobOfDocument = () => /^#!\/usr\/bin\/env bash\n[^`]*/m.exec(fs.readFileSync(path.join(TOP, 'docs', 'viewing.md'), 'utf8'))[0];
+/** The job that docs/ci.md has to copy. */
+const jobOfDocument = () => /^#!\/usr\/bin\/env bash\n[^`]*/m.exec(fs.readFileSync(path.join(TOP, 'docs', 'ci.md'), 'utf8'))?.[0] ?? assert.fail('no job');
 
 test('the job that the document has', LIMIT, async () => {
   const own = path.join(folder, 'job');
@@ -76,17 +85,23 @@ test('the job that the document has', LIMIT, async () => {
   const fresh = await job();
   assert.strictEqual(fresh.status, 1, fresh.stderr);
   assert.match(fresh.stderr, /a new race: see races\.sarif/);
+  /** @type {{problems: Problem[]}} */
   const { problems } = JSON.parse(fs.readFileSync(path.join(own, 'races.json'), 'utf8'));
   fs.writeFileSync(path.join(own, 'races.known'), problems.map(({ name }) => `${name}\n`).join(''));
   const again = await job();
   assert.strictEqual(again.status, 0, again.stderr);
 });
 
-test('what is wrong is told before anything is recorded', LIMIT, async () => {
+test('a mistake is reported before anything is recorded', LIMIT, async () => {
   fs.writeFileSync(path.join(folder, 'bad'), '# fine\nno name\n');
   fs.rmSync(path.join(folder, 'race-timeouts.races'), { recursive: true });
-  for (const [words, said] of [[['--known', 'bad'], /bad, line 2: no name of a race/], [['--known', 'none'], /none: there is no such file/],
-    [['--write-known'], /--write-known takes --known FILE besides/], [['--sarif'], /--sarif takes a file/], [['--runs', '0'], /--runs is 1 to 100/], [['--runs', '2', '--replay'], /--replay is of one run/]]) {
+  /** @type {[words: string[], said: RegExp][]} */
+  const wrong = [
+    [['--known', 'bad'], /bad, line 2: no name of a race/], [['--known', 'none'], /none: there is no such file/], [['--write-known'], /--write-known requires --known FILE/],
+    [['--sarif'], /the value of --sarif is missing/], [['--runs', '0'], /--runs takes a whole number from 1 to 100/],
+    [['--runs', '2', '--replay'], /--replay cannot be combined with --runs/],
+  ];
+  for (const [words, said] of wrong) {
     const { status, stderr } = await page(...words);
     assert.strictEqual(status, 2, words.join(' '));
     assert.match(stderr, said);

@@ -5,20 +5,24 @@ const assert = require('node:assert');
 const { EventEmitter } = require('node:events');
 const { test } = require('node:test');
 const { runInNewContext } = require('node:vm');
-const { parseOptions } = require('../options.js');
-const { Recorder } = require('../recorder.js');
-const { NEWEST_VERSION } = require('../trace/spelling.js');
+const { parseOptions } = require('../recording/options.js');
+const { Recorder } = require('../recording/recorder.js');
 
-/** What is told of an error, as the browser tells the recorder of it. */
+/**
+ * What is told of an error, as the browser tells the recorder of it.
+ * @param {object} details
+ */
 function toldOf(details) {
-  const recorder = new Recorder('page.html', parseOptions(['page.html'], NEWEST_VERSION, 1));
-  recorder.tab = new EventEmitter();
+  const recorder = new Recorder('page.html', parseOptions(['page.html']));
+  const tab = new EventEmitter();
+  recorder.tab = /** @type {import('../browser/tab.js').Tab} */ (/** @type {unknown} */ (tab)); // it is only listened to
   recorder.address = 'http://folder/page.html';
   recorder.listen();
-  recorder.tab.emit('Runtime.exceptionThrown', { exceptionDetails: { text: 'Uncaught', exception: { description: 'Error: no\n    at f' }, ...details } });
+  tab.emit('Runtime.exceptionThrown', { exceptionDetails: { text: 'Uncaught', exception: { description: 'Error: no\n    at f' }, ...details } });
   return recorder.errors;
 }
 
+/** @type {(url: string, lineNumber: number) => {url: string, lineNumber: number, columnNumber: number}} */
 const frame = (url, lineNumber) => ({ url, lineNumber, columnNumber: 0 });
 const RECORDER = '__er-recorder';
 

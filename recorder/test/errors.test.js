@@ -5,17 +5,21 @@ const assert = require('node:assert');
 const path = require('node:path');
 const { after, before, test } = require('node:test');
 const { Chromium } = require('../browser/chromium.js');
-const { parseOptions } = require('../options.js');
-const { Recorder } = require('../recorder.js');
-const { NEWEST_VERSION } = require('../trace/spelling.js');
+const { parseOptions } = require('../recording/options.js');
+const { Recorder } = require('../recording/recorder.js');
 const { PAGES } = require('./support.js');
 
+/** @type {Chromium} */
 let browser;
 before(async () => { browser = await Chromium.launch({ width: 1100, height: 800 }); });
 after(async () => { await browser.close(); });
 
+/**
+ * @param {string} page
+ * @param {string[]} words
+ */
 async function errorsOf(page, words) {
-  const recorder = new Recorder(path.join(PAGES, page), { ...parseOptions([...words, page], NEWEST_VERSION, 1), browser });
+  const recorder = new Recorder(path.join(PAGES, page), { ...parseOptions([...words, page]), browser });
   await recorder.record();
   return recorder.errors.sort();
 }
@@ -25,4 +29,8 @@ test('errors with their places, one that a function of the browser hands on, and
   assert.strictEqual(plain.length, 18, plain.join('\n'));
   assert.deepStrictEqual(await errorsOf('errors.html', []), plain);
   assert.deepStrictEqual(await errorsOf('errors.html', ['--depth', 'globals']), plain);
+});
+
+test('the scripts of a frame that is not recorded, as one of another origin, do the same', { timeout: 60000 }, async () => {
+  assert.deepStrictEqual(await errorsOf('frame-sandboxed.html', []), []);
 });

@@ -9,7 +9,7 @@ const { test } = require('node:test');
 const acorn = require('/usr/share/nodejs/acorn');
 const { EditedText } = require('../instrument/edits.js');
 const { instrument } = require('../instrument/instrument.js');
-const { withoutMarks } = require('../instrument/marks.js');
+const { withoutMarks } = require('../instrument/marks/delimiters.js');
 
 /** Their packages, and where these have their scripts. */
 const LIBRARIES = {
@@ -29,8 +29,13 @@ const LIBRARIES = {
 /** Of each library its longest scripts, but no very long one. */
 const MOST = 5;
 const LONGEST = 1500000;
+/** @type {Pick<import('../instrument/syntax/types').Options, 'depth'|'keepsAll'>[]} */
 const WAYS = [{ depth: 'globals' }, { depth: 'objects' }, { depth: 'objects', keepsAll: true }];
 
+/**
+ * @param {string} folder
+ * @returns {string[]}
+ */
 function scriptsOf(folder) {
   if (!fs.existsSync(folder)) return [];
   return fs.readdirSync(folder, { withFileTypes: true }).flatMap((entry) => {
@@ -40,9 +45,13 @@ function scriptsOf(folder) {
   });
 }
 
-/** Marks a text as a script, or as a module where it is none; null where it is no JavaScript at all. */
+/**
+ * Marks a text as a script, or as a module if it is none; null if it is no JavaScript at all.
+ * @param {string} code
+ * @param {typeof WAYS[number]} way
+ */
 function mark(code, way) {
-  for (const kind of ['script', 'module']) {
+  for (const kind of /** @type {const} */ (['script', 'module'])) {
     const { edits, fault } = instrument(code, { kind, builtins: new Set(['window', 'document']), site: () => 0, module: 2000000, ...way });
     if (!fault) return { kind, edited: new EditedText(code, edits) };
   }

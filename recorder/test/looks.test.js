@@ -12,6 +12,7 @@ const { cases, isAt } = require('./replay-cases.js');
 /**
  * The looks that are right for a location, in whichever order the run has it. A flag is seen where each side did both; where the second one took the
  * other branch the trace does not show it.
+ * @type {{[location: string]: string[]}}
  */
 const DUE = {
   '#offer': ['use before definition'], theme: ['other'], shown: ['overwriting replies'], price: ['use before definition', 'other'], 'load of img#dot': ['late handler of the page'],
@@ -24,12 +25,16 @@ const DUE = {
   'isOpen of page, the object first used at race-put-back.html': ['other'],
 };
 
-/** What the objects and closures of look-objects.html look like, by the begin of their location. */
+/**
+ * What the objects and closures of look-objects.html look like, by the begin of their location.
+ * @type {[location: RegExp, look: string][]}
+ */
 const DUE_OF_OBJECTS = [
   [/^render of /, 'use before definition'], [/^count of /, 'counter'], [/^isReady of the closure of shop/, 'flag that both ask'],
   [/^last of the closure of shop/, 'first ticks of intervals'], [/^name of /, 'same value'],
 ];
 
+/** @type {Chromium} */
 let browser;
 before(async () => { browser = await Chromium.launch({ width: 1100, height: 800 }); });
 after(async () => { await browser.close(); });
@@ -39,11 +44,12 @@ for (const { page, words, location } of cases) {
     const trace = await recordPage(browser, page, words, undefined, false);
     const report = await judgeText(trace.text);
     const problems = new Problems(trace.text, JSON.parse(trace.names.toJson({})), report);
-    const looks = report.races.map((race, k) => [problems.words.location(race.location).text, problems.ofRaces[k].look]).filter(([text]) => isAt(text, location));
+    const looks = report.races.map((race, k) => ({ text: problems.words.location(race.location).text, look: problems.ofRaces[k].look }))
+      .filter(({ text }) => isAt(text, location)).map(({ look }) => look);
     assert.ok(looks.length > 0, `no race at ${location}`);
-    const [best] = looks.sort(([, a], [, b]) => a.rank - b.rank);
-    if (process.env.SHOW) console.error(page, location, best[1].name, '|', best[1].seen);
-    assert.ok(DUE[location].includes(best[1].name), `${best[1].name}: ${best[1].seen}`);
+    const [best] = looks.sort((a, b) => a.rank - b.rank);
+    if (process.env.SHOW) console.error(page, location, best.name, '|', best.seen);
+    assert.ok(DUE[location].includes(best.name), `${best.name}: ${best.seen}`);
   });
 }
 

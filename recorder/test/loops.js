@@ -1,18 +1,20 @@
 #!/usr/bin/env node
 'use strict';
 // loops.js [TIMES]: what marks cost in code that does nothing but touch something: loops in a page, the fastest of TIMES runs with and without
-// the recorder, in turns.
+// the recorder, alternately.
 
 const fs = require('node:fs');
 const path = require('node:path');
 const { Chromium } = require('../browser/chromium.js');
-const { sleep } = require('../browser/time.js');
-const { parseOptions } = require('../options.js');
-const { Recorder } = require('../recorder.js');
-const { NEWEST_VERSION } = require('../trace/spelling.js');
+const { sleep } = require('../common/time.js');
+const { parseOptions } = require('../recording/options.js');
+const { Recorder } = require('../recording/recorder.js');
 const { temporaryFolder } = require('./cleanup.js');
 
-/** Each runs N times; a loop that is dear runs a tenth or a hundredth as often. */
+/**
+ * Each runs N times; an expensive loop runs a tenth or a hundredth as often.
+ * @type {{[name: string]: [part: number, body: string]}}
+ */
 const LOOPS = {
   'reads of one object': [1, 'const o = { n: 1 }; let sum = 0; for (let k = 0; k < N; k++) sum += o.n; return sum;'],
   'writes of one object': [1, 'const o = { n: 1 }; for (let k = 0; k < N; k++) o.n = k; return o.n;'],
@@ -54,7 +56,8 @@ addEventListener('load', () => setTimeout(next, 100));
 /** Waits for the loops, and for nothing else. */
 class Waiting extends Recorder {
   times() {
-    return new Map(this.consoleErrors.map((line) => /^time (.*): ([\d.]+)$/.exec(line)).filter(Boolean).map(([, name, time]) => [name, Number(time)]));
+    const found = this.consoleErrors.map((line) => /^time (.*): ([\d.]+)$/.exec(line));
+    return new Map(found.flatMap((one) => (one ? [/** @type {const} */ ([one[1], Number(one[2])])] : [])));
   }
 
   async useAndWait() {
@@ -63,20 +66,27 @@ class Waiting extends Recorder {
   }
 }
 
+/**
+ * @param {Chromium} browser
+ * @param {string} page
+ * @param {string[]} words
+ */
 async function timesOf(browser, page, words) {
-  const recorder = new Waiting(page, { ...parseOptions([...words, '--time', '120', page], NEWEST_VERSION, 1), browser });
+  const recorder = new Waiting(page, { ...parseOptions([...words, '--time', '120', page]), browser });
   await recorder.record();
   return recorder.times();
 }
 
+/** @param {string[]} words */
 async function main([times = '3']) {
   const page = path.join(temporaryFolder('loops'), 'loops.html');
   fs.writeFileSync(page, pageOf());
   const browser = await Chromium.launch({ width: 1100, height: 800 });
+  /** @type {{[kind: string]: {[name: string]: number}}} */
   const least = { raw: {}, recorded: {} };
   try {
     for (let k = 0; k < Number(times); k++) {
-      for (const [kind, words] of [['raw', ['--raw']], ['recorded', []]]) {
+      for (const [kind, words] of /** @type {[string, string[]][]} */ ([['raw', ['--raw']], ['recorded', []]])) {
         for (const [name, time] of await timesOf(browser, page, words)) least[kind][name] = Math.min(time, least[kind][name] ?? Infinity);
       }
     }

@@ -5,32 +5,36 @@ const assert = require('node:assert');
 const path = require('node:path');
 const { after, before, test } = require('node:test');
 const { Chromium } = require('../browser/chromium.js');
-const { parseOptions } = require('../options.js');
-const { readRun } = require('../record.js');
-const { Recorder } = require('../recorder.js');
-const { NEWEST_VERSION } = require('../trace/spelling.js');
-const { Actions } = require('../view/actions.js');
-const { Words } = require('../view/words.js');
+const { parseOptions } = require('../recording/options.js');
+const { readRun } = require('../recording/files.js');
+const { Recorder } = require('../recording/recorder.js');
+const { Actions } = require('../races/actions.js');
+const { Words } = require('../races/words.js');
 const { PAGES } = require('./support.js');
 
+/** @type {Chromium} */
 let browser;
 before(async () => { browser = await Chromium.launch({ width: 1100, height: 800 }); });
 after(async () => { await browser.close(); });
 
-/** A page as `er_record` records it; `told` are its accesses by lines, each with its location in words. */
+/**
+ * A page as `er_record` records it; `told` are its accesses by lines, each with its location in words.
+ * @param {string} page
+ * @param {string[]} words
+ */
 async function recordRun(page, words = []) {
-  const options = parseOptions([...words, page], NEWEST_VERSION, 1);
+  const options = parseOptions([...words, page]);
   const recorder = new Recorder(path.join(PAGES, page), { ...options, browser });
   await recorder.record();
   const { text, names, accesses } = readRun(recorder, options);
   const facts = JSON.parse(names.toJson({}));
   const inWords = new Words(facts, new Actions(text.replace(/end\n$/, '')));
-  const told = text.split('\n').map((line, k) => [k + 1, line]).filter(([, line]) => /^[rw] /.test(line))
-    .map(([line, record]) => ({ line, mode: record[0], what: inWords.location(record.slice(2)).text }));
+  const told = text.split('\n').map((record, k) => ({ line: k + 1, record })).filter(({ record }) => /^[rw] /.test(record))
+    .map(({ line, record }) => ({ line, mode: record[0], what: inWords.location(record.slice(2)).text }));
   return { told, facts, accesses, options };
 }
 
-const unique = (some) => [...new Set(some)];
+const unique = (/** @type {string[]} */ texts) => [...new Set(texts)];
 
 test('each object and closure by what a page author can find', { timeout: 150000 }, async () => {
   const { told } = await recordRun('words-of-objects.html');
@@ -49,7 +53,7 @@ test('counts whose value nobody uses', { timeout: 150000 }, async () => {
 
 test('values, and writes of the value that was there', { timeout: 150000 }, async () => {
   const { told, facts } = await recordRun('globals-put-back.html');
-  const of = (name) => told.filter(({ what }) => what === name).map(({ line, mode }) => [mode, facts.values[line], facts.befores[line], !!facts.kept[line]]);
+  const of = (/** @type {string} */ name) => told.filter(({ what }) => what === name).map(({ line, mode }) => [mode, facts.values[line], facts.befores[line], !!facts.kept[line]]);
   const [zero, one] = of('total').filter(([mode]) => mode === 'w').map(([, value]) => value);
   assert.notStrictEqual(zero, one);
   assert.deepStrictEqual(of('total').map(([mode, value, found]) => [mode, value, found]), [['w', zero, undefined], ['r', zero, undefined], ['w', one, zero]]);

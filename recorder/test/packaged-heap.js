@@ -3,35 +3,43 @@
 // packaged-heap.js [PACKAGE..]: how much of the heap pages of Debian packages (packaged.json; those that are installed) use once they are loaded,
 // without the recorder, with global variables alone, and with objects. Each is loaded once, and the garbage is collected before.
 
-const fs = require('node:fs');
-const path = require('node:path');
 const { Chromium } = require('../browser/chromium.js');
-const { parseOptions } = require('../options.js');
-const { Recorder } = require('../recorder.js');
-const { NEWEST_VERSION } = require('../trace/spelling.js');
+const { parseOptions } = require('../recording/options.js');
+const { Recorder } = require('../recording/recorder.js');
 require('./cleanup.js');
+const { readPackaged, isInstalled } = require('./packaged-pages.js');
 
+/** @type {{[kind: string]: string[]}} */
 const KINDS = { without: ['--raw'], globals: ['--depth', 'globals'], objects: [] };
 const MEGABYTE = 1 << 20;
 
 class Measuring extends Recorder {
+  heap = 0;
+
   async useAndWait() {
-    await this.waitForQuiet();
+    await this.rest.waitForQuiet();
+    if (!this.tab) throw new Error('there is no tab');
     await this.tab.send('HeapProfiler.collectGarbage');
     this.heap = (await this.tab.send('Runtime.getHeapUsage')).usedSize;
     return true;
   }
 }
 
+/**
+ * @param {Chromium} browser
+ * @param {import('./packaged-pages.js').PackagedPage} page
+ * @param {string[]} words
+ */
 async function heapOf(browser, { page, root = '/usr/share' }, words) {
-  const recorder = new Measuring(page, { ...parseOptions([...words, '--root', root, page], NEWEST_VERSION, 1), browser });
+  const recorder = new Measuring(page, { ...parseOptions([...words, '--root', root, page]), browser });
   await recorder.record();
   return recorder.heap;
 }
 
+/** @param {string[]} only */
 async function main(only) {
-  const pages = JSON.parse(fs.readFileSync(path.join(__dirname, 'packaged.json'), 'utf8'));
-  for (const one of pages.filter(({ package: name, page }) => (!only.length || only.includes(name)) && fs.existsSync(page.replace(/\?.*$/, '')))) {
+  for (const one of readPackaged(only).filter(isInstalled)) {
+    /** @type {{[kind: string]: number}} */
     const sizes = {};
     for (const [kind, words] of Object.entries(KINDS)) {
       const browser = await Chromium.launch({ width: 1100, height: 800 });

@@ -6,33 +6,52 @@
 const fs = require('node:fs');
 const path = require('node:path');
 const { Chromium } = require('../browser/chromium.js');
-const { parseOptions } = require('../options.js');
-const { Recorder } = require('../recorder.js');
+const { parseOptions } = require('../recording/options.js');
+const { Recorder } = require('../recording/recorder.js');
 const { Accesses } = require('../trace/accesses.js');
-const { beyond, isAt, sizesOf, sum } = require('../trace/limits.js');
+const { beyond, isAt, keepWithin, sizesOf, sum } = require('../trace/limits.js');
 const { Names } = require('../trace/names.js');
-const { Spelling, keepWithin, NEWEST_VERSION } = require('../trace/spelling.js');
-const { judge } = require('../view/program.js');
+const { Spelling, NEWEST_VERSION } = require('../trace/spelling.js');
+const { judge } = require('../races/program.js');
 const { Comparison } = require('./rules.js');
 require('./cleanup.js');
+const { readPackaged, isInstalled } = require('./packaged-pages.js');
+
+/**
+ * @typedef {import('../list/types').Report & {refused?: unknown}} Report
+ * @typedef {import('../trace/accesses.js').Entry} Entry
+ * @typedef {ReturnType<Spelling['records']>} Records
+ */
 
 /** What of the pairs may stay where the program can't take the whole trace. */
 const KEPT = 0.75;
 
+/** @param {Entry[]} entries */
 function spelled(entries) {
   return keepWithin(new Spelling(entries, NEWEST_VERSION).records()).records;
 }
 
+/**
+ * @param {Records} records
+ * @param {string} file
+ * @returns {Promise<Report>}
+ */
 async function report(records, file) {
   fs.writeFileSync(file, `${[`webtrace ${NEWEST_VERSION}`, ...records.map(({ text }) => text), 'end'].join('\n')}\n`);
+  /** @type {{report?: Report, fault?: string}} */
   const answer = await judge(file);
-  if (answer.fault) throw new Error(answer.fault);
+  if (!answer.report) throw new Error(answer.fault);
   return answer.report;
 }
 
-/** The whole trace, without the locations that are too large for the program. */
+/**
+ * The whole trace, without the locations that are too large for the program.
+ * @param {Entry[]} entries
+ * @param {string} file
+ */
 async function wholeWithin(entries, file) {
   let records = spelled(entries);
+  /** @type {Set<string>} */
   const tooLarge = new Set();
   for (;;) {
     const judged = await report(records, file);
@@ -43,10 +62,16 @@ async function wholeWithin(entries, file) {
   }
 }
 
+/** @param {Records} records */
 const countOf = (records) => records.filter(({ text }) => /^[rw] /.test(text)).length;
 
+/**
+ * @param {Chromium} browser
+ * @param {import('./packaged-pages.js').PackagedPage} page
+ * @param {string} folder
+ */
 async function comparePage(browser, { package: name, page, root = '/usr/share', words }, folder) {
-  const options = { ...parseOptions([...words, '--keep', '--root', root, page], NEWEST_VERSION, 1), browser };
+  const options = { ...parseOptions([...words, '--keep', '--root', root, page]), browser };
   const recorder = new Recorder(page, options);
   await recorder.record();
   await recorder.readMaps();
@@ -54,9 +79,9 @@ async function comparePage(browser, { package: name, page, root = '/usr/share', 
   const whole = await wholeWithin(new Accesses(entries).whole(), path.join(folder, `${name}.whole.trace`));
   const names = new Names(recorder.sources, recorder.intake.names);
   names.addRecords(whole.records);
-  const without = (some) => spelled(some).filter(({ text }) => !isAt(text, whole.tooLarge));
+  const without = (/** @type {Entry[]} */ some) => spelled(some).filter(({ text }) => !isAt(text, whole.tooLarge));
   const left = without(new Accesses(entries).entries());
-  const isLibrary = (place) => recorder.sources.isLibrary(place, options.libraries);
+  const isLibrary = (/** @type {string|undefined} */ place) => recorder.sources.isLibrary(place, options.libraries);
   const own = without(new Accesses(entries).entries({ isLibrary }));
   const leftReport = await report(left, path.join(folder, `${name}.left.trace`));
   const ownReport = await report(own, path.join(folder, `${name}.own.trace`));
@@ -72,17 +97,18 @@ async function comparePage(browser, { package: name, page, root = '/usr/share', 
   };
 }
 
+/** @param {Awaited<ReturnType<typeof comparePage>>} compared */
 function told({ name, accesses, races, tooLarge, counts, unexplained, foreign }) {
   const rules = Object.entries(counts).map(([rule, count]) => `${rule} ${count}`).join(', ');
   return `${name}: accesses ${accesses.join(', ')}; races ${races.join(', ')} (the whole, what rules one to five leave, and without libraries)`
     + `; missing by ${rules || 'no rule'}; not explained ${unexplained.length}, in no whole ${foreign.length}; too large ${tooLarge}`;
 }
 
+/** @param {string[]} words */
 async function main([folder = '.', ...only]) {
-  const pages = JSON.parse(fs.readFileSync(path.join(__dirname, 'packaged.json'), 'utf8'));
   let status = 0;
-  for (const one of pages.filter(({ package: name }) => !only.length || only.includes(name))) {
-    if (!fs.existsSync(one.page.replace(/\?.*$/, ''))) {
+  for (const one of readPackaged(only)) {
+    if (!isInstalled(one)) {
       console.log(`${one.package}: not installed`);
       continue;
     }

@@ -8,6 +8,11 @@ const { test } = require('node:test');
 const { tablesOf, withTables } = require('./packaged-tables.js');
 
 const DOCUMENT = path.join(__dirname, '..', '..', 'docs', 'evaluation-tables.md');
+/**
+ * @param {string} name
+ * @param {number} size
+ * @param {import('./packaged-tables.js').Counts} looks
+ */
 const page = (name, size, looks) => ({
   page: name, races: size, groups: size, problems: size, lines: size, lost: 0, looks, places: { own: size, library: size, none: 2 * size, access: size, byWay: 0 },
   firsts: { own: size, all: 4 * size },

@@ -2,14 +2,17 @@
 'use strict';
 // packaged.js [--times N] [--server] [--depth DEPTH] [FOLDER] [PACKAGE..]: records pages of Debian packages (packaged.json; those that are installed),
 // each also without the recorder, and tells whether the trace is accepted, whether the page throws the same, and how long the load took:
-// the median of N recordings with and without the recorder, in turns. With --server the pages come from a web server of its own.
+// the median of N recordings with and without the recorder, alternately. With --server the pages come from a web server of its own.
 
 const fs = require('node:fs');
 const path = require('node:path');
-const { PROGRAM } = require('../view/program.js');
+const { PROGRAM } = require('../races/program.js');
 const { resolveAddress } = require('../browser/folder.js');
 const { run } = require('./cleanup.js');
+const { readPackaged, isInstalled } = require('./packaged-pages.js');
 const { serveFolder } = require('./server.js');
+
+/** @typedef {ReturnType<typeof optionsOf>} Options */
 
 const TOP = path.join(__dirname, '..', '..');
 const LOAD_LINE = /load of the page: ([\d.]+) s/;
@@ -17,22 +20,35 @@ const LONGEST_RUN = 120000;
 /** Of the whole machine no more is served than this. */
 const DOCUMENTATION = '/usr/share/';
 
+/**
+ * @param {string} page
+ * @param {string} file
+ * @param {string[]} words
+ */
 async function record(page, file, words) {
   const { stderr, status } = await run(path.join(TOP, 'er_record'), [page, file, ...words], { longest: LONGEST_RUN });
   const errors = stderr.split('\n').filter((line) => line.startsWith('  error: ')).sort();
   return { status, errors, load: Number(LOAD_LINE.exec(stderr)?.[1]), said: stderr };
 }
 
+/** @param {string} file */
 async function judge(file) {
   const { stdout } = await run('/bin/sh', ['-c', `${PROGRAM} < '${file}'`], { longest: LONGEST_RUN });
   fs.writeFileSync(file.replace(/trace$/, 'report'), stdout);
-  const count = (name) => new RegExp(`^${name} (\\d+)$`, 'm').exec(stdout)?.[1];
+  const count = (/** @type {string} */ name) => new RegExp(`^${name} (\\d+)$`, 'm').exec(stdout)?.[1];
   return stdout.startsWith('report') ? `${count('actions')} actions, ${count('races')} races, ${count('groups')} groups` : stdout.trim();
 }
 
+/** @param {number[]} numbers */
 const median = (numbers) => [...numbers].sort((a, b) => a - b)[Math.floor(numbers.length / 2)];
 
-/** Records a page N times with and without the recorder, in turns. */
+/**
+ * Records a page N times with and without the recorder, alternately.
+ * @param {string} address
+ * @param {string} file
+ * @param {string[]} words
+ * @param {Options} options
+ */
 async function recordBoth(address, file, words, { times, depth }) {
   const runs = [];
   for (let k = 0; k < times; k++) {
@@ -45,6 +61,10 @@ async function recordBoth(address, file, words, { times, depth }) {
   return { plain, recorded, loads: `load ${without.toFixed(2)} s without, ${withIt.toFixed(2)} s with: ${(withIt / without).toFixed(1)} times` };
 }
 
+/**
+ * @param {import('./packaged-pages.js').PackagedPage} page
+ * @param {Options} options
+ */
 async function recordPage({ package: name, page, root = '/usr/share', words }, options) {
   const { folder, isServed } = options;
   const file = path.join(folder, `${name}.trace`);
@@ -57,6 +77,7 @@ async function recordPage({ package: name, page, root = '/usr/share', words }, o
   console.log(`${name}: ${await judge(file)}; status ${recorded.status}, ${errors} (${recorded.errors.length}); ${loads}`);
 }
 
+/** @param {string[]} words */
 function optionsOf(words) {
   const left = [...words];
   const options = { times: 1, isServed: false, depth: 'objects' };
@@ -68,11 +89,11 @@ function optionsOf(words) {
   }
 }
 
+/** @param {string[]} words */
 async function main(words) {
   const options = optionsOf(words);
-  const pages = JSON.parse(fs.readFileSync(path.join(__dirname, 'packaged.json'), 'utf8'));
-  for (const one of pages.filter(({ package: name }) => !options.only.length || options.only.includes(name))) {
-    if (fs.existsSync(one.page.replace(/\?.*$/, ''))) await recordPage(one, options);
+  for (const one of readPackaged(options.only)) {
+    if (isInstalled(one)) await recordPage(one, options);
     else console.log(`${one.package}: not installed`);
   }
 }

@@ -8,8 +8,9 @@ const { Chromium } = require('../browser/chromium.js');
 const { Comparison } = require('./rules.js');
 const { recordPage, judge, reportOf, actorsOf, firstMissing } = require('./support.js');
 
-const cases = [...require('./cases.js').cases, ...require('./event-cases.js').cases];
+const { cases } = require('./cases.js');
 
+/** @type {Chromium} */
 let browser;
 before(async () => { browser = await Chromium.launch({ width: 1100, height: 800 }); });
 after(async () => { await browser.close(); });

@@ -4,19 +4,24 @@
 const assert = require('node:assert');
 const { after, before, test } = require('node:test');
 const { Chromium } = require('../browser/chromium.js');
-const { parseOptions } = require('../options.js');
-const { Actions } = require('../view/actions.js');
-const { Words } = require('../view/words.js');
+const { parseOptions } = require('../recording/options.js');
+const { Actions } = require('../races/actions.js');
+const { Words } = require('../races/words.js');
 const { recordPage } = require('./support.js');
 
 const LIMIT = { timeout: 150000 };
 const CLICK = ['--do', 'click:button'];
-const { libraries } = parseOptions(['x'], 3, 1);
+const { libraries } = parseOptions(['x']);
+/** @type {Chromium} */
 let browser;
 before(async () => { browser = await Chromium.launch({ width: 1100, height: 800 }); });
 after(async () => { await browser.close(); });
 
-/** All actions of a page in words. */
+/**
+ * All actions of a page in words.
+ * @param {string[]} words
+ * @param {RegExp|null} [given]
+ */
 async function actionsOf(words, given = libraries) {
   const trace = await recordPage(browser, 'by-way-of-library.html', [...CLICK, ...words]);
   const inWords = new Words(JSON.parse(trace.namesOf(given).toJson({})), new Actions(trace.text.replace(/end\n$/, '')));

@@ -3,13 +3,21 @@
 // nothing that is seen), and the worst effect (replay/verdict.js). Those that are `isLong` stand in the longer run alone
 // (recorder/README.md). Of `cases` test/looks.test.js tells what they look like.
 
-/** Of two that write one text the later one's stands there. */
+/**
+ * Of two that write one text the later one's stands there.
+ * @param {string} one
+ */
 const last = (one, other = 'late') => new RegExp(`text in the recorded order alone: "(${one}|${other})"; text in the other order alone: "(${one}|${other})"`);
 const CONTENT = 'another content';
 
-/** Whether a location in words is that of a case: where an object was used first is the run's own, so the line is left out. */
+/**
+ * Whether a location in words is that of a case: where an object was used first is the run's own, so the line is left out.
+ * @param {string} text
+ * @param {string} location
+ */
 exports.isAt = (text, location) => text.replace(/(first used at \S+):\d+$/, '$1') === location;
 
+/** @type {import('./types').ReplayCase[]} */
 exports.cases = [
   { page: 'race-async-parser.html', location: '#offer', worst: 'an uncaught error', differs: /error in the (recorded|other) order alone: TypeError.*text in the (recorded|other) order alone: "(Two for one|nothing)"/ },
   { page: 'race-async-async.html', location: 'theme', worst: CONTENT, isLong: true, differs: last('light', 'dark') },
@@ -29,6 +37,7 @@ exports.cases = [
   { page: 'race-live.html', words: ['--live'], location: 'isLoaded', isLong: true, differs: null, says: /but in what differs by itself too: text in the (recorded|other) order alone: "drawn: / },
   { page: 'race-two-handlers.html', words: ['--do', 'click:#go'], location: 'steps', isLong: true, why: /both come from one act of the user/ },
   { page: 'race-enabled.html', words: ['--do', 'click:#button'], location: 'price', isLong: true, worst: CONTENT, differs: last('none') },
+  { page: 'race-shown.html', words: ['--do', 'click:#button'], location: 'price', isLong: true, worst: CONTENT, differs: last('none') },
   { page: 'race-press-release.html', words: ['--do', 'click:#go'], location: 'state', why: /both come from one act of the user/ },
   // objects, closures and the page's tree
   { page: 'race-closure.html', location: 'price of the closure of shop() at race-closure.html:5', isLong: true, worst: CONTENT, differs: last('price 0', 'price 7') },
@@ -38,6 +47,7 @@ exports.cases = [
   { page: 'race-put-back.html', location: 'isOpen of page, the object first used at race-put-back.html', isLong: true, worst: CONTENT, differs: last('soon') },
 ];
 
+/** @type {import('./types').ReplayCase[]} */
 exports.more = [
   // observers, events that the browser brings, modules and frames with no file
   { page: 'race-intersection.html', location: 'state', worst: CONTENT, differs: last('seen') },

@@ -11,7 +11,7 @@ const { pathToFileURL } = require('node:url');
 const { Chromium } = require('../browser/chromium.js');
 const { Tab } = require('../browser/tab.js');
 const { run, start, temporaryFolder } = require('./cleanup.js');
-const { serveFolder } = require('./server.js');
+const { listen, serveFolder } = require('./server.js');
 const { replayPage, PAGES } = require('./support.js');
 const { cases, more } = require('./replay-cases.js');
 
@@ -22,15 +22,21 @@ const folder = temporaryFolder('replay-test');
 /** So many pages load at once. */
 const AT_ONCE = 5;
 const LONGEST = 400000;
+/** @typedef {import('./types').ReplayCase} ReplayCase */
+/** @type {Chromium} */
 let browser;
 before(async () => { browser = await Chromium.launch(SIZE); });
 after(async () => { await browser.close(); });
 
+/**
+ * Runs a page again in the other order.
+ * @param {ReplayCase} one
+ */
 async function check({ page, words = [], location, differs, worst, why, says }) {
   const { result, said, worst: effect } = await replayPage(browser, page, words, location, folder);
   if (why) {
     assert.strictEqual(result.verdict, 'not turned', said);
-    assert.match(result.why, why);
+    assert.match(result.why || '', why);
     return;
   }
   assert.strictEqual(result.verdict, 'turned', said);
@@ -41,10 +47,15 @@ async function check({ page, words = [], location, differs, worst, why, says }) 
   if (says) assert.match(said, says);
 }
 
-/** Pages with a user have the browser alone; of the others several load at once. */
+/**
+ * Pages with a user have the browser alone; of the others several load at once.
+ * @param {ReplayCase} one
+ */
 const hasUser = ({ words = [] }) => words.includes('--do');
+/** @param {{isLong?: boolean}} one */
 const isChosen = ({ isLong }) => process.env.ER_TESTS === 'all' || !isLong;
 const chosen = [...cases, ...more].filter(isChosen);
+/** @param {ReplayCase} one */
 const nameOf = ({ page, words = [] }) => [page, ...words].join(' ');
 
 describe('pages with no user', { concurrency: AT_ONCE }, () => {
@@ -55,7 +66,10 @@ describe('pages with a user', () => {
   for (const one of chosen.filter(hasUser)) it(nameOf(one), { timeout: LONGEST }, () => check(one));
 });
 
-/** Those that stand in the gate come from the folder there. */
+/**
+ * Those that stand in the gate come from the folder there.
+ * @type {{page: string, location: string, said: RegExp, isLong?: boolean}[]}
+ */
 const OF_SERVER = [
   { page: 'race-reply-reply.html', location: 'shown', said: /^turned: differs: text in the recorded order alone: "found for tea?"/ },
   { page: 'race-async-parser.html', location: '#offer', isLong: true, said: /^turned: differs: error in the (recorded|other) order alone: TypeError/ },
@@ -73,7 +87,23 @@ test('pages of a web server', { timeout: LONGEST }, async () => {
   }
 });
 
-/** What each race of the shop does, by its location. Whether the early click comes before the script that sets its handler is the run's own; then no race is at the cart. */
+/**
+ * A race that a command ran again, as its file has it.
+ * @typedef {{location: string, verdict: string, words: string, effect?: string, isListed: boolean, isSeenTwice: boolean, astray: number[], trace: string}
+ *   & {differences: {kind: string}[], order: {missing: unknown[], behind: unknown[], unordered: unknown[]}}} Replayed
+ */
+
+/**
+ * @param {string} own the folder of a list
+ * @returns {Replayed[]}
+ */
+const replayedIn = (own) => JSON.parse(fs.readFileSync(path.join(own, 'page.replay.json'), 'utf8')).races;
+
+/**
+ * What each race of the shop does, by its location. Whether the early click comes before the script that sets its handler is the run's own; then no
+ * race is at the cart.
+ * @type {{[name: string]: RegExp}}
+ */
 const OF_SHOP = {
   offer: /^turned: differs: error in the (recorded|other) order alone: TypeError/,
   click: /^turned: differs: lost event in the (recorded|other) order: the click at button#add: the click handler onAdd/,
@@ -86,7 +116,7 @@ test('the shop, by the command', { timeout: 400000 }, async () => {
   const words = [SHOP, '--replay', '--slow', '600', '--do', 'early click:#add', '--do', 'type:#search:tea', '--json', '--sarif', sarif];
   const { status, stdout, stderr } = await run(path.join(TOP, 'er_page'), words, { longest: 360000, cwd: folder });
   assert.strictEqual(status, 1, stderr);
-  const { races } = JSON.parse(fs.readFileSync(path.join(folder, 'shop.races', 'page.replay.json'), 'utf8'));
+  const races = replayedIn(path.join(folder, 'shop.races'));
   const names = races.map(({ location }) => location.split(' ')[2].replace(/\/\d+$/, ''));
   assert.deepStrictEqual(names.filter((name) => name !== 'cart').sort(), ['click', 'offer', 'value'], stderr);
   races.forEach((race, k) => {
@@ -96,9 +126,13 @@ test('the shop, by the command', { timeout: 400000 }, async () => {
     assert.ok(stderr.includes(` ${race.effect}: ${race.words.replace(/^turned: differs: /, '')}`), stderr);
     assert.ok(fs.existsSync(path.join(folder, 'shop.races', race.trace)));
   });
-  const replayed = JSON.parse(stdout).problems.filter(({ replay }) => replay);
-  assert.deepStrictEqual(replayed.map(({ replay }) => [replay.verdict, replay.differs]), races.map(() => ['turned', true]));
-  const results = JSON.parse(fs.readFileSync(sarif, 'utf8')).runs[0].results.filter(({ properties }) => properties?.replay);
+  /** @type {{problems: {replay?: {verdict: string, differs: boolean}}[]}} */
+  const { problems } = JSON.parse(stdout);
+  const replays = problems.flatMap(({ replay }) => (replay ? [replay] : []));
+  assert.deepStrictEqual(replays.map(({ verdict, differs }) => [verdict, differs]), races.map(() => ['turned', true]));
+  /** @type {{properties?: {replay?: object}, message: {text: string}}[]} */
+  const all = JSON.parse(fs.readFileSync(sarif, 'utf8')).runs[0].results;
+  const results = all.filter(({ properties }) => properties?.replay);
   assert.strictEqual(results.length, races.length);
   results.forEach(({ message }) => assert.match(message.text, /Run again in the other order: turned: differs: /));
   await seeView(path.join(folder, 'shop.races', 'page.html'), races.length);
@@ -114,27 +148,60 @@ setTimeout(function fill() { count = 1; }, 160);
 setTimeout(function ask() { document.title = 'count ' + count; }, 120);
 </script>`;
 
-test('Ctrl-C while the page runs again: what was judged so far is told and written', { timeout: LONGEST }, async () => {
-  const own = path.join(folder, 'temporary');
-  fs.mkdirSync(own);
-  fs.writeFileSync(path.join(folder, 'two-races.html'), TWO_RACES);
-  const command = start(path.join(TOP, 'er_page'), ['two-races.html', '--replay'], { cwd: folder, env: { ...process.env, TMPDIR: own } });
-  while (!command.said.includes('  1 of 2: ')) await new Promise((resolve) => setTimeout(resolve, 50));
-  command.kill('SIGINT');
-  assert.strictEqual(await command.ended, 130, command.said);
-  assert.match(command.said, /er_page: stopped/);
-  assert.match(command.output, /^Of 1: 1 differ, 0 could not be turned, 0 have no visible difference\.$/m);
-  const { races } = JSON.parse(fs.readFileSync(path.join(folder, 'two-races.races', 'page.replay.json'), 'utf8'));
-  assert.deepStrictEqual(races.map(({ verdict, effect }) => [verdict, effect]), [['turned', 'another content']]);
-  const view = fs.readFileSync(path.join(folder, 'two-races.races', 'page.html'), 'utf8');
-  assert.strictEqual(JSON.parse(/id="model">(.*)<\/script>/.exec(view)[1]).replays.length, 1);
-  assert.deepStrictEqual(fs.readdirSync(own), []);
+/** Before them a race that does no harm: it is done first, as nothing has to be confirmed. */
+const HARMLESS_FIRST = TWO_RACES.replace('</script>', `var seen = 0;
+setTimeout(function see() { seen = 1; }, 8);
+setTimeout(function look() { window.looked = seen > 5; }, 2);
+</script>`);
+
+for (const atOnce of ['1', '4']) {
+  test(`Ctrl-C while the page runs again, ${atOnce} at once: what was judged so far is told and written`, { timeout: LONGEST }, async () => {
+    const place = path.join(folder, `stop-${atOnce}`);
+    const own = path.join(place, 't'); // the browser's sockets are there, whose paths must be short
+    fs.mkdirSync(own, { recursive: true });
+    fs.writeFileSync(path.join(place, 'races.html'), HARMLESS_FIRST);
+    const command = start(path.join(TOP, 'er_page'), ['races.html', '--replay', '--at-once', atOnce], { cwd: place, env: { ...process.env, TMPDIR: own } });
+    while (!command.said.includes('  1 of 3: ') && command.exitCode === null) await new Promise((resolve) => setTimeout(resolve, 50));
+    command.kill('SIGINT');
+    assert.strictEqual(await command.ended, 130, command.said);
+    assert.match(command.said, /er_page: stopped/);
+    assert.match(command.output, /^Of 1: 0 differ, 0 could not be turned, 1 have no visible difference\.$/m);
+    const races = replayedIn(path.join(place, 'races.races'));
+    assert.deepStrictEqual(races.map(({ verdict, effect }) => [verdict, effect]), [['turned', undefined]]);
+    const view = fs.readFileSync(path.join(place, 'races.races', 'page.html'), 'utf8');
+    assert.strictEqual(JSON.parse(/id="model">(.*)<\/script>/.exec(view)?.[1] || '').replays.length, 1);
+    assert.deepStrictEqual(fs.readdirSync(own), []);
+  });
+}
+
+/**
+ * What a replay found of a race, the same in each replay.
+ * @param {Replayed} race
+ * @returns {[location: string, verdict: string, kinds: string[], ...facts: unknown[]]}
+ */
+const foundOf = ({ location, verdict, differences, isListed, isSeenTwice, astray }) => [location, verdict, differences.map(({ kind }) => kind), isListed, isSeenTwice, astray];
+
+test('several runs at once find what one after the other finds', { timeout: LONGEST }, async () => {
+  const found = [];
+  for (const atOnce of ['1', '4']) {
+    const own = path.join(folder, `at-once-${atOnce}`);
+    fs.mkdirSync(own);
+    fs.writeFileSync(path.join(own, 'two-races.html'), TWO_RACES);
+    const { status, stderr } = await run(path.join(TOP, 'er_page'), ['two-races.html', '--replay', '--at-once', atOnce], { longest: LONGEST, cwd: own });
+    assert.strictEqual(status, 1, stderr);
+    assert.match(stderr, /^ {2}2 of 2: .*: differs \(\d+ runs; [\d.]+ s\)$/m);
+    const runs = fs.readdirSync(path.join(own, 'two-races.races', 'replays')).filter((name) => name.endsWith('.trace'));
+    assert.ok(runs.includes('1+2-again.trace') && !runs.includes('1-again.trace'), runs.join(', '));
+    found.push(replayedIn(path.join(own, 'two-races.races')).map(foundOf).sort());
+  }
+  assert.deepStrictEqual(found[1], found[0]);
+  assert.deepStrictEqual(found[0].map(([, verdict, kinds, ...rest]) => [verdict, kinds[0], ...rest]), [['turned', 'title', true, true, []], ['turned', 'text', true, true, []]]);
 });
 
 test('what would change something on another machine is not sent again without --yes', { timeout: 150000 }, async () => {
   const { status, stdout, stderr } = await run(path.join(TOP, 'er_page'), [path.join(PAGES, 'race-posts.html'), '--replay'], { longest: 140000, cwd: folder });
   assert.strictEqual(status, 2, stderr);
-  assert.match(stdout, /^1\. "state"/m);
+  assert.match(stdout, /^\S*race-posts\.html:\d+ {2}.*`state`/m);
   assert.match(stderr, /^er_page: not run again: each run would send once more: POST http:\/\/shop\.invalid:1\/save; --yes lets it$/m);
 });
 
@@ -142,22 +209,26 @@ test('what a socket tells', { timeout: LONGEST, skip: !isChosen({ isLong: true }
   const server = net.createServer((socket) => {
     socket.on('error', () => {});
     socket.once('data', (head) => {
-      const key = /Sec-WebSocket-Key: (\S+)/i.exec(head)[1];
+      const key = /Sec-WebSocket-Key: (\S+)/i.exec(String(head))?.[1];
       const accept = createHash('sha1').update(`${key}258EAFA5-E914-47DA-95CA-C5AB0DC85B11`).digest('base64');
       socket.write(`HTTP/1.1 101 Switching Protocols\r\nUpgrade: websocket\r\nConnection: Upgrade\r\nSec-WebSocket-Accept: ${accept}\r\n\r\n`);
       socket.write(Buffer.from([0x81, 4, ...Buffer.from('told')]));
     });
   });
-  await new Promise((resolve) => server.listen(0, '127.0.0.1', resolve));
+  const port = await listen(server);
   try {
-    const { said } = await replayPage(browser, `race-web-socket.html?${server.address().port}`, [], 'state', folder);
+    const { said } = await replayPage(browser, `race-web-socket.html?${port}`, [], 'state', folder);
     assert.match(said, /^turned: differs: text in the recorded order alone: "(told|late)"; text in the other order alone: "(told|late)"/);
   } finally {
     server.close();
   }
 });
 
-/** The view has a badge for each race, and folds out to the differences and both pictures. */
+/**
+ * The view has a badge for each race, and folds out to the differences and both pictures.
+ * @param {string} file
+ * @param {number} races
+ */
 async function seeView(file, races) {
   const tab = await Tab.open(browser, SIZE);
   await tab.send('Page.enable');

@@ -9,9 +9,13 @@ const { Comparison } = require('./rules.js');
 
 /** Three timeouts that nothing orders, with accesses to one variable, as the page tells them. */
 const BEGIN = ['parse 0 1 inline', 'exec 1', 'every 1 0', 'every 2 0', 'every 3 0'];
+/** @param {string[]} lines */
 const entriesOf = (lines) => lines.map((line) => ({ text: line.split('\t')[0], place: line.split('\t')[1] }));
 
-/** @param {string[][]} actions what each of the timeouts tells of all accesses; `told` are the lines that its rules leave */
+/**
+ * @param {string[][]} actions what each of the timeouts tells of all accesses
+ * @param {string[]} told the lines that its rules leave
+ */
 async function compare(actions, told, location = 'var 3000000 n own') {
   const lines = [...BEGIN, `at 1 ${location}`, ...actions.flatMap((own, k) => [`tick ${k + 1}`, ...own]), ...told];
   const whole = new Accesses(entriesOf(lines)).whole();

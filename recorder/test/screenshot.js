@@ -8,6 +8,7 @@ const { pathToFileURL } = require('node:url');
 const { Chromium } = require('../browser/chromium.js');
 const { Tab } = require('../browser/tab.js');
 
+/** @param {string[]} args */
 async function main([file, picture, width, height, script]) {
   const size = { width: Number(width), height: Number(height) };
   const browser = await Chromium.launch(size);

@@ -5,6 +5,7 @@
 const { Chromium } = require('../browser/chromium.js');
 const { recordPage, judge } = require('./support.js');
 
+/** @param {string[]} words */
 async function main(words) {
   const pages = words.filter((word) => /\.(html|svg)$/.test(word));
   const options = words.filter((word) => !/\.(html|svg)$/.test(word));

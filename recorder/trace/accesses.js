@@ -1,23 +1,32 @@
 'use strict';
-// Accesses to objects, scopes and global variables: the page tells each with the number of its action, once it may race. Here they are put to
-// their actions, and what can't race is left out. With `--keep` the page tells each access in its own place too, whatever the rules say of it:
-// so that one recording gives both the trace that the rules leave and the whole one.
+// Accesses to objects, scopes and global variables: the page writes each with the number of its action, once it may race. Here they are put into
+// their actions, and what can't race is left out. With `--keep` the page writes each access in its own place too, whatever the rules say of it:
+// so one recording gives both the trace that the rules leave and the whole one.
 
 const { BEGINS, wordOf } = require('./intake.js');
 
 /**
- * @typedef {{text: string, place: string|undefined, found: string|undefined, isKept?: boolean, why?: string}} Entry
- *   `isKept` where a write that left the old value is told as a read; `why` is, of a whole recording, what a rule says of the access: `own`
- *   (a read behind a write of its action), `first` (a first value), `same` (a write that leaves the old value)
- * @typedef {{location: string, isOwn: boolean, accesses: object[]}} Variable
+ * @typedef {import('./intake.js').Entry & {isKept?: boolean, why?: string}} Entry
+ *   `isKept` if a write that left the old value is written as a read; `why` is, in a whole recording, what a rule says of the access: `own`
+ *   (a read after a write of its action), `first` (a first value), `same` (a write that leaves the old value)
+ * @typedef {{action: number, mode: string, place?: string, found?: string, isKept: boolean}} Access
+ * @typedef {{location: string, isOwn: boolean, accesses: Access[]}} Variable
+ * @typedef {(place: string|undefined) => boolean} IsLibrary whether a place is in a library
  */
 
 /** The lines of the log that are no whole accesses. */
 const OF_PAGE = new Set(['at', 'in', 'same']);
 
+/**
+ * @param {number} number
+ * @param {string} what
+ */
 const counted = (number, what) => `${number} ${what}${number === 1 ? '' : what.endsWith('s') ? 'es' : 's'}`;
 
-/** That this is left out is a choice: it is told, with what shows it. */
+/**
+ * That these are left out is a choice: the line says what shows them.
+ * @param {{accesses: number, objects: number}} left
+ */
 function librariesInWords({ accesses, objects }) {
   return `${counted(accesses, 'access')} to ${counted(objects, 'object')} that only libraries touch ${accesses === 1 ? 'is' : 'are'} left out; --libraries none shows them`;
 }
@@ -29,10 +38,14 @@ class Accesses {
     this.variables = new Map();
     this.log = entries;
     this.rest = entries.filter((entry) => !this.take(entry));
+    /** @type {Map<string, number>} */
     this.leftOut = new Map();
     /** What only libraries touch: so many accesses, to these objects. */
     this.ofLibraries = { accesses: 0, objects: new Set() };
-    /** The places of the steps of the parser among the actions. */
+    /**
+     * The numbers of the actions that are steps of the parser.
+     * @type {Set<number>}
+     */
     this.parsers = new Set();
     let action = 0;
     for (const { text } of this.rest) {
@@ -42,7 +55,10 @@ class Accesses {
     }
   }
 
-  /** Answers whether an entry is one of these. */
+  /**
+   * Whether an entry is one of these.
+   * @param {Entry} entry
+   */
   take({ text, place, found }) {
     const word = wordOf(text);
     if (word === 'all' || word === 'same') return true;
@@ -58,8 +74,8 @@ class Accesses {
   }
 
   /**
-   * The log with each access behind the begin of its action, without what the rules leave out.
-   * @param {{isLibrary?: (place: string|undefined) => boolean}} options
+   * The log with each access after the start of its action, without what the rules leave out.
+   * @param {{isLibrary?: IsLibrary}} options
    * @returns {Entry[]}
    */
   entries({ isLibrary = () => false } = {}) {
@@ -70,27 +86,40 @@ class Accesses {
     return this.placed();
   }
 
+  /**
+   * @param {string} why
+   * @param {number} number
+   */
   count(why, number) {
     if (number) this.leftOut.set(why, (this.leftOut.get(why) || 0) + number);
   }
 
   /**
    * The parser's steps come one after the other. Of those that write one variable with no other access between them the first and the last say
-   * it all: what nothing orders with a step between is ordered with neither behind the last nor before the first.
+   * it all: what nothing orders with a step between is ordered with neither after the last nor before the first.
+   * @param {Variable} variable
    */
   thin(variable) {
     const { accesses } = variable;
     accesses.sort((a, b) => a.action - b.action);
+    /**
+     * @param {Access} access
+     * @param {number} k
+     */
     const isBetween = (access, k) => [accesses[k - 1], access, accesses[k + 1]].every((one) => this.isStep(one));
     variable.accesses = accesses.filter((access, k) => !isBetween(access, k));
     this.count('further steps of the parser that write one variable', accesses.length - variable.accesses.length);
   }
 
+  /** @param {Access|undefined} access */
   isStep(access) {
     return access !== undefined && access.mode === 'w' && this.parsers.has(access.action);
   }
 
-  /** What one action alone touches, what is only read, and what the parser alone writes. */
+  /**
+   * Whether one action alone touches a variable, it is only read, or the parser alone writes it.
+   * @param {Variable} variable
+   */
   isAlone({ accesses }) {
     const isShared = accesses.some(({ action }) => action !== accesses[0].action);
     if (isShared && accesses.some(({ mode }) => mode === 'w') && !accesses.every((access) => this.isStep(access))) return false;
@@ -98,7 +127,11 @@ class Accesses {
     return true;
   }
 
-  /** What the code of libraries alone touches is their own. Global variables and the page's tree are the page's. */
+  /**
+   * What the code of libraries alone touches is their own. Global variables and the page's tree are the page's.
+   * @param {Variable} variable
+   * @param {IsLibrary} isLibrary
+   */
   isOfLibraries({ location, isOwn, accesses }, isLibrary) {
     if (!isOwn || !accesses.every(({ place }) => isLibrary(place))) return false;
     this.ofLibraries.accesses += accesses.length;
@@ -107,13 +140,16 @@ class Accesses {
   }
 
   placed() {
+    /** @type {Map<number, Entry[]>} */
     const byAction = new Map();
     for (const { location, accesses } of this.variables.values()) {
-      for (const { action, mode, ...told } of accesses) {
-        if (!byAction.has(action)) byAction.set(action, []);
-        byAction.get(action).push({ text: `${mode} ${location}`, ...told });
+      for (const { action, mode, ...known } of accesses) {
+        const list = byAction.get(action) || [];
+        list.push({ text: `${mode} ${location}`, ...known });
+        byAction.set(action, list);
       }
     }
+    /** @type {Entry[]} */
     const entries = [];
     let action = 0;
     for (const entry of this.rest) {
@@ -126,10 +162,12 @@ class Accesses {
 
   // ---- the whole recording
 
-  /** The log with all accesses, each in its own place: once an action, as it was first. */
+  /** The log with all accesses, each in its own place: once in each action, as it was first. */
   whole() {
     const same = this.sameWrites();
+    /** @type {Entry[]} */
     const entries = [];
+    /** @type {Map<string, Entry>} */
     const seen = new Map();
     let action = 0;
     for (const entry of this.log) {
@@ -139,23 +177,16 @@ class Accesses {
         seen.clear();
       }
       if (OF_PAGE.has(word)) continue;
+      const variable = word === 'all' ? this.variables.get(number) : undefined;
       if (word !== 'all') entries.push(entry);
-      else this.addWhole(entries, seen, { ...entry, text: `${mode} ${this.variables.get(number).location}`, why: mode === 'w' && same.has(`${action} ${number}`) ? 'same' : why });
+      else if (variable) addWhole(entries, seen, { ...entry, text: `${mode} ${variable.location}`, why: mode === 'w' && same.has(`${action} ${number}`) ? 'same' : why });
     }
     return entries;
   }
 
-  /** A write behind the first value is a write. */
-  addWhole(entries, seen, entry) {
-    const known = seen.get(entry.text);
-    if (known && known.why === 'first' && entry.why !== 'first') known.why = entry.why;
-    if (known) return;
-    seen.set(entry.text, entry);
-    entries.push(entry);
-  }
-
-  /** The writes behind which the variable had its old value, by action and variable: it is known when the action is over. */
+  /** The writes after which the variable had its old value, by action and variable: it is known when the action is over. */
   sameWrites() {
+    /** @type {Set<string>} */
     const same = new Set();
     let action = 0;
     for (const { text } of this.log) {
@@ -166,7 +197,7 @@ class Accesses {
     return same;
   }
 
-  /** What only libraries touch, counted, or undefined where there is no such. */
+  /** How much only libraries touch, or undefined if there is nothing. */
   libraries() {
     const { accesses, objects } = this.ofLibraries;
     return accesses ? { accesses, objects: objects.size } : undefined;
@@ -177,6 +208,20 @@ class Accesses {
     const libraries = this.libraries();
     return [...[...this.leftOut].map(([why, number]) => `${why}, left out: ${number}`), ...(libraries ? [librariesInWords(libraries)] : [])];
   }
+}
+
+/**
+ * A write after the first value is a write.
+ * @param {Entry[]} entries
+ * @param {Map<string, Entry>} seen
+ * @param {Entry} entry
+ */
+function addWhole(entries, seen, entry) {
+  const known = seen.get(entry.text);
+  if (known && known.why === 'first' && entry.why !== 'first') known.why = entry.why;
+  if (known) return;
+  seen.set(entry.text, entry);
+  entries.push(entry);
 }
 
 module.exports = { Accesses, librariesInWords };

@@ -1,89 +1,173 @@
 'use strict';
-// OUT.names.json: what each number of a trace is, and the place in the page's own text of each line, where it is known.
+// OUT.names.json: what each number of a trace is, and the place in the page's own text of each line, if it is known.
 
-/** The kinds of numbers, by the word of their name in the log. */
-const LISTS = {
-  element: 'elements', document: 'documents', handler: 'handlers', timeout: 'timeouts', interval: 'intervals', request: 'requests', dispatch: 'dispatches',
-};
-/** The notes whose place is that of what they declare. */
-const DECLARES = { on: 'handlers', set: 'timeouts', every: 'intervals', ask: 'intervals', send: 'requests', post: 'messages' };
-/** The objects of form fields (by the numbers of their elements) and of modules have numbers from these on. */
-const FIRST_FIELD = 1000000;
-const FIRST_MODULE = 2000000;
-/** Other objects, and scopes. */
-const FIRST_OBJECT = 3000000;
-/** Files that are longer than this keep only the lines around their places. */
-const LONGEST_TEXT = 400000;
-const MINIFIED = /\.min\.m?js(?:[?#].*)?$/i;
+const { fileAddress } = require('../browser/folder.js');
+const { foreignness } = require('../common/library.js');
+const { redactedValue } = require('../common/secrets.js');
+const { FIRST_FIELD, FIRST_MODULE, FIRST_OBJECT } = require('../common/numbers.js');
+const { jsonText } = require('../common/shown.js');
+const { LISTS, DECLARES } = require('./name-lists.js');
+const { namedFile } = require('./named-files.js');
+
+/**
+ * @typedef {[file: number, line: number, column: number]} Place
+ * @typedef {import('./log/facts.js').Fact} Fact
+ * @typedef {Partial<Omit<Fact, 'kind'|'number'>> & {place?: Place, way?: Place}} Facts what is known of a number
+ * @typedef {{[number: string]: Facts}} List by the number
+ * @typedef {{made?: string, name?: string, scope?: string, text?: string, place?: Place, module?: string, field?: number, windowOf?: number}} ObjectFacts
+ * @typedef {{own?: Place, way?: Place}} PlacesOfStack
+ * @typedef {import('./named-files.js').NamedFile} NamedFile
+ * @typedef {import('./spelling.js').SpelledEntry} SpelledEntry
+ */
+
+/**
+ * The texts that were instrumented, as far as names need them (texts/sources.js).
+ * @typedef {object} Texts
+ * @property {{address: string, text: string}[]} files
+ * @property {unknown[]} sites
+ * @property {{addressOf: (number: number) => string}} modules
+ * @property {(site: number) => Place} placeOfSite
+ * @property {(address: string, line: number, column: number) => Place|null} placeInCopy
+ * @property {(place: Place) => string} functionAt
+ * @property {(site: number) => {scope?: string, text?: string}} aboutSite
+ * @property {(address: string, tag: string, facts: {id?: string, source?: string}, left: Map<string, any[]>) => Place|null} nextTag `left` has the tags
+ *   that no element has taken, and only this function reads it
+ */
+
+/**
+ * A table whose keys may come from the page: it has none by itself.
+ * @template T
+ * @returns {{[key: string]: T}}
+ */
+const table = () => Object.create(null);
 
 class Names {
   /**
-   * @param {import('../sources.js').Sources} sources
-   * @param {{kind: string, number: number}[]} named what the page told
+   * @param {Texts} sources
+   * @param {Fact[]} named what the page reported
    * @param {RegExp|null} libraries the names of their files
    */
   constructor(sources, named, libraries = null) {
     this.sources = sources;
     this.libraries = libraries;
-    this.places = {};
-    /** Where a library asked for something in the place of the page's own code, by the line of the note. */
-    this.ways = {};
+    /** @type {{[line: string]: Place}} */
+    this.places = table();
+    /**
+     * Where a library requested something in the place of the page's own code, by the line of the note.
+     * @type {{[line: string]: Place}}
+     */
+    this.ways = table();
+    /** @type {Map<string, string[]>} */
     this.stacks = new Map();
+    /** @type {Map<string|undefined, PlacesOfStack>} */
     this.ofStacks = new Map();
-    /** The name of the function around a place, by file, line and column. */
-    this.functions = {};
-    /** What an access found or wrote, by its line (page/values.js); and what was there before a write, where that is told. */
-    this.values = {};
-    this.befores = {};
-    /** The writes that count a variable up or down, with a value that nobody uses. */
-    this.counts = {};
-    /** The lines of reads that are writes of the value that was there. */
-    this.kept = {};
-    this.objects = {};
+    /**
+     * The name of the function around a place, by file, line and column.
+     * @type {{[place: string]: string}}
+     */
+    this.functions = table();
+    /**
+     * What an access found or wrote, by its line (page/log/values.js); and what was there before a write, if that is known.
+     * @type {{[line: string]: string}}
+     */
+    this.values = table();
+    /** @type {{[line: string]: string}} */
+    this.befores = table();
+    /**
+     * The writes that count a variable up or down, with a value that nobody uses.
+     * @type {{[line: string]: true}}
+     */
+    this.counts = table();
+    /**
+     * The lines of reads that are writes of the value that was there.
+     * @type {{[line: string]: true}}
+     */
+    this.kept = table();
+    /** @type {{[number: string]: ObjectFacts}} */
+    this.objects = table();
+    /** @type {Map<string, any[]>} as `nextTag` keeps it */
     this.tagsLeft = new Map();
-    this.lists = Object.fromEntries([...Object.values(LISTS), 'messages'].map((list) => [list, {}]));
+    /** @type {{[list: string]: List}} */
+    this.lists = table();
+    for (const list of [...LISTS.values(), 'messages']) this.lists[list] = table();
+    /**
+     * What the page said of objects.
+     * @type {Map<number, Facts>}
+     */
     this.told = new Map();
+    /** @type {Map<string, string>} */
     this.written = new Map();
     named.forEach((one) => this.take(one));
-    this.addressOfDocument = (number) => (this.lists.documents[number]?.address || '').replace(/#.*$/, '');
   }
 
+  /** @param {Fact} fact */
   take({ kind, number, ...facts }) {
+    const list = LISTS.get(kind);
     if (kind === 'object') this.told.set(number, facts);
-    else if (kind === 'written') this.written.set(String(number), facts.value);
-    else if (kind === 'stack') this.stacks.set(String(number), facts.places.split('\n'));
-    else if (LISTS[kind]) this.lists[LISTS[kind]][number] = { ...this.lists[LISTS[kind]][number], ...facts };
-  }
-
-  /** @returns {[number, number, number]|null} file, line and column of a place of the log */
-  resolve(place) {
-    if (place === undefined) return null;
-    if (/^\d+$/.test(place)) return this.sources.placeOfSite(Number(place));
-    const found = /^(.*):(\d+):(\d+)$/.exec(place);
-    return found && this.sources.placeInCopy(found[1], Number(found[2]), Number(found[3]));
+    else if (kind === 'written') this.written.set(String(number), facts.value || '');
+    else if (kind === 'stack') this.stacks.set(String(number), (facts.places || '').split('\n'));
+    else if (list) Object.assign(this.entry(list, String(number)), facts);
   }
 
   /**
-   * Of a stack the first place in the page's own code, and where a library stands behind it: the innermost place. Files that were made small are no
+   * @param {string} list
+   * @param {string} number
+   */
+  entry(list, number) {
+    this.lists[list][number] = this.lists[list][number] || {};
+    return this.lists[list][number];
+  }
+
+  /** @param {string} number */
+  addressOfDocument(number) {
+    return (this.lists.documents[number]?.address || '').replace(/#.*$/, '');
+  }
+
+  // ---- places
+
+  /**
+   * @param {string|undefined} place as the log has it
+   * @returns {Place|null}
+   */
+  resolve(place) {
+    if (place === undefined) return null;
+    if (/^\d+$/.test(place)) return Number(place) < this.sources.sites.length ? this.sources.placeOfSite(Number(place)) : null;
+    const found = /^(.*):(\d+):(\d+)$/s.exec(place);
+    const at = found && this.sources.placeInCopy(found[1], Number(found[2]), Number(found[3]));
+    return at && at.every(Number.isInteger) ? at : null;
+  }
+
+  /**
+   * Of a stack the first place in the page's own code, and, if a library is called before it, the innermost place. Minified files are no
    * library, but say little to a reader: another place is taken before one in them.
+   * @param {string|undefined} stack
+   * @returns {PlacesOfStack}
    */
   placesOfStack(stack) {
-    if (!this.ofStacks.has(stack)) {
-      const places = (this.stacks.get(stack) || []).map((one) => this.resolve(one)).filter(Boolean);
-      const own = [...places].sort((a, b) => this.foreignness(a) - this.foreignness(b))[0];
-      this.ofStacks.set(stack, own && this.foreignness(own) < this.foreignness(places[0]) ? { own, way: places[0] } : {});
-    }
-    return this.ofStacks.get(stack);
+    const known = this.ofStacks.get(stack);
+    if (known) return known;
+    const places = (stack === undefined ? [] : this.stacks.get(stack) || []).flatMap((one) => {
+      const place = this.resolve(one);
+      return place ? [place] : [];
+    });
+    const own = [...places].sort((a, b) => this.foreignness(a) - this.foreignness(b))[0];
+    const found = own && this.foreignness(own) < this.foreignness(places[0]) ? { own, way: places[0] } : {};
+    this.ofStacks.set(stack, found);
+    return found;
   }
 
-  /** 0 of the page's own code, 1 of a file that was made small, 2 of a library. */
+  /**
+   * How little a place's file says about the page.
+   * @param {[file: number, ...rest: unknown[]]} place
+   */
   foreignness([file]) {
-    const { address } = this.sources.files[file];
-    if (this.sources.isOfLibrary(address, this.libraries)) return 2;
-    return this.libraries && MINIFIED.test(address) ? 1 : 0;
+    return foreignness(this.sources.files[file].address, this.libraries);
   }
 
-  /** Notes the places of all lines; `records` begin with line 2. */
+  /**
+   * Takes note of the places of all lines.
+   * @param {SpelledEntry[]} records they begin with line 2
+   */
   addRecords(records) {
     records.forEach(({ text, place, found, stack, isKept }, k) => {
       const words = text.split(' ');
@@ -98,14 +182,25 @@ class Names {
     });
   }
 
+  /**
+   * @param {number} line
+   * @param {string[]} words
+   * @param {Place} place
+   * @param {Place|undefined} way
+   */
   addPlace(line, [word, number], place, way) {
     this.places[line] = place;
     this.addFunction(place);
     if (way) this.ways[line] = way;
-    if (DECLARES[word]) Object.assign(this.entry(DECLARES[word], number), { place }, way && { way });
+    const list = DECLARES.get(word);
+    if (list) Object.assign(this.entry(list, number), { place }, way && { way });
   }
 
-  /** A write is told by its number, where what it wrote comes behind it; or by what it wrote, and what was there before. */
+  /**
+   * A write is known by its number, if what it wrote comes after it; or by what it wrote, and what was there before.
+   * @param {number} line
+   * @param {string} found
+   */
   addValue(line, found) {
     const [value = '', before] = found[0] === '=' ? [this.written.get(found.slice(1))] : found.split('<');
     if (value.endsWith('+')) this.counts[line] = true;
@@ -113,17 +208,16 @@ class Names {
     if (before && before !== '?') this.befores[line] = before;
   }
 
+  /** @param {Place} place */
   addFunction(place) {
     const key = place.join(':');
     if (this.functions[key] === undefined) this.functions[key] = this.sources.functionAt(place);
   }
 
-  entry(list, number) {
-    this.lists[list][number] = this.lists[list][number] || {};
-    return this.lists[list][number];
-  }
-
-  /** Where the code stands that an action runs. */
+  /**
+   * The place of the code that an action runs.
+   * @param {string[]} words
+   */
   placeOfBegin(words) {
     switch (words[0]) {
       case 'timer': return this.lists.timeouts[words[1]]?.place;
@@ -134,60 +228,65 @@ class Names {
     }
   }
 
+  /** @param {string[]} words */
   addElementPlace([, document, element]) {
     const facts = this.lists.elements[element];
     if (facts && facts.tag) facts.place = this.sources.nextTag(this.addressOfDocument(document), facts.tag, facts, this.tagsLeft) || undefined;
   }
 
-  /** The files, each with its text, so that a reader needs nothing else. */
-  files() {
-    const used = new Map();
-    const note = ([file, line]) => used.set(file, (used.get(file) || new Set()).add(line));
-    [...Object.values(this.places), ...Object.values(this.ways), ...Object.values(this.objects).map(({ place }) => place).filter(Boolean)].forEach(note);
-    return this.sources.files.map(({ address, text }, k) => {
-      if (!used.has(k)) return { address };
-      const known = this.foreignness([k]) ? { address, isLibrary: true } : { address };
-      return text.length <= LONGEST_TEXT ? { ...known, text } : { ...known, lines: linesAround(text, used.get(k)) };
-    });
-  }
+  // ---- objects
 
-  toJson(facts) {
-    return `${JSON.stringify({ format: 1, ...facts, ...this.facts(this.files()) }, null, 1)}\n`;
-  }
-
-  /** What stands in the file, by default with files that have no lines of their own. */
-  facts(files = this.sources.files) {
-    const functions = Object.fromEntries(Object.entries(this.functions).filter(([, name]) => name));
-    return { files, ...this.lists, objects: this.objects, functions, values: this.values, befores: this.befores, counts: this.counts, kept: this.kept, ways: this.ways, places: this.places };
-  }
-
-  /** Notes what the number of an object in a location is: a window, a form field or a module. */
+  /**
+   * Takes note of what the number of an object in a location is: a window, a form field or a module.
+   * @param {number} number
+   */
   addObject(number) {
     if (number >= FIRST_OBJECT) this.addMade(number);
-    else if (number >= FIRST_MODULE) this.objects[number] = { module: this.sources.modules[number - FIRST_MODULE] };
+    else if (number >= FIRST_MODULE) this.objects[number] = { module: this.sources.modules.addressOf(number) };
     else if (number >= FIRST_FIELD) this.objects[number] = { field: number - FIRST_FIELD };
     else this.objects[number] = { windowOf: number };
   }
 
-  /** An object or a scope: what made it, and the place and the text where it was first met. */
+  /**
+   * An object or a scope: what made it, and the place and the text at which it was first met.
+   * @param {number} number
+   */
   addMade(number) {
     if (this.objects[number]) return;
-    const { site, ...facts } = this.told.get(number) || {};
-    const isKnown = site !== undefined && site >= 0;
-    const place = isKnown && this.sources.placeOfSite(site);
+    const { site = -1, made, name } = this.told.get(number) || {};
+    const place = site >= 0 && site < this.sources.sites.length ? this.sources.placeOfSite(site) : null;
     if (place) this.addFunction(place);
-    this.objects[number] = { ...facts, ...(place ? { place, ...this.sources.aboutSite(site) } : {}) };
+    this.objects[number] = { ...(made === undefined ? {} : { made }), ...(name === undefined ? {} : { name }), ...(place ? { place, ...this.sources.aboutSite(site) } : {}) };
   }
-}
 
-/** The lines of a long text that a reader may want, by their numbers; very long lines are cut later, by the view. */
-function linesAround(text, numbers) {
-  const lines = text.split('\n');
-  const kept = {};
-  for (const number of numbers) {
-    for (let k = Math.max(1, number - 3); k <= Math.min(lines.length, number + 3); k++) kept[k] = lines[k - 1].slice(0, 20000);
+  // ---- what is written
+
+  /**
+   * The files, each with its text, so that a reader needs nothing else.
+   * @returns {NamedFile[]}
+   */
+  files() {
+    /** @type {Map<number, Set<number>>} */
+    const used = new Map();
+    /** @param {Place} place */
+    const note = ([file, line]) => used.set(file, (used.get(file) || new Set()).add(line));
+    [...Object.values(this.places), ...Object.values(this.ways), ...Object.values(this.objects).flatMap(({ place }) => (place ? [place] : []))].forEach(note);
+    return this.sources.files.map(({ address, text }, k) => namedFile(address, text, used.get(k), used.has(k) && this.foreignness([k]) > 0));
   }
-  return kept;
+
+  /** @param {{[member: string]: unknown}} facts of the recording */
+  toJson(facts) {
+    return `${jsonText({ format: 1, ...facts, ...this.facts(this.files()) }, 1, redactedValue)}\n`;
+  }
+
+  /**
+   * What is in the file, by default with all lines of the files.
+   * @param {NamedFile[]} files
+   */
+  facts(files = this.sources.files.map(({ address, text }) => ({ address: fileAddress(address), text }))) {
+    const functions = Object.fromEntries(Object.entries(this.functions).filter(([, name]) => name));
+    return { files, ...this.lists, objects: this.objects, functions, values: this.values, befores: this.befores, counts: this.counts, kept: this.kept, ways: this.ways, places: this.places };
+  }
 }
 
 module.exports = { Names };

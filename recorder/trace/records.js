@@ -2,9 +2,12 @@
 // The records that begin an action, and what is known of each: one table for all that read or write traces.
 
 /**
- * By the word of the record: its lane in the view's picture; `asked`, the note that declares what it names, and `by`, the index of that number
- * among its words; whether it begins a dispatch.
+ * `lane` is the one in the view's picture; `asked` the note that declares what the record names, and `by` the index of that number
+ * among its tokens; `isDispatch` whether it begins a dispatch.
+ * @typedef {{lane: string, asked?: string, by?: number, isDispatch?: boolean}} RecordFacts
  */
+
+/** By the keyword. */
 const RECORDS = {
   parse: { lane: 'Parser' },
   exec: { lane: 'Scripts' },
@@ -26,10 +29,11 @@ const RECORDS = {
 };
 
 const LANES = ['Parser', 'Scripts', 'Timers', 'Network', 'Loading', 'User and events', 'Handlers'];
-const words = Object.keys(RECORDS);
-const BEGINS = new Set(words);
-const DISPATCHES = new Set(words.filter((word) => RECORDS[word].isDispatch));
+/** @type {[word: string, facts: RecordFacts][]} */
+const all = Object.entries(RECORDS);
+const BEGINS = new Set(all.map(([word]) => word));
+const DISPATCHES = new Set(all.filter(([, { isDispatch }]) => isDispatch).map(([word]) => word));
 /** The notes that declare what a record names. */
-const NOTES = new Set(['on', ...words.map((word) => RECORDS[word].asked).filter(Boolean)]);
+const NOTES = new Set(['on', ...all.flatMap(([, { asked }]) => asked || [])]);
 
 module.exports = { RECORDS, LANES, BEGINS, DISPATCHES, NOTES };

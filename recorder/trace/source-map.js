@@ -1,15 +1,27 @@
 'use strict';
 // Source maps: which place of the files that a bundle was made of a place of the bundle stands for.
 
+const { addressOfMap, textInAddress } = require('./map-address.js');
+
+/**
+ * @typedef {{sources: (string|null)[], sourceRoot?: unknown, sourcesContent?: (string|null)[]|null, names?: (string|number|null)[]|null, mappings: string}} MapJson
+ * @typedef {{offset: {line: number, column: number}, map: MapJson}} SectionJson
+ * @typedef {{source: number, line: number, column: number, name: string|undefined}} Original
+ * @typedef {[column: number, source: number, line: number, sourceColumn: number, name: number]} Segment
+ * @typedef {SourceMap|IndexMap} AnyMap
+ */
+
 const DIGITS = 'ABCDEFGHIJKLMNOPQRSTUVWXYZabcdefghijklmnopqrstuvwxyz0123456789+/';
-const VALUE_OF = new Map([...DIGITS].map((digit, k) => [digit, k]));
-const COMMENT = /\/\/[#@] ?sourceMappingURL=(\S+)\s*(?:\*\/\s*)?$/;
-const LONGEST_COMMENT_LINE = 1000;
+const VALUE_OF = new Map(Array.from(DIGITS, (digit, k) => [digit, k]));
 /** A larger map is left out: with its segments it takes many times its own size. */
 const LARGEST_MAP = 64 * 1024 * 1024;
 const LARGEST_MAPPINGS = 16 * 1024 * 1024;
+const LONGEST_REASON = 100;
 
-/** The numbers of one segment, each of digits of five bits with the sign in the lowest one. */
+/**
+ * The numbers of one segment, each of digits of five bits with the sign in the lowest one.
+ * @param {string} segment
+ */
 function numbersOf(segment) {
   const numbers = [];
   let value = 0;
@@ -27,40 +39,68 @@ function numbersOf(segment) {
   return numbers;
 }
 
+/** @param {unknown} list */
 const isListOfTexts = (list) => Array.isArray(list) && list.every((one) => typeof one === 'string' || one === null);
+/**
+ * Some tools write names that are numbers.
+ * @param {unknown} list
+ */
+const isListOfNames = (list) => Array.isArray(list) && list.every((one) => typeof one === 'string' || typeof one === 'number' || one === null);
 
-/** Whether a map has what it must have. */
-function isMap(map) {
-  return map !== null && typeof map === 'object' && isListOfTexts(map.sources) && typeof map.mappings === 'string'
-    && [map.names, map.sourcesContent].every((list) => list === undefined || isListOfTexts(list));
+/**
+ * Whether a map has what it must have.
+ * @param {unknown} given
+ * @returns {given is MapJson}
+ */
+function isMap(given) {
+  if (given === null || typeof given !== 'object') return false;
+  const { sources, mappings, names, sourcesContent } = /** @type {{[member: string]: unknown}} */ (given);
+  return isListOfTexts(sources) && typeof mappings === 'string' && (names === undefined || names === null || isListOfNames(names))
+    && (sourcesContent === undefined || sourcesContent === null || isListOfTexts(sourcesContent));
 }
 
 class SourceMap {
-  /** @param {{sources: string[], sourcesContent?: string[], names?: string[], mappings: string}} map */
+  /**
+   * @param {MapJson} map
+   * @param {string} address of the bundle
+   */
   constructor(map, address) {
     const root = typeof map.sourceRoot === 'string' && map.sourceRoot ? `${map.sourceRoot.replace(/\/$/, '')}/` : '';
     this.sources = map.sources.map((name) => `${root}${name ?? '?'}`);
+    /** @type {(string|null|undefined)[]} */
     this.texts = map.sourcesContent || [];
-    this.names = map.names || [];
+    this.names = (map.names || []).map((name) => (name === null ? '' : String(name)));
     this.address = address;
     this.lines = this.decode(map.mappings);
   }
 
-  /** For each line of the bundle the segments: column, source, line, column and name, all from 0. */
+  /**
+   * For each line of the bundle the segments, all numbers from 0.
+   * @param {string} mappings
+   * @returns {Segment[][]}
+   */
   decode(mappings) {
     const state = [0, 0, 0, 0];
     return mappings.split(';').map((line) => {
       let column = 0;
-      return line.split(',').filter(Boolean).map((segment) => {
-        const [further, ...numbers] = numbersOf(segment);
+      let isSorted = true;
+      const segments = line.split(',').filter(Boolean).map((segment) => {
+        const [further = 0, ...numbers] = numbersOf(segment);
+        isSorted = isSorted && further >= 0;
         column += further;
         numbers.forEach((number, k) => { state[k] += number; });
-        return [column, ...(numbers.length >= 3 ? state.slice(0, 3) : [-1, 0, 0]), numbers.length === 4 ? state[3] : -1];
+        const [source, originalLine, sourceColumn] = numbers.length >= 3 ? state : [-1, 0, 0];
+        return /** @type {Segment} */ ([column, source, originalLine, sourceColumn, numbers.length === 4 ? state[3] : -1]);
       });
+      return isSorted ? segments : segments.sort((a, b) => a[0] - b[0]);
     });
   }
 
-  /** @returns {{source: number, line: number, column: number, name: string|undefined}|null} of a line and a column from 1 */
+  /**
+   * @param {number} line from 1
+   * @param {number} column from 1
+   * @returns {Original|null}
+   */
   original(line, column) {
     const segments = this.lines[line - 1] || [];
     let low = 0;
@@ -72,29 +112,44 @@ class SourceMap {
     }
     const found = segments[low];
     if (!found || found[0] > column - 1 || !(found[1] in this.sources) || found[2] < 0 || found[3] < 0) return null;
-    return { source: found[1], line: found[2] + 1, column: found[3] + 1, name: found[0] === column - 1 ? this.names[found[4]] : undefined };
+    return { source: found[1], line: found[2] + 1, column: found[3] + 1, name: found[0] === column - 1 ? this.names[found[4]] || undefined : undefined };
   }
 }
 
 /** A map of several, each from a place of the bundle on. */
 class IndexMap {
-  /** @param {{sections: {offset: {line: number, column: number}, map: object}[]}} index */
-  constructor({ sections }, address) {
+  /**
+   * @param {SectionJson[]} sections
+   * @param {string} address of the bundle
+   */
+  constructor(sections, address) {
+    /** @type {string[]} */
     this.sources = [];
+    /** @type {(string|null|undefined)[]} */
     this.texts = [];
+    /** @type {string[]} */
     this.names = [];
     this.address = address;
     this.sections = sections.map(({ offset, map }) => this.add(offset, new SourceMap(map, address)));
   }
 
+  /**
+   * @param {{line: number, column: number}} offset
+   * @param {SourceMap} map
+   */
   add({ line, column }, map) {
     const section = { line, column, map, base: this.sources.length };
     map.sources.forEach((name, k) => { this.texts[this.sources.push(name) - 1] = map.texts[k]; });
-    this.names.push(...map.names);
+    for (const name of map.names) this.names.push(name);
     return section;
   }
 
-  /** As that of a SourceMap. */
+  /**
+   * As that of a SourceMap.
+   * @param {number} line
+   * @param {number} column
+   * @returns {Original|null}
+   */
   original(line, column) {
     const found = this.sections.filter((one) => one.line < line - 1 || (one.line === line - 1 && one.column <= column - 1)).pop();
     if (!found) return null;
@@ -103,51 +158,60 @@ class IndexMap {
   }
 }
 
-const isSection = (section) => Number.isInteger(section?.offset?.line) && Number.isInteger(section.offset.column) && isMap(section.map);
-
-/** The map that a text stands for. Throws where it stands for none. */
-function parseMap(text, address) {
-  if (text.length > LARGEST_MAP) throw new Error(`it has more than ${LARGEST_MAP} characters`);
-  const map = JSON.parse(text.replace(/^\)\]\}'.*\n/, ''));
-  if (map?.version !== 3) throw new Error('it is of no known version');
-  const parts = map.sections === undefined ? [map] : map.sections;
-  if (!Array.isArray(parts) || !(map.sections ? parts.every(isSection) : isMap(map))) throw new Error('a part of it is missing or is no such thing');
-  if (parts.some((one) => (one.map || one).mappings.length > LARGEST_MAPPINGS)) throw new Error(`its mappings have more than ${LARGEST_MAPPINGS} characters`);
-  return map.sections ? new IndexMap(map, address) : new SourceMap(map, address);
-}
-
-/** The address of a script's source map, or null. */
-function addressOfMap(text, address) {
-  const found = COMMENT.exec(text.slice(-LONGEST_COMMENT_LINE)) || (text.includes('sourceMappingURL=data:') ? COMMENT.exec(text) : null);
-  if (!found) return null;
-  try {
-    return new URL(found[1], address).href;
-  } catch {
-    return null; // no address
-  }
-}
-
-/** The text of a map that stands in its own address. */
-function textInAddress(address) {
-  const found = /^data:[^,]*?(;base64)?,(.*)$/s.exec(address);
-  if (!found) return null;
-  return found[1] ? Buffer.from(found[2], 'base64').toString() : decodeURIComponent(found[2]);
+/**
+ * @param {unknown} given
+ * @returns {given is SectionJson}
+ */
+function isSection(given) {
+  const { offset, map } = /** @type {{offset?: {line?: unknown, column?: unknown}, map?: unknown}} */ (given ?? {});
+  return Number.isInteger(offset?.line) && Number.isInteger(offset?.column) && isMap(map);
 }
 
 /**
- * The source map of a script, or null where it names none, or none can be read: then the bundle's own places have to do.
- * @param {(address: string) => Promise<string|null>} read
- * @param {(why: string) => void} miss is told of a map that is named and left out
+ * The map that a text stands for. Throws if it stands for none.
+ * @param {string} text
+ * @param {string} address
+ * @returns {AnyMap}
  */
-async function readMap(text, address, read, miss = () => {}) {
-  const place = addressOfMap(text, address);
+function parseMap(text, address) {
+  if (text.length > LARGEST_MAP) throw new Error(`it has more than ${LARGEST_MAP} characters`);
+  const map = /** @type {{version?: unknown, sections?: unknown}|null} */ (JSON.parse(text.replace(/^\)\]\}'.*\n/, '')));
+  if (map?.version !== 3) throw new Error('it is of no known version');
+  const { sections } = map;
+  if (sections === undefined) {
+    if (!isMap(map)) throw new Error('a part of it is missing or is no such thing');
+    checkLength([map]);
+    return new SourceMap(map, address);
+  }
+  if (!Array.isArray(sections) || !sections.every(isSection)) throw new Error('a part of it is missing or is no such thing');
+  checkLength(sections.map((one) => one.map));
+  return new IndexMap(sections, address);
+}
+
+/** @param {MapJson[]} maps */
+function checkLength(maps) {
+  if (maps.some(({ mappings }) => mappings.length > LARGEST_MAPPINGS)) throw new Error(`its mappings have more than ${LARGEST_MAPPINGS} characters`);
+}
+
+/**
+ * The source map of a script, or null if it names none, or none can be read: then the places in the bundle are used.
+ * @param {string} text
+ * @param {string} address
+ * @param {(address: string) => Promise<string|null>} read
+ * @param {(why: string) => void} miss called for a map that is named and left out
+ * @param {string} named the address that the response of the script named
+ * @returns {Promise<AnyMap|null>}
+ */
+async function readMap(text, address, read, miss = () => {}, named = '') {
+  const place = addressOfMap(text, address, named);
   if (!place) return null;
   try {
     const found = textInAddress(place) ?? await read(place);
     if (found === null || found === undefined) miss('source maps that are not among the page\'s files, left out');
     return found ? parseMap(found, address) : null;
   } catch (fault) {
-    miss(`source maps that can't be read, left out (${fault instanceof SyntaxError ? 'no JSON' : String(fault.message).slice(0, 100)})`);
+    const reason = fault instanceof SyntaxError || !(fault instanceof Error) ? 'no JSON' : fault.message.slice(0, LONGEST_REASON);
+    miss(`source maps that can't be read, left out (${reason})`);
     return null;
   }
 }

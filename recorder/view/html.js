@@ -3,31 +3,32 @@
 
 const fs = require('node:fs');
 const path = require('node:path');
-const { withoutCommands } = require('./shown.js');
+const { escapeText } = require('../common/shown.js');
+const { bundled } = require('../recording/bundle.js');
 const { librariesInWords } = require('../trace/accesses.js');
+const { escapeJson, hashSource } = require('./embedded.js');
+const { quoted } = require('./quoted.js');
 
-const read = (name) => fs.readFileSync(path.join(__dirname, name), 'utf8');
-const escapeText = (text) => withoutCommands(text).replace(/[&<>"']/g, (one) => `&#${one.charCodeAt(0)};`);
-/** JSON inside a script element: no tag can begin in it. */
-const escapeJson = (value) => JSON.stringify(value).replace(/[<>&\u2028\u2029]/g, (one) => `\\u${one.charCodeAt(0).toString(16).padStart(4, '0')}`);
+/** @typedef {import('./types').ViewModel} ViewModel */
 
-function options(pairs) {
-  return pairs.map(([value, text]) => `<option value="${value}">${text}</option>`).join('');
-}
+/** @param {string[][]} pairs */
+const options = (pairs) => pairs.map(([value, text]) => `<option value="${value}">${text}</option>`).join('');
 
 const KINDS = options([['all', 'all'], ['variable', 'variables'], ['element', 'elements'], ['handler', 'handlers']]);
-const ORDERS = [['looks', 'by what it looks like'], ['size', 'largest first'], ['trace', 'as recorded']];
-/** Where races were run again, the order is by what came of it. */
+const ORDERS = [['looks', 'worst first'], ['size', 'largest first'], ['trace', 'as recorded']];
+/** If races were run again, the order is by what came of it. */
 const ORDERS_OF_REPLAYS = [['verdict', 'by what the other order does'], ...ORDERS];
-
-function counts(model) {
-  const all = [['problems', model.problems.filter(({ groups }) => groups.length).length], ['groups', model.groups.length], ['races', model.races.length], ...model.counts];
-  return all.map(([name, number]) => `${number} ${name}`).join(', ');
-}
-
 const MOST_LEFT_OUT = 8;
 
-/** What the program could not take, where there is such. */
+/** @param {ViewModel} model */
+function counts({ totals, counts: others }) {
+  return [...Object.entries(totals), ...others].map(([name, number]) => `${number} ${name}`).join(', ');
+}
+
+/**
+ * What the program could not take, if there is any.
+ * @param {ViewModel} model
+ */
 function leftOut({ leftOut: all = [] }) {
   if (!all.length) return '';
   const told = all.slice(0, MOST_LEFT_OUT).map(({ words, pairs }) => `${words} (${pairs} pairs)`).join(', ');
@@ -35,45 +36,82 @@ function leftOut({ leftOut: all = [] }) {
   return `<p class="left-out">Not judged, since it is more than the program takes: the accesses to ${escapeText(told)}${more}.</p>\n`;
 }
 
-/** Where the program was not built: what that says of this page, and how the rest is had. */
+/**
+ * That the page leaves out some races, if it does.
+ * @param {ViewModel} model
+ */
+function notShown({ totals, races, report }) {
+  if (races.length === totals.races) return '';
+  return `<p class="left-out">This page shows ${races.length} of ${totals.races} races, so that a browser can open it: at most 100 of a group, the worst problems first. `
+    + `All are in the report, <code>${escapeText(report)}</code>, and in words in the list of <code>--json</code>.</p>\n`;
+}
+
+/**
+ * If the program was not built: what that means for this page, and how to get the rest.
+ * @param {ViewModel} model
+ */
 function unproved({ isUnproved, command }) {
   if (!isUnproved) return '';
   return `<p class="unproved">The program that tells these races was not built when this page was made: the same source told them, compiled without its proof. The ways that lead
 from one action to another are left for later: after <code>./er_cli --build</code>, <code>${escapeText(command)}</code> writes this page with them.</p>\n`;
 }
 
-/** What was left out by choice. */
-function ofLibraries({ ofLibraries: counts }) {
-  return counts ? `<p class="left-out">${escapeText(librariesInWords(counts))}.</p>\n` : '';
+/**
+ * What was left out by choice.
+ * @param {ViewModel} model
+ */
+function ofLibraries({ ofLibraries: count }) {
+  return count ? `<p class="left-out">${escapeText(librariesInWords(count))}.</p>\n` : '';
 }
 
+/**
+ * The model with the command that views each trace of a replay.
+ * @param {ViewModel} model
+ * @returns {ViewModel}
+ */
+function withCommands(model) {
+  if (!model.replays) return model;
+  const commandOf = (/** @type {string} */ trace) => `${model.viewer} ${quoted(path.join(path.dirname(model.trace), trace))}`;
+  return { ...model, replays: model.replays.map((replay) => ({ ...replay, command: commandOf(replay.trace) })) };
+}
+
+/** @type {{style: string, script: string, policy: string}|undefined} */
+let parts;
+
+/** The style and the script of the page, and the policy that allows these two alone. */
+function partsOfPage() {
+  if (parts) return parts;
+  const style = fs.readFileSync(path.join(__dirname, 'style.css'), 'utf8');
+  const script = `${bundled(path.join(__dirname, 'client', 'main.js'), [])}().start();\n`;
+  const policy = `default-src 'none'; style-src ${hashSource(style)}; script-src ${hashSource(script)}; img-src data:; base-uri 'none'; form-action 'none'`;
+  parts = { style, script, policy };
+  return parts;
+}
+
+/** @param {ViewModel} model */
 function renderPage(model) {
+  const { style, script, policy } = partsOfPage();
   return `<!doctype html>
 <html lang="en">
 <head>
 <meta charset="utf-8">
-<meta http-equiv="Content-Security-Policy" content="default-src 'none'; style-src 'unsafe-inline'; script-src 'unsafe-inline'; img-src data:">
+<meta http-equiv="Content-Security-Policy" content="${policy}">
 <meta name="viewport" content="width=device-width">
 <title>Races of ${escapeText(model.page)}</title>
-<style>
-${read('style.css')}</style>
+<style>${style}</style>
 </head>
 <body>
 <h1>Races of ${escapeText(model.page)}</h1>
 <p class="counts">${escapeText(counts(model))}</p>
-${unproved(model)}${leftOut(model)}${ofLibraries(model)}<form onsubmit="return false">
+${unproved(model)}${notShown(model)}${leftOut(model)}${ofLibraries(model)}<form>
 <label>Kind <select id="kind">${KINDS}</select></label>
 <label>Text <input id="text" type="search" placeholder="a name, a file, a handler"></label>
 <label>Order <select id="order">${options(model.replays ? ORDERS_OF_REPLAYS : ORDERS)}</select></label>
 <output id="found"></output>
 </form>
 <main id="groups"></main>
-<script type="application/json" id="model">${escapeJson(model)}</script>
-<script>
-${read('client.js')}
-${read('client-replays.js')}
-start();
-</script>
+<script type="application/json" id="model">${escapeJson(withCommands(model))}</script>
+<script>${script}</script>
 </body>
 </html>
 `;

@@ -1,123 +1,272 @@
 'use strict';
-// All that the page of the view shows, as one plain value: groups, races, actions, and the lines of source around the places.
+// All that the page of the view shows, as one plain value: problems, groups, races, actions, and the lines of source around the places. It is kept
+// within a size, since a browser has to open it: of a large trace the first races are shown, and how many there are.
 
 const { RECORDS, LANES } = require('../trace/records.js');
+const { Words } = require('../races/words.js');
+const { sizeOf } = require('./embedded.js');
+const { Excerpts } = require('./excerpts.js');
 const { RULES } = require('./rules.js');
-const { Words } = require('./words.js');
 
-const LINES_AROUND = 2;
-const LONGEST_LINE = 240;
+/**
+ * @typedef {import('../list/types').Race} Race
+ * @typedef {import('./types').ShownAction} ShownAction
+ * @typedef {import('./types').PackedRace} PackedRace
+ */
+/**
+ * What the list knows of the races, by their indices: their problems, the worst first; the problem of each race; the race that is shown for each group;
+ * the sentence of a problem.
+ * @typedef {import('../list/listing.js').Listed} Listed
+ * @typedef {{problems: Listed[], nameOf: (race: number) => string, leads: number[], summaryOf: (problem: Listed) => string}} Ordered
+ */
+
+/** The bytes of the model: the page is to have at most 5 MB with its script, also if each of these is one more after the limit. */
+const MOST_BYTES = 4500000;
+const MOST_OF_ACTIONS = 2200000;
+const MOST_LINKS = 20000;
+/** So many races of a group are shown at most. */
+const MOST_OF_GROUP = 100;
+/** Of a problem so many groups come before the next problem. */
+const MOST_FIRST_GROUPS = 20;
 const MOST_ORIGINS = 400;
-
-/** A line of source, cut around a column where it is long. */
-function cutLine(text, column) {
-  if (text.length <= LONGEST_LINE) return { text, column };
-  const from = Math.max(0, column - LONGEST_LINE / 2);
-  return { text: `…${text.slice(from, from + LONGEST_LINE)}…`, column: column - from + 1 };
-}
+/** The program is asked about so many pairs at most, so no more are looked for. */
+const MOST_TO_EXPLAIN = 300;
+/** An action's words are at least this long if they have to be cut. */
+const SHORTEST_WORDS = 12;
+const KINDS = ['variable', 'element', 'handler'];
 
 class Model {
   /**
-   * @param {object} report the program's report, as JSON gives it
-   * @param {object} names what OUT.names.json holds
-   * @param {import('./actions.js').Actions} actions
+   * @param {import('../list/types').Report} report
+   * @param {import('../list/types').Names} names
+   * @param {import('../races/actions.js').Actions} actions
    */
   constructor(report, names, actions) {
     this.report = report;
     this.names = names;
     this.actions = actions;
     this.words = new Words(names, actions);
-    this.excerpts = {};
+    this.excerpts = new Excerpts(this.words);
+    /** @type {Map<number, Set<number>>} */
+    this.originsByAction = new Map();
+    /** @type {Map<string, number>} the indices of texts */
+    this.texts = new Map();
+    /** @type {Map<string, number>} */
     this.origins = new Map();
+    this.left = MOST_BYTES;
   }
 
   /**
-   * The pairs of actions of which the view shows why they are ordered: what the first race of each group comes from, the largest
-   * group first, and the ways from the first action to each other one.
+   * The pairs of actions of which the view shows why they are ordered: what the first race of each group comes from, the largest group first, and the
+   * ways from the first action to each other one.
+   * @returns {[number, number][]}
    */
   pairsToExplain() {
-    const firsts = [...this.report.groups].sort((a, b) => b.size - a.size).map(({ race }) => this.report.races[race - 1]);
+    const firsts = [...this.report.groups].sort((a, b) => b.size - a.size).slice(0, MOST_TO_EXPLAIN).map(({ race }) => this.report.races[race - 1]);
     const ofRaces = firsts.flatMap(({ actions }) => {
       const common = this.commonOrigin(actions) ?? 0;
-      return actions.filter((action) => action !== common).map((action) => [common, action]);
+      return actions.filter((action) => action !== common).map((action) => /** @type {[number, number]} */ ([common, action]));
     });
-    return [...ofRaces, ...this.actions.list.slice(1).map(({ number }) => [0, number])];
+    return [...ofRaces, ...this.actions.list.slice(1).map(({ number }) => /** @type {[number, number]} */ ([0, number]))];
   }
 
-  /** @param {[number, number, number][]} links those that the program printed: from, to, rule */
-  build(links) {
-    const races = this.report.races.map((race) => this.race(race));
+  /**
+   * @param {import('./types').Link[]} links those that the program printed
+   * @param {Ordered} ordered
+   */
+  build(links, ordered) {
+    const actions = this.buildActions();
+    const shownLinks = links.slice(0, MOST_LINKS);
+    this.left -= sizeOf(actions) + sizeOf(shownLinks);
+    const { races, problems, groups } = this.choose(ordered);
+    const { report } = this;
     return {
-      page: this.names.page,
-      counts: ['actions', 'accesses', 'pairs', 'chains', 'links'].map((name) => [name, this.report[name]]),
+      page: this.names.page || '',
+      counts: /** @type {[string, number][]} */ ([['actions', report.actions], ['accesses', report.accesses], ['pairs', report.pairs], ['chains', report.chains], ['links', report.links]]),
+      totals: { problems: ordered.problems.filter((one) => one.groups.length).length, groups: report.groups.length, races: report.races.length },
       lanes: LANES,
-      actions: this.actions.list.map((action) => this.action(action)),
-      groups: this.report.groups.map((group) => ({ race: group.race - 1, size: group.size })),
+      kinds: KINDS,
+      origins: [...this.origins.keys()],
+      texts: [...this.texts.keys()],
+      actions,
+      problems,
+      groups,
       races,
-      links,
+      links: shownLinks,
       rules: RULES,
-      excerpts: this.excerpts,
+      files: this.excerpts.files,
+      lines: this.excerpts.lines,
+      excerpts: this.excerpts.excerpts,
     };
   }
 
-  action(action) {
-    const own = this.actions.list[action.first];
-    const origins = action.origins.map(({ action: from, word }) => [word, from]);
-    return [LANES.indexOf(RECORDS[own.words[0]].lane), action.line, this.words.action(action.number), origins];
+  /**
+   * The index of a text.
+   * @param {string} text
+   */
+  text(text) {
+    let index = this.texts.get(text);
+    if (index === undefined) {
+      index = this.texts.size;
+      this.texts.set(text, index);
+      this.left -= sizeOf(text);
+    }
+    return index;
   }
 
-  /** The actions from which one comes, over the notes of the trace, itself among them. */
+  // ---- actions
+
+  /** All actions, with shorter words if these would be too much. */
+  buildActions() {
+    const words = this.actions.list.map(({ number }) => this.words.action(number));
+    const size = sizeOf([...new Set(words)]);
+    const most = size > MOST_OF_ACTIONS ? Math.max(SHORTEST_WORDS, Math.floor(MOST_OF_ACTIONS / words.length)) : Infinity;
+    return this.actions.list.map((action, k) => this.action(action, words[k].length > most ? `${words[k].slice(0, most)}…` : words[k]));
+  }
+
+  /**
+   * @param {import('../races/actions.js').Action} action
+   * @param {string} words
+   * @returns {ShownAction}
+   */
+  action(action, words) {
+    const own = this.actions.list[action.first];
+    const { lane } = /** @type {{[word: string]: {lane: string}}} */ (RECORDS)[own.words[0]];
+    return [LANES.indexOf(lane), action.line, this.text(words), action.origins.map(({ action: from, word }) => [this.origin(word), from])];
+  }
+
+  /** @param {string} word */
+  origin(word) {
+    const index = this.origins.get(word) ?? this.origins.size;
+    this.origins.set(word, index);
+    return index;
+  }
+
+  /**
+   * The actions from which one comes, over the notes of the trace, itself among them.
+   * @param {number} number
+   */
   originsOf(number) {
-    if (this.origins.has(number)) return this.origins.get(number);
+    const known = this.originsByAction.get(number);
+    if (known) return known;
     const seen = new Set([number]);
     for (const one of seen) {
       if (seen.size > MOST_ORIGINS) break;
       this.actions.list[one].origins.forEach(({ action }) => seen.add(action));
     }
-    this.origins.set(number, seen);
+    this.originsByAction.set(number, seen);
     return seen;
   }
 
-  /** The last action from which two come, or null. */
+  /**
+   * The last action from which two come, or null.
+   * @param {[number, number]} actions
+   */
   commonOrigin([first, second]) {
     const others = this.originsOf(second);
-    const common = [...this.originsOf(first)].filter((one) => others.has(one));
-    return common.length ? Math.max(...common) : null;
-  }
-
-  race(race) {
-    const { kind, text } = this.words.location(race.location);
-    return {
-      kind,
-      location: text,
-      spelled: race.location,
-      modes: race.modes,
-      lines: race.lines,
-      actions: race.actions,
-      common: this.commonOrigin(race.actions),
-      group: race.group - 1,
-      words: this.words.race(race),
-      places: race.lines.map((line, k) => this.excerpt(this.words.placeOfAccess(line, race.actions[k]))),
-    };
-  }
-
-  /** Notes the lines around a place; answers the key under which they stand. */
-  excerpt(place) {
-    if (!place) return null;
-    const key = place.join(':');
-    if (!this.excerpts[key]) this.excerpts[key] = { file: this.words.fileName(place[0]), line: place[1], ...this.linesAround(place) };
-    return key;
-  }
-
-  linesAround([file, line, column]) {
-    const lines = this.words.sources.linesOf(file);
-    const around = [];
-    for (let k = Math.max(1, line - LINES_AROUND); k <= line + LINES_AROUND; k++) {
-      if (lines[k] === undefined) continue;
-      around.push([k, k === line ? cutLine(lines[k], column).text : cutLine(lines[k], 1).text]);
+    let last = -1;
+    for (const one of this.originsOf(first)) {
+      if (one > last && others.has(one)) last = one;
     }
-    return { column: lines[line] === undefined ? 0 : cutLine(lines[line], column).column, around };
+    return last < 0 ? null : last;
+  }
+
+  // ---- races
+
+  /**
+   * The races that are shown while there is room: of each problem the first one and those of its first groups, then those of the other groups, then
+   * the others of all groups.
+   * @param {Ordered} ordered
+   */
+  choose({ problems, nameOf, leads, summaryOf }) {
+    const shown = new Shown(this, nameOf, summaryOf);
+    const lines = problems.filter(({ groups }) => groups.length);
+    const add = (/** @type {number} */ group) => shown.addGroup(leads[group], group, this.report.groups[group].size);
+    lines.every((problem) => shown.addProblem(problem) && problem.groups.slice(0, MOST_FIRST_GROUPS).every(add));
+    lines.every((problem) => problem.groups.slice(MOST_FIRST_GROUPS).every(add));
+    const counts = this.report.groups.map(() => 1);
+    this.report.races.every(({ group }, k) => shown.races.has(k) || counts[group - 1]++ >= MOST_OF_GROUP || shown.addRace(k));
+    return { problems: shown.problems, groups: shown.groups.sort((a, b) => a.number - b.number), races: [...shown.races.values()].sort((a, b) => a[0] - b[0]) };
+  }
+
+  /**
+   * @param {Race} race
+   * @param {number} index
+   * @param {number} problem
+   * @returns {PackedRace}
+   */
+  race(race, index, problem) {
+    const { kind, text } = this.words.location(race.location);
+    const places = race.lines.map((line, k) => {
+      const { key, added } = this.excerpts.add(this.words.placeOfAccess(line, race.actions[k]));
+      this.left -= sizeOf(added);
+      return key;
+    });
+    return [index + 1, KINDS.indexOf(kind), this.text(text), race.location, race.modes, race.lines, race.actions, this.commonOrigin(race.actions), race.group - 1,
+      problem, this.text(this.words.race(race)), places];
   }
 }
 
-module.exports = { Model };
+/** What is shown so far, within the size that the model has left. */
+class Shown {
+  /**
+   * @param {Model} model
+   * @param {(race: number) => string} nameOf the name of a race's problem
+   * @param {(problem: Listed) => string} summaryOf the sentence of a problem
+   */
+  constructor(model, nameOf, summaryOf) {
+    this.model = model;
+    this.nameOf = nameOf;
+    this.summaryOf = summaryOf;
+    /** @type {Map<string, number>} the index of a problem by its name */
+    this.indices = new Map();
+    /** @type {Map<number, PackedRace>} by index */
+    this.races = new Map();
+    /** @type {import('./types').ShownProblem[]} */
+    this.problems = [];
+    /** @type {import('./types').ShownGroup[]} */
+    this.groups = [];
+  }
+
+  /**
+   * Each `add..` returns whether there was room.
+   * @param {Listed} problem
+   */
+  addProblem(problem) {
+    const { name, words, look, first, isKnown } = problem;
+    if (this.model.left <= 0) return false;
+    this.indices.set(name, this.problems.length);
+    this.addRace(first);
+    const summary = this.summaryOf(problem);
+    const plain = { name, words, summary, order: this.problems.length, first: first + 1, look: look.name, rank: look.rank, part: look.part, seen: look.seen, isKnown };
+    this.problems.push(plain);
+    this.model.left -= sizeOf(plain);
+    return true;
+  }
+
+  /**
+   * @param {number} lead
+   * @param {number} index
+   * @param {number} size
+   */
+  addGroup(lead, index, size) {
+    if (!this.addRace(lead)) return false;
+    const plain = { number: index + 1, race: lead + 1, size };
+    this.groups.push(plain);
+    this.model.left -= sizeOf(plain);
+    return true;
+  }
+
+  /** @param {number} race */
+  addRace(race) {
+    if (this.races.has(race)) return true;
+    if (this.model.left <= 0) return false;
+    const problem = this.indices.get(this.nameOf(race)) ?? -1;
+    const packed = this.model.race(this.model.report.races[race], race, problem);
+    this.races.set(race, packed);
+    this.model.left -= sizeOf(packed);
+    return true;
+  }
+}
+
+module.exports = { Model, MOST_LINKS };

@@ -1,6 +1,7 @@
 'use strict';
-// What each rule says, in few words (docs/rules.md).
+// Each rule in few words (docs/rules.md).
 
+/** @type {{[rule: number]: string}} */
 const RULES = {
   1: 'the parser works in the order of the page',
   2: 'a frame is made before its page is parsed',
@@ -35,6 +36,7 @@ const RULES = {
   31: 'a job that begins inside a dispatch runs before its close',
 };
 
+/** @param {number} number */
 const ruleInWords = (number) => (RULES[number] ? `rule ${number}: ${RULES[number]}` : `rule ${number}`);
 
 module.exports = { RULES, ruleInWords };

@@ -856,7 +856,7 @@ fn write_counts(judged: &Judged, out: &mut impl Write) -> io::Result<()> {
     writeln!(out, "chains {}\nlinks {}\nend", page.clocks.lengths.len(), page.clocks.links)
 }
 
-/// The generated trace of that many rounds: docs/report.md, "Words of the command".
+/// The generated trace of that many rounds: docs/report.md, "Arguments".
 fn generated(rounds: u32) -> String {
     let mut text = String::from("webtrace 1\nparse 0 1 inline\nexec 1\non 1\non 2\nset 1 1\nset 2 0\n");
     for k in 1..=rounds {

@@ -3,7 +3,7 @@
 
 const fs = require('node:fs');
 const path = require('node:path');
-const { PROGRAM } = require('../../view/program.js');
+const { PROGRAM } = require('../../races/program.js');
 const { run } = require('../cleanup.js');
 
 const TOP = path.join(__dirname, '..', '..', '..');
@@ -13,14 +13,28 @@ const LONGEST_ANSWER = 600000;
 /** Five clicks on a slow network, in two seeds: of each file the second one's delay is another too. */
 const RUNS = [['--clicks', '5', '--seed', '1', '--slow', '400'], ['--clicks', '5', '--seed', '2', '--slow', '401']];
 
+/**
+ * @typedef {import('./types').Costs} Costs
+ * @typedef {import('./types').Ended} Ended
+ * @typedef {import('./types').Loads} Loads
+ * @typedef {import('./types').Measured} Measured
+ * @typedef {import('./types').Recorded} Recorded
+ * @typedef {import('./types').RecordedBoth} RecordedBoth
+ * @typedef {import('./types').Said} Said
+ */
+
 let isStopped = false;
 ['SIGINT', 'SIGTERM', 'SIGHUP'].forEach((signal) => process.on(signal, () => { isStopped = true; }));
 
-/** What er_record and er_page say of a recording on standard error. */
+/**
+ * What er_record and er_page print of a recording on standard error.
+ * @param {string} said
+ * @returns {Said}
+ */
 function readSaid(said) {
-  const behind = (begin) => said.split('\n').filter((line) => line.startsWith(begin)).map((line) => line.slice(begin.length));
+  const after = (/** @type {string} */ begin) => said.split('\n').filter((line) => line.startsWith(begin)).map((line) => line.slice(begin.length));
   const load = /^ {2}load of the page: ([\d.]+) s$/m.exec(said);
-  return { load: load ? Number(load[1]) : null, errors: behind('  error: '), notRecorded: behind('  not recorded: '), notDone: behind('  not done') };
+  return { load: load ? Number(load[1]) : null, errors: after('  error: '), notRecorded: after('  not recorded: '), notDone: after('  not done') };
 }
 
 /**
@@ -31,18 +45,35 @@ function readSaid(said) {
 function faultOf(text, command) {
   const lines = text.trim().split('\n');
   const own = command && lines.find((line) => line.startsWith(`${command}: `));
-  return (own || lines.find((line) => /^(\w*Error\b|er_\w+: )/.test(line)) || lines.pop()).slice(0, 300);
+  return (own || lines.find((line) => /^(\w*Error\b|er_\w+: )/.test(line)) || lines[lines.length - 1]).slice(0, 300);
 }
 
-/** The calls of one page. Its files stand in a folder of its own. */
+/**
+ * Whether a recording is there, if only for as long as its time was.
+ * @param {{status: number|null, stderr: string}} ended
+ */
+const isRecorded = ({ status, stderr }) => status === 0 || (status === 4 && /^er_record: the recording is not complete/m.test(stderr));
+
+/** The calls of one page. Its files are in a folder of its own. */
 class PageCalls {
-  /** @param {string} page its file  @param {string} root the folder that is served */
+  /**
+   * @param {string} page its file
+   * @param {string} root the folder that is served
+   * @param {string} folder
+   */
   constructor(page, root, folder) {
-    Object.assign(this, { page, root, folder });
+    this.page = page;
+    this.root = root;
+    this.folder = folder;
     this.said = path.join(folder, 'said');
   }
 
-  /** Once a signal came nothing follows: what runs is ended then, and this process behind it (cleanup.js). */
+  /**
+   * Once a signal came nothing follows: what runs is ended then, and this process after it (cleanup.js).
+   * @param {string} program
+   * @param {string[]} words
+   * @param {number} longest
+   */
   async call(program, words, longest, cwd = this.folder) {
     const begin = Date.now();
     const { status, stdout, stderr } = await run(program, words, { longest, cwd });
@@ -52,13 +83,19 @@ class PageCalls {
     return { status, stdout, stderr, seconds };
   }
 
+  /**
+   * @param {string} file
+   * @param {string[]} words
+   * @returns {Promise<Recorded>}
+   */
   async record(file, words) {
     const { status, stderr, seconds } = await this.call(path.join(TOP, 'er_record'), [this.page, file, '--root', this.root, ...words], LONGEST_RECORDING);
-    return { status, seconds, ...readSaid(stderr), ...status === 0 ? {} : { failure: faultOf(stderr) } };
+    return { status, seconds, ...readSaid(stderr), ...isRecorded({ status, stderr }) ? {} : { failure: faultOf(stderr) } };
   }
 
-  /** Both recordings, each behind a run without the recorder. */
+  /** Both recordings, each after a run without the recorder. */
   async runs() {
+    /** @type {RecordedBoth[]} */
     const runs = [];
     for (const [k, words] of RUNS.entries()) {
       const plain = await this.record(`${k + 1}.trace`, [...words, '--raw']);
@@ -67,8 +104,12 @@ class PageCalls {
     return runs;
   }
 
-  /** Loads on a quick network without acts of a user, with and without the recorder in turns. */
+  /**
+   * Loads on a quick network without acts of a user, with and without the recorder alternately.
+   * @param {number} times
+   */
   async loads(times) {
+    /** @type {Loads} */
     const loads = { without: [], with: [] };
     for (let k = 0; k < times; k++) {
       loads.without.push((await this.record('load.trace', ['--raw'])).load);
@@ -77,7 +118,11 @@ class PageCalls {
     return loads;
   }
 
-  /** er_page with its replays, in a folder of its own. Behind its time it is stopped, and tells what it found until then. */
+  /**
+   * er_page with its replays, in a folder of its own. After its time it is stopped, and prints what it found until then.
+   * @param {{most: number, minutes: number}} options
+   * @returns {Promise<Ended>}
+   */
   async replay({ most, minutes }) {
     const own = path.join(this.folder, 'replay');
     fs.rmSync(own, { recursive: true, force: true });
@@ -85,17 +130,23 @@ class PageCalls {
     const words = [this.page, '--root', this.root, ...RUNS[0], '--replay', '--most', String(most), '--json'];
     const { status, stdout, stderr, seconds } = await this.call(path.join(TOP, 'er_page'), words, minutes * 60000, own);
     fs.writeFileSync(path.join(own, 'listing.json'), stdout);
-    return { status, seconds, ...status === 0 || status === 1 ? {} : { failure: faultOf(stderr, 'er_page') } };
+    return { status, seconds, ...status === 1 || isRecorded({ status, stderr }) ? {} : { failure: faultOf(stderr, 'er_page') } };
   }
 
-  /** What the recordings have (measure.js), read in a process of its own. */
+  /**
+   * What the recordings have (measure.js), read in a process of its own.
+   * @returns {Promise<Measured>}
+   */
   async measure() {
     const { status, stdout, stderr } = await this.call(process.execPath, ['--max-old-space-size=4096', path.join(__dirname, 'measure.js'), this.folder], LONGEST_MEASURE);
     if (status !== 0) throw new Error(`measure.js: status ${status}: ${faultOf(stderr)}`);
     return JSON.parse(stdout);
   }
 
-  /** What the program takes for the first recording's report; null where it was not to be had. */
+  /**
+   * What the program takes for the first recording's report; null where it was not to be had.
+   * @returns {Promise<Costs|null>}
+   */
   async costs() {
     const { status, stdout } = await this.call(path.join(__dirname, 'costs.py'), [PROGRAM, '1.trace'], LONGEST_ANSWER);
     const [seconds, kilobytes] = stdout.split(' ').map(Number);

@@ -10,8 +10,13 @@ const FIELD = /^([A-Z][\w-]*): (.*)$/;
 
 /** @typedef {{name: string, version: string, size: number, section: string, architecture: string, description: string, relations: string, depends: string}} Package */
 
-/** One paragraph of apt's list; null where it is none of a package. */
+/**
+ * One paragraph of apt's list; null where it is none of a package.
+ * @param {string} paragraph
+ * @returns {Package|null}
+ */
 function parsePackage(paragraph) {
+  /** @type {{[name: string]: string}} */
   const fields = {};
   for (const line of paragraph.split('\n')) {
     const found = FIELD.exec(line);
@@ -23,8 +28,12 @@ function parsePackage(paragraph) {
   return { name, version, size: Number(fields.Size) || 0, section, architecture, description, relations, depends: [depends, fields.Recommends].filter(Boolean).join(', ') };
 }
 
-/** All packages of a text as `apt-cache dumpavail` writes it, by name; of several versions the first. */
+/**
+ * All packages of a text as `apt-cache dumpavail` writes it, by name; of several versions the first.
+ * @param {string} text
+ */
 function parsePackages(text) {
+  /** @type {Map<string, Package>} */
   const packages = new Map();
   for (const paragraph of text.split('\n\n')) {
     const one = parsePackage(paragraph);
@@ -33,6 +42,11 @@ function parsePackages(text) {
   return packages;
 }
 
+/**
+ * @param {string} program
+ * @param {string[]} words
+ * @param {import('node:child_process').SpawnOptions} options
+ */
 async function call(program, words, options = {}) {
   const ended = await run(program, words, { longest: LONGEST_CALL, ...options });
   if (ended.status !== 0) throw new Error(`${program} ${words.slice(0, 8).join(' ')}: status ${ended.status}: ${ended.stderr.trim().split('\n').pop()}`);
@@ -44,25 +58,38 @@ async function availablePackages() {
   return parsePackages(await call('apt-cache', ['dumpavail']));
 }
 
-const namesIn = (relation, expression) => relation.split(/[,|]/).map((one) => one.trim().split(/[\s:(]/)[0]).filter((name) => expression.test(name));
+/**
+ * @param {string|undefined} relation
+ * @param {RegExp} expression
+ */
+const namesIn = (relation = '', expression) => relation.split(/[,|]/).map((one) => one.trim().split(/[\s:(]/)[0]).filter((name) => expression.test(name));
 
-/** The packages of scripts that a package needs, and those that these need. */
+/**
+ * The packages of scripts that a package needs, and those that these need.
+ * @param {string} name
+ * @param {Map<string, Package>} packages
+ */
 function needsOf(name, packages) {
+  /** @type {Set<string>} */
   const all = new Set();
-  const left = namesIn(packages.get(name).depends, /^libjs-/);
-  while (left.length) {
-    const one = left.shift();
+  const left = namesIn(packages.get(name)?.depends, /^libjs-/);
+  for (let one = left.shift(); one !== undefined; one = left.shift()) {
     if (all.has(one) || one === name || !packages.has(one)) continue;
     all.add(one);
-    left.push(...namesIn(packages.get(one).depends, /^(libjs|node)-/));
+    left.push(...namesIn(packages.get(one)?.depends, /^(libjs|node)-/));
   }
   return [...all].sort();
 }
 
+/**
+ * @param {string} file
+ * @param {string} name
+ */
 const isOf = (file, name) => file.startsWith(`${name}_`) && file.endsWith('.deb');
 
 /** A folder of fetched packages, and the folder `root` beside them, into which they are unpacked. Pages find scripts in `/javascript`, as on Debian's servers. */
 class Unpacked {
+  /** @param {string} folder */
   constructor(folder) {
     this.fetched = path.join(folder, 'packages');
     this.root = path.join(folder, 'root');
@@ -71,30 +98,51 @@ class Unpacked {
     if (!fs.lstatSync(common, { throwIfNoEntry: false })) fs.symlinkSync('usr/share/javascript', common);
   }
 
+  /** @param {string} name */
   fileOf(name) {
     const file = fs.readdirSync(this.fetched).find((one) => isOf(one, name));
     return file ? path.join(this.fetched, file) : null;
   }
 
-  /** Whether it was fetched and unpacked to its end. */
+  /**
+   * The file of a package that was fetched.
+   * @param {string} name
+   */
+  fetchedFileOf(name) {
+    const file = this.fileOf(name);
+    if (!file) throw new Error(`${name} was not fetched into ${this.fetched}`);
+    return file;
+  }
+
+  /**
+   * Whether it was fetched and unpacked to its end.
+   * @param {string} name
+   */
   has(name) {
     return !!this.fileOf(name) && fs.existsSync(this.markOf(name));
   }
 
+  /** @param {string} name */
   markOf(name) {
     return path.join(this.fetched, `${name}.unpacked`);
   }
 
-  /** Fetches and unpacks what is missing of some packages. */
+  /**
+   * Fetches and unpacks what is missing of some packages.
+   * @param {string[]} names
+   */
   async add(names) {
     const missing = names.filter((name) => !this.fileOf(name));
     if (missing.length) await call('apt-get', ['download', '-q', ...missing], { cwd: this.fetched });
     for (const name of names.filter((one) => !this.has(one))) await this.unpack(name);
   }
 
-  /** A file that can't be unpacked, as one that a signal cut off, is fetched again by the next call. */
+  /**
+   * A file that can't be unpacked, as one that a signal cut off, is fetched again by the next call.
+   * @param {string} name
+   */
   async unpack(name) {
-    const file = this.fileOf(name);
+    const file = this.fetchedFileOf(name);
     try {
       await call('dpkg-deb', ['-x', file, this.root]);
     } catch (fault) {
@@ -104,14 +152,20 @@ class Unpacked {
     fs.writeFileSync(this.markOf(name), '');
   }
 
-  /** The version that was unpacked. */
+  /**
+   * The version that was unpacked.
+   * @param {string} name
+   */
   async versionOf(name) {
-    return (await call('dpkg-deb', ['-f', this.fileOf(name), 'Version'])).trim();
+    return (await call('dpkg-deb', ['-f', this.fetchedFileOf(name), 'Version'])).trim();
   }
 
-  /** The files of a package, by their way from the root. */
+  /**
+   * The files of a package, by their way from the root.
+   * @param {string} name
+   */
   async filesOf(name) {
-    const lines = (await call('dpkg-deb', ['-c', this.fileOf(name)])).split('\n');
+    const lines = (await call('dpkg-deb', ['-c', this.fetchedFileOf(name)])).split('\n');
     return lines.filter((line) => line.startsWith('-')).map((line) => line.replace(/^(?:\S+\s+){5}\./, ''));
   }
 }

@@ -3,7 +3,16 @@
 
 const { createHash } = require('node:crypto');
 
-/** A package belongs to the first of these that it fits: by its name, by a package that it names, by its section and its description. */
+/**
+ * @typedef {import('./packages.js').Package} Package
+ * @typedef {import('./types').PageOfPackage} PageOfPackage
+ * @typedef {{kind: string, most: number, name?: RegExp, names?: RegExp, section?: RegExp, description?: RegExp}} Kind
+ */
+
+/**
+ * A package belongs to the first of these that it fits: by its name, by a package that it names, by its section and its description.
+ * @type {Kind[]}
+ */
 const KINDS = [
   { kind: 'rustdoc', most: 1, name: /^rust-doc$/ },
   { kind: 'mkdocs', most: 2, name: /^mkdocs-.*doc$/ },
@@ -28,25 +37,31 @@ const PAGES_OF_FILES = 2;
 const LEAST_BYTES = 1000;
 const PAGE = /\.x?html?$/i;
 
+/**
+ * @param {RegExp|undefined} expression
+ * @param {string} text
+ */
 const fits = (expression, text) => !expression || expression.test(text);
 
-/** @param {import('./packages.js').Package} one */
+/** @param {Package} one */
 function kindOf(one) {
   return KINDS.find(({ name, names, section, description }) => fits(name, one.name) && fits(names, one.relations) && fits(section, one.section) && fits(description, one.description));
 }
 
+/** @param {string} name */
 const rankOf = (name) => createHash('sha256').update(name).digest('hex');
 
 /**
  * The packages of each kind, in the order in which they are looked at: that of the SHA-256 of their names.
- * @param {Map<string, import('./packages.js').Package>} packages
+ * @param {Map<string, Package>} packages
  * @returns {{kind: string, most: number, candidates: string[]}[]}
  */
 function candidatesOf(packages) {
+  /** @type {Map<Kind, {name: string, rank: string}[]>} */
   const lists = new Map(KINDS.map((kind) => [kind, []]));
   for (const one of packages.values()) {
     const kind = kindOf(one);
-    if (kind && one.size <= MOST_SIZE) lists.get(kind).push({ name: one.name, rank: rankOf(one.name) });
+    if (kind && one.size <= MOST_SIZE) lists.get(kind)?.push({ name: one.name, rank: rankOf(one.name) });
   }
   return [...lists].map(([{ kind, most }, list]) => ({
     kind,
@@ -55,23 +70,27 @@ function candidatesOf(packages) {
   }));
 }
 
+/** @param {string} file */
 const isPage = (file) => PAGE.test(file);
 
-/** Whether a page has scripts, is no part of another one, has most of its files, stays where it is, and takes no script from another server. */
+/**
+ * Whether a page has scripts, is no part of another one, has most of its files, stays where it is, and takes no script from another server.
+ * @param {PageOfPackage} page
+ */
 const counts = ({ bytes, isPart, isBroken, isLeft, hasForeign }) => bytes >= LEAST_BYTES && !isPart && !isBroken && !isLeft && !hasForeign;
 
 /**
  * The pages with the most bytes of scripts; of those that load the same files only the first ones.
- * @param {{page: string, size: number, bytes: number, files: string[], isPart: boolean, isBroken: boolean, isLeft: boolean, hasForeign: boolean}[]} pages all of a package
+ * @param {PageOfPackage[]} pages all of a package
  */
 function pagesOf(pages) {
   const seen = new Map();
-  const isFirst = ({ files }) => {
+  const isFirst = (/** @type {PageOfPackage} */ { files }) => {
     const key = files.join('\n');
     seen.set(key, (seen.get(key) || 0) + 1);
     return seen.get(key) <= PAGES_OF_FILES;
   };
-  const order = (a, b) => b.bytes - a.bytes || b.size - a.size || (a.page < b.page ? -1 : 1);
+  const order = (/** @type {PageOfPackage} */ a, /** @type {PageOfPackage} */ b) => b.bytes - a.bytes || b.size - a.size || (a.page < b.page ? -1 : 1);
   return pages.filter(counts).sort(order).filter(isFirst).slice(0, PAGES_OF_PACKAGE);
 }
 

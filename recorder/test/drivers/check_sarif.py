@@ -1,5 +1,5 @@
 """Checks a SARIF file as far as Debian has the standard: the classes of python3-sarif-python-om, which are made of its schema, know which members an
-object may have and which it has to have; the words that a member may have stand here, from the standard's text (2.1.0, sections 3.14, 3.27, 3.35, 3.49).
+object may have and which it has to have; the words that a member can have are here, from the standard's text (2.1.0, sections 3.14, 3.27, 3.35, 3.49).
 
 usage: check_sarif.py FILE
 Prints a line for each fault, then how many objects were looked at. Status 1 where there is a fault.

@@ -1,0 +1,41 @@
+'use strict';
+// Requests that may change something on a server: each run of a replay sends them again.
+
+const { withoutCredentials } = require('../common/address.js');
+const { ORIGIN } = require('./folder.js');
+const { LocalServer } = require('./local-server.js');
+
+const READS = new Set(['GET', 'HEAD', 'OPTIONS', 'TRACE']);
+
+/**
+ * Whether a request may change something, by its method.
+ * @param {string} method
+ */
+const mayChange = (method) => !READS.has(method.toUpperCase());
+
+/**
+ * Whether an address is one of this machine: a file of the folder that is served, or a web server here.
+ * @param {string} address
+ */
+function isOfThisMachine(address) {
+  return address === ORIGIN || address.startsWith(`${ORIGIN}/`) || new LocalServer().has(address.replace(/^https:/, 'http:'));
+}
+
+/**
+ * The requests of a run that may have changed something, each once.
+ * @param {string[]} asked `METHOD ADDRESS`
+ * @param {{has: (address: string) => boolean}|null} [folder] the served one
+ * @returns {{text: string, isForeign: boolean}[]} foreign if a server got it, not the served folder
+ */
+function changing(asked, folder = null) {
+  const changed = [...new Set(asked)].filter((one) => mayChange(one.split(' ')[0]));
+  return changed.map((text) => ({ text, isForeign: !folder?.has(text.slice(text.indexOf(' ') + 1)) }));
+}
+
+/**
+ * A request as it is listed.
+ * @param {{method: string, url: string}} request
+ */
+const requestText = ({ method, url }) => `${method} ${withoutCredentials(url)}`;
+
+module.exports = { changing, mayChange, isOfThisMachine, requestText };

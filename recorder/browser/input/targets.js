@@ -1,0 +1,98 @@
+'use strict';
+// Functions that run in the page: where a user can click. Each is sent as its text, so it uses no name of this file.
+/* eslint-env browser */
+
+/**
+ * @typedef {{x: number, y: number}} Point
+ * @typedef {Point & {isText: boolean, what: string, target: string, place: string, inside: Point}} Spot what a user may click: `target` and `place`
+ *   are selectors, by an id and by its position alone, `inside` the place in it
+ */
+
+/**
+ * Where an element of a selector can be clicked, or null. `inside` is the place in it that was clicked before.
+ * @param {string} selector
+ * @param {Point} [inside]
+ * @returns {Point|null}
+ */
+function findTarget(selector, inside) {
+  const element = document.querySelector(selector);
+  if (!element) return null;
+  let box = element.getBoundingClientRect();
+  if (box.top < 0 || box.bottom > innerHeight || box.left < 0 || box.right > innerWidth) {
+    element.scrollIntoView({ block: 'center', inline: 'center' });
+    box = element.getBoundingClientRect();
+  }
+  if (box.width < 1) return null;
+  const usual = { x: box.left + Math.min(box.width / 2, 200), y: box.top + Math.min(box.height / 2, 100) };
+  if (!inside) return usual;
+  const boxes = [...element.getClientRects()].map(({ left, top, width, height }) => ({ x: left + width / 2, y: top + height / 2 }));
+  /** @param {Point} point */
+  const isHit = ({ x, y }) => element.contains(document.elementFromPoint(x, y));
+  return [{ x: box.left + inside.x, y: box.top + inside.y }, ...boxes].find(isHit) || usual;
+}
+
+/**
+ * One of the things in view that a user may click, by the seed; those that react come first.
+ * @param {number} seed
+ * @param {string|null} avoided the source of a regular expression: what has it in its text or in its names is not clicked
+ * @returns {Spot & {label: string}|null}
+ */
+function pickTarget(seed, avoided) {
+  const SELECTOR = 'a[href],a[onclick],button,input,select,textarea,label,[onclick],[role=button],[role=tab],summary,[tabindex],li';
+  const REACTS = 'button,input,select,textarea,summary,label,[onclick],[role],a[href^="#"],a[href^="javascript:"]';
+  const spots = [...document.querySelectorAll(SELECTOR)].filter((element) => /** @type {HTMLInputElement} */ (element).type !== 'file').flatMap((element) => {
+    const box = element.getBoundingClientRect();
+    const x = box.left + Math.min(box.width / 2, 60);
+    const y = box.top + Math.min(box.height / 2, 30);
+    const isInView = box.width >= 4 && box.height >= 4 && x >= 0 && y >= 0 && x < innerWidth && y < innerHeight;
+    const hit = isInView && document.elementFromPoint(x, y);
+    return hit && (hit === element || element.contains(hit)) ? [{ element, x, y }] : [];
+  });
+  /** @param {Element} one */
+  const namesOf = (one) => ['id', 'name', 'title', 'aria-label', 'alt', 'value'].map((name) => one.getAttribute(name) || '');
+  /**
+   * All that says what a click at an element does, also as separate words: "log out" of `logOut` and of `log-out`.
+   * @param {Element} element
+   */
+  const wordsOf = (element) => {
+    const around = [element, ...element.querySelectorAll('*')].slice(0, 100);
+    for (let one = element.parentElement; one; one = one.parentElement) if (one.matches('a,button,label,[onclick],[role=button]')) around.push(one);
+    const text = [element.textContent || '', ...around.flatMap(namesOf)].join('\n');
+    return `${text}\n${text.replace(/([a-z])([A-Z])/g, '$1 $2').replace(/[_-]+/g, ' ')}`;
+  };
+  const avoid = avoided === null ? null : new RegExp(avoided, 'i');
+  const harmless = spots.filter(({ element }) => !avoid || !avoid.test(wordsOf(element)));
+  const first = harmless.filter(({ element }) => element.matches(REACTS));
+  const pool = first.length ? first : harmless;
+  if (!pool.length) return null;
+  const { element, x, y } = pool[((seed * 1664525 + 1013904223) >>> 0) % pool.length];
+  /**
+   * By the next id above it, and by its position alone: a script may have set the id.
+   * @param {Element|null} one
+   * @param {boolean} isById
+   * @returns {string}
+   */
+  const pathOf = (one, isById) => {
+    if (!one || !one.parentElement) return 'html';
+    if (isById && one.id && document.querySelectorAll(`#${CSS.escape(one.id)}`).length === 1) return `#${CSS.escape(one.id)}`;
+    const same = [...one.parentElement.children].filter((other) => other.localName === one.localName);
+    return `${pathOf(one.parentElement, isById)} > ${CSS.escape(one.localName)}:nth-of-type(${same.indexOf(one) + 1})`;
+  };
+  const hit = /** @type {Element} */ (document.elementFromPoint(x, y));
+  const { left, top } = hit.getBoundingClientRect();
+  const isText = element.matches('textarea,input:not([type]),input[type=text],input[type=search]');
+  const [text = ''] = [element.getAttribute('aria-label') || '', element.textContent || '', ...namesOf(element)].map((one) => one.replace(/\s+/g, ' ').trim()).filter((one) => one);
+  const label = element.localName + (text ? ` "${text.slice(0, 40)}"` : '');
+  return { x, y, isText, label, what: element.localName + (element.id ? `#${element.id}` : ''), target: pathOf(hit, true), place: pathOf(hit, false), inside: { x: x - left, y: y - top } };
+}
+
+/**
+ * Whether what is typed into an element is a secret.
+ * @param {string} selector
+ */
+function isSecretField(selector) {
+  const element = document.querySelector(selector);
+  return !!element && element.matches('input[type=password],[autocomplete$=password],[autocomplete=one-time-code]');
+}
+
+module.exports = { findTarget, isSecretField, pickTarget };

@@ -1,0 +1,30 @@
+'use strict';
+// Delays requests by seeded amounts (`er_record --chaos`): each request of an address by another one, pages too.
+
+const { seeded } = require('../../common/seeded.js');
+const { sleep } = require('../../common/time.js');
+
+/** @typedef {import('./paused.js').Paused} Paused */
+
+/** The most milliseconds for which a request is held back; about half of the requests are not. */
+const MOST = 350;
+
+class ChaosNetwork {
+  /** @param {number} seed */
+  constructor(seed) {
+    this.seed = seed;
+    /** @type {Map<string, number>} how often an address was requested */
+    this.asked = new Map();
+  }
+
+  /** @param {Paused} event */
+  async passRequest({ request: { url } }) {
+    const nth = (this.asked.get(url) || 0) + 1;
+    this.asked.set(url, nth);
+    const wait = (seeded(this.seed, `request ${nth} ${new URL(url).pathname}`) * 2 - 1) * MOST;
+    if (wait > 0) await sleep(wait);
+    return false;
+  }
+}
+
+module.exports = { ChaosNetwork };

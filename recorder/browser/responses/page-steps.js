@@ -1,0 +1,47 @@
+'use strict';
+// Steps to another page: the page is recorded that was asked for, and what would load another one in its place is not followed.
+
+/** @typedef {import('./paused.js').Paused} Paused */
+
+class PageSteps {
+  /**
+   * @param {import('../tab.js').Tab} tab
+   * @param {((event: Paused) => unknown)|null} leaves called in place of the refusal
+   */
+  constructor(tab, leaves) {
+    this.tab = tab;
+    this.leaves = leaves;
+    this.mainFrame = '';
+    this.navigations = 0;
+    this.notFollowed = 0;
+  }
+
+  /** @param {Paused} event */
+  isOfPage({ resourceType, frameId }) {
+    return resourceType === 'Document' && frameId === this.mainFrame;
+  }
+
+  /**
+   * The answer to a request is another address, which the browser requests next.
+   * @param {Paused} event
+   */
+  expectRedirect(event) {
+    if (this.isOfPage(event)) this.navigations--;
+  }
+
+  /** @param {Paused} event */
+  async passRequest(event) {
+    if (!this.isOfPage(event) || event.redirectedRequestId) return false;
+    this.navigations++;
+    if (this.navigations <= 1) return false;
+    if (this.leaves) {
+      await this.leaves(event);
+      return true;
+    }
+    this.notFollowed++;
+    await this.tab.send('Fetch.failRequest', { requestId: event.requestId, errorReason: 'Aborted' });
+    return true;
+  }
+}
+
+module.exports = { PageSteps };

@@ -1,0 +1,77 @@
+'use strict';
+// A file that is written whole or not at all.
+
+const { randomBytes } = require('node:crypto');
+const fs = require('node:fs');
+const path = require('node:path');
+
+class WriteFault extends Error {}
+
+/**
+ * @param {string} file
+ * @param {unknown} fault
+ */
+const faultOf = (file, fault) => new WriteFault(`${file} can not be written: ${fault instanceof Error ? fault.message : fault}`);
+
+/**
+ * Whether a new file takes the place of what is there: anything but a file, as /dev/stdout, stays what it is.
+ * @param {string} file
+ */
+const isReplaced = (file) => fs.lstatSync(file, { throwIfNoEntry: false })?.isFile() !== false;
+
+/**
+ * The file beside it must be new: a link of that name, which another user may have put there, is not followed.
+ * @param {string} file
+ * @param {string} text
+ */
+function replaceFile(file, text) {
+  const beside = path.join(path.dirname(file), `.${path.basename(file)}.${process.pid}.${randomBytes(4).toString('hex')}`);
+  fs.writeFileSync(beside, '', { flag: 'wx' });
+  try {
+    fs.writeFileSync(beside, text);
+    fs.renameSync(beside, file);
+  } catch (fault) {
+    fs.rmSync(beside, { force: true });
+    throw fault;
+  }
+}
+
+/**
+ * @param {string} file
+ * @param {string} text
+ */
+function writeWhole(file, text) {
+  try {
+    if (isReplaced(file)) replaceFile(file, text);
+    else fs.writeFileSync(file, text);
+  } catch (fault) {
+    throw faultOf(file, fault);
+  }
+}
+
+/**
+ * Fails at once if a file can not be written later.
+ * @param {string} file
+ */
+function mustTake(file) {
+  try {
+    fs.accessSync(isReplaced(file) ? path.dirname(file) : file, fs.constants.W_OK);
+  } catch (fault) {
+    throw faultOf(file, fault);
+  }
+}
+
+/**
+ * Makes a folder for files, or takes the one that is there.
+ * @param {string} folder
+ */
+function makeFolder(folder) {
+  try {
+    fs.mkdirSync(folder, { recursive: true });
+    fs.accessSync(folder, fs.constants.W_OK);
+  } catch (fault) {
+    throw faultOf(folder, fault);
+  }
+}
+
+module.exports = { writeWhole, mustTake, makeFolder, WriteFault };

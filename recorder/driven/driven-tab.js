@@ -1,0 +1,185 @@
+'use strict';
+// A tab that a driver drives, and its page loads one after the other. A load starts when the tab shows another document, not with a step inside of one.
+
+const { Tab } = require('../browser/tab.js');
+const { within } = require('../common/time.js');
+
+/**
+ * An event of the DevTools protocol: its members differ by method.
+ * @typedef {{[name: string]: any}} ProtocolEvent
+ */
+/** @typedef {Parameters<typeof import('../recording/error-text.js').errorText>[0] & {executionContextId?: number}} ExceptionDetails */
+/** @typedef {{resourceType: string, frameId: string, request: {url: string}}} DocumentEvent */
+
+/** Pages and scripts are instrumented when their responses come: what the driver answers itself is a response too. */
+const PATTERNS = ['Document', 'Script'].map((resourceType) => ({ urlPattern: '*', requestStage: 'Response', resourceType }));
+/** Pages of the browser itself, and empty ones, are not loads. */
+const IS_NO_LOAD = /^(about|chrome|chrome-error|chrome-extension|devtools|view-source):|^data:,$/;
+/** A tab takes what the recorder sends at once, unless it has started to load by then; milliseconds that a document waits for that. */
+const LONGEST_SETTING = 1000;
+const LONGEST_SETTING_OF_OPENED = 100;
+
+class DrivenTab {
+  /**
+   * @param {import('./browser-recorder.js').BrowserRecorder} recorder
+   * @param {{targetId: string, openerId?: string, browserContextId?: string}} target the browser's TargetInfo
+   * @param {string} sessionId
+   */
+  constructor(recorder, { targetId, openerId, browserContextId }, sessionId) {
+    this.recorder = recorder;
+    this.browser = recorder.browser;
+    this.targetId = targetId;
+    this.openerId = openerId;
+    this.contextId = browserContextId;
+    this.sessionId = sessionId;
+    this.tab = new Tab(recorder.browser, { contextId: browserContextId || '', targetId, sessionId });
+    /** @type {import('./load.js').Load|null} */
+    this.current = null;
+    /**
+     * The load of the document whose response came last.
+     * @type {import('./load.js').Load|null}
+     */
+    this.coming = null;
+    /**
+     * The address of the document that comes next if it is instrumented: the session for responses may see it too.
+     * @type {string|null}
+     */
+    this.marked = null;
+    /**
+     * What a page sent before the browser reported the page, as when an opened window goes on with the window of its first, empty page.
+     * @type {string[]}
+     */
+    this.early = [];
+    /** @type {Promise<void>} */
+    this.scripted = Promise.resolve();
+    /** @type {Promise<void>} */
+    this.ready = Promise.resolve();
+    /** @type {Map<number, import('./load.js').Load>} by the number of its window's context */
+    this.contexts = new Map();
+    this.hasScript = false;
+    this.isLate = false;
+    /** Whether it has shown a page. */
+    this.hasShown = false;
+  }
+
+  /**
+   * @param {string} method
+   * @param {object} [params]
+   */
+  send(method, params) {
+    return this.tab.send(method, params);
+  }
+
+  /**
+   * Sets up the tab, which waits at its start; if its driver waits too, that can resume it at any time. A session that came later is nearer to the page, so
+   * responses have a session of their own, after the driver's: it gets what the driver puts in the place of a response.
+   * @param {boolean|undefined} isWaiting
+   */
+  setUp(isWaiting) {
+    const { source, ownNames } = this.recorder;
+    const sent = [this.send('Page.enable'), this.send('Runtime.enable'), this.send('Runtime.addBinding', { name: ownNames.binding }),
+      this.send('Page.addScriptToEvaluateOnNewDocument', { source })];
+    this.scripted = Promise.all(sent).then(() => { this.hasScript = true; }).catch(() => {}); // a tab that has gone
+    this.ready = this.answerResponses().catch(() => {}); // a tab that has gone
+    if (isWaiting) this.ready.then(() => this.send('Runtime.runIfWaitingForDebugger')).catch(() => {}); // a tab that has gone
+  }
+
+  async answerResponses() {
+    const { sessionId } = await this.browser.send('Target.attachToTarget', { targetId: this.targetId, flatten: true });
+    this.recorder.sessions.set(sessionId, this);
+    await this.browser.send('Fetch.enable', { patterns: PATTERNS }, sessionId);
+  }
+
+  /**
+   * Waits until a document that comes can be recorded. Where it began before the tab took what it was sent, that is taken when the document is there: the
+   * script comes as a part of it, and nothing tells that it was shown.
+   */
+  async waitForSetting() {
+    await this.ready;
+    if (!this.hasScript) await within(this.scripted, this.openerId ? LONGEST_SETTING_OF_OPENED : LONGEST_SETTING);
+    if (this.hasScript) return;
+    this.isLate = true;
+    this.scripted.then(() => { if (this.coming) this.show({ url: this.coming.address }); });
+  }
+
+  // ---- events
+
+  /**
+   * @param {string} method
+   * @param {ProtocolEvent} params
+   */
+  take(method, params) {
+    switch (method) {
+      case 'Page.frameNavigated': if (!params.frame.parentId) this.show(params.frame); break;
+      case 'Runtime.executionContextsCleared': this.forgetContexts(); break;
+      case 'Runtime.executionContextCreated': this.noteContext(params.context); break;
+      case 'Runtime.bindingCalled': if (params.name === this.recorder.ownNames.binding) this.takeLines(params); break;
+      case 'Runtime.exceptionThrown': this.loadOf(params.exceptionDetails)?.takeError(params.exceptionDetails); break;
+      case 'Inspector.targetCrashed': this.endLoad('the page crashed'); break;
+      default:
+    }
+  }
+
+  /**
+   * Another document is there. Its address has no fragment.
+   * @param {{url: string, unreachableUrl?: string}} frame
+   */
+  show({ url, unreachableUrl }) {
+    this.endLoad('another page came in its place');
+    const { coming } = this;
+    this.coming = null;
+    this.marked = null;
+    this.isLate = false;
+    if (coming && coming.address === url) this.current = coming;
+    else if (!IS_NO_LOAD.test(url) && !unreachableUrl) this.current = this.recorder.beginLoad(this, url);
+    this.hasShown = this.hasShown || this.current !== null;
+    this.early.splice(0).forEach((payload) => this.current?.take(payload));
+  }
+
+  forgetContexts() {
+    this.contexts.clear();
+    this.early = [];
+  }
+
+  /** @param {ProtocolEvent} event */
+  takeLines({ executionContextId, payload }) {
+    const load = this.loadOf({ executionContextId });
+    if (load) load.take(payload);
+    else this.early.push(payload);
+  }
+
+  /** @param {{id: number, auxData?: {isDefault?: boolean, frameId?: string}}} context */
+  noteContext({ id, auxData = {} }) {
+    if (auxData.isDefault && auxData.frameId === this.targetId && this.current) this.contexts.set(id, this.current);
+  }
+
+  /** @param {{executionContextId?: number}} event */
+  loadOf({ executionContextId = 0 }) {
+    return this.contexts.get(executionContextId) || this.current;
+  }
+
+  /** @param {string} why */
+  endLoad(why) {
+    if (this.current) this.recorder.endLoad(this.current, why);
+    this.current = null;
+  }
+
+  // ---- responses
+
+  /** @param {Pick<DocumentEvent, 'frameId'|'request'>} event */
+  hasMarked({ frameId, request }) {
+    return frameId === this.targetId && request.url === this.marked;
+  }
+
+  /**
+   * The load to which a response belongs; null if its page is not recorded.
+   * @param {DocumentEvent} event
+   */
+  loadOfResponse({ resourceType, frameId, request }) {
+    if (resourceType !== 'Document' || frameId !== this.targetId) return this.current;
+    this.coming = this.recorder.beginLoad(this, request.url.replace(/#.*$/, ''));
+    return this.coming;
+  }
+}
+
+module.exports = { DrivenTab };

@@ -1,0 +1,126 @@
+'use strict';
+// One page load in a tab that a driver drives: what the page tells, and the trace of it, written each time that it came to rest, and at the end.
+
+const { Responses } = require('../browser/responses.js');
+const { within } = require('../common/time.js');
+const { readMapOf } = require('../browser/local-server.js');
+const { errorText } = require('../recording/error-text.js');
+const { writeFiles } = require('../recording/files.js');
+const { lossesOf } = require('../texts/losses.js');
+const { Intake } = require('../trace/intake.js');
+const { LoadSources } = require('./load-sources.js');
+
+const LONGEST_RESPONSE = 60000;
+const LONGEST_MAPS = 2000;
+/** To write a load takes at most this part of the recorder's time, before it is over. */
+const SHARE = 10;
+const SHORTEST_PAUSE = 1000;
+const MOST_ERRORS = 100;
+
+/** @typedef {{pid: number, words: string, name?: string}} TestFacts the process that drives the browser, and the name of its test */
+/** @typedef {Parameters<typeof writeFiles>[1] & {time: number}} Options of the recording */
+
+/**
+ * @typedef {object} LoadFacts
+ * @property {number} number
+ * @property {string} tab
+ * @property {string|undefined} opener
+ * @property {string} address
+ * @property {Options} options
+ * @property {import('./load-sources.js').SharedSources} shared
+ * @property {import('./paused.js').Paused} channel answers the paused responses, whoever paused them
+ * @property {string} file
+ * @property {TestFacts} test
+ * @property {import('./opened-window.js').OpenedWindow|null} opened
+ */
+
+class Load {
+  /** @param {LoadFacts} facts */
+  constructor({ channel, shared, options, opened, number, tab, opener, address, file, test }) {
+    this.options = options;
+    this.number = number;
+    this.tab = tab;
+    this.opener = opener;
+    this.address = address;
+    this.file = file;
+    this.test = test;
+    this.given = address;
+    this.sources = new LoadSources(shared);
+    this.intake = new Intake({ countSites: () => this.sources.sites.length });
+    this.responses = new Responses(channel, { sources: this.sources, folder: null, slow: 0, longest: LONGEST_RESPONSE, steering: opened });
+    /** @type {string[]} */
+    this.errors = [];
+    this.begun = new Date();
+    /** @type {Date|null} */
+    this.ended = null;
+    this.until = Date.now() + options.time * 1000;
+    this.isOver = false;
+    this.why = '';
+    this.late = 0;
+    this.isNew = false;
+    this.nextWrite = 0;
+    this.lastTaken = 0;
+  }
+
+  /** @param {string} payload */
+  take(payload) {
+    if (this.isOver || Date.now() > this.until) {
+      this.late++;
+      return;
+    }
+    this.intake.take(payload);
+    this.isNew = true;
+    this.lastTaken = Date.now();
+  }
+
+  /** @param {import('./driven-tab.js').ExceptionDetails} details */
+  takeError(details) {
+    if (!this.isOver && this.errors.length < MOST_ERRORS) this.errors.push(errorText(details, this.address, this.sources));
+  }
+
+  /** Whether it is worth a file: something came of its page. */
+  hasTrace() {
+    return this.intake.actions > 0;
+  }
+
+  /** @param {number} now */
+  isDue(now) {
+    return this.isNew && this.hasTrace() && now >= this.nextWrite && now - this.lastTaken >= SHORTEST_PAUSE / 2;
+  }
+
+  async write() {
+    if (!this.hasTrace()) return;
+    this.isNew = false;
+    await within(this.readMaps().catch(() => {}), LONGEST_MAPS); // without maps its places are those in the bundles
+    const begin = Date.now();
+    writeFiles(this, this.options, this.file);
+    this.nextWrite = Date.now() + Math.max(SHORTEST_PAUSE, SHARE * (Date.now() - begin));
+  }
+
+  readMaps() {
+    return this.sources.readMaps((/** @type {string} */ address, /** @type {string} */ script) => readMapOf(address, script, null));
+  }
+
+  /** @param {string} why */
+  end(why) {
+    if (this.isOver) return;
+    this.isOver = true;
+    this.why = why;
+    this.ended = new Date();
+  }
+
+  /** What OUT.names.json tells of it. */
+  facts() {
+    const { number, tab, opener, address, test, why, errors, intake } = this;
+    const times = { begun: this.begun.toISOString(), ...(this.ended ? { ended: this.ended.toISOString() } : {}) };
+    return { number, address, test, tab, ...(opener ? { opener } : {}), ...times, isOver: this.isOver, why, actions: intake.actions, errors, lost: this.losses() };
+  }
+
+  losses() {
+    const lines = lossesOf(this.intake, this.sources);
+    if (this.late) lines.push(`what came later than ${this.options.time} s or behind the end: ${this.late} pieces`);
+    return lines;
+  }
+}
+
+module.exports = { Load };

@@ -1,0 +1,49 @@
+'use strict';
+// Answers the requests and responses that the browser has paused, whichever session they were paused in.
+
+const { Tab } = require('../browser/tab.js');
+
+/** @typedef {{requestId: string}} PausedEvent */
+
+/** For `Responses` it is the tab of a page load, of which that needs no more than to send answers. */
+class Paused extends Tab {
+  /** @param {import('../browser/protocol.js').Protocol} browser */
+  constructor(browser) {
+    super(browser, { contextId: '', targetId: '', sessionId: '' });
+    /**
+     * The session in which a request is paused, by its number; the browser's own has none.
+     * @type {Map<string, string|undefined>}
+     */
+    this.sessions = new Map();
+  }
+
+  /**
+   * @param {PausedEvent} event
+   * @param {string|undefined} sessionId
+   */
+  note({ requestId }, sessionId) {
+    this.sessions.set(requestId, sessionId);
+  }
+
+  /**
+   * @param {string} method
+   * @param {{[name: string]: any}} params as the protocol has them
+   * @param {number} [limit]
+   */
+  send(method, params = {}, limit) {
+    const sessionId = this.sessions.get(params.requestId);
+    if (method !== 'Fetch.getResponseBody') this.sessions.delete(params.requestId);
+    return this.browser.send(method, params, sessionId, limit);
+  }
+
+  /**
+   * Lets a request or a response pass as it is.
+   * @param {PausedEvent} event
+   * @param {object} more parameters
+   */
+  async letPass({ requestId }, more = {}) {
+    await this.send('Fetch.continueRequest', { requestId, ...more }).catch(() => {}); // the page has given it up, or has gone
+  }
+}
+
+module.exports = { Paused };

@@ -1,0 +1,68 @@
+'use strict';
+// The folder for the recordings of test suites: their names, and which recorders still write into it.
+
+const fs = require('node:fs');
+const path = require('node:path');
+const { isAlive } = require('./endpoint.js');
+const { sleep } = require('../common/time.js');
+
+const LOCK = /^\.recording-(\d+)$/;
+const POLL = 50;
+const LONGEST_SLUG = 60;
+
+/**
+ * An address as a part of a file's name.
+ * @param {string} address
+ */
+function slugOf(address) {
+  const words = address.replace(/^\w+:\/*/, '').replace(/[?#].*$/, '').replace(/\.x?html?$/, '').replace(/[^\w.-]+/g, '-').replace(/^-|-$/g, '');
+  return words.length > LONGEST_SLUG ? words.slice(-LONGEST_SLUG) : words || 'page';
+}
+
+class TraceFolder {
+  /**
+   * @param {string} log the file for the recorder's messages: recordings have its name, then a number and the address
+   * @param {import('./load.js').TestFacts} test
+   */
+  constructor(log, test) {
+    this.folder = path.dirname(log);
+    this.name = path.basename(log, '.log');
+    this.test = test;
+    this.lockFile = path.join(this.folder, `.recording-${process.pid}`);
+  }
+
+  lock() {
+    fs.writeFileSync(this.lockFile, '');
+  }
+
+  unlock() {
+    fs.rmSync(this.lockFile, { force: true });
+  }
+
+  /**
+   * @param {number} number
+   * @param {string} address
+   */
+  fileFor(number, address) {
+    return path.join(this.folder, `${this.name}-${String(number).padStart(3, '0')}-${slugOf(address)}.trace`);
+  }
+}
+
+/** The processes of recorders that write into a folder. */
+const writersOf = (/** @type {string} */ folder) => fs.readdirSync(folder).map((name) => Number(LOCK.exec(name)?.[1] || 0)).filter((pid) => pid && isAlive(pid));
+
+/**
+ * Waits until no recorder writes into a folder any more. Returns false if that took longer than `longest` milliseconds.
+ * @param {string} folder
+ * @param {number} longest
+ */
+async function waitForWriters(folder, longest) {
+  for (const until = Date.now() + longest; Date.now() < until; await sleep(POLL)) {
+    if (!writersOf(folder).length) return true;
+  }
+  return false;
+}
+
+const tracesIn = (/** @type {string} */ folder) => fs.readdirSync(folder).filter((name) => /^[^.].*\.trace$/.test(name)).sort().map((name) => path.join(folder, name));
+
+module.exports = { TraceFolder, waitForWriters, tracesIn, slugOf };

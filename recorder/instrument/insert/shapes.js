@@ -1,0 +1,78 @@
+'use strict';
+// What a pattern takes of a value, as a text of JSON that the page's helper reads (page/objects/patterns.js): `["{","a",0,"b",["[",0,0]]` of
+// `{a, b: [c, d]}`. After "{" come a key and what its value is taken apart into, or 0; after "[" that of each item, or null for none; "..." takes the rest.
+
+const { quoteList } = require('../marks/quote.js');
+
+/**
+ * @typedef {import('../syntax/types').Pattern} Pattern
+ * @typedef {import('../syntax/types').ObjectPattern|import('../syntax/types').ArrayPattern} TakingPattern
+ * @typedef {(string|number|null|ShapeList)[]} ShapeList
+ */
+
+/**
+ * @param {Pattern} pattern
+ * @returns {pattern is TakingPattern}
+ */
+const isTakingPattern = (pattern) => pattern.type === 'ObjectPattern' || pattern.type === 'ArrayPattern';
+
+/**
+ * @param {Pattern|null} element
+ * @returns {ShapeList|string|number|null}
+ */
+function shapeOfItem(element) {
+  if (element === null) return null;
+  return element.type === 'RestElement' ? '...' : shapeOfTarget(element);
+}
+
+/**
+ * @param {Pattern} target
+ * @returns {ShapeList|number}
+ */
+function shapeOfTarget(target) {
+  const inner = target.type === 'AssignmentPattern' ? target.left : target;
+  return isTakingPattern(inner) ? listOf(inner) : 0;
+}
+
+/**
+ * @param {import('../syntax/types').PatternProperty|import('../syntax/types').RestElement} property
+ * @returns {ShapeList}
+ */
+function shapeOfProperty(property) {
+  if (property.type === 'RestElement') return ['...'];
+  const { computed, key, value } = property;
+  if (computed) return [];
+  return [key.type === 'Identifier' ? key.name : String(key.type === 'Literal' && key.value), shapeOfTarget(value)];
+}
+
+/**
+ * @param {TakingPattern} pattern
+ * @returns {ShapeList}
+ */
+function listOf(pattern) {
+  if (pattern.type === 'ArrayPattern') return ['[', ...pattern.elements.map(shapeOfItem)];
+  return ['{', ...pattern.properties.flatMap(shapeOfProperty)];
+}
+
+/**
+ * The shape of a pattern as it is in a call, or '' if it takes nothing that is known.
+ * @param {TakingPattern} pattern
+ */
+function shapeOf(pattern) {
+  const list = listOf(pattern);
+  return list.length > 1 ? quoteList(list) : '';
+}
+
+/**
+ * The patterns among a function's parameters, with their indexes.
+ * @param {Pattern[]} parameters
+ * @returns {{pattern: TakingPattern, index: number}[]}
+ */
+function patternsOf(parameters) {
+  return parameters.flatMap((parameter, index) => {
+    const pattern = parameter.type === 'AssignmentPattern' ? parameter.left : parameter;
+    return isTakingPattern(pattern) ? [{ pattern, index }] : [];
+  });
+}
+
+module.exports = { shapeOf, patternsOf, isTakingPattern };

@@ -1,0 +1,100 @@
+'use strict';
+// Actions as the list shows them: what runs, and where it was scheduled. Stable names are made from other texts (races/words.js), which never change.
+
+const { FIRST_FOREIGN_TIMEOUT } = require('../common/numbers.js');
+const { shown } = require('../common/shown.js');
+
+/** @typedef {import('./types').Place} Place */
+/** @typedef {import('../races/actions.js').Action} Action */
+/**
+ * What was requested, where, and by way of which place in a library.
+ * @typedef {{function?: string, place?: Place|null, way?: Place}} Asked
+ */
+
+/** @type {{[why: string]: [what: string, asked: string]}} */
+const INTERVALS = {
+  setInterval: ['interval', 'set'], requestAnimationFrame: ['animation frame', 'requested'], webkitRequestAnimationFrame: ['animation frame', 'requested'],
+  requestIdleCallback: ['idle callback', 'requested'], 'import()': ['module', 'requested'],
+};
+
+class Callbacks {
+  /**
+   * @param {import('../races/words.js').Words} words
+   * @param {(place: Place|null|undefined) => string} placeInWords
+   */
+  constructor(words, placeInWords) {
+    this.words = words;
+    this.names = /** @type {import('./types').Names} */ (words.names);
+    this.placeInWords = placeInWords;
+  }
+
+  /** @param {number} number @returns {string} */
+  of(number) {
+    const action = this.words.actions.list[number];
+    const { names } = this;
+    const [word, a, b] = action.words;
+    switch (word) {
+      case 'parse': return `parser at ${this.words.element(b)}`;
+      case 'exec': return this.script(a);
+      case 'timer': return this.asked('timeout', 'scheduled', names.timeouts[a]);
+      case 'tick': case 'anim': return this.tick(a);
+      case 'reply': return this.reply(b);
+      case 'message': return this.message(names.messages?.[a]);
+      case 'run': return this.handler(action);
+      case 'close': return `the browser, after ${action.dispatch ? this.of(action.dispatch.number) : 'an event'}`;
+      case 'back': return this.of(action.first);
+      default: return this.words.action(number).replace(/^the /, '');
+    }
+  }
+
+  /**
+   * @param {string} what @param {string} verb @param {Asked|undefined} facts
+   */
+  asked(what, verb, facts) {
+    const name = (facts?.function || '').replace(/^(?:bound )+/, '').trim();
+    const at = facts?.place ? `, ${verb} at ${this.placeInWords(facts.place)}` : '';
+    return `${what}${name ? ` ${shown(name)}` : ''}${at}${at && facts?.way ? ` (via ${this.placeInWords(facts.way)})` : ''}`;
+  }
+
+  /** @param {string} number @returns {string} */
+  script(number) {
+    return this.words.script(number).replace(/^the /, '').replace(/ at .*$/, '');
+  }
+
+  /** @param {string} number */
+  tick(number) {
+    const facts = this.names.intervals[number] || {};
+    if (!facts.why) return this.asked('timeout', 'scheduled', { ...this.names.timeouts[Number(number) - FIRST_FOREIGN_TIMEOUT], ...facts });
+    const [what, verb] = INTERVALS[facts.why] || [`callback of ${shown(facts.why)}`, 'requested'];
+    return this.asked(what, verb, facts);
+  }
+
+  /** @param {string} number */
+  request(number) {
+    const { address } = this.names.requests[number] || {};
+    return address ? shown(address.replace(/^[^?#]*\/(?=[^/?#])/, '')) : 'a request';
+  }
+
+  /** @param {string} number */
+  reply(number) {
+    return this.asked(`reply of ${this.request(number)}`, 'requested', { ...this.names.requests[number], function: '' });
+  }
+
+  /** @param {Asked|undefined} facts */
+  message(facts) {
+    return this.asked('message', 'posted', facts);
+  }
+
+  /** @param {Action} action */
+  handler(action) {
+    const facts = this.names.handlers[action.words[3]] || {};
+    if (facts.type === 'reply of fetch') return this.reply(action.dispatch?.words[2] || '');
+    if (facts.type === 'await') return this.asked('code after await', 'waiting', { ...facts, function: '' });
+    if (facts.type === 'job') return this.asked('promise reaction', 'set', facts);
+    const place = facts.place || this.names.elements[facts.target ?? '']?.place;
+    const of = action.dispatch?.words[0] === 'reply' ? ` of ${this.request(action.dispatch.words[2])}` : '';
+    return this.asked(`${shown(facts.type || 'event')} handler${of}`, 'registered', { ...facts, place });
+  }
+}
+
+module.exports = { Callbacks };

@@ -1,0 +1,141 @@
+'use strict';
+// What the list says of a problem: the sentence, the two sides with what else has the same two places, what a replay found, and the stable name.
+
+const { Sides, summaryOf } = require('./sides.js');
+const { pathInFolder } = require('./places.js');
+
+/**
+ * @typedef {import('./listing.js').Listing} Listing
+ * @typedef {import('./listing.js').Listed} Listed
+ * @typedef {import('./problems.js').Problems} Problems
+ * @typedef {import('./sides.js').Side} Side
+ * @typedef {import('../browser/folder.js').Folder} Folder
+ */
+/**
+ * A side with what its other races have in its place.
+ * @typedef {Side & {also: string}} FullSide
+ */
+/**
+ * `details` are further lines, each with its label.
+ * @typedef {{place: string, sentence: string, look: string, part: string, sides: FullSide[], details: [label: string, text: string][], name: string, more: string}} Entry
+ */
+
+const MOST_NAMED = 3;
+/** So many races of a problem are looked through for what else has the same two places. */
+const MOST_RACES = 500;
+const LONGEST_REPLAY = 240;
+const HERE = /(?:^|[;:] )here (.*?)(?:; and behind it|$)/;
+const PREFIX_OF_VERDICT = /^(turned: differs|could not be turned|turned): /;
+
+/** Where a callback was requested, and the place in a library by way of which. */
+const ASKED = /, [a-z]+ at (\S+)(?: \(via \S+\))?$/;
+
+/**
+ * The first few texts, without the words at the start that all of them have; of what has the same words, with where it was requested.
+ * @param {string} own
+ * @param {string[]} texts
+ */
+function also(own, texts) {
+  if (!texts.length) return '';
+  const all = [own, ...texts];
+  const short = all.map((text) => text.replace(ASKED, ''));
+  const isUnique = new Set(short).size === all.length;
+  const words = (isUnique ? short : all.map((text) => text.replace(ASKED, ' at $1'))).map((text) => text.split(' '));
+  const shortest = Math.min(...words.map(({ length }) => length));
+  let same = 0;
+  while (same < shortest - 1 && words.every((some) => some[same] === words[0][same])) same++;
+  const told = words.slice(1, 1 + MOST_NAMED).map((some) => some.slice(same).join(' '));
+  return `(also ${told.join(', ')}${texts.length > MOST_NAMED ? ', ..' : ''})`;
+}
+
+class Entries {
+  /** @param {Listing} listing @param {Folder|null} folder the folder that was served */
+  constructor(listing, folder) {
+    this.listing = listing;
+    this.folder = folder;
+    /** @type {Sides[]} by run */
+    this.sides = [];
+  }
+
+  /** @param {number} run */
+  sidesOf(run) {
+    const problems = this.listing.runs[run];
+    const fileOf = (/** @type {number} */ file) => pathInFolder(problems.names.files[file]?.address, this.folder);
+    this.sides[run] = this.sides[run] || new Sides(problems, fileOf);
+    return this.sides[run];
+  }
+
+  /** @param {Listed} line */
+  toldOf({ run, first, worst, look }) {
+    return this.sidesOf(run).of(worst ?? first, look.look);
+  }
+
+  /** @param {Listed} line */
+  summaryOf(line) {
+    return summaryOf(this.toldOf(line));
+  }
+
+  /** @param {Listed} line @param {Listed[]} others @returns {Entry} */
+  of(line, others) {
+    const { sentence, place, sides } = this.toldOf(line);
+    const { look, name } = line;
+    const alsos = line.worst === undefined ? this.alsoOf(line) : ['', ''];
+    return {
+      place, sentence, look: look.name, part: look.part, name, more: this.more(line, others), details: this.details(line),
+      sides: sides.map((side, k) => ({ ...side, also: alsos[k] })),
+    };
+  }
+
+  /**
+   * What stands in each side's place in the other races of a problem.
+   * @param {Listed} line
+   */
+  alsoOf({ run, first, races, sites: [one, two], look }) {
+    const { ofRaces, report } = this.listing.runs[run];
+    const sides = this.sidesOf(run);
+    const isTurned = (/** @type {number} */ race) => one !== two && ofRaces[race].sites[0] !== one;
+    const leading = sides.leading(report.races[first], look.look);
+    return [leading, 1 - leading].map((k) => {
+      const own = sides.actorOf(report.races[first], k);
+      const side = isTurned(first) ? 1 - k : k;
+      const texts = new Set(races.slice(0, MOST_RACES).map((race) => sides.actorOf(report.races[race], isTurned(race) ? 1 - side : side)));
+      texts.delete(own);
+      return also(own, [...texts]);
+    });
+  }
+
+  /**
+   * The race that comes first, if the line has the pattern of another one.
+   * @param {Listed} line
+   */
+  causeOf({ run, first, worst }) {
+    return worst === undefined ? null : this.sidesOf(run).of(first, this.listing.runs[run].ofRaces[first].look.look);
+  }
+
+  /** @param {Listed} line @returns {Entry['details']} */
+  details(line) {
+    const { look } = line;
+    const cause = this.causeOf(line);
+    const here = HERE.exec(look.seen)?.[1] || '';
+    const replay = this.listing.verdictOf(line);
+    const seen = this.listing.seenInWords(line);
+    /** @type {Entry['details']} */
+    const all = [['cause', cause ? summaryOf(cause) : ''], ['recorded', here], ['replayed', replay ? replayInWords(replay) : ''], ['runs', seen]];
+    return all.filter(([, text]) => text);
+  }
+
+  /** @param {Listed} line @param {Listed[]} others */
+  more(line, others) {
+    const size = [line, ...others].reduce((sum, one) => sum + this.listing.size(one), 0);
+    const inProblems = others.length ? ` in ${others.length + 1} problems` : '';
+    return size > 1 ? `and ${size - 1} more race${size > 2 ? 's' : ''}${inProblems}` : '';
+  }
+}
+
+/** @param {import('./types').Verdict} verdict */
+function replayInWords({ effect, words }) {
+  const told = `${effect ? `${effect}: ` : ''}${effect ? words.replace(PREFIX_OF_VERDICT, '') : words.replace(/^turned: /, '')}`;
+  return told.length > LONGEST_REPLAY ? `${told.slice(0, LONGEST_REPLAY)}..` : told;
+}
+
+module.exports = { Entries };

@@ -1,0 +1,232 @@
+'use strict';
+// What the trace and its names say of single accesses: their values, and how a variable is used elsewhere in the trace.
+
+const { FIRST_MODULE } = require('../../common/numbers.js');
+const { isOfTree } = require('../../races/spelled-locations.js');
+
+/** Values of a flag: a letter for numbers, and one digit. */
+const FLAG = /^(?:true|false|-|null|\?|n\w+1)$/;
+/** An assignment that uses the old value, from the name of the variable on; and the sign of a count before the name. */
+const UPDATE = /^[\w$]+\s*(?:\+\+|--|(?:\*\*|<<|>>>?|[-+*/%&|^])=(?!=))/;
+const COUNT_BEFORE = /(?:\+\+|--)\s*(?:[\w$]+\.)*$/;
+/** So many actions write a scratch value, at least. */
+const FEWEST_WRITERS = 3;
+
+/**
+ * An access in a line of the trace.
+ * @typedef {{line: number, action: number, isWrite: boolean}} Access
+ */
+
+/** @param {string|undefined} value */
+const isNothing = (value) => value === '-' || value === 'null';
+/** @param {string|undefined} value whether it has a text: equal digests mean equal values */
+const isText = (value) => value !== undefined && /^(?:[snb]\w+|true|false|null)$/.test(value);
+/**
+ * Whether the first value of a variable is no write: the value before a write is recorded with it, or unknown.
+ * @param {string} location
+ */
+const isOfObject = (location) => isOfTree(location) || (location.startsWith('var ') && Number(location.split(' ')[1]) >= FIRST_MODULE);
+
+/**
+ * @template T
+ * @param {Map<string, T[]>} lists @param {string} key @param {T} one
+ */
+function addTo(lists, key, one) {
+  const list = lists.get(key);
+  if (list) list.push(one);
+  else lists.set(key, [one]);
+}
+
+/**
+ * A function whose answer depends on its first argument alone (the others follow from it), and is found once.
+ * @template {unknown[]} T
+ * @param {(...args: T) => boolean} find
+ * @returns {(...args: T) => boolean}
+ */
+function remembered(find) {
+  const known = new Map();
+  return (...args) => {
+    if (!known.has(args[0])) known.set(args[0], find(...args));
+    return known.get(args[0]);
+  };
+}
+
+class Accesses {
+  /**
+   * @param {import('../types').Names} names
+   * @param {import('../../races/actions.js').Actions} actions
+   * @param {import('../../races/source-text.js').SourceText} sources
+   */
+  constructor(names, actions, sources) {
+    this.places = names.places;
+    this.values = names.values || {};
+    this.befores = names.befores || {};
+    this.kept = names.kept || {};
+    this.counts = names.counts || {};
+    this.sources = sources;
+    /** @type {Map<string, Access[]>} by location, in the order of the trace */
+    this.byLocation = new Map();
+    /** @type {Map<string, Access[]>} by action and location */
+    this.byAction = new Map();
+    /**
+     * Locations that are ever written with a known value.
+     * @type {Set<string>}
+     */
+    this.seen = new Set();
+    // An access is in many races: what its line or its location says is found once.
+    this.isEmptyBefore = remembered(this.isEmptyBefore.bind(this));
+    this.isOfCache = remembered(this.isOfCache.bind(this));
+    this.isUpdate = remembered(this.isUpdate.bind(this));
+    this.isScratch = remembered(this.isScratch.bind(this));
+    this.readLines(actions);
+  }
+
+  /** @param {import('../../races/actions.js').Actions} actions */
+  readLines({ lines, list }) {
+    let action = -1;
+    lines.forEach((/** @type {string} */ text, /** @type {number} */ k) => {
+      if (list[action + 1]?.line === k + 1) action++;
+      if (!text.startsWith('w ') && !text.startsWith('r ')) return;
+      const location = text.slice(2);
+      const access = { line: k + 1, action, isWrite: text[0] === 'w' };
+      addTo(this.byLocation, location, access);
+      addTo(this.byAction, `${action} ${location}`, access);
+      if (access.isWrite && this.values[k + 1] && this.values[k + 1] !== '?') this.seen.add(location);
+    });
+  }
+
+  /** @param {string} location */
+  of(location) {
+    return this.byLocation.get(location) || [];
+  }
+
+  /**
+   * The accesses of an action to a location.
+   * @param {string} location @param {number} action
+   */
+  inAction(location, action) {
+    return this.byAction.get(`${action} ${location}`) || [];
+  }
+
+  // ---- values
+
+  /**
+   * Whether an access that finds this value finds nothing to use.
+   * @param {string|undefined} value @param {string} location
+   */
+  isEmpty(value, location) {
+    return isNothing(value) || (value === '?' && this.seen.has(location));
+  }
+
+  /**
+   * Whether a location has nothing to use before it is written in a line: nobody wrote it, or nothing was written.
+   * @param {number} line @param {string} location
+   */
+  isEmptyBefore(line, location) {
+    if (this.befores[line] !== undefined) return this.isEmpty(this.befores[line], location);
+    if (isOfObject(location)) return false;
+    const before = this.of(location).filter((one) => one.isWrite && one.line < line).pop();
+    return !before || this.isEmpty(this.values[before.line], location);
+  }
+
+  /**
+   * Whether the values of a race are those of a flag, if they are known; what is written to an object's variable has to be known.
+   * @param {import('../types').Race} race
+   */
+  isFlag({ lines, modes, location }) {
+    const isOne = (/** @type {number} */ line) => this.values[line] === undefined || FLAG.test(this.values[line]);
+    return lines.every(isOne) && (!isOfObject(location) || lines.every((line, k) => modes[k] === 'r' || this.values[line] !== undefined));
+  }
+
+  /**
+   * Whether both sides write a value that is known to be equal.
+   * @param {import('../types').Race} race
+   */
+  isSameValue({ lines, modes }) {
+    const [first, second] = lines.map((line) => this.values[line]);
+    const isWrite = lines.every((line, k) => modes[k] === 'w' || this.kept[line]);
+    return isWrite && isText(first) && first === second;
+  }
+
+  // ---- counts and updates
+
+  /**
+   * Whether the write of a line is a count whose value nobody uses.
+   * @param {number} line
+   */
+  isCountAt(line) {
+    const place = this.places[line];
+    return !!this.counts[line] || (!!place && this.sources.isCount(place));
+  }
+
+  /**
+   * Whether a side counts a variable, and nothing else: a read is the read of the count.
+   * @param {import('../types').Race} race @param {number} k
+   */
+  isCount({ lines, modes, location, actions }, k) {
+    if (modes[k] === 'w') return this.isCountAt(lines[k]);
+    const place = String(this.places[lines[k]]);
+    return this.inAction(location, actions[k]).some(({ line, isWrite }) => isWrite && line > lines[k] && this.isCountAt(line) && String(this.places[line]) === place);
+  }
+
+  /**
+   * Whether a write makes the new value of the old one (`x++`, `x += 1`), so that it keeps what another action wrote.
+   * @param {number} line @param {number} action @param {string} location
+   */
+  isUpdate(line, action, location) {
+    if (location.endsWith(' (names)')) return true; // a set of keys: a key is added or removed, the others stay
+    if (this.isCountAt(line)) return true;
+    const place = this.places[line];
+    if (!place) return false;
+    const [file, number, column] = place;
+    const text = this.sources.linesOf(file)[number] || '';
+    if (UPDATE.test(text.slice(column - 1)) || COUNT_BEFORE.test(text.slice(0, column - 1))) return true;
+    return this.inAction(location, action).some((one) => !one.isWrite && one.line < line && String(this.places[one.line]) === String(place));
+  }
+
+  // ---- what else the trace does with a location
+
+  /**
+   * Whether code of the same action wrote a location before the read in a line.
+   * @param {string} location @param {number} action @param {number} line
+   */
+  isWrittenBefore(location, action, line) {
+    return this.inAction(location, action).some((one) => one.isWrite && one.line < line);
+  }
+
+  /**
+   * Whether a read is that of a cache: if it finds nothing, the same action writes a value. This is known where it happened, in this action or, at the
+   * same place of the code, in another one.
+   * @param {number} line @param {string} location
+   */
+  isOfCache(line, location) {
+    const all = this.of(location);
+    const place = this.places[line];
+    const reads = all.filter((one) => !one.isWrite && (one.line === line || (place && String(this.places[one.line]) === String(place))));
+    const isFilled = (/** @type {Access} */ read) => this.inAction(location, read.action).some((one) => one.isWrite && one.line > read.line
+      && (this.values[read.line] === undefined ? this.isEmptyBefore(one.line, location) : this.isEmpty(this.values[read.line], location)));
+    return reads.some(isFilled);
+  }
+
+  /**
+   * Whether several actions write a variable of an object, and none reads what another one wrote: each uses it only in itself.
+   * @param {string} location
+   */
+  isScratch(location) {
+    return isOfObject(location) && !isOfTree(location) && !location.endsWith(')') && this.isWrittenWhole(location);
+  }
+
+  /** @param {string} location */
+  isWrittenWhole(location) {
+    /** @type {Set<number>} */
+    const writers = new Set();
+    for (const { line, action, isWrite } of this.of(location)) {
+      if (isWrite && this.isUpdate(line, action, location)) return false;
+      if (isWrite || this.kept[line]) writers.add(action);
+      else if (!writers.has(action)) return false;
+    }
+    return writers.size >= FEWEST_WRITERS;
+  }
+}
+
+module.exports = { Accesses, isNothing };

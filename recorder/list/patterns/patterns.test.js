@@ -1,0 +1,127 @@
+'use strict';
+// Each pattern that looks like another one: a case that has it, and others that look alike and have not.
+
+const assert = require('node:assert');
+const { test } = require('node:test');
+const { judgeLines } = require('../../test/list-support.js');
+const { Problems } = require('../problems.js');
+
+/**
+ * @typedef {Partial<import('../types').Names>} Given
+ * @typedef {[text: string, place?: number[], value?: string][]} Lines lines of a trace, with the place of their code and their value
+ */
+
+/** @type {import('../types').Names} */
+const NAMES = {
+  files: [{ address: 'http://localhost/app.js', text: '--app.active;\napp.active = 1;\nif (!app.cache) app.cache = make();\nuse(app.cache);\napp.sum += 2;\napp.sum == 2;\n' }],
+  elements: {}, documents: {}, handlers: {}, timeouts: {}, intervals: {}, requests: {}, dispatches: {}, places: {},
+  objects: { 3000000: { made: 'object', text: 'app' } },
+};
+const UPDATE = [0, 1, 7];
+const WRITE = [0, 2, 5];
+const CACHE = [0, 3, 10];
+const USE = [0, 4, 9];
+const ADD = [0, 5, 5];
+const COMPARE = [0, 6, 5];
+
+/**
+ * The patterns of the races of a trace at one location, each once.
+ * @param {Lines} lines
+ * @param {string} location
+ * @param {Given} facts
+ */
+async function patternsAt(lines, location, facts = {}) {
+  /** @type {{[line: number]: import('../types').Place}} */
+  const places = {};
+  /** @type {{[line: number]: string}} */
+  const values = {};
+  lines.forEach(([, place, value], k) => {
+    if (place) places[k + 2] = /** @type {import('../types').Place} */ (place);
+    if (value) values[k + 2] = value;
+  });
+  const { text, report } = await judgeLines(lines.map(([line]) => line));
+  const { ofRaces } = new Problems(text, { ...NAMES, places, values, ...facts }, report);
+  return [...new Set(report.races.flatMap((race, k) => (race.location === location ? [ofRaces[k].look.look] : [])))];
+}
+
+const X = 'var 3000000 active';
+
+/** @param {Lines} first @param {Lines} second @returns {Lines} */
+const replies = (first, second) => [['parse 0 1 inline'], ['exec 1'], ['send 1'], ['send 2'], ['reply 1 1'], ...first, ['close 1'], ['reply 2 2'], ...second, ['close 2']];
+/**
+ * A user's click, and a timeout.
+ * @param {Lines} act
+ * @param {Lines} other
+ * @returns {Lines}
+ */
+const actAndTimeout = (act, other) => [['parse 0 1 plain'], ['parse 0 2 inline'], ['exec 2'], ['set 1 0'], ['fire 1 1 click'], ...act, ['close 1'], ['timer 1'], ...other];
+const ACT = { dispatches: { 1: { type: 'click', act: 1000 } } };
+
+test('an answer that may overwrite a newer one', async () => {
+  assert.deepStrictEqual(await patternsAt(replies([[`w ${X}`, WRITE]], [[`w ${X}`, WRITE]]), `${X}`), ['replies']);
+  assert.deepStrictEqual(await patternsAt(replies([[`w ${X}`, UPDATE]], [[`w ${X}`, WRITE]]), `${X}`), ['replies'], 'one of them is written over');
+  assert.deepStrictEqual(await patternsAt(replies([[`w ${X}`, COMPARE]], [[`w ${X}`, COMPARE]]), `${X}`), ['replies'], 'a comparison is no assignment');
+});
+
+test('what looks like it: requests that are counted, a sum, keys of one set', async () => {
+  const count = [`r ${X}`, `w ${X}`];
+  const counted = /** @type {[string, number[]?][]} */ (count.map((line) => [line, UPDATE]));
+  const both = await patternsAt(replies(counted, counted), X);
+  assert.ok(!both.includes('replies'), String(both));
+  assert.ok(!(await patternsAt(replies([[`w ${X}`, ADD]], [[`w ${X}`, ADD]]), X)).includes('replies'));
+  const names = 'var 3000000 (names)';
+  assert.deepStrictEqual(await patternsAt(replies([[`w ${names}`, WRITE]], [[`w ${names}`, WRITE]]), names), ['other']);
+  const unknown = /** @type {[string, number[]?][]} */ (count.map((line) => [line, USE]));
+  assert.ok(!(await patternsAt(replies(unknown, unknown), X)).includes('replies'), 'read and written at one place, whatever its text is');
+});
+
+test('what a user\'s act wrote may be written over', async () => {
+  assert.deepStrictEqual(await patternsAt(actAndTimeout([[`w ${X}`, WRITE]], [[`w ${X}`, WRITE]]), X, ACT), ['act']);
+  assert.deepStrictEqual(await patternsAt(actAndTimeout([[`w ${X}`, UPDATE]], [[`w ${X}`, WRITE]]), X, ACT), ['act'], 'the count of an act is lost');
+});
+
+test('what looks like it: a counter, and keys of one set', async () => {
+  assert.deepStrictEqual(await patternsAt(actAndTimeout([[`w ${X}`, WRITE]], [[`w ${X}`, ADD]]), X, ACT), ['other']);
+  const names = 'var 3000000 (names)';
+  assert.deepStrictEqual(await patternsAt(actAndTimeout([[`w ${names}`, WRITE]], [[`w ${names}`, WRITE]]), names, ACT), ['other']);
+});
+
+const C = 'var 3000000 cache';
+
+/** @param {Lines} first @param {Lines} second @returns {Lines} */
+const scripts = (first, second) => [['parse 0 1 async'], ['parse 0 2 async'], ['exec 1'], ...first, ['exec 2'], ...second];
+
+test('a use before the definition', async () => {
+  const facts = { befores: { 5: '-' } };
+  assert.deepStrictEqual(await patternsAt(scripts([[`w ${C}`, CACHE, 'o']], [[`r ${C}`, USE, 'o']]), C, facts), ['undefined']);
+  const filled = scripts([[`r ${C}`, CACHE, '-'], [`w ${C}`, CACHE, 'o']], [[`r ${C}`, USE, 'o']]);
+  assert.deepStrictEqual(await patternsAt(filled, C, { befores: { 6: '-' } }), ['undefined'], 'the place that reads fills no cache');
+});
+
+test('what looks like it: a cache, which each side fills', async () => {
+  const filled = scripts([[`r ${C}`, CACHE, '-'], [`w ${C}`, CACHE, 'o']], [[`r ${C}`, CACHE, 'o']]);
+  assert.deepStrictEqual(await patternsAt(filled, C, { befores: { 6: '-' } }), ['other']);
+  const both = scripts([[`r ${C}`, CACHE, '-'], [`w ${C}`, CACHE, 'o']], [[`r ${C}`, CACHE, '-'], [`w ${C}`, CACHE, 'o']]);
+  assert.ok(!(await patternsAt(both, C, { befores: { 6: '-', 9: '-' } })).includes('undefined'));
+});
+
+const S = 'var 3000000 type';
+/**
+ * Clicks that write a property, each once.
+ * @param {number} count
+ * @returns {Lines}
+ */
+const clicks = (count) => Array.from({ length: count }, (none, k) => /** @type {[string, number[]?][]} */ ([[`fire ${k + 1} 1 click`], [`w ${S}`, WRITE], [`close ${k + 1}`]])).flat();
+/** @param {Lines} more @returns {Lines} */
+const timers = (more) => [['parse 0 1 plain'], ['parse 0 2 inline'], ['exec 2'], ['set 1 0'], ['set 2 9'], ...clicks(1), ['timer 1'], [`w ${S}`, WRITE], ['timer 2'], ...more];
+
+test('a scratch value, which each action writes whole', async () => {
+  assert.deepStrictEqual(await patternsAt(timers([[`w ${S}`, WRITE]]), S, ACT), ['scratch']);
+});
+
+test('what looks like it: a read of what another action wrote, a sum, two actions', async () => {
+  assert.ok((await patternsAt(timers([[`r ${S}`, USE], [`w ${S}`, WRITE]]), S, ACT)).includes('act'));
+  assert.ok((await patternsAt(timers([[`w ${S}`, ADD]]), S, ACT)).includes('act'));
+  assert.deepStrictEqual(await patternsAt(actAndTimeout([[`w ${S}`, WRITE]], [[`w ${S}`, WRITE]]), S, ACT), ['act']);
+  assert.ok(!(await patternsAt(timers([[`w ${S}`, WRITE]]).map(([line, ...rest]) => [line.replace(S, 'var 0 type'), ...rest]), 'var 0 type', ACT)).includes('scratch'), 'a global variable is the page\'s');
+});

@@ -1,0 +1,60 @@
+'use strict';
+// The patterns: the name and the section of the list for each. Their order only decides between problems of one rank (list/rank.js).
+
+const LOSES = 'loses what a user does';
+const THROWS = 'may throw';
+const REST = 'other';
+const HARMLESS = 'often harmless';
+/** The section of two acts of a user against each other: a page is not at fault for their order. */
+const APART = 'another input, not another order';
+
+/** By key: the short name, and the section of the list. */
+const LOOKS = {
+  late: { name: 'late handler', part: LOSES },
+  field: { name: 'overwritten field', part: LOSES },
+  act: { name: 'overwritten act', part: LOSES },
+  undefined: { name: 'use before definition', part: THROWS },
+  missed: { name: 'late handler of the page', part: THROWS },
+  replies: { name: 'overwriting replies', part: REST },
+  other: { name: 'other', part: REST },
+  flag: { name: 'flag that both ask', part: HARMLESS },
+  counter: { name: 'counter', part: HARMLESS },
+  ticks: { name: 'first ticks of intervals', part: HARMLESS },
+  same: { name: 'same value', part: HARMLESS },
+  scratch: { name: 'scratch value', part: HARMLESS },
+  acts: { name: 'act against act', part: APART },
+};
+
+/** @typedef {keyof typeof LOOKS} LookKey */
+/**
+ * A pattern as it was found in a race: `seen` says in words what was seen, and `rank` is its index in the table.
+ * @typedef {{look: LookKey, rank: number, name: string, part: string, seen: string}} Look
+ */
+
+const RANKS = /** @type {LookKey[]} */ (Object.keys(LOOKS));
+
+/** @type {Map<string, Look>} */
+const known = new Map();
+
+/**
+ * A pattern with what was seen: one object for all races that have it.
+ * @param {LookKey} look @returns {Look}
+ */
+function lookOf(look, seen = '') {
+  const key = `${look} ${seen}`;
+  let one = known.get(key);
+  if (!one) known.set(key, one = { look, rank: RANKS.indexOf(look), ...LOOKS[look], seen });
+  return one;
+}
+
+/** @param {{part: string}} look */
+const isHarm = ({ part }) => part === LOSES || part === THROWS;
+
+/**
+ * Whether a problem has a line of its own even if another problem's line covers it: a fix of that one may leave this one, and only its own words say
+ * what is lost.
+ * @param {{look: LookKey}} look
+ */
+const isAlwaysTold = ({ look }) => look === 'field' || look === 'act' || look === 'undefined' || look === 'replies';
+
+module.exports = { LOOKS, RANKS, APART, lookOf, isHarm, isAlwaysTold };

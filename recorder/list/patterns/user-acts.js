@@ -1,0 +1,70 @@
+'use strict';
+// Which user act or request an action comes from.
+
+const { LETTERS_OF_ACT } = require('../../common/numbers.js');
+
+/** Events that a user causes. */
+const USER_EVENTS = new Set(['click', 'dblclick', 'auxclick', 'contextmenu', 'mousedown', 'mouseup', 'mousemove', 'mouseover', 'mouseout', 'mouseenter',
+  'mouseleave', 'pointerdown', 'pointerup', 'pointermove', 'pointerover', 'pointerout', 'pointerenter', 'pointerleave', 'touchstart', 'touchend',
+  'keydown', 'keypress', 'keyup', 'beforeinput', 'input', 'change', 'submit', 'wheel', 'select', 'selectionchange', 'selectstart']);
+/** The reason of an interval that is the run of such an address (page/document/scripts.js). */
+const ADDRESS = 'a javascript: address';
+
+class UserActs {
+  /**
+   * @param {import('../types').Names} names
+   * @param {import('../../races/actions.js').Action[]} actions
+   */
+  constructor(names, actions) {
+    this.names = names;
+    this.actions = actions;
+    /** @type {Map<number, number>} by action */
+    this.known = new Map();
+  }
+
+  /**
+   * The event in which code runs: for a handler or what the browser did after it, that of its dispatch; for an event that code caused, the caller's.
+   * @param {number} number
+   */
+  eventOf(number) {
+    let action = this.actions[this.actions[number].first];
+    for (;;) {
+      const [word] = action.words;
+      const to = word === 'inline' ? this.actions[action.number - 1] : word === 'run' || word === 'close' ? action.dispatch : null;
+      if (!to) return action;
+      action = this.actions[to.first];
+    }
+  }
+
+  /** @param {number} number @returns {number} the user act of an action, or 0 */
+  actOf(number) {
+    let act = this.known.get(number);
+    if (act === undefined) {
+      act = this.findAct(number);
+      this.known.set(number, act);
+    }
+    return act;
+  }
+
+  /**
+   * The run of a `javascript:` address is the default action of the click that requested it.
+   * @param {number} number
+   * @returns {number}
+   */
+  findAct(number) {
+    const { words, origins } = this.eventOf(number);
+    if (words[0] === 'tick' && this.names.intervals[words[1]]?.why === ADDRESS) return origins.length ? this.actOf(origins[0].action) : 0;
+    if (words[0] !== 'fire' && words[0] !== 'wfire') return 0;
+    const known = this.names.dispatches[words[1]]?.act;
+    if (known) return Math.floor(known / LETTERS_OF_ACT);
+    return USER_EVENTS.has(words[3]) ? -Number(words[1]) : 0;
+  }
+
+  /** @param {number} number @returns {string|null} the request of a reply */
+  requestOf(number) {
+    const { words } = this.eventOf(number);
+    return words[0] === 'reply' ? words[2] : null;
+  }
+}
+
+module.exports = { UserActs };

@@ -1,0 +1,102 @@
+'use strict';
+// The order of the list: by what a problem does to the user of the page. What a replay found comes first, then the pattern with its measured share of harm.
+
+/**
+ * @typedef {import('./patterns/table.js').LookKey} LookKey
+ * @typedef {import('./patterns/table.js').Look} Look
+ * @typedef {import('./types').Verdict} Verdict
+ */
+/**
+ * A lower level comes first; of one level, the larger chance of harm. `reason` says both in words.
+ * @typedef {{level: number, chance: number, reason: string}} Rank
+ */
+
+/**
+ * Of the problems that were drawn at random and judged by hand, how many do harm, and how many were judged (docs/measured/rank.md).
+ * @type {Partial<Record<LookKey, [harmful: number, judged: number]>>}
+ */
+const JUDGED = { field: [3, 3], act: [1, 6], late: [1, 26], other: [0, 14], same: [0, 1] };
+/**
+ * What is assumed of a section, as if two more of its problems had been judged: a pattern of which few or none were judged is near it.
+ * @type {{[part: string]: number}}
+ */
+const ASSUMED = { 'loses what a user does': 0.5, 'may throw': 0.2, other: 0.05, 'often harmless': 0.01 };
+const WEIGHT = 2;
+
+const ERROR = 'an uncaught error';
+const LOST_EVENTS = new Set(['a lost act', 'a lost event']);
+/** The words of a verdict without any other difference than events that found no handler. */
+const NOTHING_ELSE = 'nothing else differs that is looked at';
+
+/** Of the judged problems whose replay lost an act, and with it more that is seen, how many did harm: a lost act is often one that the user repeats. */
+const JUDGED_ACTS = [1, 4];
+const ASSUMED_OF_ACTS = 0.5;
+/** A pattern of which most do harm comes before a lost act, so both are in one level. */
+const LEVELS = { error: 0, content: 1, chance: 2, event: 3, same: 4 };
+
+/** @param {number[]} judged @param {number} assumed */
+const shareOf = ([harmful, judged], assumed) => (harmful + WEIGHT * assumed) / (judged + WEIGHT);
+
+
+/**
+ * The chance of harm of a pattern.
+ * @param {Pick<Look, 'look'|'part'>} look
+ */
+const chanceOf = ({ look, part }) => shareOf(JUDGED[look] || [0, 0], ASSUMED[part] ?? 0);
+
+/** @param {Look} look */
+function reasonOf({ look, name }) {
+  const [harmful, judged] = JUDGED[look] || [0, 0];
+  return judged ? `of ${judged} judged problems of the pattern "${name}" ${harmful} did harm` : `no problem of the pattern "${name}" was judged`;
+}
+
+/**
+ * Whether more differs than that an event found no handler.
+ * @param {Verdict} verdict
+ */
+function hasVisible({ differences, words }) {
+  return differences ? differences.some(({ kind }) => kind !== 'event') : !words.includes(NOTHING_ELSE);
+}
+
+/**
+ * @param {Verdict} verdict that of a race that was reversed
+ * @returns {{level: number, reason: string, chance?: number}}
+ */
+function levelOf(verdict) {
+  const { effect } = verdict;
+  if (!effect) return { level: LEVELS.same, reason: 'run again in the other order: no visible difference' };
+  if (effect === ERROR) return { level: LEVELS.error, reason: 'run again: an uncaught error in one order only' };
+  const reason = `run again in the other order: ${effect}`;
+  if (!LOST_EVENTS.has(effect)) return { level: LEVELS.content, reason };
+  if (!hasVisible(verdict)) return { level: LEVELS.event, reason: `${reason}, and nothing else differs` };
+  return { level: LEVELS.chance, reason: `${reason}, and the page differs`, chance: shareOf(JUDGED_ACTS, ASSUMED_OF_ACTS) };
+}
+
+/**
+ * @param {Look} look
+ * @param {Verdict} [verdict]
+ * @returns {Rank}
+ */
+function rankOf(look, verdict) {
+  const found = verdict?.verdict === 'turned' ? levelOf(verdict) : { level: LEVELS.chance, reason: reasonOf(look) };
+  return { chance: chanceOf(look), ...found };
+}
+
+/** @param {Rank} a @param {Rank} b */
+const compareRanks = (a, b) => a.level - b.level || b.chance - a.chance;
+
+/**
+ * A list in the order of its ranks, section by section: a section is where its first problem by the rank is. What is known comes last, and what is equal
+ * stays in its order.
+ * @template T
+ * @param {T[]} list @param {(one: T) => {rank: Rank, part: string, isKnown: boolean}} factsOf
+ */
+function sortByRank(list, factsOf) {
+  const all = list.map((one) => ({ one, ...factsOf(one) }));
+  all.sort((a, b) => Number(a.isKnown) - Number(b.isKnown) || compareRanks(a.rank, b.rank));
+  const parts = [...new Set(all.map(({ part }) => part))];
+  all.sort((a, b) => Number(a.isKnown) - Number(b.isKnown) || parts.indexOf(a.part) - parts.indexOf(b.part));
+  return all.map(({ one }) => one);
+}
+
+module.exports = { rankOf, sortByRank, JUDGED };

@@ -1,0 +1,58 @@
+'use strict';
+// The order of the list, by what problems do to the user of the page.
+
+const assert = require('node:assert');
+const fs = require('node:fs');
+const path = require('node:path');
+const { test } = require('node:test');
+const { LOOKS, RANKS, lookOf } = require('./patterns/table.js');
+const { rankOf, sortByRank, JUDGED } = require('./rank.js');
+
+/**
+ * @typedef {import('./types').Verdict} Verdict
+ * @typedef {{name: string, look: import('./patterns/table.js').Look, verdict?: Verdict}} One
+ */
+
+/**
+ * @param {string} effect
+ * @param {string[]} kinds of its differences
+ * @returns {Verdict}
+ */
+const differs = (effect, kinds = []) => ({ race: 1, verdict: 'turned', effect: effect || undefined, words: '', differences: kinds.map((kind) => ({ kind })) });
+
+/** @param {One[]} list */
+const namesOf = (list) => sortByRank(list, ({ look, verdict }) => ({ rank: rankOf(look, verdict), part: look.part, isKnown: false })).map(({ name }) => name);
+
+test('what a replay found comes first, and a lost act without another effect goes down', () => {
+  assert.deepStrictEqual(namesOf([
+    { name: 'same', look: lookOf('late'), verdict: differs('') },
+    { name: 'event', look: lookOf('late'), verdict: differs('a lost act', ['event']) },
+    { name: 'late', look: lookOf('late') },
+    { name: 'act', look: lookOf('late'), verdict: differs('a lost act', ['event', 'text']) },
+    { name: 'field', look: lookOf('field') },
+    { name: 'content', look: lookOf('act'), verdict: differs('another content', ['text']) },
+    { name: 'error', look: lookOf('late'), verdict: differs('an uncaught error', ['error']) },
+    { name: 'not turned', look: lookOf('late'), verdict: { race: 1, verdict: 'not turned', words: '' } },
+  ]), ['error', 'content', 'field', 'act', 'late', 'not turned', 'event', 'same']);
+});
+
+test('a section is where its first problem is', () => {
+  const list = [{ name: 'late', look: lookOf('late') }, { name: 'use', look: lookOf('undefined') }, { name: 'other', look: lookOf('other') }];
+  assert.deepStrictEqual(namesOf(list), ['use', 'late', 'other']);
+  assert.deepStrictEqual(namesOf([...list, { name: 'field', look: lookOf('field') }]), ['field', 'late', 'use', 'other']);
+});
+
+test('the shares of harm are those of the judged problems', () => {
+  /** @type {{look: string, judgement: string}[]} */
+  const judged = JSON.parse(fs.readFileSync(path.join(__dirname, '..', 'test', 'corpus', 'judgements.json'), 'utf8')).problems;
+  const shares = RANKS.flatMap((key) => {
+    const own = judged.filter(({ look, judgement }) => judgement && look === LOOKS[key].name);
+    return own.length ? [[key, [own.filter(({ judgement }) => judgement === 'harmful').length, own.length]]] : [];
+  });
+  assert.deepStrictEqual(JUDGED, Object.fromEntries(shares));
+});
+
+test('each rank has its reason in words', () => {
+  assert.strictEqual(rankOf(lookOf('field')).reason, 'of 3 judged problems of the pattern "overwritten field" 3 did harm');
+  assert.strictEqual(rankOf(lookOf('late'), differs('a lost act', ['event'])).reason, 'run again in the other order: a lost act, and nothing else differs');
+});

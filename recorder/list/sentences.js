@@ -1,0 +1,51 @@
+'use strict';
+// What the list, the view and other tools say of a problem: a sentence for each pattern, with the place that the page's author would change.
+
+/**
+ * @typedef {import('./patterns/table.js').LookKey} LookKey
+ * @typedef {import('./sides.js').Side} Side
+ */
+/**
+ * What a sentence is made of: the two sides of a race in the order of the list, the thing that they touch and the field that a user fills in, in words.
+ * @typedef {{sides: [Side, Side], thing: string, field: string, modes: string, kind: string}} Facts
+ */
+
+/** @param {string} text */
+const capital = (text) => text.slice(0, 1).toUpperCase() + text.slice(1);
+/** @param {string} word */
+const withArticle = (word) => `${/^[aeiou]/i.test(word) ? 'an' : 'a'} ${word}`;
+
+/** @param {Side} side a dispatch that looks for handlers */
+const eventOf = ({ event, actor }) => (event ? withArticle(event) : actor);
+
+/** @param {Facts} facts */
+function neutral({ thing, modes, kind }) {
+  if (kind === 'handler') return `another handler of ${thing} may come before or after the one that is registered`;
+  if (kind === 'element') return `${thing} may change before or after it is ${modes === 'ww' ? 'added or changed' : 'looked up'}`;
+  return `${thing} may change before or after it is ${modes === 'ww' ? 'written' : 'read'}`;
+}
+
+/** @type {Record<LookKey, (facts: Facts) => string>} */
+const SENTENCES = {
+  late: ({ sides }) => `${eventOf(sides[1])} is lost until its handler is registered`,
+  field: ({ field }) => `what is typed into ${field} is overwritten`,
+  act: ({ sides, thing }) => `${thing}, set after ${sides[1].act || 'an act of the user'}, may be overwritten`,
+  undefined: ({ thing, kind }) => `${thing} may not be ${kind === 'element' ? 'in the page' : thing.startsWith('`') ? 'defined' : 'set'} yet`,
+  missed: ({ sides }) => `${eventOf(sides[1])} may come before its handler is registered`,
+  replies: ({ sides }) => `an older ${sides[0].reply || 'reply'} may overwrite a newer one`,
+  other: neutral,
+  flag: ({ thing }) => `${thing} is a flag that one side sets and the other side reads`,
+  counter: ({ thing }) => `${thing} is counted up by both sides`,
+  ticks: ({ thing }) => `two intervals of one delay tick in the order in which they were set, and reach ${thing}`,
+  same: ({ thing }) => `${thing} gets one value from both sides`,
+  scratch: ({ thing }) => `each callback that uses ${thing} writes all of it first`,
+  acts: ({ thing }) => `two acts of a user reach ${thing}`,
+};
+
+/**
+ * The sentence of a pattern, without its place.
+ * @param {LookKey} look @param {Facts} facts
+ */
+const sentenceOf = (look, facts) => capital(SENTENCES[look](facts));
+
+module.exports = { sentenceOf };

@@ -1,0 +1,40 @@
+'use strict';
+// The sentence of each pattern.
+
+const assert = require('node:assert');
+const { test } = require('node:test');
+const { LOOKS } = require('./patterns/table.js');
+const { sentenceOf } = require('./sentences.js');
+
+const SIDE = { verb: '', what: '', place: '', actor: 'DOMContentLoaded', event: '', act: '', reply: '', at: null };
+
+/**
+ * @typedef {import('./sentences.js').Facts} Facts
+ * @typedef {keyof typeof LOOKS} Key
+ */
+
+/**
+ * @param {Key} look
+ * @param {Partial<Facts>} given
+ */
+const sentence = (look, given = {}) => sentenceOf(look, { sides: [SIDE, SIDE], thing: '`x`', field: 'input#q', modes: 'rw', kind: 'variable', ...given });
+
+test('what a user loses is named by the event, the field or the act', () => {
+  assert.strictEqual(sentence('late', { sides: [SIDE, { ...SIDE, event: 'input at input#q' }] }), 'An input at input#q is lost until its handler is registered');
+  assert.strictEqual(sentence('field'), 'What is typed into input#q is overwritten');
+  assert.strictEqual(sentence('act', { sides: [SIDE, { ...SIDE, act: 'the click at button#add' }] }), '`x`, set after the click at button#add, may be overwritten');
+});
+
+test('an element is not in the page yet, and a variable is not defined yet', () => {
+  assert.strictEqual(sentence('undefined'), '`x` may not be defined yet');
+  assert.strictEqual(sentence('undefined', { kind: 'element', thing: '`#offer`' }), '`#offer` may not be in the page yet');
+  assert.strictEqual(sentence('undefined', { thing: 'the class of div' }), 'The class of div may not be set yet');
+  assert.strictEqual(sentence('missed'), 'DOMContentLoaded may come before its handler is registered');
+  assert.strictEqual(sentence('replies', { sides: [{ ...SIDE, reply: 'reply of a.json' }, SIDE] }), 'An older reply of a.json may overwrite a newer one');
+});
+
+test('every pattern has a sentence that starts with a capital or a name, and has no end', () => {
+  for (const key of /** @type {Key[]} */ (Object.keys(LOOKS))) assert.match(sentence(key), /^[A-Z`].*[^.]$/, key);
+  assert.strictEqual(sentence('other'), '`x` may change before or after it is read');
+  assert.strictEqual(sentence('other', { modes: 'ww' }), '`x` may change before or after it is written');
+});

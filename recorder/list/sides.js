@@ -1,0 +1,195 @@
+'use strict';
+// The two sides of a race as the list shows them: what each does, to what, where, and in which callback. Stable names are made from other texts.
+
+const { FIRST_FIELD, FIRST_OBJECT } = require('../common/numbers.js');
+const { shown } = require('../common/shown.js');
+const { Callbacks } = require('./callbacks.js');
+const { sentenceOf } = require('./sentences.js');
+
+/**
+ * @typedef {import('./types').Place} Place
+ * @typedef {import('./types').Race} Race
+ * @typedef {import('./patterns/table.js').LookKey} LookKey
+ * @typedef {import('./problems.js').Problems} Problems
+ */
+/**
+ * `verb` and `what` say what it does, `actor` the callback or the event. `event` is set for an event that looks for handlers, `act` for a user's act,
+ * `reply` for a reply.
+ * @typedef {{verb: string, what: string, place: string, actor: string, event: string, act: string, reply: string, at: Place|null}} Side
+ */
+/**
+ * The sentence without its place, that place, and the two sides.
+ * @typedef {{sentence: string, place: string, sides: [Side, Side]}} Told
+ */
+
+const EVENTS = new Set(['fire', 'wfire', 'inline']);
+const NAME = /^[\w$.]+$/;
+
+/**
+ * A name in the marks of code, if it is a name.
+ * @param {string} text
+ */
+const marked = (text) => (text.includes(' ') ? `the ${text}`.replace(/^the the /, 'the ') : `\`${text}\``);
+
+class Sides {
+  /**
+   * @param {Problems} problems
+   * @param {(file: number) => string|null} fileOf the name by which a terminal finds a file, or null
+   */
+  constructor(problems, fileOf = () => null) {
+    this.problems = problems;
+    this.words = problems.words;
+    this.fileOf = fileOf;
+    this.callbacks = new Callbacks(this.words, (place) => this.place(place));
+  }
+
+  // ---- places
+
+  /** @param {Place|null|undefined} place */
+  place(place, hasColumn = true) {
+    if (!place) return '';
+    const [file, line, column] = place;
+    return `${this.fileOf(file) ?? this.words.fileName(file)}:${line}${hasColumn || this.words.sources.isLong(place) ? `:${column}` : ''}`;
+  }
+
+  /** The page, if no place is known. */
+  page() {
+    const { names } = this.problems;
+    return shown((names.documents['0']?.address || names.page || '').replace(/[?#].*$/, '').replace(/^.*\/(?=.)/, '')) || 'page';
+  }
+
+  // ---- things
+
+  /**
+   * A property of an object that has a name is `name.property`, and a variable of a function its name.
+   * @param {string} location
+   */
+  thing(location) {
+    const [, digits, spelled] = location.split(' ');
+    const { text } = this.words.location(location);
+    const facts = Number(digits) >= FIRST_OBJECT ? this.problems.names.objects?.[digits] : undefined;
+    const name = this.words.unescape(spelled);
+    if (facts?.scope !== undefined && NAME.test(name)) return name;
+    return facts?.text && facts.scope === undefined && NAME.test(facts.text) && NAME.test(name) ? `${facts.text}.${name}` : text;
+  }
+
+  /**
+   * The element of a field.
+   * @param {string} location
+   */
+  field(location) {
+    const number = Number(location.split(' ')[1]);
+    return number >= FIRST_FIELD && number < FIRST_OBJECT ? this.words.element(number - FIRST_FIELD) : this.thing(location);
+  }
+
+  // ---- sides
+
+  /** @param {Race} race @param {number} k @returns {Side} */
+  side({ location, modes, lines, actions }, k) {
+    const { kind } = this.words.location(location);
+    const number = actions[k];
+    const isEvent = kind === 'handler' && modes[k] === 'r';
+    const at = this.words.placeOfAccess(lines[k], number);
+    const event = isEvent ? this.eventOf(number) : null;
+    const verb = isEvent ? event?.verb || 'event' : this.verb(kind, modes[k], lines[k]);
+    const what = isEvent ? event?.target || this.callbacks.of(number) : this.thing(location);
+    return {
+      verb, what, at, place: this.place(at), actor: isEvent && event ? '' : this.callbacks.of(number), event: event?.words || '',
+      act: this.actOf(number), reply: this.replyOf(number),
+    };
+  }
+
+  /**
+   * An event at an element, as `click at a`.
+   * @param {number} number
+   */
+  eventOf(number) {
+    const { words: [word, , element, type] } = this.words.actions.list[this.words.actions.list[number].first];
+    if (!EVENTS.has(word) || type === 'then') return null;
+    const target = word === 'wfire' ? 'the window' : this.words.element(element);
+    const verb = `${this.words.unescape(type)} at`;
+    return { verb, target, words: `${verb} ${target}` };
+  }
+
+  /**
+   * What tells a side from those of other races: the target of an event, else the callback.
+   * @param {Race} race
+   * @param {number} k
+   */
+  actorOf({ location, modes, actions }, k) {
+    const event = location.startsWith('slot ') && modes[k] === 'r' ? this.eventOf(actions[k]) : null;
+    return event ? event.target : this.callbacks.of(actions[k]);
+  }
+
+  /**
+   * What a user did, if an action comes from that.
+   * @param {number} number
+   */
+  actOf(number) {
+    const { userActs } = this.problems;
+    if (!userActs.actOf(number)) return '';
+    const { dispatch } = this.words.actions.list[this.firstOf(number)];
+    const event = this.eventOf(dispatch ? dispatch.number : number) || this.eventOf(userActs.eventOf(number).number);
+    return event ? `the ${event.words}` : '';
+  }
+
+  /** @param {number} number */
+  replyOf(number) {
+    const request = this.problems.userActs.requestOf(number);
+    return request ? `reply of ${this.callbacks.request(request).replace(/[?#].*$/, '')}` : '';
+  }
+
+  /** @param {string} kind @param {string} mode @param {number} line */
+  verb(kind, mode, line) {
+    if (kind === 'handler') return 'registers';
+    if (kind === 'element') return mode === 'w' ? 'adds or changes' : 'looks up';
+    if (mode === 'r' && this.problems.names.kept?.[line]) return 'writes again';
+    return mode === 'w' ? 'writes' : 'reads';
+  }
+
+  /**
+   * The side whose place the page's author would change: the registration of a handler, the write over what a user did, the early use.
+   * @param {Race} race @param {LookKey} look
+   */
+  leading({ modes, actions }, look) {
+    const reader = modes.indexOf('r');
+    if (look === 'late' || look === 'missed') return 1 - reader;
+    if (look === 'field' || look === 'act') return this.problems.userActs.actOf(actions[0]) ? 1 : 0;
+    return Math.max(reader, 0);
+  }
+
+  /** @param {number} number of a race @param {LookKey} look @returns {Told} */
+  of(number, look) {
+    const race = this.problems.report.races[number];
+    const { kind } = this.words.location(race.location);
+    const first = this.leading(race, look);
+    let sides = this.both(race, first);
+    if (isAlike(sides)) sides = this.words.apart(() => this.both(race, first));
+    if (isAlike(sides)) sides.forEach((side, k) => { side.actor = `${side.actor || side.what}, run ${this.words.nthOf(this.firstOf(race.actions[k === 0 ? first : 1 - first])) + 1}`; });
+    const at = sides[0].at || sides[1].at;
+    const thing = kind === 'handler' ? this.thing(race.location) : marked(this.thing(race.location));
+    const sentence = sentenceOf(look, { sides, thing, field: this.field(race.location), modes: race.modes, kind });
+    return { sentence, place: at ? this.place(at, false) : this.page(), sides };
+  }
+
+  /** @param {Race} race @param {number} first @returns {[Side, Side]} */
+  both(race, first) {
+    return [this.side(race, first), this.side(race, 1 - first)];
+  }
+
+  /** @param {number} number */
+  firstOf(number) {
+    return this.words.actions.list[number].first;
+  }
+}
+
+/** @param {[Side, Side]} sides */
+const isAlike = ([one, two]) => `${one.what} ${one.place} ${one.actor}` === `${two.what} ${two.place} ${two.actor}`;
+
+/**
+ * The sentence with its place.
+ * @param {{sentence: string, place: string}} told
+ */
+const summaryOf = ({ sentence, place }) => `${sentence} at ${place}`;
+
+module.exports = { Sides, summaryOf };

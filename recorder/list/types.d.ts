@@ -1,0 +1,118 @@
+// What the list and the view read: the program's report, the names beside a trace (OUT.names.json), and what a replay found.
+
+/** File (its index), line and column, both from 1. */
+export type Place = [file: number, line: number, column: number];
+
+/** A race of the report; `actions` and `lines` are those of its two accesses. */
+export interface Race {
+  actions: [first: number, second: number];
+  lines: [first: number, second: number];
+  location: string;
+  modes: string;
+  group: number;
+}
+
+export interface Report {
+  races: Race[];
+  groups: { race: number; size: number }[];
+  actions: number;
+  accesses: number;
+  pairs: number;
+  chains: number;
+  links: number;
+}
+
+export interface SourceFile {
+  address: string;
+  text?: string;
+  lines?: { [line: string]: string };
+  isLibrary?: boolean;
+}
+
+/** What is known of a thing of the trace: each kind has some of these members. */
+export interface Facts {
+  tag?: string;
+  id?: string;
+  field?: string;
+  source?: string;
+  standsFor?: number;
+  message?: number;
+  type?: string;
+  function?: string;
+  target?: number;
+  isEmpty?: boolean;
+  why?: string;
+  act?: number;
+  address?: string;
+  url?: string;
+  method?: string;
+  place?: Place;
+  way?: Place;
+}
+
+/** What is known of an object, a closure or a module. */
+export interface ObjectFacts {
+  made?: string;
+  name?: string;
+  scope?: string;
+  text?: string;
+  module?: string;
+  place?: Place;
+  field?: number;
+  windowOf?: number;
+}
+
+export type FactsByNumber = { [number: string]: Facts };
+
+export interface LeftOut {
+  location: string;
+  accesses: number;
+  pairs: number;
+}
+
+export interface CountOfLibraries {
+  accesses: number;
+  objects: number;
+}
+
+export interface Names {
+  page?: string;
+  files: SourceFile[];
+  elements: FactsByNumber;
+  documents: FactsByNumber;
+  handlers: FactsByNumber;
+  timeouts: FactsByNumber;
+  intervals: FactsByNumber;
+  requests: FactsByNumber;
+  messages?: FactsByNumber;
+  dispatches: FactsByNumber;
+  objects?: { [number: string]: ObjectFacts };
+  functions?: { [place: string]: string };
+  places: { [line: string]: Place };
+  values?: { [line: string]: string };
+  befores?: { [line: string]: string };
+  counts?: { [line: string]: boolean };
+  kept?: { [line: string]: boolean };
+  leftOut?: LeftOut[];
+  ofLibraries?: CountOfLibraries;
+  /** The scripts and handler attributes that were recorded without marks, and why. */
+  unmarked?: unknown[];
+}
+
+/** What came of a race that was run again, as OUT.replay.json has it. */
+export interface Verdict {
+  race: number;
+  verdict: string;
+  effect?: string;
+  words: string;
+  differences?: { kind: string }[];
+}
+
+/** A page load of a suite, as it was recorded. */
+export interface Load {
+  address: string;
+  test?: { name?: string; words?: string };
+  errors?: string[];
+  why?: string;
+  actions?: number;
+}

@@ -1,0 +1,150 @@
+'use strict';
+// The values of options, checked. What does not fit is a UsageFault whose message names the option.
+
+const { parseEndpoint } = require('../browser/attached.js');
+const { UsageFault } = require('./parse.js');
+
+/** The characters of a header's name, and those that no value has (RFC 9110). */
+const HEADER = /^([\w!#$%&'*+.^`|~-]+):[ \t]*([^\0\r\n]*)$/;
+
+/** The characters of a cookie's name, and those that no value has (RFC 6265). */
+const COOKIE = /^([\w!#$%&'*+.^`|~-]+)=([^\0-\x20;\x7f]*)$/;
+
+/**
+ * @param {string} name of the option
+ * @param {string} value
+ * @param {number} [least]
+ * @param {number} [most]
+ */
+function wholeNumber(name, value, least = 0, most = 999999999) {
+  const number = /^\d{1,9}$/.test(value) ? Number(value) : NaN;
+  if (number >= least && number <= most) return number;
+  const range = most < 999999999 ? `from ${least} to ${most}` : least > 0 ? `from ${least} on` : '';
+  throw new UsageFault(`${name} takes a whole number${range && ` ${range}`}: ${value}`);
+}
+
+/**
+ * @param {string} name
+ * @param {string} value
+ */
+function fileName(name, value) {
+  if (!value) throw new UsageFault(`${name} takes the name of a file`);
+  return value;
+}
+
+/**
+ * A regular expression, or null for none.
+ * @param {string} name
+ * @param {string} value
+ */
+function pattern(name, value) {
+  if (value === 'none') return null;
+  try {
+    return new RegExp(value || '(', 'i');
+  } catch {
+    throw new UsageFault(`${name} takes a regular expression, or none: ${value}`);
+  }
+}
+
+/**
+ * @param {string} name
+ * @param {string} value
+ * @returns {'auto'|'always'|'never'}
+ */
+function colors(name, value) {
+  if (value !== 'auto' && value !== 'always' && value !== 'never') throw new UsageFault(`${name} takes auto, always or never: ${value}`);
+  return value;
+}
+
+/**
+ * @param {string} name
+ * @param {string} value
+ * @returns {'globals'|'objects'}
+ */
+function depth(name, value) {
+  if (value !== 'globals' && value !== 'objects') throw new UsageFault(`${name} takes globals or objects: ${value}`);
+  return value;
+}
+
+/**
+ * @param {string} name
+ * @param {string} value
+ */
+function endpoint(name, value) {
+  const found = parseEndpoint(value);
+  if (!found) throw new UsageFault(`${name} takes HOST:PORT of this machine (localhost, 127.0.0.1, [::1]): ${value}`);
+  return found;
+}
+
+/**
+ * @param {string} name
+ * @param {string} value
+ * @returns {[name: string, value: string]}
+ */
+function header(name, value) {
+  const found = HEADER.exec(value);
+  if (!found) throw new UsageFault(`${name} takes NAME:VALUE`); // the value may be a secret
+  return [found[1], found[2].trim()];
+}
+
+/**
+ * @param {string} name
+ * @param {string} value
+ */
+function credentials(name, value) {
+  const at = value.indexOf(':');
+  if (at < 1) throw new UsageFault(`${name} takes USER:PASSWORD`);
+  return { user: value.slice(0, at), password: value.slice(at + 1) };
+}
+
+/** @param {string} value */
+function isWebAddress(value) {
+  try {
+    return /^https?:$/.test(new URL(value).protocol);
+  } catch {
+    return false; // no address
+  }
+}
+
+/**
+ * @param {string} name
+ * @param {string} value
+ * @returns {[name: string, value: string]}
+ */
+function cookie(name, value) {
+  const found = COOKIE.exec(value);
+  if (!found) throw new UsageFault(`${name} takes NAME=VALUE`); // the value is a secret
+  return [found[1], found[2]];
+}
+
+/**
+ * @param {string} name
+ * @param {string} value
+ */
+function webAddress(name, value) {
+  if (!isWebAddress(value)) throw new UsageFault(`${name} takes a web address`); // it may have a password
+  return value;
+}
+
+/**
+ * @param {string} name
+ * @param {string} value
+ */
+function viewport(name, value) {
+  const [, width, height] = /^(\d{2,5})x(\d{2,5})$/.exec(value) || [];
+  if (!width) throw new UsageFault(`${name} takes WIDTHxHEIGHT: ${value}`);
+  return { width: Number(width), height: Number(height) };
+}
+
+/**
+ * @param {string} name
+ * @param {string} value
+ */
+function userAgent(name, value) {
+  if (!/^[^\0\r\n]+$/.test(value)) throw new UsageFault(`${name} takes one line of text`);
+  return value;
+}
+
+module.exports = {
+  wholeNumber, fileName, pattern, colors, depth, endpoint, header, credentials, webAddress, cookie, viewport, userAgent,
+};

@@ -1,0 +1,131 @@
+// Writes of global variables that no mark sees, as `root.x = 1`: the window's own properties are compared at the end of each piece of code.
+
+import { each, findItem, hasItem } from '../core/lists.js';
+import { replaceMethod } from '../core/replacing.js';
+import { fits } from '../core/strings.js';
+import { Object, String, apply } from '../core/taken.js';
+import { digestOf } from '../log/values.js';
+
+/**
+ * A descriptor as a page passes it.
+ * @typedef {{enumerable?: unknown, value?: unknown}} GivenDescriptor
+ */
+
+class Unseen {
+  /** @param {import('../types').Page} page */
+  constructor(page) {
+    this.page = page;
+    this.recording = page.recording;
+    this.globals = page.globals;
+    /**
+     * Names of properties that an enumeration of the window does not give.
+     * @type {string[]}
+     */
+    this.hidden = [];
+  }
+
+  /** To list all properties of a window takes long, so those that no enumeration gives are noted as they are made. */
+  start() {
+    const { Object: ObjectOfPage, Reflect } = this.page.window;
+    const noteAll = (/** @type {object} */ target, /** @type {{[name: string]: GivenDescriptor}} */ descriptors) => {
+      if (this.pageOf(target)) each(Object.keys(descriptors), (name) => this.noteHidden(target, name, descriptors[name]));
+    };
+    const noteOne = (/** @type {object} */ target, /** @type {unknown} */ name, /** @type {GivenDescriptor} */ descriptor) => {
+      if (this.pageOf(target)) this.noteHidden(target, name, descriptor);
+    };
+    this.replaceDefinition(ObjectOfPage, 'defineProperty', noteOne);
+    this.replaceDefinition(Reflect, 'defineProperty', noteOne);
+    this.replaceDefinition(ObjectOfPage, 'defineProperties', noteAll);
+  }
+
+  /**
+   * @param {object} owner
+   * @param {string} name
+   * @param {(target: object, given: any, descriptor: any) => void} note the arguments are whatever the page passes
+   */
+  replaceDefinition(owner, name, note) {
+    replaceMethod(owner, name, (native) => function define(target, given, descriptor) {
+      const result = apply(native, this, [target, given, descriptor]);
+      note(target, given, descriptor);
+      return result;
+    });
+  }
+
+  /** @param {object} target */
+  pageOf(target) {
+    return findItem(this.recording.documents, (one) => one.window === target);
+  }
+
+  /**
+   * @param {object} target
+   * @param {unknown} name
+   * @param {GivenDescriptor} descriptor
+   */
+  noteHidden(target, name, descriptor) {
+    const page = this.pageOf(target);
+    if (!page || descriptor.enumerable || typeof name === 'symbol') return;
+    const { hidden } = page.unseen;
+    if (!hasItem(hidden, String(name))) hidden[hidden.length] = String(name);
+  }
+
+  // ---- comparing
+
+  compare() {
+    each(Object.keys(this.page.window), (name) => this.compareOne(name));
+    each(this.hidden, (name) => this.compareOne(name));
+  }
+
+  /** @param {string} name */
+  compareOne(name) {
+    const descriptor = this.descriptorOf(name);
+    if (!descriptor) return;
+    this.page.ready.look(name);
+    this.compareValue(name, descriptor.value);
+  }
+
+  /**
+   * The descriptor of a variable that has a value, otherwise undefined.
+   * @param {string} name
+   */
+  descriptorOf(name) {
+    if (this.globals.builtins.has(name) || fits(/^\d+$/, name)) return undefined;
+    const descriptor = this.globals.propertyOf(name);
+    return descriptor && 'value' in descriptor ? descriptor : undefined;
+  }
+
+  /** What a driver's own code wrote between two tasks of the page is no write of the next one. */
+  takeOver() {
+    const { values } = this.globals;
+    each(Object.keys(this.page.window), (name) => {
+      const descriptor = this.descriptorOf(name);
+      if (!descriptor || (values.has(name) && Object.is(values.get(name), descriptor.value))) return;
+      values.set(name, descriptor.value);
+      this.recording.log.miss('variables that changed while nothing recorded ran');
+    });
+  }
+
+  /**
+   * @param {string} name
+   * @param {unknown} value
+   */
+  compareValue(name, value) {
+    const { values } = this.globals;
+    const isNew = !values.has(name);
+    if (!isNew && Object.is(values.get(name), value)) return;
+    const isDeclaredOnly = isNew && value === undefined;
+    if (!isDeclaredOnly && this.recording.isRunning()) this.writeUnseen(name, value);
+    values.set(name, value);
+  }
+
+  /**
+   * @param {string} name
+   * @param {unknown} value
+   */
+  writeUnseen(name, value) {
+    const { globals } = this;
+    if (globals.holder) globals.stage(name, -1);
+    else this.recording.accessNow('w', globals.location(name), '', digestOf(value));
+  }
+}
+
+export { Unseen };

@@ -1,0 +1,37 @@
+// What a value or a node is.
+
+import { findItem } from './lists.js';
+import { Object } from './taken.js';
+
+const HTML_NAMESPACE = 'http://www.w3.org/1999/xhtml';
+
+/**
+ * @param {unknown} object
+ * @returns {object is object}
+ */
+const isThing = (object) => object !== null && (typeof object === 'object' || typeof object === 'function');
+
+/**
+ * @param {unknown} target of events, or a node
+ * @returns {target is Element}
+ */
+const isElement = (target) => isThing(target) && /** @type {Node} */ (target).nodeType === 1;
+
+/**
+ * @param {any} target any target of events
+ * @returns {target is HTMLMediaElement}
+ */
+const isMedia = (target) => !!target && (target.localName === 'video' || target.localName === 'audio');
+
+/**
+ * Whether something is an object whose properties are values: to read them runs no code of the page.
+ * @param {unknown} given
+ * @returns {given is {[name: string]: any}} what the page passes
+ */
+function isPlainObject(given) {
+  if (typeof given !== 'object' || given === null) return false;
+  const found = Object.getOwnPropertyDescriptors(given);
+  return !findItem(Object.keys(found), (name) => !('value' in found[name]));
+}
+
+export { HTML_NAMESPACE, isElement, isThing, isMedia, isPlainObject };

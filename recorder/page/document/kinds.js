@@ -1,0 +1,105 @@
+// The kind of an element as the format has it (docs/recording.md, "The document and the parser"): what its run or its load is ordered by.
+
+import { settings } from '../core/settings.js';
+import { PATTERNS, fits } from '../core/strings.js';
+import { apply } from '../core/taken.js';
+import { HTML_NAMESPACE } from '../core/things.js';
+
+const SVG_NAMESPACE = 'http://www.w3.org/2000/svg';
+
+class Kinds {
+  /** @param {import('../types').Natives} natives */
+  constructor(natives) {
+    this.natives = natives;
+  }
+
+  /**
+   * @param {Element} element
+   * @param {string} name
+   * @returns {string|null}
+   */
+  attribute(element, name) {
+    return apply(this.natives.getAttribute, element, [name]);
+  }
+
+  /**
+   * @param {Element} element
+   * @param {string} name
+   * @returns {boolean}
+   */
+  has(element, name) {
+    return apply(this.natives.hasAttribute, element, [name]);
+  }
+
+  /**
+   * @param {Element} element
+   * @param {boolean} isStatic whether the parser made it
+   */
+  of(element, isStatic) {
+    const isOfSvg = element.namespaceURI === SVG_NAMESPACE;
+    const isOfHtml = element.namespaceURI === HTML_NAMESPACE;
+    if (element.localName === 'script' && (isOfHtml || (isOfSvg && element.ownerDocument.contentType === 'text/html'))) {
+      return isStatic ? this.ofStaticScript(element) : this.ofInsertedScript(element);
+    }
+    if (!isOfHtml) return isOfSvg && element.localName === 'image' ? 'image' : 'plain';
+    switch (element.localName) {
+      case 'img': return this.isLazy(element) ? 'plain' : 'image';
+      case 'link': return fits(/\bstylesheet\b/i, this.attribute(element, 'rel') || '') ? 'image' : 'plain';
+      case 'input': return this.attribute(element, 'type') === 'image' ? 'image' : 'plain';
+      case 'iframe': return this.isLazy(element) ? 'plain' : 'frame';
+      case 'frame': return 'frame';
+      case 'object': return this.has(element, 'data') ? 'frame' : 'plain';
+      case 'embed': return this.has(element, 'src') ? 'frame' : 'plain';
+      default: return 'plain';
+    }
+  }
+
+  /**
+   * The window's load does not wait for what the browser fetches once it comes into view.
+   * @param {Element} element
+   */
+  isLazy(element) {
+    return fits(/^lazy$/i, this.attribute(element, 'loading') || '');
+  }
+
+  /**
+   * Null for a data block and for a script that never runs.
+   * @param {Element} element
+   * @returns {'classic'|'module'|null}
+   */
+  scriptType(element) {
+    const isOfSvg = element.namespaceURI === SVG_NAMESPACE;
+    const type = settings.scriptType(this.attribute(element, 'type'), isOfSvg ? null : this.attribute(element, 'language'), PATTERNS);
+    return type === 'importmap' || (type === 'classic' && this.has(element, 'nomodule')) ? null : type;
+  }
+
+  /**
+   * Whether a script is in a file of its own.
+   * @param {Element} element
+   */
+  hasSource(element) {
+    return element.namespaceURI === SVG_NAMESPACE ? this.has(element, 'href') || this.has(element, 'xlink:href') : this.has(element, 'src');
+  }
+
+  /** @param {Element} element */
+  ofStaticScript(element) {
+    const type = this.scriptType(element);
+    if (!type) return 'plain';
+    if (type === 'module') return this.has(element, 'async') ? 'async' : 'defer';
+    if (!this.hasSource(element)) return 'inline';
+    if (this.has(element, 'async')) return 'async';
+    return this.has(element, 'defer') ? 'defer' : 'sync';
+  }
+
+  /**
+   * An inline script that a script inserts runs inside the running action, so it has no run of its own.
+   * @param {Element} element
+   */
+  ofInsertedScript(element) {
+    const type = this.scriptType(element);
+    if (type === 'module') return 'async';
+    return type && (this.hasSource(element) || !element.textContent) ? 'async' : 'plain';
+  }
+}
+
+export { Kinds };

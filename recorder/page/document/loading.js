@@ -1,0 +1,272 @@
+// The events of a document's loading, and the load events of its elements.
+
+import { each, hasItem, joined, positionOf } from '../core/lists.js';
+import { fits } from '../core/strings.js';
+import { WeakSet, apply } from '../core/taken.js';
+import { isElement, isMedia } from '../core/things.js';
+
+/** The events of a page that is left, in their order. */
+const LEAVING = ['beforeunload', 'pagehide', 'visibilitychange', 'unload'];
+
+/** @typedef {import('../types').Moment} Moment */
+/** @typedef {import('../types').Moments} Moments */
+/** @typedef {import('../types').Target} Target */
+/** @typedef {import('../types').Dispatch} Dispatch */
+/** @typedef {import('../types').NewDispatch} NewDispatch */
+/** @typedef {import('../events/dispatches.js').EventDispatch} EventDispatch */
+
+class Loading {
+  /** @param {import('../types').Page} page */
+  constructor(page) {
+    this.page = page;
+    this.recording = page.recording;
+    this.hasBegunDomContentLoaded = false;
+    this.hasBegunLoad = false;
+    /** The next page in the window of an empty one: the browser may parse it at once, and tells no listener so. */
+    this.isHeardLate = false;
+    this.loaded = new WeakSet();
+    /**
+     * The dispatch `dcl` or `load` that events at the same moment of loading join, in groups of their own.
+     * @type {Dispatch|null}
+     */
+    this.moment = null;
+    /**
+     * The ends of what the window's load has waited for, which its handlers come after.
+     * @type {Moment[]}
+     */
+    this.awaited = [];
+    /**
+     * The end of `readystatechange` to `interactive`, until a deferred script, or DOMContentLoaded, comes after it.
+     * @type {Moment[]}
+     */
+    this.parsed = [];
+    /**
+     * How far the page is left, and the end of the last event of it.
+     * @type {{step: number, ends: Moment[]}}
+     */
+    this.leaving = { step: 0, ends: [] };
+    /**
+     * The last blocking script, and the end of its run.
+     * @type {{number: number, end: import('../types').Moment|null}}
+     */
+    this.lastRun = { number: 0, end: null };
+  }
+
+  /**
+   * @param {Event} event
+   * @param {Target} target
+   */
+  isOfDocument(event, target) {
+    return event.isTrusted && (target === this.page.document || target === this.page.window);
+  }
+
+  /**
+   * `readystatechange` to `complete`, `load` and `pageshow` come one directly after the other, so they are one dispatch;
+   * and so are `readystatechange` to `interactive` and DOMContentLoaded, where no deferred script runs between.
+   * @param {Event} event
+   * @param {Target} target
+   */
+  joinEnd(event, target) {
+    const { moment, recording } = this;
+    if (!moment || !this.isOfDocument(event, target) || recording.contexts.length) return null;
+    const joins = hasItem(moment.end === 'dcl' ? ['DOMContentLoaded'] : ['load', 'pageshow'], event.type);
+    if (!joins || moment.isClosed || recording.top() !== moment) return null;
+    moment.event = event;
+    this.page.dispatches.readSlots([this.page.document, this.page.window], event.type);
+    return moment;
+  }
+
+  /** DOMContentLoaded has come before load, and no handler has run. */
+  writeUnheard() {
+    const { recording, page } = this;
+    const dispatch = { number: recording.next('dispatch'), group: -1, isInline: false };
+    this.beginEnd(dispatch, 'dcl');
+    page.dispatches.readSlots([page.document, page.window], 'DOMContentLoaded');
+    recording.push(dispatch);
+    recording.finishTop();
+  }
+
+  /**
+   * Writes the begin of a dispatch that belongs to loading. Returns whether it does.
+   * @param {EventDispatch} dispatch
+   */
+  begin(dispatch) {
+    const { event, target } = dispatch;
+    if (this.isOfDocument(event, target)) return this.beginOfDocument(dispatch);
+    if (!this.recording.steering.isTrusted(event) || target.nodeType !== 1 || isMedia(target)) return false;
+    return event.type === 'load' || event.type === 'error' ? this.beginOfElement(dispatch) : false;
+  }
+
+  /** @param {EventDispatch} dispatch */
+  beginOfDocument(dispatch) {
+    const { event } = dispatch;
+    const state = this.page.document.readyState;
+    const isComplete = event.type === 'readystatechange' && state === 'complete';
+    if ((event.type === 'load' || isComplete) && !this.hasBegunLoad) {
+      if (this.isHeardLate && !this.hasBegunDomContentLoaded) this.writeUnheard();
+      return this.beginEnd(dispatch, 'load');
+    }
+    const isParsed = event.type === 'readystatechange' && state === 'interactive' && !this.page.tree.pendingDeferred.size;
+    const isFirst = !this.hasBegunDomContentLoaded && !this.hasBegunLoad;
+    if ((event.type === 'DOMContentLoaded' || isParsed) && isFirst) return this.beginEnd(dispatch, 'dcl');
+    return event.type === 'readystatechange' && state === 'interactive' && isFirst && this.beginParsed(dispatch);
+  }
+
+  /**
+   * The page is parsed, and deferred scripts are to run: after all parse steps, and before these scripts.
+   * @param {EventDispatch} dispatch
+   */
+  beginParsed(dispatch) {
+    const { recording, page } = this;
+    const { elements, scripts, tree } = page;
+    const standIn = recording.next('element');
+    recording.noteBeside(tree.lastParsed, `new ${page.number} ${standIn} plain`);
+    recording.log.name('element', standIn, { standsFor: elements.number(page.document), why: 'the end of parsing' });
+    const isBehindRun = this.lastRun.number === tree.lastParsed; // else a parse step stands between
+    recording.begin(`fire ${dispatch.number} ${standIn} readystatechange`, 'begin', undefined, isBehindRun ? [] : [scripts.last.event]);
+    this.comeBehind(dispatch, isBehindRun ? [this.lastRun.end] : [], 'the end of a script');
+    dispatch.whenClosed = () => { this.parsed = [recording.lastMoment()]; };
+    return true;
+  }
+
+  /**
+   * A blocking script has run.
+   * @param {number} number
+   */
+  noteRunOf(number) {
+    this.lastRun = { number, end: this.recording.moment() };
+  }
+
+  /** A deferred script begins to run. */
+  comeBehindParsing() {
+    const { parsed } = this;
+    this.parsed = [];
+    this.page.joins.here(parsed, 'the end of parsing');
+    this.noteBehindParsing();
+  }
+
+  /**
+   * What the end of parsing is after: the last step, and the run of a script that stands last. Nothing while the parser goes on.
+   * @returns {import('../types').Moment[]}
+   */
+  endOfParsing() {
+    const { tree, natives, document } = this.page;
+    if (apply(natives.readyState, document, []) === 'loading') return [];
+    const end = this.lastRun.number === tree.lastParsed ? this.lastRun.end : null;
+    return joined(tree.lastStep ? [tree.lastStep] : [], end ? [end] : []);
+  }
+
+  /** A rule puts the running event after the parsing (5, 6, 8, 10). */
+  noteBehindParsing() {
+    const { after } = this.recording.running;
+    each(this.endOfParsing(), ({ event }) => { after[after.length] = event; });
+  }
+
+  /**
+   * The handlers of a dispatch come after some ends.
+   * @param {NewDispatch} dispatch
+   * @param {Moments} ends
+   * @param {string} why
+   */
+  comeBehind(dispatch, ends, why) {
+    dispatch.moments = ends;
+    dispatch.why = why;
+  }
+
+  /**
+   * @param {NewDispatch} dispatch
+   * @param {'dcl'|'load'} end
+   */
+  beginEnd(dispatch, end) {
+    if (end === 'dcl') this.hasBegunDomContentLoaded = true;
+    else this.hasBegunLoad = true;
+    dispatch.end = end;
+    if (end === 'dcl') {
+      dispatch.awaits = this.page;
+      this.comeBehind(dispatch, joined(this.parsed, this.page.observers.takeObserved()), 'the end of parsing');
+    } else this.comeBehind(dispatch, this.awaited, 'what load waits for');
+    this.moment = /** @type {Dispatch} */ (dispatch);
+    this.recording.begin(`${end} ${dispatch.number} ${this.page.number}`, 'begin');
+    this.noteBehindParsing();
+    return true;
+  }
+
+  /**
+   * The first `load` or `error` event of an element, or of a source that a script set later, is its `eload`.
+   * @param {EventDispatch} dispatch
+   */
+  beginOfElement(dispatch) {
+    const target = /** @type {Element} */ (dispatch.target);
+    const { elements, sources, tree } = this.page;
+    const later = sources.loads.get(target);
+    if (!later && this.loaded.has(target)) return false;
+    const number = later ? later.number : elements.declaredNumber(target);
+    if (later) sources.loads.delete(target);
+    else this.loaded.add(target);
+    this.recording.begin(`eload ${dispatch.number} ${number}`, 'begin');
+    this.noteAwaited(dispatch, number, tree.isParsing() && tree.lastParsed === number && isEmptyFrame(target, elements));
+    return true;
+  }
+
+  /**
+   * The load or error event of a script for which the parser or DOMContentLoaded waits comes inside its run, directly after its last statement; the
+   * run of a script that failed is empty. Returns whether the event is such a one.
+   * @param {EventDispatch} dispatch
+   */
+  beginInRun(dispatch) {
+    const { event, target } = dispatch;
+    const { scripts, dispatches } = this.page;
+    const isOfScript = event.isTrusted && target.localName === 'script' && fits(/^(load|error)$/, event.type) && !this.loaded.has(target);
+    if (!isElement(target) || !isOfScript) return false;
+    this.recording.finishAll();
+    if (!scripts.isRunning(target) && !scripts.runEmpty(target)) return false;
+    this.loaded.add(target);
+    dispatches.writeInline(dispatch, 'its run is over');
+    return true;
+  }
+
+  // ---- the end of a page
+
+  /**
+   * The events of a page that is left come in one order: each comes after the one before.
+   * @param {EventDispatch} dispatch
+   */
+  orderLeaving(dispatch) {
+    const { event, target } = dispatch;
+    const step = this.isOfDocument(event, target) ? positionOf(LEAVING, event.type) : -1;
+    if (step < 0 || this.leaving.step > step || (event.type === 'visibilitychange' && this.leaving.step < positionOf(LEAVING, 'pagehide'))) return;
+    this.comeBehind(dispatch, this.leaving.ends, 'an event before');
+    dispatch.whenClosed = () => {
+      this.leaving = { step, ends: (dispatch.group || 0) < 0 ? this.leaving.ends : [this.recording.lastMoment()] };
+    };
+  }
+
+  // ---- what the window's load waits for
+
+  /**
+   * Where an event for which load waits has made an element that load waits for too, no rule says that the element's load comes before load. So the
+   * close of its load event has an empty handler, which load runs before its own ones.
+   * @param {NewDispatch} dispatch
+   * @param {number} number
+   * @param {boolean} isOfParser whether the parser goes on only after it
+   */
+  noteAwaited(dispatch, number, isOfParser) {
+    const { elements, tree } = this.page;
+    const isMade = elements.awaited.has(number);
+    if (isMade || tree.staticLoads.has(number)) dispatch.awaits = this.page;
+    dispatch.whenClosed = () => {
+      if (isMade && !this.hasBegunLoad) this.awaited[this.awaited.length] = this.recording.lastMoment();
+      if (isOfParser) this.page.observers.noteBeforeScript();
+      this.page.inOrder.ends(number);
+    };
+  }
+}
+
+/**
+ * Whether a frame has no page but the empty one, which loads while the parser inserts the frame.
+ * @param {Element} element
+ * @param {import('./elements.js').Elements} elements
+ */
+const isEmptyFrame = (element, elements) => element.localName === 'iframe' && !elements.has(element, 'src') && !elements.has(element, 'srcdoc');
+
+export { Loading };

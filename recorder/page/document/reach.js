@@ -1,0 +1,288 @@
+// What a user can reach. An element that was hidden ever since it came, or that its code put into the page later than it made it, gets no act of a
+// user before code shows it: each act is after the code that did so first. The browser itself is asked, before the code of each task and after it:
+// what has changed meanwhile, that code has shown, and what changed outside of it (a style sheet, an animation, the pointer over a menu) may be
+// reached at any time.
+
+import { each, findItem, keep, keysOf } from '../core/lists.js';
+import { fits } from '../core/strings.js';
+import { Map, Set, WeakSet, apply } from '../core/taken.js';
+import { isElement } from '../core/things.js';
+import { Places, parentOf } from './places.js';
+
+/** Nobody acts at these, or they are there without a box of their own. */
+const HAS_NO_BOX = /^(?:area|base|br|col|colgroup|head|html|link|meta|noscript|optgroup|option|param|script|source|style|template|title|track|wbr)$/;
+const IS_INERT = ':is([inert], [inert] *)';
+const BY_POINTER = /^(?:mouse|pointer|touch|drag|(?:click|dblclick|auxclick|wheel|drop)$)/;
+const BY_KEYS = new Set(['keydown', 'keypress', 'keyup', 'beforeinput', 'textInput', 'input', 'change', 'focus', 'focusin', 'blur', 'focusout',
+  'contextmenu']); // which has a key of its own
+/** Fields whose value comes by a window of the browser, which code opens for a hidden one too. */
+const ASKS_BY_WINDOW = /^(?:file|color|date|datetime-local|month|time|week)$/;
+const ASKS_VISIBILITY = { visibilityProperty: true, __proto__: null };
+/** Nothing finds it; keys do; a pointer too. */
+const HIDDEN = 0;
+const FOR_KEYS = 1;
+const IN_REACH = 2;
+const MOST_HIDDEN = 1000;
+/** All looks together take at most this many milliseconds: after that no further order comes of them. */
+const LONGEST_IN_ALL = 1000;
+
+/** @typedef {import('../types').Moment} Moment */
+/** @typedef {import('../types').Target} Target */
+/** @typedef {import('./tree.js').Maker} Maker */
+/**
+ * What is known of an element: whether it has no box, and the code that first made it reachable by keys and by a pointer (null: at any time).
+ * @typedef {{isRoot: boolean, keys: Moment|null|undefined, pointer: Moment|null|undefined}} State
+ */
+
+/** @typedef {Animation & {transitionProperty?: string, effect: KeyframeEffect|null}} Transition */
+
+class Reach {
+  /** @param {import('../types').Page} page */
+  constructor(page) {
+    this.page = page;
+    this.recording = page.recording;
+    this.natives = page.natives;
+    /** By element: its state, or null where a user may reach it at any time. What stands in something that has no box has no state of its own. */
+    this.states = this.recording.reaches;
+    this.came = this.recording.came;
+    /** @type {{element: Element, isMade: boolean}[]} */
+    this.fresh = [];
+    /** @type {Map<Element, State>} */
+    this.waiting = new Map();
+    /** What stands in something without a box. */
+    this.covered = new WeakSet();
+    /**
+     * The transitions that show something now, as the browser says after the code of a task.
+     * @type {Transition[]}
+     */
+    this.unfolding = [];
+    this.unfolded = new WeakSet();
+    this.timeInAll = 0;
+    /** @type {boolean|null} */
+    this.isInert = null;
+    this.places = new Places(page);
+  }
+
+  // ---- what comes
+
+  /**
+   * An element has come into the document, or to another place in it.
+   * @param {Element} element
+   * @param {Maker} maker
+   */
+  noteAdded(element, maker) {
+    if (fits(HAS_NO_BOX, element.localName)) return;
+    if (!this.came.has(element)) {
+      this.came.add(element);
+      this.fresh[this.fresh.length] = { element, isMade: maker === 'script' };
+    } else if (!this.states.get(element)) this.states.set(element, null);
+  }
+
+  // ---- looks
+
+  /** Code of a task begins: what can be reached now has no cause that is known. */
+  lookBefore() {
+    this.look(null);
+  }
+
+  /** Code of a task, and its jobs, are over: it has shown what can be reached now, and could not be before. */
+  lookAfter() {
+    this.look(this.recording.lastMoment());
+  }
+
+  /** @param {Moment|null} moment */
+  look(moment) {
+    const { natives } = this;
+    if (!natives.checkVisibility || this.recording.isOver || !(this.waiting.size || this.fresh.length)) return;
+    const began = natives.now();
+    this.isInert = null;
+    this.unfolding = moment && this.waiting.size ? this.findUnfolding() : [];
+    const { waiting } = this;
+    each(keysOf(waiting), (element) => this.lookAgain(element, /** @type {State} */ (waiting.get(element)), moment));
+    const { fresh } = this;
+    this.fresh = [];
+    if (this.timeInAll <= LONGEST_IN_ALL) each(fresh, (one) => this.lookFirstAt(one, moment));
+    this.timeInAll += natives.now() - began;
+    if (this.timeInAll > LONGEST_IN_ALL && this.waiting.size) this.giveUp();
+  }
+
+  /** A page of so many hidden elements, or so many tasks: acts at what is still hidden get no order. */
+  giveUp() {
+    this.recording.log.miss('what shows hidden elements, as there is too much of it');
+    each(keysOf(this.waiting), (element) => this.forget(element));
+  }
+
+  /**
+   * What the parser made, and no look has met before code ran: that code might have hidden it.
+   * @param {{element: Element, isMade: boolean}} added
+   * @param {Moment|null} moment
+   */
+  lookFirstAt({ element, isMade }, moment) {
+    if (isMade || !moment) this.lookFirst(element, isMade ? moment : null);
+    else if (!this.states.has(element)) this.states.set(element, null);
+  }
+
+  /**
+   * An element that no look has met before. `moment` is the code that put it there.
+   * @param {Element} element
+   * @param {Moment|null} moment
+   */
+  lookFirst(element, moment) {
+    if (this.states.has(element) || !apply(this.natives.isConnected, element, [])) return;
+    if (this.isCovered(element)) {
+      this.covered.add(element);
+      return;
+    }
+    const level = this.levelOf(element);
+    const cause = moment && moment.event !== this.page.elements.makers.get(element) ? moment : null; // its maker is before it by a rule
+    if (level === IN_REACH && !cause) return;
+    const state = { isRoot: level === HIDDEN && this.displayOf(element) === 'none', keys: undefined, pointer: undefined };
+    if (level === HIDDEN && !state.isRoot && this.displayOf(element) === 'contents') return;
+    this.states.set(element, state);
+    if (level < IN_REACH && this.waiting.size < MOST_HIDDEN) this.waiting.set(element, state);
+    else if (level < IN_REACH) this.states.set(element, null);
+    this.settle(state, level, cause);
+  }
+
+  /**
+   * Whether it stands in something without a box, which tells of it too.
+   * @param {Element} element
+   */
+  isCovered(element) {
+    const parent = parentOf(this.natives, element);
+    return !!parent && (this.covered.has(parent) || this.isHiddenRoot(parent));
+  }
+
+  /** @param {Element} element */
+  isHiddenRoot(element) {
+    const state = this.states.get(element);
+    return !!state && state.isRoot && state.keys === undefined;
+  }
+
+  /**
+   * @param {Element} element
+   * @param {State} state
+   * @param {Moment|null} moment
+   */
+  lookAgain(element, state, moment) {
+    if (!apply(this.natives.isConnected, element, [])) return;
+    const before = state.keys === undefined;
+    if (!before && this.places.isExhausted()) {
+      this.forget(element);
+      return;
+    }
+    const level = this.isUnfolding(element) ? IN_REACH : this.levelOf(element);
+    this.settle(state, level, moment);
+    if (level === IN_REACH) this.waiting.delete(element);
+    if (state.isRoot && before && level > HIDDEN) this.lookInside(element);
+  }
+
+  /**
+   * An element has a box now: what stands in it is looked at for the first time.
+   * @param {Element} root
+   */
+  lookInside(root) {
+    each(apply(this.natives.querySelectorAll, root, ['*']), (element) => {
+      this.covered.delete(element);
+      if (!fits(HAS_NO_BOX, element.localName)) this.lookFirst(element, null);
+    });
+  }
+
+  /** What a transition begins to make visible: it has its old look until the next frame, and nobody but the code of this task has begun it. */
+  findUnfolding() {
+    const isOfShowing = (/** @type {Transition} */ { transitionProperty, effect }) => {
+      if (transitionProperty !== 'visibility' || !effect || !effect.target || this.unfolded.has(effect)) return false;
+      this.unfolded.add(effect);
+      const frames = effect.getKeyframes();
+      return frames.length > 0 && frames[frames.length - 1].visibility === 'visible';
+    };
+    return keep(/** @type {Transition[]} */ (apply(this.natives.getAnimations, this.page.document, [])), isOfShowing);
+  }
+
+  /** @param {Element} element */
+  isUnfolding(element) {
+    return !!findItem(this.unfolding, ({ effect }) => effect && effect.target && apply(this.natives.contains, effect.target, [element]));
+  }
+
+  /**
+   * @param {State} state
+   * @param {number} level
+   * @param {Moment|null} moment
+   */
+  settle(state, level, moment) {
+    if (level > HIDDEN && state.keys === undefined) state.keys = moment;
+    if (level === IN_REACH && state.pointer === undefined) state.pointer = moment;
+  }
+
+  // ---- what the browser says
+
+  /** @param {Element} element */
+  displayOf(element) {
+    return this.natives.getComputedStyle(element).display;
+  }
+
+  /** @param {Element} element */
+  levelOf(element) {
+    const { natives } = this;
+    if (!apply(natives.checkVisibility, element, [ASKS_VISIBILITY]) || (this.hasInert() && apply(natives.matches, element, [IS_INERT]))) return HIDDEN;
+    return this.places.isExhausted() || !this.places.isAimedAt(element) || this.places.isForPointer(element) ? IN_REACH : FOR_KEYS;
+  }
+
+  /** Asked once a look. */
+  hasInert() {
+    const root = this.page.document.documentElement;
+    if (this.isInert === null) this.isInert = !!root && (apply(this.natives.hasAttribute, root, ['inert']) || apply(this.natives.querySelectorAll, root, ['[inert]']).length > 0);
+    return this.isInert;
+  }
+
+  // ---- acts
+
+  /**
+   * What an act at an element comes after.
+   * @param {Event} event
+   * @param {Target} target
+   * @returns {Moment[]}
+   */
+  momentsOf(event, target) {
+    const way = this.wayOf(event, target);
+    if (!way) return [];
+    /** @type {Moment[]} */
+    const moments = [];
+    for (let element = /** @type {Element|null} */ (target); element && element.nodeType === 1; element = parentOf(this.natives, element)) {
+      const state = this.states.get(element);
+      if (state === null) break;
+      if (!state || (element !== target && !state.isRoot)) continue;
+      const moment = element === target ? state[way] : state.keys;
+      if (moment === undefined) this.forget(element); // it was reached all the same
+      else if (moment) moments[moments.length] = moment;
+    }
+    return moments;
+  }
+
+  /**
+   * What is not known of an element by now gives no order. What is around it still does.
+   * @param {Element} element
+   */
+  forget(element) {
+    const state = this.states.get(element);
+    if (!state) return;
+    if (state.keys === undefined) state.keys = null;
+    if (state.pointer === undefined) state.pointer = null;
+    this.waiting.delete(element);
+  }
+
+  /**
+   * By what a user reaches the target of an act: 'pointer', 'keys', or ''. A reader of the screen clicks without a pointer, and so does a key.
+   * @param {Event} event
+   * @param {Target} target
+   * @returns {'pointer'|'keys'|''}
+   */
+  wayOf(event, target) {
+    if (!isElement(target) || !this.recording.steering.isTrusted(event) || fits(HAS_NO_BOX, target.localName)) return '';
+    if (fits(BY_POINTER, event.type)) return event.type === 'click' && /** @type {UIEvent} */ (event).detail === 0 ? '' : 'pointer';
+    if (!BY_KEYS.has(event.type) || target.localName === 'body') return '';
+    return target.localName === 'input' && fits(ASKS_BY_WINDOW, /** @type {HTMLInputElement} */ (target).type) ? '' : 'keys';
+  }
+}
+
+export { Reach };

@@ -1,0 +1,64 @@
+// Shadow trees that the parser makes, as of `<template shadowrootmode>`: their elements are parse steps like others, and their scripts run. No look-up
+// by an id in the document finds what stands in one.
+
+import { each, findItem, hasItem } from '../core/lists.js';
+import { withoutFragment } from '../core/strings.js';
+import { apply } from '../core/taken.js';
+
+class Shadows {
+  /** @param {import('../types').Page} page */
+  constructor(page) {
+    this.page = page;
+    this.recording = page.recording;
+    this.natives = page.natives;
+    /** @type {ShadowRoot[]} */
+    this.roots = [];
+  }
+
+  /**
+   * Whether a node stands in one of them.
+   * @param {Node} node
+   */
+  has(node) {
+    return this.roots.length > 0 && hasItem(this.roots, apply(this.natives.getRootNode, node, []));
+  }
+
+  /**
+   * An element that the parser made might have a shadow tree by now; a closed one is not found.
+   * @param {Element} element
+   */
+  look(element) {
+    const root = apply(this.natives.shadowRoot, element, []);
+    if (!root || hasItem(this.roots, root)) return;
+    this.roots[this.roots.length] = root;
+    this.page.tree.watch(root);
+    each(apply(this.natives.querySelectorAllOfFragment, root, ['*']), (inside) => this.page.tree.add(inside, 'parser'));
+  }
+
+  /** The template stands in an element that the parser has not closed. */
+  lookAround() {
+    for (let at = this.page.tree.lastParsedElement; at; at = at.parentElement || /** @type {ShadowRoot} */ (apply(this.natives.getRootNode, at, [])).host) this.look(at);
+  }
+
+  /**
+   * A script in a shadow tree begins to run: the browser does not say which one. `address` is that of its file, or of the page where it stands in
+   * it: then it is the last element that the parser made, or one in a closed tree.
+   * @param {string} address
+   * @returns {Element|null|undefined} undefined where no such script is known
+   */
+  findScript(address) {
+    const { document, elements, scripts, tree } = this.page;
+    if (!tree.isParsing()) return undefined;
+    this.lookAround();
+    const last = tree.lastParsedElement;
+    if (address === withoutFragment(document.URL)) return last && this.has(last) && elements.kinds.get(tree.lastParsed) === 'inline' ? last : null;
+    const isIt = (/** @type {Element} */ script) => /** @type {HTMLScriptElement} */ (script).src === address && !scripts.hasRun.has(elements.number(script));
+    for (let k = 0; k < this.roots.length; k++) {
+      const found = findItem(apply(this.natives.querySelectorAllOfFragment, this.roots[k], ['script[src]']), isIt);
+      if (found) return found;
+    }
+    return undefined;
+  }
+}
+
+export { Shadows };

@@ -1,0 +1,118 @@
+// What an element loads by a source that is set later than the element is made, and the further pages that a frame shows.
+
+import { fits } from '../core/strings.js';
+import { WeakMap } from '../core/taken.js';
+
+/** Elements that can show a page of its own. */
+const SHOWS_PAGE = /^(i?frame|object|embed)$/;
+
+/**
+ * An element that stands for another one in its next load: its number, and that of the page in it, if it is a frame and no page has it yet.
+ * @typedef {{number: number, inner: number, isPassing?: boolean}} Load
+ */
+
+class Sources {
+  /** @param {import('../types').Page} page */
+  constructor(page) {
+    this.page = page;
+    this.recording = page.recording;
+    this.elements = page.elements;
+    /** @type {WeakMap<Element, Load>} */
+    this.loads = new WeakMap();
+  }
+
+  /**
+   * A script sets what an element loads: the load event comes after this, whoever made the element. An element that is made here stands for it.
+   * @param {Element} element
+   */
+  noteSource(element) {
+    const { recording, elements } = this;
+    if (!recording.isRunning() || !recording.declared.has(elements.number(element))) return;
+    if (elements.makers.get(element) === recording.running) return;
+    const isScript = element.localName === 'script';
+    if (isScript ? !this.mayStillRun(element) : element.localName === 'link' && this.page.kinds.of(element, false) === 'plain') return;
+    const isFrame = fits(SHOWS_PAGE, element.localName);
+    const number = recording.next('element');
+    const inner = isFrame ? recording.next('document') : 0;
+    const kind = isScript ? 'async' : isFrame ? `frame ${inner}` : 'image';
+    this.loads.set(element, { number, inner });
+    recording.log.name('element', number, { standsFor: elements.number(element), why: 'its source was set' });
+    if (isFrame) recording.log.name('document', inner, { frame: number });
+    this.declare(element, number, kind);
+  }
+
+  /**
+   * @param {Element} element
+   * @param {number} number
+   * @param {string} kind
+   */
+  declare(element, number, kind) {
+    const { elements, page } = this;
+    if (!page.kinds.isLazy(element)) {
+      if (elements.joinsParsing(element, number, kind)) return;
+      elements.noteAwaited(element, number, kind);
+    }
+    this.recording.note(`new ${page.numberOfDocumentOf(element)} ${number} ${kind}`);
+  }
+
+  /**
+   * A script that was empty runs once it gets a source.
+   * @param {Element} element
+   */
+  mayStillRun(element) {
+    return !this.elements.has(element, 'src') && !this.page.scripts.hasRun.has(this.elements.number(element));
+  }
+
+  /**
+   * What an element loads now.
+   * @param {Element} element
+   */
+  nameSource(element) {
+    const { recording, elements } = this;
+    if (recording.isOver || !recording.elementNumbers.has(element)) return;
+    recording.log.name('element', elements.number(element), { loads: elements.addressOf(element) });
+  }
+
+  // ---- pages in frames
+
+  /**
+   * The document number for a page that a frame shows now; the empty page before its first one is passing.
+   * @param {Element} frame
+   * @param {boolean} isPassing
+   * @returns {number}
+   */
+  numberOfInner(frame, isPassing) {
+    const first = this.elements.frameDocuments.get(frame); // a lazy frame has none
+    const load = this.loads.get(frame);
+    if (load && load.inner) {
+      const { inner } = load;
+      load.inner = 0;
+      return inner;
+    }
+    if (first && !first.isUsed && !isPassing) {
+      first.isUsed = true;
+      if (load && load.isPassing) this.loads.delete(frame); // the empty page before it has had no load event
+      return first.number;
+    }
+    return this.furtherDocument(frame, isPassing);
+  }
+
+  /**
+   * A further page in a frame, with no known cause: a frame element that stands for it is declared beside the frame's own.
+   * @param {Element} frame
+   * @param {boolean} isPassing
+   */
+  furtherDocument(frame, isPassing) {
+    const { recording } = this;
+    const number = this.elements.declaredNumber(frame);
+    const standIn = recording.next('element');
+    const inner = recording.next('document');
+    recording.noteBeside(number, `new ${this.page.number} ${standIn} frame ${inner}`);
+    recording.log.name('element', standIn, { standsFor: number, why: 'a further page in the frame' });
+    recording.log.name('document', inner, { frame: standIn });
+    this.loads.set(frame, { number: standIn, inner: 0, isPassing });
+    return inner;
+  }
+}
+
+export { Sources };

@@ -1,0 +1,299 @@
+// Changes of a document's tree, as a mutation observer reports them. What changes while no script runs is the parser's: each element is a parse step.
+
+import { each, findItem, joined } from '../core/lists.js';
+import { Set, WeakMap, apply } from '../core/taken.js';
+import { isElement, isMedia } from '../core/things.js';
+import { spellName } from '../log/spelling.js';
+import { placeOnStack } from '../log/stack.js';
+import { Texts } from './texts.js';
+
+/** With `--depth globals` no other attributes are asked for. */
+const ATTRIBUTES = ['id', 'open', 'class', 'style', 'disabled'];
+
+/**
+ * Who changed the tree.
+ * @typedef {'parser'|'script'|'browser'} Maker
+ */
+/** @typedef {import('../types').Moment} Moment */
+
+class Tree {
+  /** @param {import('../types').Page} page */
+  constructor(page) {
+    this.page = page;
+    this.recording = page.recording;
+    this.natives = page.natives;
+    this.elements = page.elements;
+    /**
+     * The numbers of the scripts that the parser made, and of all that it made and the window's load waits for.
+     * @type {Set<number>}
+     */
+    this.staticScripts = new Set();
+    /** @type {Set<number>} */
+    this.staticLoads = new Set();
+    /** @type {Set<number>} */
+    this.pendingDeferred = new Set();
+    this.hasRunDeferred = false;
+    /** The number of the element of the last parse step, the element, and the moment of the step. */
+    this.lastParsed = 0;
+    /** @type {Element|null} */
+    this.lastParsedElement = null;
+    /** @type {Moment|null} */
+    this.lastStep = null;
+    /** @type {WeakMap<Element, Moment>} the steps that made elements */
+    this.steps = new WeakMap();
+    this.texts = new Texts(page);
+    /**
+     * The browser's own changes after the parsing, until the next action begins.
+     * @type {MutationRecord[]}
+     */
+    this.late = [];
+    /**
+     * The place of the code whose changes of the tree are written now; it is looked up once.
+     * @type {string|null}
+     */
+    this.placeOfChanges = null;
+    this.observer = new this.natives.MutationObserver((/** @type {MutationRecord[]} */ records) => {
+      if (!this.recording.isOver) this.handle(records, this.recording.isRunning() ? 'script' : 'parser');
+    });
+  }
+
+  /** @param {Maker} [maker] who made what is in the document by now */
+  start(maker = 'script') {
+    const { document } = this.page;
+    if (document.documentElement) this.addTree(document.documentElement, maker);
+    this.watch(document);
+  }
+
+  /** The window shows another document: what was changed so far is taken, as its task has begun. */
+  stop() {
+    this.observer.disconnect();
+  }
+
+  /** @param {Node} root */
+  watch(root) {
+    this.observer.observe(root, {
+      childList: true, subtree: true, attributes: true, attributeOldValue: true,
+      ...(this.recording.objects ? { characterData: true } : { attributeFilter: ATTRIBUTES }),
+    });
+  }
+
+  // ---- changes
+
+  /**
+   * Takes the changes so far.
+   * @param {'script'|'parser'} by
+   */
+  collect(by) {
+    const records = this.observer.takeRecords();
+    if (records.length) this.handle(records, by);
+  }
+
+  /** Whether the format allows further parse steps of the document. */
+  isParsing() {
+    return !this.page.loading.hasBegunDomContentLoaded && !this.hasRunDeferred;
+  }
+
+  /**
+   * @param {MutationRecord[]} records
+   * @param {'script'|'parser'} by
+   */
+  handle(records, by) {
+    const maker = by === 'parser' && this.isParsing() ? 'parser' : 'script';
+    if (by === 'parser' && maker === 'script') {
+      this.late = joined(this.late, records); // the browser's own work after the parsing: it belongs to what begins next
+      return;
+    }
+    if (maker === 'parser') {
+      this.recording.finishAll();
+      this.elements.writeJoining();
+    }
+    this.placeOfChanges = null;
+    each(records, (record) => this.handleOne(record, maker));
+    this.texts.writeRest();
+  }
+
+  /** Changes that the browser made while no script ran belong to the action that has begun now. */
+  writeLate() {
+    const records = this.late;
+    this.late = [];
+    this.placeOfChanges = '';
+    each(records, (record) => this.handleOne(record, 'browser'));
+  }
+
+  /**
+   * @param {MutationRecord} record
+   * @param {Maker} maker
+   */
+  handleOne(record, maker) {
+    if (this.isOfHold(record)) return;
+    if (record.type === 'childList') this.handleChildren(record, maker);
+    else if (record.type === 'attributes') this.handleAttribute(record, maker);
+    else if (maker === 'parser') this.texts.note(record, record.target);
+    if (maker !== 'parser') this.noteChange(record);
+  }
+
+  /**
+   * @param {MutationRecord} record
+   * @param {Maker} maker
+   */
+  handleChildren(record, maker) {
+    if (!this.page.shadows.has(record.target)) each(record.removedNodes, (node) => this.removeTree(node, maker));
+    each(record.addedNodes, (node) => {
+      if (maker !== 'parser') {
+        this.addTree(node, maker);
+        return;
+      }
+      this.add(node, maker);
+      if (isElement(node)) this.noteChange(record);
+      else this.texts.note(record, node);
+    });
+  }
+
+  /**
+   * @param {MutationRecord} record
+   * @param {Maker} maker
+   */
+  handleAttribute({ target, attributeName, oldValue }, maker) {
+    if (!isElement(target)) return;
+    if (attributeName === 'id' && !this.page.shadows.has(target)) {
+      this.writeId(oldValue, maker);
+      this.writeId(this.elements.idOf(target), maker);
+    }
+    if (attributeName === 'disabled') this.page.controls.noteAttribute(target, oldValue, maker);
+    if (maker !== 'script') return;
+    if (attributeName === 'open') this.page.causes.noteOpen(target);
+    else if (attributeName === 'class' || attributeName === 'style') this.page.motions.noteChange(target);
+  }
+
+  /**
+   * A script at which a replay lets the parser wait comes and goes: the page's content is the same.
+   * @param {MutationRecord} record
+   */
+  isOfHold({ addedNodes, removedNodes }) {
+    const { steering } = this.recording;
+    const isWithout = (/** @type {NodeList} */ nodes) => !findItem(nodes, (node) => !steering.isHold(node));
+    return steering.isActive && addedNodes.length + removedNodes.length > 0 && isWithout(addedNodes) && isWithout(removedNodes);
+  }
+
+  /** @param {MutationRecord} record */
+  noteChange(record) {
+    const { objects } = this.recording;
+    if (objects) objects.trees.noteChange(record);
+  }
+
+  /**
+   * @param {string|null} id
+   * @param {Maker} maker
+   */
+  writeId(id, maker) {
+    if (!id) return;
+    const isParser = maker === 'parser';
+    const location = `elem ${this.page.number} ${spellName(id)}`;
+    this.recording.accessNow('w', location, isParser ? '' : this.placeOfCode(), isParser ? 'o' : () => this.elements.find(id));
+  }
+
+  /** The place of the code that made the changes which are written now. */
+  placeOfCode() {
+    if (this.placeOfChanges === null) this.placeOfChanges = placeOnStack();
+    return this.placeOfChanges;
+  }
+
+  // ---- elements that come and go
+
+  /**
+   * @param {Node} node
+   * @param {Maker} maker
+   */
+  removeTree(node, maker) {
+    if (!isElement(node)) return;
+    this.writeId(this.elements.idOf(node), maker);
+    each(apply(this.natives.querySelectorAll, node, ['[id]']), (element) => this.writeId(this.elements.idOf(element), maker));
+  }
+
+  /**
+   * @param {Node} node
+   * @param {Maker} maker
+   */
+  addTree(node, maker) {
+    if (!isElement(node)) return;
+    this.add(node, maker);
+    if (node.firstElementChild) each(apply(this.natives.querySelectorAll, node, ['*']), (element) => this.add(element, maker));
+  }
+
+  /**
+   * @param {Node} node
+   * @param {Maker} maker
+   */
+  add(node, maker) {
+    if (!isElement(node) || this.recording.steering.isHold(node)) return;
+    const { elements, recording, page } = this;
+    if (!recording.declared.has(elements.number(node))) {
+      if (maker === 'parser') this.addParsed(node);
+      else this.addMade(node);
+      page.onHandlers.readAttributes(node);
+    } else if (elements.idOf(node)) {
+      recording.log.name('element', elements.number(node), { id: elements.idOf(node) });
+    }
+    page.controls.noteAdded(node, maker);
+    page.reach.noteAdded(node, maker);
+    if (!page.shadows.has(node)) this.writeId(elements.idOf(node), maker);
+    if (maker === 'parser') page.shadows.look(node);
+  }
+
+  // ---- parse steps
+
+  /** @param {Element} element */
+  addParsed(element) {
+    const kind = this.elements.declaration(element, true);
+    this.elements.markDeclared(element, kind);
+    this.writeParsed(element, this.elements.number(element), kind);
+  }
+
+  /** A script in a closed shadow tree, which nothing finds, is made as it begins to run. */
+  addHiddenScript() {
+    const number = this.recording.next('element');
+    this.recording.declared.add(number);
+    this.elements.kinds.set(number, 'inline');
+    this.recording.log.name('element', number, { tag: 'script', document: this.page.number });
+    this.writeParsed(null, number, 'inline');
+    return number;
+  }
+
+  /**
+   * @param {Element|null} element null: a script in a closed shadow tree
+   * @param {number} number
+   * @param {string} kind
+   */
+  writeParsed(element, number, kind) {
+    const { recording } = this;
+    recording.beginParse(this.page.number, `${number} ${kind}`);
+    recording.running.awaits = this.page;
+    this.lastParsed = number;
+    this.lastParsedElement = element;
+    this.lastStep = recording.lastMoment();
+    if (element) this.steps.set(element, this.lastStep);
+    if ((!element || element.localName === 'script') && kind !== 'plain') this.staticScripts.add(number);
+    this.texts.write();
+    if (kind === 'defer') this.pendingDeferred.add(number);
+    if (kind !== 'plain') this.staticLoads.add(number);
+  }
+
+  // ---- elements that scripts make
+
+  /** @param {Element} element */
+  addMade(element) {
+    const { elements, page } = this;
+    const isWritten = page.calls.isWriting() && page.kinds.scriptType(element) !== null && elements.isBlocking(element);
+    const kind = elements.declaration(element, isWritten && page.kinds.ofStaticScript(element) !== 'inline');
+    const number = elements.number(element);
+    elements.markDeclared(element, kind);
+    page.inOrder.note(element, number);
+    const parent = element.parentNode;
+    if (element.localName === 'source' && isMedia(parent)) page.media.noteLoading(parent);
+    if (elements.joinsParsing(element, number, kind)) return;
+    elements.noteAwaited(element, number, kind);
+    this.recording.log.line(`new ${page.number} ${number} ${kind}`, this.placeOfCode());
+  }
+}
+
+export { Tree };

@@ -1,0 +1,198 @@
+// Calls of the browser that may dispatch events or change the tree while a script runs.
+
+import { each } from '../core/lists.js';
+import { replaceMethod, replaceProperty } from '../core/replacing.js';
+import { settings } from '../core/settings.js';
+import { fits, lowerCase, sliceOf } from '../core/strings.js';
+import { Map, Set, String, apply } from '../core/taken.js';
+import { isMedia } from '../core/things.js';
+
+/** @type {[string, string[]][]} */
+const INSERTIONS = [
+  ['Node', ['appendChild', 'insertBefore', 'replaceChild', 'removeChild']],
+  ['Element', ['append', 'prepend', 'before', 'after', 'replaceWith', 'replaceChildren', 'insertAdjacentElement', 'insertAdjacentHTML', 'remove', 'setHTMLUnsafe']],
+  ['CharacterData', ['before', 'after', 'replaceWith', 'remove']],
+  ['DocumentFragment', ['append', 'prepend', 'replaceChildren']],
+  ['Document', ['append', 'prepend', 'replaceChildren', 'write', 'writeln', 'open', 'close', 'execCommand']],
+  ['Range', ['insertNode', 'extractContents', 'deleteContents', 'surroundContents']],
+];
+/** @type {[string, string[]][]} */
+const SETTERS = [['Element', ['innerHTML', 'outerHTML']], ['Node', ['textContent']], ['HTMLElement', ['innerText', 'outerText']]];
+/** @type {[string, string[]][]} */
+const DISPATCHERS = [
+  ['HTMLElement', ['click', 'focus', 'blur']],
+  ['SVGElement', ['focus', 'blur']],
+  ['HTMLFormElement', ['reset', 'requestSubmit', 'submit', 'checkValidity', 'reportValidity']],
+  ['HTMLInputElement', ['select', 'setSelectionRange', 'checkValidity', 'reportValidity']],
+  ['HTMLTextAreaElement', ['select', 'setSelectionRange']],
+  ['HTMLDialogElement', ['show', 'showModal', 'close']],
+  ['AbortController', ['abort']],
+];
+/** What an element loads. */
+const SOURCES = [['HTMLScriptElement', 'src'], ['HTMLImageElement', 'src'], ['HTMLIFrameElement', 'src'], ['HTMLIFrameElement', 'srcdoc'], ['HTMLFrameElement', 'src'],
+  ['HTMLObjectElement', 'data'], ['HTMLEmbedElement', 'src'], ['HTMLLinkElement', 'href']];
+/** By the element's name: the attribute. */
+const SOURCE_OF = new Map([['script', 'src'], ['img', 'src'], ['iframe', 'src'], ['frame', 'src'], ['object', 'data'], ['embed', 'src'], ['link', 'href']]);
+/** What a script with it would lack is its copy, which has another text: it is not set. */
+const INTEGRITY = 'integrity attributes that scripts set, dropped';
+/** Elements that are declared where a script inserts them, as their kind is not known before. */
+const DECLARED_AT_INSERTION = new Set(['script', 'iframe', 'frame', 'link', 'object', 'embed']);
+
+class Calls {
+  /** @param {import('../types').Page} page */
+  constructor(page) {
+    this.page = page;
+    this.recording = page.recording;
+    /** How much stands on the stack inside the call of `document.write` that runs. */
+    this.writing = 0;
+  }
+
+  /** Whether `document.write` makes elements now, and no script that it wrote. */
+  isWriting() {
+    return this.writing > 0 && this.recording.contexts.length === this.writing;
+  }
+
+  start() {
+    const { window } = this.page;
+    each(INSERTIONS, ({ 0: owner, 1: names }) => each(names, (name) => this.replaceCall(window[owner].prototype, name, true)));
+    each(DISPATCHERS, ({ 0: owner, 1: names }) => each(names, (name) => this.replaceCall(window[owner].prototype, name, false)));
+    each(SETTERS, ({ 0: owner, 1: names }) => each(names, (name) => this.replaceSetter(window[owner].prototype, name)));
+    this.replaceDispatching(window.EventTarget.prototype);
+    this.replaceCreation(window.Document.prototype);
+    this.replaceSources();
+    this.replaceSetAttribute();
+  }
+
+  /**
+   * Runs a call of the browser: dispatches in it are inline, and they are over as it returns. One that a driver's code makes is in no event.
+   * @template T
+   * @param {() => T} call
+   * @param {boolean} isInsertion
+   */
+  around(call, isInsertion) {
+    const { recording, page } = this;
+    if (recording.isOver || (settings.isDriven && !recording.isRunning())) return call();
+    if (isInsertion) page.tree.collect(recording.isRunning() ? 'script' : 'parser');
+    const height = recording.dispatches.length;
+    recording.enter('call');
+    try {
+      return call();
+    } finally {
+      recording.finishAbove(height);
+      if (isInsertion) each(recording.documents, (document) => document.tree.collect('script'));
+      recording.leaveCall();
+    }
+  }
+
+  /**
+   * @param {any} owner
+   * @param {string} name
+   * @param {boolean} isInsertion
+   */
+  replaceCall(owner, name, isInsertion) {
+    const calls = this;
+    const around = isInsertion && fits(/^write(ln)?$/, name) ? (/** @type {() => any} */ call) => calls.aroundWrite(call) : (/** @type {() => any} */ call) => calls.around(call, isInsertion);
+    replaceMethod(owner, name, (native) => function called(...words) {
+      const result = around(() => apply(native, this, words));
+      if (name === 'open' && isInsertion && this === calls.page.document) calls.page.capturing.captureAgain();
+      return result;
+    });
+  }
+
+  /**
+   * @template T
+   * @param {() => T} call
+   * @returns {T}
+   */
+  aroundWrite(call) {
+    const outer = this.writing;
+    this.writing = this.recording.contexts.length + 1;
+    try {
+      return this.around(call, true);
+    } finally {
+      this.writing = outer;
+    }
+  }
+
+  /**
+   * @param {any} owner
+   * @param {string} name
+   */
+  replaceSetter(owner, name) {
+    const calls = this;
+    replaceProperty(owner, name, (native) => ({
+      set(value) {
+        calls.around(() => apply(native.set, this, [value]), true);
+      },
+    }));
+  }
+
+  /** @param {object} owner */
+  replaceDispatching(owner) {
+    const calls = this;
+    const { capturing } = this.page;
+    replaceMethod(owner, 'dispatchEvent', (native) => function dispatchEvent(event) {
+      const result = calls.around(() => apply(native, this, arguments), false);
+      capturing.noteUnheard(event, this ?? calls.page.window);
+      return result;
+    });
+  }
+
+  /** @param {any} owner */
+  replaceCreation(owner) {
+    const calls = this;
+    const declare = (/** @type {Element} */ element) => {
+      const { recording, page } = calls;
+      const isMine = element.ownerDocument === page.document;
+      if (!recording.isOver && recording.isRunning() && isMine && !DECLARED_AT_INSERTION.has(element.localName)) {
+        page.elements.declaredNumber(element);
+      }
+      return element;
+    };
+    each(['createElement', 'createElementNS'], (name) => {
+      replaceMethod(owner, name, (native) => function create(...words) {
+        return declare(apply(native, this, words));
+      });
+    });
+  }
+
+  /** What an element loads is set by a script. */
+  replaceSources() {
+    const { page } = this;
+    const { window } = page;
+    each(SOURCES, ({ 0: owner, 1: name }) => {
+      replaceProperty(window[owner].prototype, name, (native) => ({
+        set(value) {
+          page.sources.noteSource(this);
+          apply(native.set, this, [value]);
+          page.sources.nameSource(this);
+        },
+      }));
+    });
+    replaceProperty(window.HTMLScriptElement.prototype, 'integrity', () => ({ set() { page.recording.log.miss(INTEGRITY); } }));
+  }
+
+  replaceSetAttribute() {
+    const { page } = this;
+    replaceMethod(page.window.Element.prototype, 'setAttribute', (native) => function setAttribute(name, value) {
+      const key = lowerCase(String(name));
+      const isSource = key === SOURCE_OF.get(this.localName);
+      if (isSource && !page.recording.isOver) page.sources.noteSource(this);
+      if (key === 'src' && isMedia(this)) page.media.noteLoading(this);
+      if (key === 'integrity' && this.localName === 'script') {
+        page.recording.log.miss(INTEGRITY);
+        return undefined;
+      }
+      const result = apply(native, this, arguments);
+      if (isSource && !page.recording.isOver) page.sources.nameSource(this);
+      if (page.onHandlers.isHandler(key) && !page.recording.isOver && page.recording.isRunning()) {
+        page.elements.declaredNumber(this);
+        page.recording.finishReturned();
+        page.onHandlers.registerAttribute(this, sliceOf(key, 2), String(value));
+      }
+      return result;
+    });
+  }
+}
+
+export { Calls };

@@ -1,0 +1,45 @@
+// Which event is a consequence of which: what the browser does by itself once the handlers of a user's event are done, in the same task.
+
+import { hasItem } from '../core/lists.js';
+import { Map, Set } from '../core/taken.js';
+
+const FOCUS = ['focus', 'blur', 'focusin', 'focusout', 'change', 'select', 'selectionchange'];
+const EDITS = ['beforeinput', 'input', 'change', 'click', 'submit', 'reset', 'invalid', ...FOCUS];
+/** By the type of the cause. */
+const CONSEQUENCES = new Map([
+  ['pointerdown', ['mousedown']],
+  ['pointerup', ['mouseup']],
+  ['mousedown', [...FOCUS, 'selectstart', 'contextmenu']],
+  ['mouseup', ['click', 'auxclick', 'contextmenu', 'dblclick', ...FOCUS]],
+  ['click', ['click', 'dblclick', 'toggle', 'formdata', 'close', 'popstate', 'navigate', ...EDITS]],
+  ['keydown', ['keypress', 'cancel', 'close', 'toggle', 'popstate', ...EDITS]],
+  ['keypress', EDITS],
+  ['keyup', ['click']],
+  ['beforeinput', ['input', 'change']],
+  ['input', ['change']],
+  ['change', FOCUS],
+  ['blur', FOCUS],
+  ['focus', FOCUS],
+  ['submit', ['formdata', 'close', 'toggle', 'navigate']],
+]);
+/** Those that the browser queues after a user's act come within so many milliseconds; so does a key's letter, which can be an act of its own. */
+const LATER = new Set(['select', 'selectionchange', 'toggle', 'close', 'keypress']);
+const LONGEST_PAUSE = 30;
+
+/** @param {string} type */
+const hasConsequences = (type) => CONSEQUENCES.has(type);
+
+/**
+ * Whether an event of a type that begins now can be a consequence of a dispatch whose handlers are done.
+ * @param {import('../types').Dispatch} cause
+ * @param {string} type
+ * @param {number} task the task that runs
+ * @param {number} now
+ */
+function isConsequence(cause, type, task, now) {
+  if (!cause.event || !cause.event.isTrusted || cause.active) return false;
+  if (!hasItem(CONSEQUENCES.get(cause.event.type) || [], type)) return false;
+  return cause.task === task || (LATER.has(type) && now - cause.lastTime < LONGEST_PAUSE);
+}
+
+export { hasConsequences, isConsequence };

@@ -1,0 +1,265 @@
+// Dispatches: how one begins, and which handlers of it run in which group.
+
+import { each, findItem, heightOfLast, joined, positionOf } from '../core/lists.js';
+import { settings } from '../core/settings.js';
+import { Map, WeakMap, WeakSet, apply } from '../core/taken.js';
+import { spellName } from '../log/spelling.js';
+import { MOST_OPEN } from '../recording/recording.js';
+import { isOfTree } from './capturing.js';
+import { hasConsequences, isConsequence } from './consequences.js';
+
+/** @typedef {import('../types').Dispatch} Dispatch */
+/** @typedef {import('../types').Target} Target */
+/**
+ * A dispatch of an event of the page.
+ * @typedef {Dispatch & {event: Event, target: Target}} EventDispatch
+ */
+
+class Dispatches {
+  /** @param {import('../types').Page} page */
+  constructor(page) {
+    this.page = page;
+    this.recording = page.recording;
+    this.natives = page.natives;
+    /**
+     * By target: the request whose replies the events at it are.
+     * @type {WeakMap<EventTarget, import('../tasks/requests.js').Request>}
+     */
+    this.requests = new WeakMap();
+    /**
+     * By handler: the event that registered it.
+     * @type {Map<number, import('../types').TraceEvent>}
+     */
+    this.registrars = new Map();
+    /**
+     * Events that a call has dispatched and a record tells of.
+     * @type {WeakSet<Event>}
+     */
+    this.told = new WeakSet();
+  }
+
+  /** @param {Event} event */
+  find(event) {
+    return findItem(this.recording.dispatches, (dispatch) => dispatch.event === event);
+  }
+
+  // ---- the begin
+
+  /**
+   * Writes the begin of a dispatch.
+   * @param {Event} event
+   * @param {EventTarget|null} current
+   * @returns {Dispatch|null} null if it can have no record: a parse step called it
+   */
+  begin(event, current) {
+    const { recording, page } = this;
+    if (recording.isOver) return null;
+    const path = apply(this.natives.composedPath, event, []);
+    /** @type {Target} */
+    const target = path[0] || event.target || current;
+    const merged = page.loading.joinEnd(event, target);
+    if (merged) return merged;
+    const dispatch = /** @type {EventDispatch} */ ({ event, target, number: 0, group: -1, visit: '', isInline: false });
+    if (recording.contexts.length || this.isOfJob(event)) {
+      if (!this.beginInline(dispatch)) return null;
+    } else if (!this.beginConsequence(dispatch) && !page.loading.beginInRun(dispatch)) {
+      recording.startTask();
+      this.beginAlone(dispatch);
+    }
+    recording.push(dispatch);
+    if (event.isTrusted && hasConsequences(event.type)) recording.watchTask();
+    page.tree.writeLate();
+    this.readSlots(path.length ? path : [target], event.type);
+    page.fields.writeInput(event, target);
+    page.addresses.watch(dispatch, path);
+    return dispatch;
+  }
+
+  /**
+   * A dispatch by a script that was not seen to run, or by the browser in a job. What a driver's code dispatches between two tasks is after none
+   * of them.
+   * @param {Event} event
+   */
+  isOfJob(event) {
+    if (settings.isDriven && !this.recording.isRunning()) return false;
+    return !this.recording.steering.isTrusted(event) || (event.type === 'slotchange' && this.recording.isCheckpoint);
+  }
+
+  /** @param {EventDispatch} dispatch */
+  beginInline(dispatch) {
+    const { recording } = this;
+    recording.endPiece();
+    if (!recording.mayDispatch()) {
+      recording.log.miss('dispatches that a parse step or the begin of a dispatch called, or that were too deep');
+      return false;
+    }
+    // no rule puts the registration at an object before its first event: the running code looks there
+    if (!isOfTree(dispatch.target, this.page.window)) this.readSlots([dispatch.target], dispatch.event.type);
+    this.writeInline(dispatch, 'a script dispatched an event at it');
+    this.told.add(dispatch.event);
+    return true;
+  }
+
+  /**
+   * @param {EventDispatch} dispatch
+   * @param {string} why
+   */
+  writeInline(dispatch, why) {
+    const { recording } = this;
+    const standIn = this.page.elements.standIn(dispatch.target, why);
+    dispatch.isInline = true;
+    dispatch.suspended = recording.running;
+    dispatch.awaits = recording.running.awaits;
+    dispatch.number = recording.next('dispatch');
+    recording.begin(`inline ${dispatch.number} ${standIn} ${spellName(dispatch.event.type)}`, 'begin', undefined, [dispatch.suspended]);
+    dispatch.beginning = recording.running;
+  }
+
+  /**
+   * What the browser does by itself after the handlers of a user's event is written inside that event's close.
+   * @param {EventDispatch} dispatch
+   */
+  beginConsequence(dispatch) {
+    const { recording } = this;
+    if (!dispatch.event.isTrusted) return false;
+    const { type } = dispatch.event;
+    const now = this.natives.now();
+    const height = heightOfLast(recording.dispatches, (one) => isConsequence(one, type, recording.task, now));
+    if (!height || height >= MOST_OPEN || heightOfLast(recording.dispatches, (one) => one.active) > height) return false;
+    recording.isCheckpoint = false;
+    while (recording.dispatches.length > height) recording.finishTop();
+    const cause = recording.dispatches[height - 1];
+    recording.close(cause);
+    this.page.controls.tellOf(dispatch);
+    this.writeInline(dispatch, `a consequence of ${cause.event?.type}`);
+    return true;
+  }
+
+  /** @param {EventDispatch} dispatch */
+  beginAlone(dispatch) {
+    const { event, target } = dispatch;
+    const { recording, page } = this;
+    dispatch.number = recording.next('dispatch');
+    page.loading.orderLeaving(dispatch);
+    const request = this.requests.get(target);
+    if (request) {
+      recording.begin(`reply ${dispatch.number} ${request.number}`, 'begin', undefined, [request.sender]);
+      page.connections.order(dispatch, request);
+    } else if (!page.loading.begin(dispatch) && !page.messages.begin(dispatch) && !page.queued.begin(dispatch)) this.beginAt(dispatch);
+    dispatch.beginning = recording.running;
+    recording.log.name('dispatch', dispatch.number, { type: event.type, act: (event.isTrusted && recording.act) || undefined });
+  }
+
+  /** @param {EventDispatch} dispatch */
+  beginAt(dispatch) {
+    const { event, target } = dispatch;
+    const { recording, page } = this;
+    const type = spellName(event.type);
+    if (target === page.window) {
+      recording.begin(`wfire ${dispatch.number} ${page.number} ${type}`, 'begin');
+      return;
+    }
+    const element = page.controls.standIn(dispatch) || page.elements.declaredNumber(target);
+    recording.begin(`fire ${dispatch.number} ${element} ${type}`, 'begin', undefined, dispatch.behind);
+  }
+
+  /**
+   * A dispatch that only stands for something the page waits for: one handler at a plain element.
+   * @param {number} element
+   * @param {string} type
+   */
+  beginPlain(element, type) {
+    const { recording } = this;
+    recording.startTask();
+    const number = recording.next('dispatch');
+    recording.begin(`fire ${number} ${element} ${spellName(type)}`, 'begin');
+    return recording.push({ number, group: 0, isInline: false });
+  }
+
+  /**
+   * The look-up of handlers at each node of the path; the driver spells it as reads of all slots that are ever written there.
+   * @param {EventTarget[]} path
+   * @param {string} type
+   */
+  readSlots(path, type) {
+    const name = spellName(type);
+    each(path, (node) => {
+      const number = this.recording.elementNumbers.get(node);
+      if (number) this.recording.log.line(`look ${number} ${name}`);
+    });
+  }
+
+  // ---- handlers
+
+  /**
+   * A handler begins to run.
+   * @param {number} handler
+   * @param {Event|undefined} event
+   * @param {EventTarget} current
+   * @returns {Dispatch|null} what `handlerEnds` takes
+   */
+  handlerBegins(handler, event, current) {
+    const { recording } = this;
+    if (recording.isOver || !event || !event.type) return this.unrecorded();
+    const found = this.find(event);
+    if (found && !this.isOnTop(found)) return this.unrecorded();
+    const dispatch = found || this.begin(event, current);
+    if (!dispatch) return this.unrecorded();
+    this.page.joins.tellOf(dispatch);
+    dispatch.active++;
+    const visit = `${event.type}:${event.eventPhase}:${this.page.elements.number(current)}`;
+    if (dispatch.visit !== visit) {
+      dispatch.visit = visit;
+      dispatch.group = (dispatch.group ?? -1) + 1;
+    }
+    recording.begin(`run ${dispatch.number} ${dispatch.group} ${handler}`, 'handler', undefined,
+      joined([dispatch.beginning, this.registrars.get(handler)], dispatch.toldEvents));
+    recording.running.awaits = dispatch.awaits;
+    recording.noteInside(dispatch);
+    recording.enter('handler');
+    return dispatch;
+  }
+
+  /** @param {Dispatch} dispatch */
+  isOnTop(dispatch) {
+    const { recording } = this;
+    if (dispatch.isClosed) return false;
+    recording.finishAbove(positionOf(recording.dispatches, dispatch) + 1);
+    return recording.top() === dispatch;
+  }
+
+  unrecorded() {
+    this.recording.enter('call');
+    return null;
+  }
+
+  /** @param {Dispatch|null} dispatch */
+  handlerEnds(dispatch) {
+    const { recording } = this;
+    if (dispatch) {
+      recording.endPiece();
+      if (dispatch.active) dispatch.active--;
+      dispatch.lastTime = this.natives.now();
+    }
+    recording.leaveCall();
+  }
+
+  /**
+   * Runs a function as a handler of an event.
+   * @template T
+   * @param {number} handler
+   * @param {Event|undefined} event
+   * @param {EventTarget} current
+   * @param {() => T} call
+   */
+  runHandler(handler, event, current, call) {
+    const dispatch = this.handlerBegins(handler, event, current);
+    try {
+      return call();
+    } finally {
+      this.handlerEnds(dispatch);
+    }
+  }
+}
+
+export { Dispatches };

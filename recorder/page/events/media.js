@@ -1,0 +1,176 @@
+// Events of media elements: they come in later tasks, after who chose what is played, or after the call that plays it, pauses it or moves in it.
+
+import { each } from '../core/lists.js';
+import { replaceMethod, replaceProperty } from '../core/replacing.js';
+import { Map, Set, WeakMap, apply, getOwnPropertyDescriptor } from '../core/taken.js';
+import { isMedia } from '../core/things.js';
+
+/** Those of one cause that come in this order, whatever else happens. */
+const MEDIA_IN_ORDER = ['emptied', 'loadstart', 'loadedmetadata', 'loadeddata', 'canplay', 'canplaythrough', 'play', 'playing', 'ended'];
+const OF_LOADING = new Set(['emptied', 'loadstart', 'loadedmetadata', 'loadeddata', 'canplay', 'canplaythrough', 'progress', 'suspend', 'stalled',
+  'durationchange', 'resize', 'abort', 'error']);
+const OF_PLAYING = new Set(['play', 'playing', 'waiting', 'timeupdate', 'pause', 'ended']);
+/** What a change of a property queues. */
+const CHANGES = new Map([['volume', 'volumechange'], ['muted', 'volumechange'], ['playbackRate', 'ratechange'], ['defaultPlaybackRate', 'ratechange']]);
+
+/** @typedef {import('./queued.js').Cause} Cause */
+
+class Media {
+  /** @param {import('../types').Page} page */
+  constructor(page) {
+    this.page = page;
+    this.recording = page.recording;
+    /**
+     * By element: who chose what is played, and whose call plays it.
+     * @type {WeakMap<HTMLMediaElement, Cause>}
+     */
+    this.loading = new WeakMap();
+    /** @type {WeakMap<HTMLMediaElement, Cause & {hasBegun?: boolean}>} */
+    this.playing = new WeakMap();
+    const { prototype } = page.window.HTMLMediaElement;
+    this.paused = /** @type {(this: HTMLMediaElement) => boolean} */ (getOwnPropertyDescriptor(prototype, 'paused')?.get);
+  }
+
+  start() {
+    const owner = this.page.window.HTMLMediaElement.prototype;
+    this.replaceSources(owner);
+    this.replacePlaying(owner);
+    this.replaceSeeking(owner);
+    CHANGES.forEach((type, name) => this.replaceChange(owner, name, type));
+  }
+
+  /** @param {HTMLMediaElement} element */
+  isPaused(element) {
+    return apply(this.paused, element, []);
+  }
+
+  // ---- causes
+
+  /**
+   * Something else is to be played: what was to come of the former is dropped by the browser.
+   * @param {HTMLMediaElement} element
+   */
+  noteLoading(element) {
+    const moment = this.recording.moment();
+    if (moment) this.loading.set(element, { moment });
+    else this.loading.delete(element);
+  }
+
+  /** @param {HTMLMediaElement} element */
+  notePlaying(element) {
+    const moment = this.recording.moment();
+    if (moment) this.playing.set(element, { moment });
+    else this.playing.delete(element);
+  }
+
+  /**
+   * @param {HTMLMediaElement} element
+   * @param {string[]} types
+   */
+  note(element, ...types) {
+    const moment = this.recording.moment();
+    each(types, (type) => this.page.queued.note(element, type, moment));
+  }
+
+  /**
+   * What caused an event of a media element, or undefined.
+   * @param {Event} event
+   * @param {HTMLMediaElement} element
+   */
+  causeOf(event, element) {
+    const { type } = event;
+    if (type === 'timeupdate' && !this.isPaused(element)) return this.playing.get(element);
+    const noted = this.page.queued.takeNoted(event, element);
+    if (noted) return noted;
+    if (OF_PLAYING.has(type)) return this.playingOf(type, element);
+    return OF_LOADING.has(type) ? this.loadingOf(element) : undefined;
+  }
+
+  /**
+   * A second `play` without a call is the user's.
+   * @param {string} type
+   * @param {HTMLMediaElement} element
+   */
+  playingOf(type, element) {
+    const cause = this.playing.get(element);
+    if (type !== 'play' || !cause) return cause;
+    if (cause.hasBegun) this.playing.delete(element);
+    cause.hasBegun = true;
+    return this.playing.get(element);
+  }
+
+  /**
+   * What the page's text chose comes after the element alone.
+   * @param {HTMLMediaElement} element
+   */
+  loadingOf(element) {
+    if (!this.loading.has(element)) this.loading.set(element, { moment: null });
+    return this.loading.get(element);
+  }
+
+  // ---- calls
+
+  /** @param {any} owner */
+  replaceSources(owner) {
+    const media = this;
+    each(['src', 'srcObject'], (name) => replaceProperty(owner, name, (native) => ({
+      set(value) {
+        if (isMedia(this)) media.noteLoading(this);
+        apply(native.set, this, [value]);
+      },
+    })));
+    replaceMethod(owner, 'load', (native) => function load() {
+      media.noteLoading(this);
+      return apply(native, this, arguments);
+    });
+  }
+
+  /** @param {any} owner */
+  replacePlaying(owner) {
+    const media = this;
+    replaceMethod(owner, 'play', (native) => function play() {
+      if (isMedia(this) && media.isPaused(this)) media.notePlaying(this);
+      return apply(native, this, arguments);
+    });
+    replaceMethod(owner, 'pause', (native) => function pause() {
+      if (isMedia(this) && !media.isPaused(this)) media.note(this, 'timeupdate', 'pause');
+      return apply(native, this, arguments);
+    });
+  }
+
+  /**
+   * Of two calls before the end of the first there is one end.
+   * @param {any} owner
+   */
+  replaceSeeking(owner) {
+    const media = this;
+    const seek = (/** @type {HTMLMediaElement} */ element) => {
+      media.note(element, 'seeking', 'timeupdate');
+      media.page.queued.noteAgain(element, 'seeked', media.recording.moment());
+    };
+    replaceProperty(owner, 'currentTime', (native) => ({
+      set(value) {
+        if (isMedia(this)) seek(this);
+        apply(native.set, this, [value]);
+      },
+    }));
+  }
+
+  /**
+   * @param {object} owner
+   * @param {string} name
+   * @param {string} type what a change queues
+   */
+  replaceChange(owner, name, type) {
+    const media = this;
+    replaceProperty(owner, name, (native) => ({
+      set(value) {
+        const before = apply(native.get, this, []);
+        apply(native.set, this, [value]);
+        if (apply(native.get, this, []) !== before) media.note(this, type);
+      },
+    }));
+  }
+}
+
+export { MEDIA_IN_ORDER, Media };

@@ -1,0 +1,208 @@
+// Handlers of `on..` properties and `on..` attributes: a target has at most one of each type.
+
+import { each, joined, keep, mapped } from '../core/lists.js';
+import { markIn } from '../core/marks.js';
+import { replaceProperty } from '../core/replacing.js';
+import { settings } from '../core/settings.js';
+import { fits, sliceOf } from '../core/strings.js';
+import { JSON, Map, Object, Set, WeakMap, apply } from '../core/taken.js';
+
+/** Events whose `on..` attribute at the body is a handler of the window. */
+const OF_WINDOW = new Set(['load', 'error', 'blur', 'focus', 'resize', 'scroll', 'hashchange', 'popstate', 'beforeunload', 'unload', 'message',
+  'messageerror', 'offline', 'online', 'pagehide', 'pageshow', 'storage', 'afterprint', 'beforeprint', 'languagechange', 'rejectionhandled',
+  'unhandledrejection']);
+/** The addresses in attributes that can run later. */
+const ADDRESSES = new Set(['href', 'xlink:href', 'action', 'formaction']);
+const HANDLER_NAMES = new Set(settings.handlerNames);
+const MARKED = /^(\v|\/\*\v\f<\*\/);?__er\.handlerBegins\(/;
+
+/** @typedef {import('../types').Target} Target */
+/** @typedef {import('../types').Method} Method */
+
+class OnHandlers {
+  /** @param {import('../types').Page} page */
+  constructor(page) {
+    this.page = page;
+    this.recording = page.recording;
+    this.natives = page.natives;
+    this.handlers = page.handlers;
+    /**
+     * By target and type: the handler of an attribute, and its text with marks.
+     * @type {WeakMap<Target, Map<string, {handler: number, text: string}>>}
+     */
+    this.ofAttributes = new WeakMap();
+    /**
+     * By target and type: the handlers that `on..` properties have.
+     * @type {WeakMap<Target, Map<string, number>>}
+     */
+    this.ofProperties = new WeakMap();
+    /**
+     * By the function that the browser has: the page's.
+     * @type {WeakMap<Function, Function>}
+     */
+    this.originals = new WeakMap();
+  }
+
+  start() {
+    const { window } = this.page;
+    const owners = mapped(keep(settings.handlerOwners, (name) => window[name]), (name) => window[name].prototype);
+    each(joined([window], owners), (owner) => {
+      each(keep(Object.getOwnPropertyNames(owner), (name) => fits(/^on[a-z]/, name)), (name) => this.replaceProperty(owner, name));
+    });
+  }
+
+  /**
+   * The target whose handler an `on..` property or attribute is.
+   * @param {Target} target
+   * @param {string} type
+   * @returns {Target}
+   */
+  slotTarget(target, type) {
+    const isBody = target.nodeType === 1 && (target.localName === 'body' || target.localName === 'frameset');
+    return isBody && OF_WINDOW.has(type) ? this.page.window : target;
+  }
+
+  // ---- properties
+
+  /**
+   * @param {Target} target
+   * @param {string} type
+   */
+  ofProperty(target, type) {
+    return this.ofProperties.get(target)?.get(type);
+  }
+
+  /**
+   * @param {object} owner
+   * @param {string} name
+   */
+  replaceProperty(owner, name) {
+    const onHandlers = this;
+    const { handlers, recording, page: { window } } = this;
+    const type = sliceOf(name, 2);
+    replaceProperty(owner, name, (native) => ({
+      get() {
+        const target = this ?? window;
+        const value = apply(native.get, target, []);
+        if (target !== owner || owner === window) recording.access('r', handlers.slot(onHandlers.slotTarget(target, type), type));
+        return (value && onHandlers.originals.get(value)) || value;
+      },
+      set(value) {
+        const target = this ?? window;
+        apply(native.set, target, [recording.isOver ? value : onHandlers.assign(target, type, value)]);
+      },
+    }));
+  }
+
+  /**
+   * What an assignment to an `on..` property stores.
+   * @param {Target} target
+   * @param {string} type
+   * @param {unknown} value
+   */
+  assign(target, type, value) {
+    const owner = this.slotTarget(target, type);
+    this.attributesOf(owner).delete(type);
+    const properties = this.ofProperties.get(owner) || new Map();
+    this.ofProperties.set(owner, properties);
+    properties.delete(type);
+    if (typeof value !== 'function') {
+      this.recording.access('w', this.handlers.slot(owner, type));
+      return value;
+    }
+    if (type === 'message') this.page.messages.noteStart(owner);
+    const handler = this.handlers.register(owner, type, value, false);
+    properties.set(type, handler);
+    const wrapped = this.wrap(handler, value);
+    this.originals.set(wrapped, value);
+    return wrapped;
+  }
+
+  /**
+   * @param {number} handler
+   * @param {Function} value
+   * @returns {Method}
+   */
+  wrap(handler, value) {
+    const { dispatches, window } = this.page;
+    return function wrapped(event) {
+      const current = event && event.currentTarget !== undefined ? event : window.event;
+      return dispatches.runHandler(handler, current, current ? current.currentTarget : this, () => apply(value, this, arguments));
+    };
+  }
+
+  // ---- attributes
+
+  /** @param {Element} element */
+  readAttributes(element) {
+    const { getAttribute, getAttributeNames } = this.natives;
+    each(apply(getAttributeNames, element, []), (name) => {
+      if (this.isHandler(name)) this.registerAttribute(element, sliceOf(name, 2), apply(getAttribute, element, [name]) || '');
+      else if (ADDRESSES.has(name)) this.page.addresses.mark(element, name);
+    });
+  }
+
+  /**
+   * Whether an attribute of a name is a handler.
+   * @param {string} name
+   */
+  isHandler(name) {
+    return HANDLER_NAMES.has(name);
+  }
+
+  /** @param {Target} owner */
+  attributesOf(owner) {
+    const known = this.ofAttributes.get(owner) || new Map();
+    this.ofAttributes.set(owner, known);
+    return known;
+  }
+
+  /**
+   * @param {Element} element
+   * @param {string} type
+   * @param {string} text
+   */
+  registerAttribute(element, type, text) {
+    const { handlers, recording } = this;
+    const owner = this.slotTarget(element, type);
+    const known = this.attributesOf(owner).get(type);
+    if (known && known.text === text) return;
+    const handler = recording.next('handler');
+    const marked = fits(MARKED, text) ? text : this.markText(type, text);
+    if (marked !== text) recording.log.miss('handler attributes that scripts set, without what they read');
+    this.attributesOf(owner).set(type, { handler, text: marked });
+    recording.log.line(`on ${handler}`);
+    recording.accessNow('w', handlers.slot(owner, type), '');
+    handlers.nameHandler(handler, owner, type);
+    this.page.capturing.capture(type);
+    if (marked !== text) apply(this.natives.setAttribute, element, [`on${type}`, marked]);
+  }
+
+  /**
+   * @param {string} type
+   * @param {string} text
+   */
+  markText(type, text) {
+    return markIn(text, `__er.handlerBegins(this,event,${JSON.stringify(type)});try{`) + text + markIn(text, '\n}finally{__er.handlerEnds()}');
+  }
+
+  /**
+   * The handler of an attribute begins to run; its text calls this.
+   * @param {Target} element
+   * @param {Event|undefined} event
+   * @param {string} type
+   */
+  attributeBegins(element, event, type) {
+    const current = event && event.type ? event : this.page.window.event;
+    const owner = this.slotTarget(element, type);
+    let found = this.attributesOf(owner).get(type);
+    if (!found) {
+      found = { handler: this.recording.next('handler'), text: '' };
+      this.attributesOf(owner).set(type, found);
+      this.recording.log.line(`early on ${found.handler}`);
+    }
+    return this.page.dispatches.handlerBegins(found.handler, current, (current && current.currentTarget) || element);
+  }
+}
+
+export { OnHandlers };

@@ -1,0 +1,205 @@
+// Events that a call or a user act queues for a later task. Each is recorded as a `fire` at a stand-in element (docs/recording.md), which is
+// created in the action that caused the event: so rule 14 puts the cause before the event.
+
+import { findItem, keep, takeFirst } from '../core/lists.js';
+import { Set, WeakMap } from '../core/taken.js';
+import { isMedia } from '../core/things.js';
+import { spellName } from '../log/spelling.js';
+import { MEDIA_IN_ORDER } from './media.js';
+import { FIRST_OF_MOTION, MOTIONS_IN_ORDER } from './motions.js';
+
+/** Event types that always come in this order if they have the same cause. */
+const IN_ORDER = new Set([...MOTIONS_IN_ORDER, ...MEDIA_IN_ORDER]);
+/** At most this many expected events are remembered for each target; then the oldest is dropped. */
+const MOST_WAITING_EVENTS = 100;
+/** What a call queues for the next frame comes within this many. */
+const FRAMES_OF_A_CALL = 3;
+
+/** @typedef {import('../types').Moment} Moment */
+/** @typedef {import('../types').Target} Target */
+/** @typedef {import('../types').TraceEvent} TraceEvent */
+/**
+ * What has caused events: the action (null: the element's declaration), the number of the element that stands for it in them, the end of the last of
+ * them, and what has caused an event that always comes before.
+ * @typedef {{moment: Moment|null, standIn?: number, last?: Moment, before?: Cause|null}} Cause
+ */
+/**
+ * An expected event, of a type or of any (null).
+ * @typedef {Cause & {type: string|null, isIt: (event: any) => boolean}} Expected
+ */
+
+class Queued {
+  /** @param {import('../types').Page} page */
+  constructor(page) {
+    this.page = page;
+    this.recording = page.recording;
+    /**
+     * Expected events by target: see `note`.
+     * @type {WeakMap<EventTarget, Expected[]>}
+     */
+    this.waiting = new WeakMap();
+    /**
+     * By target: the event that was expected last, whether it has come or not.
+     * @type {WeakMap<EventTarget, Expected>}
+     */
+    this.noted = new WeakMap();
+    /**
+     * Moments after which microtasks ran and might have left rejected promises, and the one whose `unhandledrejection` events come next.
+     * @type {Moment[]}
+     */
+    this.ran = [];
+    /** @type {Moment|undefined} */
+    this.rejecting = undefined;
+  }
+
+  // ---- expected events
+
+  /**
+   * The moment to name as the cause of something that happens now: the running action, or the close of a user's event whose default action the
+   * browser performs after the handlers. Returns null if there is neither.
+   */
+  causeNow() {
+    const { recording } = this;
+    const moment = recording.moment();
+    const top = recording.top();
+    if (moment || !top || !top.event || !top.event.isTrusted || top.active || top.task !== recording.task) return moment;
+    recording.close(top);
+    return recording.lastMoment();
+  }
+
+  /**
+   * Expects an event at a target.
+   * @param {EventTarget} target
+   * @param {string|null} type null: any type
+   * @param {Moment|null} moment the cause; without one, or after the end of the recording, nothing is expected
+   * @param {(event: any) => boolean} [isIt] whether an event of the type is the expected one
+   */
+  note(target, type, moment, isIt = () => true) {
+    if (this.recording.isOver || !moment) return;
+    const list = this.waiting.get(target) || [];
+    this.waiting.set(target, list);
+    const before = this.lastOf(target, type);
+    list[list.length] = { type, moment, isIt, before };
+    this.noted.set(target, list[list.length - 1]);
+    if (list.length > MOST_WAITING_EVENTS) takeFirst(list);
+  }
+
+  /**
+   * The last event that was expected at a target, if it is of the type and the running event comes after its cause: of two that are queued one after the
+   * other the second comes after the first.
+   * @param {EventTarget} target
+   * @param {string|null} type
+   * @returns {Cause|null}
+   */
+  lastOf(target, type) {
+    const last = this.noted.get(target);
+    if (!last || last.type !== type || !last.moment) return null;
+    return this.recording.isBeforeRunning(last.moment.event) ? last : null;
+  }
+
+  /**
+   * Expects an event, unless one of the type is expected already: the browser merges the two, and the first cause counts.
+   * @param {EventTarget} target
+   * @param {string} type
+   * @param {Moment|null} moment
+   */
+  noteOnce(target, type, moment) {
+    const isWaiting = findItem(this.waiting.get(target) || [], (one) => one.type === type);
+    if (isWaiting) return;
+    this.note(target, type, moment);
+    const noted = this.noted.get(target);
+    this.page.motions.afterFrames(FRAMES_OF_A_CALL, () => {
+      const list = this.waiting.get(target);
+      if (list) this.waiting.set(target, keep(list, (one) => one !== noted));
+    });
+  }
+
+  /**
+   * Expects an event in place of one of the same type that has not come yet: the browser merges the two, and the later cause counts.
+   * @param {EventTarget} target
+   * @param {string} type
+   * @param {Moment|null} moment
+   */
+  noteAgain(target, type, moment) {
+    const list = this.waiting.get(target);
+    if (list) this.waiting.set(target, keep(list, (one) => one.type !== type));
+    this.note(target, type, moment);
+  }
+
+  /**
+   * The cause of an event, or undefined. An event that was expected is no longer expected then.
+   * @param {Event} event
+   * @param {Target} target
+   * @returns {Cause|undefined}
+   */
+  take(event, target) {
+    if (FIRST_OF_MOTION.has(event.type)) return this.page.motions.causeOf(/** @type {import('./motions.js').MotionEvent} */ (event), target);
+    if (isMedia(target)) return this.page.media.causeOf(event, target);
+    return this.takeNoted(event, target) || this.rejectionOf(event);
+  }
+
+  /**
+   * @param {Event} event
+   * @param {EventTarget} target
+   */
+  takeNoted(event, target) {
+    const list = this.waiting.get(target);
+    const found = list && findItem(list, (one) => (one.type || event.type) === event.type && one.isIt(event));
+    if (list && found) this.waiting.set(target, keep(list, (one) => one !== found));
+    return found;
+  }
+
+  /**
+   * Writes the begin of a dispatch that was caused by an action which is over. Returns whether it is one.
+   * @param {import('./dispatches.js').EventDispatch} dispatch
+   */
+  begin(dispatch) {
+    const { event, target, number } = dispatch;
+    const cause = this.recording.steering.isTrusted(event) && this.take(event, target);
+    if (!cause) return false;
+    const { elements, joins } = this.page;
+    const { moment } = cause;
+    cause.standIn = cause.standIn || (moment ? elements.standInIn(moment, target, 'its cause') : elements.standIn(target, 'what it loads'));
+    this.recording.begin(`fire ${number} ${cause.standIn} ${spellName(event.type)}`, 'begin', undefined, [moment && moment.event]);
+    if (IN_ORDER.has(event.type)) this.keepOrder(dispatch, cause, cause.last);
+    else if (cause.before) this.keepOrder(dispatch, cause, cause.before.last);
+    else dispatch.whenClosed = () => { cause.last = this.recording.lastMoment(); };
+    joins.tellOf(dispatch);
+    return true;
+  }
+
+  /**
+   * An event comes after one before it.
+   * @param {import('../types').Dispatch} dispatch
+   * @param {Cause} cause
+   * @param {Moment|undefined} last the end of the event before
+   */
+  keepOrder(dispatch, cause, last) {
+    dispatch.moments = [last];
+    dispatch.why = 'the event before';
+    dispatch.whenClosed = () => { cause.last = this.recording.lastMoment(); };
+  }
+
+  // ---- rejections
+
+  /**
+   * The microtasks of an event begin. The browser reports what they leave rejected in a task that is queued at their end. A task that is queued at
+   * their begin comes directly before it.
+   * @param {TraceEvent} event
+   */
+  noteJobs(event) {
+    if (!this.page.capturing.listened.has('unhandledrejection') || this.ran[this.ran.length - 1]?.event === event) return;
+    this.ran[this.ran.length] = this.recording.lastMoment();
+    this.page.natives.postBeforeRejections(() => { this.rejecting = takeFirst(this.ran); });
+  }
+
+  /**
+   * @param {Event} event
+   * @returns {Cause|undefined}
+   */
+  rejectionOf({ type }) {
+    return type === 'unhandledrejection' && this.rejecting ? { moment: this.rejecting } : undefined;
+  }
+}
+
+export { Queued };

@@ -1,0 +1,58 @@
+// The frames of a page: the documents and the numbers of what they show.
+
+import { findItem } from './core/lists.js';
+import { settings } from './core/settings.js';
+
+/**
+ * The recording of the page around a frame, or null if that is of another origin.
+ * @param {import('./types').PageWindow} window
+ * @returns {import('./types').Recording|null}
+ */
+function recordingOfParent(window) {
+  try {
+    const parent = /** @type {import('./types').PageWindow} */ (window.parent);
+    return parent !== window && parent.__er?.recording ? parent.__er.recording(settings.secret) : null;
+  } catch { // another origin
+    return null;
+  }
+}
+
+/** @param {import('./types').PageWindow} window */
+function frameOf(window) {
+  try {
+    return window.frameElement;
+  } catch { // another origin
+    return null;
+  }
+}
+
+/**
+ * The document that a window shows, or null if that is of another origin.
+ * @param {import('./types').PageWindow} window
+ */
+function documentOf(window) {
+  try {
+    return window.document;
+  } catch { // another origin
+    return null;
+  }
+}
+
+/**
+ * @param {import('./types').PageWindow} window
+ * @param {import('./types').Recording} recording
+ * @param {boolean} mayPass whether it can be the empty page that a frame shows before that of its `src`
+ * @returns {number} the document number for a frame's page, or -1 if it is not recorded
+ */
+function numberOfFrame(window, recording, mayPass) {
+  const frame = frameOf(window);
+  const parent = frame && findItem(recording.documents, (page) => page.document === frame.ownerDocument);
+  if (!frame || !parent) return -1;
+  if (recording.contexts.length) parent.tree.collect('script');
+  parent.elements.declaredNumber(frame);
+  const source = parent.elements.has(frame, 'srcdoc') ? 'about:srcdoc' : parent.elements.attribute(frame, 'src');
+  const isPassing = mayPass && window.location.href === 'about:blank' && !!source && source !== 'about:blank';
+  return parent.sources.numberOfInner(frame, isPassing);
+}
+
+export { recordingOfParent, documentOf, numberOfFrame };

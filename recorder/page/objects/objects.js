@@ -1,0 +1,54 @@
+// Properties of objects, items of arrays, keys of maps, variables of closures and windows: all that a page's code shares, in its parts.
+// The parts know each other by `this.objects`.
+
+import { Collections } from './collections.js';
+import { Holder, WINDOW } from './holders.js';
+import { Kinds } from './kinds.js';
+import { ObjectNames } from './object-names.js';
+import { Patterns } from './patterns.js';
+import { Properties } from './properties.js';
+import { Scopes } from './scopes.js';
+import { Sites } from './sites.js';
+import { Trees } from './trees.js';
+import { Variables } from './variables.js';
+
+class Objects {
+  /** @param {import('../types').Recording} recording */
+  constructor(recording) {
+    this.recording = recording;
+    this.kinds = new Kinds(this);
+    this.objectNames = new ObjectNames(this);
+    this.variables = new Variables(this);
+    this.trees = new Trees(this);
+    this.properties = new Properties(this);
+    this.collections = new Collections(this);
+    this.patterns = new Patterns(this);
+    this.sites = new Sites(recording);
+    this.scopes = new Scopes(this);
+  }
+
+  /** @param {import('../types').Page} page */
+  addWindow(page) {
+    this.trees.addWindow(page);
+    this.kinds.addWindow(page);
+    page.globals.holder = new Holder(WINDOW, -1, page);
+    this.kinds.holders.set(page.window, page.globals.holder);
+  }
+
+  /** The running action is over. */
+  settleWrites() {
+    this.variables.settleWrites();
+  }
+
+  /** The lines so far are wanted, and the action can go on. */
+  settleEarly() {
+    this.variables.settleEarly();
+    this.recording.startPiece();
+  }
+
+  forget() {
+    this.sites.forget();
+  }
+}
+
+export { Objects };

@@ -1,0 +1,243 @@
+// The page's tree as variables of its elements: one for each attribute, and one for what is in an element (`content`). The observer of tree.js sees
+// their changes; this module knows which properties and methods read them.
+
+import { each, findItem } from '../core/lists.js';
+import { lowerCase, sliceOf } from '../core/strings.js';
+import { Object, Set, apply, getOwnPropertyDescriptor, hasOwn } from '../core/taken.js';
+import { UNKNOWN } from '../log/values.js';
+import { CLASSES, DATA, Holder, IS_OF_TREE, READ, STYLE } from './holders.js';
+import { isAccessor } from './kinds.js';
+
+const CONTENT = 'content';
+/**
+ * The properties of an element that show an attribute or the content, with the names of the variables.
+ * @type {{[property: string]: string|null|undefined}}
+ */
+const SHOWN = {
+  textContent: CONTENT, innerHTML: CONTENT, innerText: CONTENT, childNodes: CONTENT, children: CONTENT, firstChild: CONTENT, lastChild: CONTENT,
+  firstElementChild: CONTENT, lastElementChild: CONTENT, childElementCount: CONTENT, options: CONTENT, rows: CONTENT,
+  className: 'class', hidden: 'hidden', disabled: 'disabled', href: 'href', src: 'src', title: 'title', alt: 'alt', htmlFor: 'for', tabIndex: 'tabindex',
+  readOnly: 'readonly', required: 'required', placeholder: 'placeholder', action: 'action', open: 'open', contentEditable: 'contenteditable', dir: 'dir',
+  lang: 'lang', __proto__: null,
+};
+/** @type {{[property: string]: number|null|undefined}} */
+const PARTS = { style: STYLE, classList: CLASSES, dataset: DATA, __proto__: null };
+const CHANGES_CONTENT = new Set(['appendChild', 'insertBefore', 'removeChild', 'replaceChild', 'append', 'prepend', 'replaceChildren']);
+const READS_CONTENT = new Set(['hasChildNodes', 'contains']);
+const READS_ATTRIBUTE = new Set(['getAttribute', 'hasAttribute']);
+/** Their variables are those of the properties of the same name (fields.js), and look-ups (lookups.js). */
+const OTHERS = new Set(['id', 'value', 'checked']);
+/** @param {string} attribute */
+const isOther = (attribute) => OTHERS.has(attribute) || sliceOf(attribute, 0, 2) === 'on';
+/**
+ * Names of a style that are no properties of it.
+ * @type {{[property: string]: number|null|undefined}}
+ */
+const NO_STYLES = { length: 1, parentRule: 1, item: 1, getPropertyValue: 1, getPropertyPriority: 1, setProperty: 1, removeProperty: 1, __proto__: null };
+/** What of the classes of an element reads them. */
+const READS_CLASSES = new Set(['value', 'length', 'contains', 'toggle']);
+/** @param {string} name */
+function nameOfData(name) {
+  let text = 'data-';
+  for (let k = 0; k < name.length; k++) text += name[k] >= 'A' && name[k] <= 'Z' ? `-${lowerCase(name[k])}` : name[k];
+  return text;
+}
+
+class Trees {
+  /** @param {import('../types').Objects} objects */
+  constructor(objects) {
+    this.recording = objects.recording;
+    this.kinds = objects.kinds;
+    this.variables = objects.variables;
+    /**
+     * The first page; it numbers the nodes of all.
+     * @type {import('../types').Page|null}
+     */
+    this.page = null;
+    /** @type {{owner: Function, part: string, get: () => object}[]} */
+    this.getters = [];
+  }
+
+  /**
+   * The elements of each frame have getters of their own.
+   * @param {import('../types').Page} page
+   */
+  addWindow(page) {
+    const { window } = page;
+    if (!this.page) this.page = page;
+    each(['HTMLElement', 'SVGElement', 'Element'], (name) => each(Object.keys(PARTS), (part) => {
+      const found = getOwnPropertyDescriptor(window[name].prototype, part);
+      if (found && found.get) this.getters[this.getters.length] = { owner: window[name], part, get: found.get };
+    }));
+  }
+
+  /**
+   * Whether it is a node: a prototype of an element is none itself.
+   * @param {object} object
+   * @returns {boolean}
+   */
+  isNode(object) {
+    try {
+      return apply(this.recording.natives.nodeType, object, []) > 0;
+    } catch { // its getter fails of what is no node
+      return false;
+    }
+  }
+
+  /**
+   * The number of a node, which a reader of the trace can know by its tag and id.
+   * @param {Node} node
+   */
+  number(node) {
+    const { elements } = /** @type {import('../types').Page} */ (this.page);
+    const number = elements.number(node);
+    if (!this.recording.declared.has(number)) this.recording.log.name('element', number, elements.facts(node));
+    return number;
+  }
+
+  // ---- what marked code touches
+
+  /**
+   * @param {any} node of the page
+   * @param {import('../types').VariableName} name
+   * @param {import('../types').Modes} modes
+   * @param {number} site
+   */
+  access(node, name, modes, site) {
+    if (this.notePart(node, name, site)) return;
+    const shown = typeof name === 'string' && node.nodeType === 1 ? SHOWN[name] || null : null;
+    if (shown !== null) this.touch(this.kinds.hold(node, site), shown, modes, site);
+    else if (modes === 'r') this.readOwn(node, name, site);
+    else if (hasOwn(node, name) ? !isAccessor(node, name) : !(name in node)) this.variables.touchModes(this.kinds.hold(node, site), `${name}`, modes, site);
+  }
+
+  /**
+   * Whatever is of the page's tree is the page's, whoever touches it.
+   * @param {import('../types').Holder} holder
+   * @param {string} name
+   * @param {import('../types').Modes} modes
+   * @param {number} site
+   */
+  touch(holder, name, modes, site) {
+    variableOfTree(holder, name);
+    this.variables.touchModes(holder, name, modes, site);
+  }
+
+  /**
+   * A property that scripts put at a node, or look for there.
+   * @param {Node} node
+   * @param {import('../types').VariableName} name
+   * @param {number} site
+   */
+  readOwn(node, name, site) {
+    if (hasOwn(node, name)) {
+      if (!isAccessor(node, name)) this.variables.touchName(this.kinds.hold(node, site), `${name}`, READ, site);
+      return;
+    }
+    const known = this.kinds.holders.get(node);
+    const gone = known === undefined ? null : known.find(`${name}`);
+    if (known !== undefined && gone !== null) this.variables.touch(known, gone, READ, site);
+    else if (!(name in node)) this.variables.touchName(this.kinds.hold(node, site), `${name}`, READ, site);
+  }
+
+  /**
+   * The style, the classes and the data of an element are objects: their properties are variables of the element.
+   * @param {object} node
+   * @param {import('../types').VariableName} name
+   * @param {number} site
+   */
+  notePart(node, name, site) {
+    const kind = PARTS[name];
+    if (!kind) return false;
+    const found = findItem(this.getters, (one) => one.part === name && node instanceof one.owner);
+    if (!found) return false;
+    const part = apply(found.get, node, []);
+    if (!this.kinds.holders.has(part)) this.kinds.holders.set(part, new Holder(kind, site, node));
+    return true;
+  }
+
+  /**
+   * A style, the classes or the data of an element.
+   * @param {import('../types').Holder} owner
+   * @param {object} part
+   * @param {import('../types').VariableName} name
+   * @param {import('../types').Modes} modes
+   * @param {number} site
+   */
+  accessPart({ kind, object: node }, part, name, modes, site) {
+    if (typeof name !== 'string') return;
+    const owner = this.kinds.hold(node, site);
+    if (kind === CLASSES) {
+      if (READS_CLASSES.has(name)) this.touch(owner, 'class', 'r', site);
+    } else if (kind === DATA) this.touch(owner, nameOfData(name), modes, site);
+    else if (name === 'cssText') this.touch(owner, 'style', modes, site);
+    else if (name in part && !NO_STYLES[name]) this.touch(owner, `style.${name}`, modes, site);
+  }
+
+  /**
+   * @param {import('../types').Holder} holder
+   * @param {string} name
+   * @param {number} site
+   */
+  call(holder, name, site) {
+    if (holder.object.nodeType !== 1) return;
+    if (CHANGES_CONTENT.has(name)) this.touch(holder, CONTENT, 'w', site);
+    else if (READS_CONTENT.has(name)) this.touch(holder, CONTENT, 'r', site);
+  }
+
+  /**
+   * @param {import('../types').Holder} holder
+   * @param {unknown} key
+   * @param {string} method
+   * @param {number} site
+   */
+  accessAttribute(holder, key, method, site) {
+    if (typeof key === 'string' && !isOther(key)) this.touch(holder, lowerCase(key), READS_ATTRIBUTE.has(method) ? 'r' : 'w', site);
+  }
+
+  /**
+   * @param {Element} node
+   * @param {import('../types').VariableName} name
+   * @returns {unknown}
+   */
+  valueOf(node, name) {
+    if (typeof name !== 'string' || name === CONTENT || node.nodeType !== 1 || sliceOf(name, 0, 6) === 'style.') return UNKNOWN;
+    const found = getOwnPropertyDescriptor(node, name);
+    if (found) return found.value;
+    return this.page ? apply(this.page.natives.getAttribute, node, [name]) : undefined;
+  }
+
+  // ---- changes
+
+  /** @param {MutationRecord} change */
+  noteChange({ target, type, attributeName, oldValue }) {
+    if (type === 'characterData' && this.recording.ownTexts.delete(target)) return; // what the recorder did (page/scripts/scripts.js)
+    if (type === 'childList') this.write(target, CONTENT, UNKNOWN);
+    else if (type === 'characterData') this.write(target.parentNode, CONTENT, UNKNOWN);
+    else if (attributeName !== null && !isOther(attributeName)) this.write(target, attributeName, oldValue);
+  }
+
+  /**
+   * A mark might have written it already, with its place.
+   * @param {Node|null} node
+   * @param {string|null} name
+   * @param {unknown} before
+   */
+  write(node, name, before) {
+    if (!node || name === null || node.nodeType !== 1 || !this.recording.hasBegun) return;
+    const holder = this.kinds.hold(node, -1);
+    this.variables.stage(holder, variableOfTree(holder, name), -1, before);
+  }
+}
+
+/**
+ * @param {import('../types').Holder} holder
+ * @param {string} name
+ */
+function variableOfTree(holder, name) {
+  const variable = holder.variable(name);
+  variable.flags |= IS_OF_TREE;
+  return variable;
+}
+
+export { Trees };

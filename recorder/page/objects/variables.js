@@ -1,0 +1,235 @@
+// Accesses of the running action to variables: which of them count, and what a write has changed when the action is over.
+
+import { settings } from '../core/settings.js';
+import { Object, getOwnPropertyDescriptor } from '../core/taken.js';
+import { MISSING, UNKNOWN, keepable } from '../log/values.js';
+import { COUNTED, IS_COUNTED, IS_READ, IS_WRITTEN, KEPT, LIST, PLAIN, READ, SCOPE, TREE, WINDOW, WRITE, accessOf } from './holders.js';
+import { Waiting } from './waiting.js';
+
+const { keepsAll } = settings;
+
+/** A write of the running action is five entries of a list: holder, variable, place, the values before and after it. */
+const OF_STAGED = 5;
+const AFTER = 4;
+
+class Variables {
+  /** @param {import('../types').Objects} objects */
+  constructor(objects) {
+    this.objects = objects;
+    this.recording = objects.recording;
+    this.waiting = new Waiting(objects);
+    /**
+     * The writes of the running action: what they changed is known when it is over.
+     * @type {any[]} OF_STAGED entries a write
+     */
+    this.staged = [];
+  }
+
+  /**
+   * @param {import('../types').Holder} holder
+   * @param {import('../types').VariableName} name
+   * @param {number} mode
+   * @param {number} site
+   */
+  touchName(holder, name, mode, site) {
+    this.touch(holder, holder.variable(name), mode, site);
+  }
+
+  /**
+   * @param {import('../types').Holder} holder
+   * @param {import('../types').VariableName} name
+   * @param {import('../types').Modes} modes
+   * @param {number} site
+   */
+  touchModes(holder, name, modes, site) {
+    const variable = holder.variable(name);
+    if (modes === 'U') {
+      this.count(holder, variable, site);
+      return;
+    }
+    if (modes === 'r' || modes === 'u') this.touch(holder, variable, READ, site);
+    if (modes !== 'r') this.touch(holder, variable, WRITE, site);
+  }
+
+  /**
+   * A count whose value nobody uses, as `n++` in a statement: two counts have the same result in either order.
+   * @param {import('../types').Holder} holder
+   * @param {import('../types').Variable} variable
+   * @param {number} site
+   */
+  count(holder, variable, site) {
+    const isOnlyCounted = this.isOnlyCounted(variable);
+    this.touch(holder, variable, READ, site);
+    this.touch(holder, variable, WRITE, site);
+    if (isOnlyCounted) variable.flags |= IS_COUNTED;
+  }
+
+  /** @param {import('../types').Variable} variable */
+  isOnlyCounted({ flags, lastRead, lastWrite }) {
+    const { actions } = this.recording;
+    return lastWrite === actions ? (flags & IS_COUNTED) !== 0 : lastRead !== actions;
+  }
+
+  /**
+   * An access of the running action. A read of what this action itself has written says nothing about another action.
+   * @param {import('../types').Holder} holder
+   * @param {import('../types').Variable} variable
+   * @param {number} mode
+   * @param {number} site
+   */
+  touch(holder, variable, mode, site) {
+    const { actions } = this.recording;
+    variable.flags &= ~IS_COUNTED;
+    if (mode === WRITE) {
+      if (variable.lastWrite !== actions) this.stage(holder, variable, site, this.valueOf(holder, variable));
+    } else if (variable.lastWrite === actions) {
+      if (keepsAll) this.waiting.keep(holder, variable, 'r', site, ' own');
+    } else if (variable.lastRead !== actions) {
+      this.read(holder, variable, site, this.valueOf(holder, variable));
+    }
+  }
+
+  /**
+   * The read of an expression that has changed the variable already.
+   * @param {import('../types').Holder} holder
+   * @param {import('../types').Variable} variable
+   * @param {number} site
+   * @param {unknown} value what it found
+   */
+  readAs(holder, variable, site, value) {
+    const { actions } = this.recording;
+    if (variable.lastWrite === actions) this.touch(holder, variable, READ, site);
+    else if (variable.lastRead !== actions) this.read(holder, variable, site, value);
+  }
+
+  /**
+   * @param {import('../types').Holder} holder
+   * @param {import('../types').Variable} variable
+   * @param {number} site
+   * @param {unknown} value
+   */
+  read(holder, variable, site, value) {
+    const { actions } = this.recording;
+    variable.lastRead = actions;
+    variable.flags |= IS_READ;
+    if (keepsAll) this.waiting.keep(holder, variable, 'r', site);
+    this.waiting.settle(holder, variable, accessOf(actions, READ), site, valueFor(holder, value), UNKNOWN);
+  }
+
+  /**
+   * A write that is about to come, or has come.
+   * @param {import('../types').Holder} holder
+   * @param {import('../types').Variable} variable
+   * @param {number} site
+   * @param {unknown} before the value before it
+   */
+  stage(holder, variable, site, before) {
+    const { actions } = this.recording;
+    if (variable.lastWrite === actions) return;
+    variable.lastWrite = actions;
+    if (keepsAll) this.waiting.keep(holder, variable, 'w', site);
+    const { staged } = this;
+    const at = staged.length;
+    staged[at] = holder;
+    staged[at + 1] = variable;
+    staged[at + 2] = site;
+    staged[at + 3] = before;
+    staged[at + AFTER] = UNKNOWN;
+  }
+
+  /**
+   * Where the value after a write of the running action is stored.
+   * @param {import('../types').Variable} variable
+   */
+  placeOfStaged(variable) {
+    const { staged } = this;
+    let k = staged.length - OF_STAGED;
+    while (k >= 0 && staged[k + 1] !== variable) k -= OF_STAGED;
+    return k + AFTER;
+  }
+
+  /**
+   * The value of a variable, if a look at it runs nothing of the page.
+   * @param {import('../types').Holder} holder
+   * @param {import('../types').Variable} variable
+   * @returns {unknown}
+   */
+  valueOf({ kind, object }, { name }) {
+    if (kind === WINDOW) return object.globals.valueOf(name);
+    if (kind === TREE) return this.objects.trees.valueOf(object, name);
+    if (typeof name === 'string' ? kind !== PLAIN || name[0] === '(' || name[0] === '#' : kind !== LIST) return UNKNOWN;
+    const found = getOwnPropertyDescriptor(object, name);
+    return found === undefined ? MISSING : found.value;
+  }
+
+  // ---- the end of an action
+
+  /**
+   * The running action is over. A write after which the variable has the same value as before is written as a read: libraries make one when they replace
+   * something for the time of a call. An action that really writes the variable still has a race with this one, and an action that only reads it finds
+   * the same value in either order.
+   */
+  settleWrites() {
+    const { staged } = this;
+    for (let k = 0; k < staged.length; k += OF_STAGED) {
+      const after = staged[k].kind === SCOPE ? staged[k + AFTER] : this.valueOf(staged[k], staged[k + 1]);
+      this.settleWrite(staged[k], staged[k + 1], staged[k + 2], staged[k + 3], after);
+    }
+    staged.length = 0;
+  }
+
+  /**
+   * @param {import('../types').Holder} holder
+   * @param {import('../types').Variable} variable
+   * @param {number} site
+   * @param {unknown} before
+   * @param {unknown} after
+   */
+  settleWrite(holder, variable, site, before, after) {
+    const { actions } = this.recording;
+    if (holder.kind === WINDOW) holder.object.globals.noteValue(variable.name, after);
+    const isKept = isSame(holder, before, after);
+    if (isKept && keepsAll) this.recording.log.line(`same ${variable.line}`);
+    if (isKept && variable.lastRead === actions) return;
+    if (isKept) variable.lastRead = actions;
+    else variable.flags |= IS_WRITTEN;
+    const access = accessOf(actions, isKept ? KEPT : writeMode(variable, after));
+    this.waiting.settle(holder, variable, access, site, valueFor(holder, after), valueFor(holder, before));
+  }
+
+  /** Between two batches of lines the action can go on: its writes after that are other writes. */
+  settleEarly() {
+    const { staged } = this;
+    for (let k = 0; k < staged.length; k += OF_STAGED) staged[k + 1].lastWrite = 0;
+    this.settleWrites();
+  }
+}
+
+/**
+ * A variable that is in no object, as a `let` at the top of a script, is not there before or after a write of it.
+ * @param {import('../types').Holder} holder
+ * @param {unknown} before
+ * @param {unknown} after
+ */
+function isSame({ kind }, before, after) {
+  return before !== UNKNOWN && after !== UNKNOWN && Object.is(before, after) && (kind !== WINDOW || after !== MISSING);
+}
+
+/**
+ * A value as an access that waits has it. A property that is missing in an object is nothing; one of a window might be in no object.
+ * @param {import('../types').Holder} holder
+ * @param {unknown} value
+ */
+function valueFor({ kind }, value) {
+  return value === MISSING && kind !== WINDOW ? undefined : keepable(value);
+}
+
+/**
+ * @param {import('../types').Variable} variable
+ * @param {unknown} after
+ */
+function writeMode({ flags }, after) {
+  return (flags & IS_COUNTED) !== 0 && typeof after === 'number' ? COUNTED : WRITE;
+}
+
+export { Variables };

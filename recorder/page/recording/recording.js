@@ -1,0 +1,294 @@
+// What runs now: the running event, the code on the stack, the dispatches that are not over. A page and its frames share one recording.
+
+import { each } from '../core/lists.js';
+import { settings } from '../core/settings.js';
+import { Set } from '../core/taken.js';
+import { callsOfPage, ownPlace, placeOnStack } from '../log/stack.js';
+import { Objects } from '../objects/objects.js';
+import { Lines } from './lines.js';
+import { isBefore } from './order.js';
+import { Steering } from './steering.js';
+
+/** The jobs of an action are over when this many turns of the job queue ran nothing that the recorder sees. */
+const TURNS_OF_A_CHECKPOINT = 24;
+/** At most this many inline dispatches are open (docs/format.md). */
+const MOST_OPEN = 256;
+/** Events in which a script can dispatch another one. */
+const MAY_DISPATCH = new Set(['exec', 'timer', 'tick', 'handler', 'close']);
+
+class Recording extends Lines {
+  /**
+   * @param {import('../types').Natives} natives
+   * @param {import('../types').Send} send
+   */
+  constructor(natives, send) {
+    super(send);
+    /**
+     * What is on the stack, outermost first: 'script', 'callback', 'handler', 'job' or 'call' (of the browser).
+     * @type {string[]}
+     */
+    this.contexts = [];
+    /** Whether promise jobs run after the code of an action. */
+    this.isCheckpoint = false;
+    this.natives = natives;
+    this.turns = 0;
+    /** How deep the timer is nested whose callback runs, or 0. */
+    this.nesting = 0;
+    /** The browser's task, as far as it is seen: events of one task have one number. */
+    this.task = 0;
+    /** Whether the page has a handler for rejections that nobody handles. */
+    this.tellsRejections = false;
+    /** @type {import('../types').Dispatch[]} */
+    this.dispatches = [];
+    this.steering = new Steering(natives, settings.holds, settings.turns);
+    this.steering.start(this.log);
+    /** The number of the user act that the driver does now, or 0. */
+    this.act = 0;
+    const objects = settings.depth === 'objects' ? new Objects(this) : null;
+    this.objects = objects;
+    if (objects) this.log.beforeSending = () => objects.settleEarly(); // no page answers while it is left (--attach)
+  }
+
+  /**
+   * The driver says which act of the user it does now.
+   * @param {number} number or 0
+   */
+  setAct(number) {
+    this.act = number;
+  }
+
+  // ---- notes and accesses
+
+  /**
+   * A note belongs to the running action; if nothing recorded runs, to the first action of the trace.
+   * @param {string} line
+   * @param {import('../types').Place} place
+   * @param {number} stack
+   */
+  note(line, place = placeOnStack(), stack = 0) {
+    if (this.isOver) return;
+    if (this.isRunning()) {
+      this.finishReturned();
+      this.log.line(line, place, '', stack);
+    } else {
+      this.log.line(`early ${line}`, place, '', stack);
+    }
+  }
+
+  /**
+   * A note of what code requests, with all calls that led to it: a library may do it for the page.
+   * @param {string} line
+   * @returns {string} the place
+   */
+  noteAsking(line) {
+    const calls = callsOfPage();
+    const place = ownPlace(calls);
+    this.note(line, place, this.log.numberOfStack(calls));
+    return place;
+  }
+
+  /**
+   * The running action, to be named when it is long over, or null if nothing recorded runs.
+   * @returns {import('../types').Moment|null}
+   */
+  moment() {
+    if (this.isOver || !this.isRunning()) return null;
+    this.finishReturned();
+    return this.lastMoment();
+  }
+
+  /**
+   * @param {string} mode
+   * @param {string} location
+   * @param {import('../types').Place} [place]
+   * @param {import('../types').Found} [found]
+   */
+  access(mode, location, place, found) {
+    if (this.mayAccess()) this.accessNow(mode, location, place, found);
+  }
+
+  /** Whether an access can be written now. Dispatches that returned meanwhile are over then. */
+  mayAccess() {
+    if (this.isOver) return false;
+    if (!this.isRunning()) {
+      this.log.miss('accesses while nothing recorded ran');
+      return false;
+    }
+    if (!this.contexts.length) this.turns = TURNS_OF_A_CHECKPOINT;
+    this.finishReturned();
+    return true;
+  }
+
+  /**
+   * Whether rules are known to put an event before the running one.
+   * @param {import('../types').TraceEvent} event
+   */
+  isBeforeRunning(event) {
+    return isBefore(this.running, event);
+  }
+
+  // ---- what runs
+
+  isRunning() {
+    return this.hasBegun && (this.contexts.length > 0 || this.isCheckpoint);
+  }
+
+  /** The browser's event loop calls something: everything before it is over. */
+  startTask() {
+    if (this.contexts.length) {
+      this.endPiece();
+      this.contexts.length = 0;
+      each(this.dispatches, (dispatch) => { dispatch.active = 0; });
+    }
+    this.isCheckpoint = false;
+    this.startPiece();
+    this.nesting = 0;
+    this.task++;
+    this.finishAll();
+    each(this.documents, ({ elements, tree }) => {
+      elements.writeJoining();
+      tree.collect('parser');
+    });
+    each(this.documents, (document) => document.lookForNextDocument());
+    this.log.sendIfDue(this.natives.now());
+  }
+
+  /** The number of the task changes when this one is over. */
+  watchTask() {
+    this.natives.postTask(() => { this.task++; });
+  }
+
+  /** @param {string} kind */
+  enter(kind) {
+    if (!this.contexts.length && !this.isCheckpoint && !this.isOver) each(this.documents, ({ reach }) => reach.lookBefore());
+    if (settings.isDriven && !this.isRunning()) each(this.documents, (document) => document.unseen.takeOver());
+    this.contexts[this.contexts.length] = kind;
+  }
+
+  /** Code returns that the page sees as one whole. */
+  leave() {
+    this.endPiece();
+    this.leaveCall();
+  }
+
+  leaveCall() {
+    this.startPiece();
+    if (this.contexts.length) this.contexts.length--;
+    if (!this.contexts.length) this.startCheckpoint();
+  }
+
+  /** A piece of an event ends: its changes of the tree and of the window are written before anything else. */
+  endPiece() {
+    if (this.isOver) return;
+    this.finishReturned();
+    each(this.documents, ({ tree, unseen }) => {
+      tree.collect('script');
+      unseen.compare();
+    });
+    this.values.write();
+  }
+
+  startCheckpoint() {
+    this.turns = TURNS_OF_A_CHECKPOINT;
+    if (this.tellsRejections) each(this.documents, ({ queued }) => queued.noteJobs(this.running));
+    if (this.isCheckpoint) return;
+    this.isCheckpoint = true;
+    this.natives.queueMicrotask(() => this.turn());
+  }
+
+  turn() {
+    if (!this.isCheckpoint) return;
+    this.turns--;
+    this.startPiece(); // accesses of a job keep the turns going
+    if (this.turns > 0) {
+      this.natives.queueMicrotask(() => this.turn());
+      return;
+    }
+    each(this.documents, ({ tree }) => tree.collect('script'));
+    each(this.documents, ({ reach }) => reach.lookAfter());
+    this.isCheckpoint = false;
+  }
+
+  // ---- dispatches
+
+  mayDispatch() {
+    return MAY_DISPATCH.has(this.running.kind) && this.dispatches.length < MOST_OPEN;
+  }
+
+  top() {
+    const { dispatches } = this;
+    return dispatches.length ? dispatches[dispatches.length - 1] : undefined;
+  }
+
+  /**
+   * @param {import('../types').NewDispatch} given
+   * @returns {import('../types').Dispatch} the same object
+   */
+  push(given) {
+    const dispatch = /** @type {import('../types').Dispatch} */ (given);
+    dispatch.depth = this.contexts.length;
+    dispatch.active = 0;
+    dispatch.isClosed = false;
+    dispatch.lastTime = this.natives.now();
+    dispatch.task = this.task;
+    this.dispatches[this.dispatches.length] = dispatch;
+    return dispatch;
+  }
+
+  /** @param {import('../types').Dispatch} dispatch */
+  close(dispatch) {
+    if (dispatch.isClosed) return;
+    dispatch.isClosed = true;
+    if (dispatch.event) this.endedEvents.add(dispatch.event);
+    this.begin(`close ${dispatch.number}`, 'close');
+    this.noteInside(dispatch);
+    this.running.awaits = dispatch.awaits;
+    if (dispatch.whenClosed) dispatch.whenClosed();
+  }
+
+  /** The top dispatch is over. */
+  finishTop() {
+    const dispatch = this.top();
+    if (!dispatch) return;
+    this.close(dispatch);
+    this.dispatches.length--;
+    const { suspended } = dispatch;
+    if (!dispatch.isInline || !suspended) return;
+    this.begin(`back ${dispatch.number}`, suspended.kind);
+    this.running = suspended;
+  }
+
+  /** Dispatches that running code called, and that have returned to it, are over. */
+  finishReturned() {
+    for (let top = this.top(); top && top.isInline && !top.active; top = this.top()) {
+      if (!this.contexts.length || this.contexts.length > top.depth) return;
+      this.finishTop();
+    }
+  }
+
+  /**
+   * All dispatches above a number are over, as a call that may have made them returns.
+   * @param {number} height
+   */
+  finishAbove(height) {
+    for (let top = this.top(); top && this.dispatches.length > height && top.isInline && !top.active; top = this.top()) this.finishTop();
+  }
+
+  finishAll() {
+    for (let top = this.top(); top && !top.active; top = this.top()) this.finishTop();
+  }
+
+  /** Writes the last lines, as the recording ends. */
+  finish() {
+    this.startTask();
+    this.isOver = true;
+    this.flush();
+  }
+
+  flush() {
+    if (this.objects) this.objects.settleEarly();
+    this.log.sendAll(this.natives.now());
+  }
+}
+
+export { TURNS_OF_A_CHECKPOINT, MOST_OPEN, Recording };

@@ -1,0 +1,52 @@
+// What the documents of a recording share: what is known of their elements, messages and modules.
+
+import { Set, WeakMap, WeakSet } from '../core/taken.js';
+
+class Shared {
+  constructor() {
+    /** @type {import('../types').Page[]} */
+    this.documents = [];
+    /** @type {WeakMap<object, number>} */
+    this.elementNumbers = new WeakMap();
+    /** @type {Set<number>} */
+    this.declared = new Set();
+    /** What is known of the form controls of all documents (controls.js). */
+    this.controls = new WeakMap();
+    /** What is known of when a user can reach elements (reach.js). */
+    this.reaches = new WeakMap();
+    this.came = new WeakSet();
+    /** @type {WeakSet<Event>} */
+    this.endedEvents = new WeakSet();
+    /**
+     * Texts of scripts whose marks were removed, until the observer reports it.
+     * @type {WeakSet<Node>}
+     */
+    this.ownTexts = new WeakSet();
+    /**
+     * The run of a module that goes on now (scripts.js).
+     * @type {import('../types').ModuleRun|null}
+     */
+    this.moduleRun = null;
+    /** Whether the tab had the focus that it gets as the recording begins. */
+    this.hasFocus = false;
+    /**
+     * By receiver: the messages that were posted to it (messages.js).
+     * @type {WeakMap<object, import('../types').PostedMessage[]>}
+     */
+    this.posted = new WeakMap();
+    /**
+     * By port: the other one of its channel, and where it was started.
+     * @type {WeakMap<MessagePort, MessagePort>}
+     */
+    this.peers = new WeakMap();
+    /** @type {WeakMap<EventTarget, import('../types').Moment>} */
+    this.starts = new WeakMap();
+    /**
+     * The broadcast channels.
+     * @type {BroadcastChannel[]}
+     */
+    this.channels = [];
+  }
+}
+
+export { Shared };

@@ -1,0 +1,292 @@
+// Steering of a replay: some things that the page requests are held back until the driver releases them. A plain recording holds nothing back.
+
+import { each, findItem, joined, keep } from '../core/lists.js';
+import { replaceMethod } from '../core/replacing.js';
+import { settings } from '../core/settings.js';
+import { sliceOf, withoutFragment } from '../core/strings.js';
+import { String, WeakSet, apply } from '../core/taken.js';
+import { callsOfPage, ownPlace, placeOnStack, wayOf } from '../log/stack.js';
+
+class Steering {
+  /**
+   * @param {import('../types').Natives} natives
+   * @param {(import('../types').Hold|null)[]|null} holds what is held back
+   * @param {{word: string, place: string, count: number}|null} turns how often callbacks come that the code at a place
+   *   requests, in a page that never rests
+   */
+  constructor(natives, holds, turns) {
+    this.natives = natives;
+    this.isActive = holds !== null;
+    /** @type {import('../types').Held[]} */
+    this.holds = [];
+    each(holds || [], (hold) => {
+      if (hold) this.holds[this.holds.length] = { ...hold, asked: 0, isLet: false, waiting: [], timer: null, target: null, met: 0 };
+    });
+    this.turns = turns && { ...turns, taken: 0 };
+    /**
+     * Events that were held back and that the recorder dispatches now.
+     * @type {WeakSet<Event>}
+     */
+    this.released = new WeakSet();
+    /** @type {WeakSet<Event>} */
+    this.seen = new WeakSet();
+    /** @type {import('../log/log').Log|null} */
+    this.log = null;
+  }
+
+  /**
+   * In a replay the driver gets each line after the task that wrote it; another program might close the page directly after that.
+   * @param {import('../log/log').Log} log
+   */
+  start(log) {
+    this.log = log;
+    if (!this.isActive) return;
+    log.sendSoon = (send) => {
+      if (settings.isDriven) this.natives.postTask(send);
+      else this.natives.setTimeout(send, 0);
+    };
+  }
+
+  // ---- what is held back
+
+  /**
+   * The hold of what the running code requests now, or undefined.
+   * @param {string} word
+   */
+  asks(word) {
+    const mayBe = keep(this.holds, (hold) => hold.word === word && !hold.isLet);
+    if (!mayBe.length) return undefined;
+    const way = wayOf(callsOfPage());
+    const place = placeOnStack();
+    const here = keep(mayBe, (hold) => (hold.way ? hold.way === way : (hold.place || '') === place));
+    each(here, (hold) => hold.asked++);
+    return findItem(here, (hold) => hold.asked === hold.nth);
+  }
+
+  /**
+   * @param {import('../types').Held} hold
+   * @param {import('../types').Waiting} one
+   */
+  keep(hold, one) {
+    if (!hold.waiting.length) this.log?.name('held', hold.id, {});
+    hold.waiting[hold.waiting.length] = one;
+  }
+
+  /**
+   * A callback that waits, if it is held back, until it is released; `again` requests it once more from the browser then.
+   * @param {import('../types').Held|undefined} hold
+   * @param {import('../types').Callback} run
+   * @param {(run: import('../types').Callback) => void} again
+   * @returns {import('../types').Callback}
+   */
+  callback(hold, run, again) {
+    if (!hold) return run;
+    return (...args) => {
+      if (hold.isLet) apply(run, undefined, args);
+      else if (!hold.waiting.length) this.keep(hold, { go: () => again(run) });
+    };
+  }
+
+  /**
+   * A callback that runs only as often as the replay says.
+   * @param {string} word
+   * @param {import('../types').Callback} run
+   * @returns {import('../types').Callback}
+   */
+  limited(word, run) {
+    const { turns } = this;
+    if (!turns || turns.word !== word || ownPlace(callsOfPage()) !== turns.place) return run;
+    return (...args) => {
+      if (turns.taken >= turns.count) return;
+      turns.taken++;
+      apply(run, undefined, args);
+    };
+  }
+
+  /**
+   * Notes the browser's number of a callback that is held back, so that the page can cancel it.
+   * @param {import('../types').Held|undefined} hold
+   * @param {number} timer
+   */
+  note(hold, timer) {
+    if (hold) hold.timer = timer;
+    return timer;
+  }
+
+  /**
+   * @param {import('../types').PageWindow} window
+   * @param {string[]} names
+   */
+  watchClearing(window, names) {
+    if (!this.holds.length) return;
+    each(names, (name) => replaceMethod(window, name, (native) => (timer) => {
+      each(this.holds, (hold) => { if (timer !== undefined && hold.timer === timer) hold.waiting = []; });
+      return apply(native, window, [timer]);
+    }));
+  }
+
+  /**
+   * Sends a message, or holds it back; messages that are posted to the same receiver meanwhile come after it.
+   * @param {import('../types').Held|undefined} hold
+   * @param {unknown} receiver
+   * @param {() => void} send
+   */
+  post(hold, receiver, send) {
+    const before = findItem(this.holds, ({ waiting }) => findItem(waiting, (one) => one.receiver === receiver));
+    const holding = before || hold;
+    if (holding) this.keep(holding, { receiver, go: send });
+    else send();
+  }
+
+  /**
+   * The window's load waits for an image that the driver holds back. It is nowhere in the page.
+   * @param {import('../types').Page} page
+   */
+  holdLoad(page) {
+    const address = withoutFragment(String(page.document.URL));
+    const hold = findItem(this.holds, (one) => one.word === 'load' && one.address === address && !one.isLet);
+    if (!hold) return;
+    hold.image = new page.window.Image();
+    hold.image.src = hold.source || '';
+  }
+
+  // ---- events
+
+  /**
+   * Whether it is the browser's own event, or one that was held back.
+   * @param {Event} event
+   */
+  isTrusted(event) {
+    return event.isTrusted || this.released.has(event);
+  }
+
+  /**
+   * A handler is registered at a target. An event of a target that is no element can be held back.
+   * @param {EventTarget} target
+   * @param {string} type
+   */
+  watch(target, type) {
+    if (!this.holds.length) return;
+    const hold = this.asks('on');
+    if (hold?.event && !hold.target) {
+      hold.target = target;
+      this.listen(target, hold.event.type);
+    }
+    const own = findItem(this.holds, (one) => one.target === target && !one.isLet);
+    if (own && own.event?.type !== type) this.listen(target, type); // later events of the target wait until it is released
+  }
+
+  /**
+   * The recorder's listener comes before those of the page.
+   * @param {EventTarget} target
+   * @param {string} type
+   */
+  listen(target, type) {
+    apply(this.natives.addEventListener, target, [type, (/** @type {Event} */ event) => { this.keepsEvent(event); }, true]);
+  }
+
+  /**
+   * Whether an event is held back: it, or one before it at the same target. Its handlers do not run then.
+   * @param {Event} event
+   */
+  keepsEvent(event) {
+    if (!this.holds.length || !event.isTrusted) return false;
+    if (this.seen.has(event)) return false;
+    const hold = findItem(this.holds, (one) => !one.isLet && this.isHeldBy(one, event));
+    this.seen.add(event);
+    const { target } = event;
+    if (!hold || !target) return false;
+    event.stopImmediatePropagation();
+    this.keep(hold, { target, go: () => this.release(target, event) });
+    return true;
+  }
+
+  /**
+   * @param {import('../types').Held} hold
+   * @param {Event} event
+   */
+  isHeldBy(hold, event) {
+    if (!hold.event) return false;
+    const { type, nth, tag } = hold.event;
+    if (hold.waiting.length && event.target === hold.waiting[0].target) return true;
+    const isOfTarget = tag ? this.isElement(hold.event, event.target) : event.target === hold.target;
+    if (event.type !== type || !isOfTarget) return false;
+    hold.met++;
+    return hold.met === nth;
+  }
+
+  /**
+   * @param {{tag?: string, id?: string, source?: string}} wanted
+   * @param {any} target any target of events
+   */
+  isElement({ tag, id, source }, target) {
+    const { getAttribute } = this.natives;
+    if (!target || target.nodeType !== 1) return false;
+    if (target.localName !== tag || (apply(getAttribute, target, ['id']) || '') !== id) return false;
+    return !source || sliceOf(apply(getAttribute, target, ['src']) || '', 0, 200) === source; // an element without a source might have got one
+  }
+
+  /**
+   * @param {EventTarget} target
+   * @param {Event} event
+   */
+  release(target, event) {
+    const { dispatchEvent, initEvent } = this.natives;
+    this.released.add(event);
+    apply(initEvent, event, [event.type, event.bubbles, event.cancelable]); // it is stopped no more
+    apply(dispatchEvent, target, [event]);
+  }
+
+  /**
+   * Runs the callback of an observer, or holds it back with all later ones of the same observer.
+   * @param {import('../types').Held|undefined} hold
+   * @param {() => void} run
+   */
+  observed(hold, run) {
+    if (!hold || hold.isLet) run();
+    else this.keep(hold, { go: run });
+  }
+
+  /**
+   * If a transaction of a database is held back, one of the recorder's own locks its stores. It changes nothing.
+   * @param {IDBDatabase} database
+   * @param {string|ArrayLike<string>} stores
+   */
+  holdStores(database, stores) {
+    const hold = this.holds.length ? this.asks('send') : undefined;
+    if (!hold) return;
+    const names = typeof stores === 'string' ? [stores] : joined(stores);
+    if (!names.length) return;
+    const store = apply(this.natives.transaction, database, [names, 'readwrite']).objectStore(names[0]);
+    const again = () => {
+      if (!hold.isLet) apply(this.natives.addEventListener, apply(this.natives.count, store, []), ['success', again]);
+    };
+    this.keep(hold, { go() {} });
+    again();
+  }
+
+  /** @param {number} id */
+  letGo(id) {
+    const hold = findItem(this.holds, (one) => one.id === id);
+    if (!hold || hold.isLet) return;
+    const { waiting } = hold;
+    hold.isLet = true;
+    hold.waiting = [];
+    each(waiting, (one) => one.go());
+  }
+
+  // ---- the script elements at which the parser waits, which are not of the page
+
+  /** @param {Node} node */
+  isHold(node) {
+    const element = /** @type {Element} */ (node);
+    return this.isActive && element.localName === 'script' && apply(this.natives.hasAttribute, element, ['data-er-hold']);
+  }
+
+  /** @param {Element} script */
+  removeHold(script) {
+    apply(this.natives.remove, script, []);
+  }
+}
+
+export { Steering };

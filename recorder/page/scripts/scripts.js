@@ -1,0 +1,239 @@
+// Runs of scripts: what instrumented code calls at its start and end, and scripts that fail.
+
+import { each, findItem } from '../core/lists.js';
+import { withoutMarks } from '../core/marks.js';
+import { fits, withoutFragment } from '../core/strings.js';
+import { Set, apply } from '../core/taken.js';
+import { fileOnStack } from '../log/stack.js';
+
+const TEXT = 3;
+
+/** @typedef {import('../types').TraceEvent} TraceEvent */
+/**
+ * A function that becomes a global as a script begins: its name and its place.
+ * @typedef {[name: string, place: number]} FunctionOfScript
+ */
+
+class Scripts {
+  /** @param {import('../types').Page} page */
+  constructor(page) {
+    this.page = page;
+    this.recording = page.recording;
+    /** @type {Set<number>} */
+    this.hasRun = new Set();
+    /**
+     * The script that was the last to run, and the event of its run.
+     * @type {{element: Element|null, number: number, event: TraceEvent|null}}
+     */
+    this.last = { element: null, number: 0, event: null };
+  }
+
+  // ---- classic scripts
+
+  /**
+   * @param {HTMLScriptElement|null} element null in a module that looks like a classic script, as one without imports, and in a shadow tree
+   * @param {number} site
+   * @param {FunctionOfScript[]} functions
+   */
+  begins(element, site, functions) {
+    const { recording, page } = this;
+    const { contexts } = recording;
+    if (element) this.showOwnText(element);
+    if (recording.isOver) return;
+    const isInside = contexts.length > 0 && contexts[contexts.length - 1] !== 'script';
+    if (element ? isInside : contexts[contexts.length - 1] === 'call') {
+      this.beginInside(functions);
+      return;
+    }
+    const address = element ? '' : fileOnStack();
+    const script = element || this.findHidden(address);
+    if (script === undefined) {
+      page.modules.begins(address, site);
+      return;
+    }
+    if (script && !element) this.showOwnText(script);
+    recording.startTask();
+    this.writeRun(script, script ? this.runnable(script) : page.tree.addHiddenScript(), site);
+    recording.enter('script');
+    this.declareFunctions(functions);
+  }
+
+  /** @param {FunctionOfScript[]} functions */
+  declareFunctions(functions) {
+    each(functions, ({ 0: name, 1: place }) => this.page.globals.declare(name, place));
+  }
+
+  /**
+   * The script in a shadow tree that begins to run.
+   * @param {string} address
+   * @returns {Element|null|undefined} null: one in a closed tree; undefined: no script but a module
+   */
+  findHidden(address) {
+    const { recording, page } = this;
+    if (recording.contexts.length) return undefined;
+    recording.startTask();
+    const found = page.shadows.findScript(address);
+    return found && page.kinds.scriptType(found) === 'module' ? undefined : found;
+  }
+
+  /**
+   * In the page a script has its text without marks: it has begun, and its text is not run again.
+   * @param {Element} element
+   */
+  showOwnText(element) {
+    const { firstChild, data } = this.page.natives;
+    const text = /** @type {Text|null} */ (apply(firstChild, element, []));
+    if (!text || text.nodeType !== TEXT) return;
+    const marked = apply(data.get, text, []);
+    const own = withoutMarks(marked);
+    if (own === marked) return;
+    this.recording.ownTexts.add(text);
+    apply(data.set, text, [own]);
+  }
+
+  /**
+   * @param {Element|null} element
+   * @param {number} number
+   * @param {number} [site]
+   */
+  writeRun(element, number, site) {
+    const { recording, page } = this;
+    const kind = page.elements.kinds.get(number);
+    this.hasRun.add(number);
+    if (kind === 'defer') this.noteDeferred(number);
+    recording.begin(`exec ${number}`, 'exec', site);
+    if (kind === 'inline' || kind === 'sync') recording.running.blocks = page;
+    this.noteRun(element, number);
+    page.inOrder.begins(number);
+    if (kind !== 'async') page.joins.here(page.observers.takeObserved(), 'what the parser waited for');
+    if (kind === 'defer') page.loading.comeBehindParsing();
+  }
+
+  /**
+   * What is known of a run once it has begun: whether load waits for it, and that the script's load event is to come in it.
+   * @param {Element|null} element
+   * @param {number} number
+   */
+  noteRun(element, number) {
+    const { recording, page } = this;
+    if (page.tree.staticScripts.has(number) || page.elements.awaited.has(number)) recording.running.awaits = page;
+    this.last = { element, number, event: recording.running };
+  }
+
+  /**
+   * A script that a script inserts or writes runs inside the running action.
+   * @param {FunctionOfScript[]} functions
+   */
+  beginInside(functions) {
+    this.recording.enter('script');
+    this.declareFunctions(functions);
+  }
+
+  ends() {
+    const { recording } = this;
+    if (recording.isOver) return;
+    if (recording.contexts[recording.contexts.length - 1] !== 'script') {
+      this.page.modules.ends(fileOnStack());
+      return;
+    }
+    if (recording.contexts.length === 1 && recording.running === this.last.event) this.noteEnd(this.last.number);
+    recording.leave();
+  }
+
+  /** @param {number} number */
+  noteEnd(number) {
+    const { elements, inOrder, loading } = this.page;
+    inOrder.ends(number);
+    if (fits(/^(inline|sync)$/, elements.kinds.get(number) || '')) loading.noteRunOf(number);
+  }
+
+  /** @param {number} number */
+  noteDeferred(number) {
+    const { tree } = this.page;
+    tree.pendingDeferred.delete(number);
+    tree.hasRunDeferred = true;
+  }
+
+  // ---- which element runs
+
+  /**
+   * The element whose run this can be: a further `async` one if the format does not allow the script's own now, or if its source was set later.
+   * @param {Element} element
+   * @returns {number}
+   */
+  runnable(element) {
+    const { elements, recording, sources } = this.page;
+    const number = elements.declaredNumber(element);
+    const kind = elements.kinds.get(number) || '';
+    const source = sources.loads.get(element);
+    if (source && !this.hasRun.has(source.number)) return source.number;
+    const isScript = fits(/^(inline|sync|defer|async)$/, kind);
+    const why = isScript && !this.hasRun.has(number) ? this.whyTooLate(number, kind) : 'it had run, or was no script when it was made';
+    if (!why) return number;
+    const standIn = recording.next('element');
+    recording.noteBeside(number, `new ${this.page.number} ${standIn} async`);
+    recording.log.name('element', standIn, { standsFor: number, why });
+    recording.log.miss('scripts that ran later than the format lets them: async ones stand for them');
+    return standIn;
+  }
+
+  /**
+   * Why the run of a static script would be out of order, or ''.
+   * @param {number} number
+   * @param {string} kind
+   */
+  whyTooLate(number, kind) {
+    const { tree, loading } = this.page;
+    if (!tree.staticScripts.has(number)) return '';
+    if (loading.hasBegunLoad) return 'it ran behind load';
+    if (kind === 'async') return '';
+    if (loading.hasBegunDomContentLoaded) return 'it ran behind DOMContentLoaded';
+    if (kind === 'defer') return '';
+    if (tree.hasRunDeferred) return 'it ran behind a deferred script';
+    return tree.lastParsed === number ? '' : 'the parser had gone on';
+  }
+
+  // ---- load events and failures
+
+  /**
+   * Whether the run of a script is the running event, and its load event belongs to the run: the parser, or DOMContentLoaded, waits for both.
+   * @param {Element} element
+   */
+  isRunning(element) {
+    const kind = this.page.elements.kinds.get(this.page.elements.number(element));
+    return kind !== 'async' && this.last.element === element && this.last.event === this.recording.running;
+  }
+
+  /**
+   * A script for which the parser or DOMContentLoaded waits has failed: an empty run stands for it. Returns whether there can be one.
+   * @param {Element} element
+   */
+  runEmpty(element) {
+    this.recording.startTask(); // the page may have another document by it
+    const { elements, tree } = this.page;
+    const number = elements.number(element);
+    const kind = elements.kinds.get(number) || '';
+    const isDue = tree.staticScripts.has(number) && kind !== 'async' && !this.hasRun.has(number);
+    if (!isDue || this.whyTooLate(number, kind)) return false;
+    this.writeRun(element, number);
+    return true;
+  }
+
+  /**
+   * An error of the window because a script is no JavaScript: it belongs to the script's empty run.
+   * @param {ErrorEvent} event
+   */
+  runBroken({ filename, message }) {
+    if (!fits(/SyntaxError/, message)) return false;
+    this.recording.startTask();
+    const { document, elements, natives, tree } = this.page;
+    const last = tree.lastParsedElement;
+    const isInline = last && elements.kinds.get(tree.lastParsed) === 'inline' && filename === withoutFragment(document.URL);
+    /** @type {ArrayLike<Element>} */
+    const scripts = isInline ? [last] : apply(natives.querySelectorAll, document.documentElement, ['script[src]']);
+    const script = findItem(scripts, (one) => (isInline || /** @type {HTMLScriptElement} */ (one).src === filename) && !this.hasRun.has(elements.number(one)));
+    return !!script && this.runEmpty(script);
+  }
+}
+
+export { Scripts };

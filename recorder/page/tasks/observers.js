@@ -1,0 +1,207 @@
+// Observers: a mutation observer's callback is a job, those of the others are tasks. Each comes after the call that told the observer what to look at.
+
+import { each, findItem, joined, keep } from '../core/lists.js';
+import { putConstructor, replaceMethod } from '../core/replacing.js';
+import { Reflect, Set, WeakMap, apply } from '../core/taken.js';
+
+const OBSERVERS = ['MutationObserver', 'IntersectionObserver', 'ResizeObserver', 'PerformanceObserver', 'ReportingObserver'];
+/** Those whose news are not of one thing that they were told to look at. */
+const OF_ALL = new Set(['PerformanceObserver', 'ReportingObserver']);
+
+/** @typedef {import('../types').Moment} Moment */
+/** @typedef {import('../types').PageWindow} PageWindow */
+/**
+ * What is known of an observer: its type in the trace, who made it, who told it to look at what, and the end of its last call.
+ * @typedef {{name: string, handler: number, asked: import('./jobs.js').Asked, type: string, told: {target: any, moment: Moment}[], hold: import('../types').Held|undefined, last?: Moment}} About
+ */
+
+class Observers {
+  /** @param {import('../types').Page} page */
+  constructor(page) {
+    this.page = page;
+    this.recording = page.recording;
+    /** @type {WeakMap<object, About>} */
+    this.known = new WeakMap();
+    /**
+     * The ends of what mutation observers did after parse steps: it comes before the next script for which the parser waits, and before
+     * DOMContentLoaded.
+     * @type {Moment[]}
+     */
+    this.observed = [];
+  }
+
+  /** The action that was begun last ends something that comes before the next script for which the parser waits. */
+  noteBeforeScript() {
+    this.observed[this.observed.length] = this.recording.lastMoment();
+  }
+
+  /** The ends of what mutation observers did since the last call. */
+  takeObserved() {
+    const { observed } = this;
+    this.observed = [];
+    return observed;
+  }
+
+  start() {
+    const { window } = this.page;
+    each(keep(OBSERVERS, (name) => window[name]), (name) => {
+      this.replaceObserver(window, name);
+      this.replaceObserve(window[name].prototype);
+    });
+    this.replaceRegistry(window);
+  }
+
+  /**
+   * @param {PageWindow} window
+   * @param {string} name
+   */
+  replaceObserver(window, name) {
+    const observers = this;
+    const Native = window[name];
+    /** @type {(this: unknown, callback: unknown, ...rest: unknown[]) => unknown} */
+    const Observer = function Observer(callback, ...rest) {
+      if (!new.target) return apply(Native, undefined, [callback]); // which throws
+      const about = typeof callback === 'function' && !observers.recording.isOver ? observers.describe(name, callback) : null;
+      const made = Reflect.construct(Native, joined([about ? observers.wrap(about, /** @type {Function} */ (callback)) : callback], rest), new.target !== Observer ? new.target : Native);
+      if (about) observers.known.set(made, about);
+      return made;
+    };
+    putConstructor(window, name, Observer);
+  }
+
+  /**
+   * @param {string} name
+   * @param {Function} callback
+   */
+  describe(name, callback) {
+    const { jobs } = this.page;
+    const handler = jobs.registerJob(callback, name);
+    return { name, handler, asked: jobs.ask(null), type: '', told: [], hold: this.recording.steering.asks('on') };
+  }
+
+  /** @param {any} owner */
+  replaceObserve(owner) {
+    const observers = this;
+    replaceMethod(owner, 'observe', (native) => function observe(target) {
+      const about = observers.known.get(this);
+      const moment = about && observers.recording.moment();
+      if (moment) about.told[about.told.length] = { target, moment };
+      return apply(native, this, arguments);
+    });
+  }
+
+  /**
+   * @param {About} about
+   * @param {Function} callback
+   * @returns {import('../types').Method}
+   */
+  wrap(about, callback) {
+    const observers = this;
+    const { jobs, dispatches } = this.page;
+    return function observed(entries, ...words) {
+      const call = () => apply(callback, this, joined([entries], words));
+      const { recording } = observers;
+      if (recording.isOver) return call();
+      const asked = { ...about.asked, others: observers.toldOf(about, entries), why: 'the call of observe()' };
+      if (about.name === 'MutationObserver') {
+        return recording.contexts.length || recording.isCheckpoint ? jobs.run(about.handler, asked, call) : observers.runAfterStep(about, entries, asked, call);
+      }
+      about.type = about.type || `${about.name}-${recording.next('observer')}`;
+      return recording.steering.observed(about.hold, () => jobs.runAsHandler(dispatches.beginPlain(jobs.place, about.type), about.handler, asked, call));
+    };
+  }
+
+  /**
+   * A mutation observer is called while no code runs: because of the parser. It is called after the step of its first entry, and before the next script
+   * for which the parser waits. How many more elements are there by then is up to the network.
+   * @template T
+   * @param {About} about
+   * @param {MutationRecord[]} entries
+   * @param {import('./jobs.js').Asked} asked
+   * @param {() => T} call
+   */
+  runAfterStep(about, entries, asked, call) {
+    const { recording, page: { tree, elements, dispatches, jobs } } = this;
+    recording.startTask();
+    const { 0: first } = entries;
+    const step = tree.steps.get(/** @type {Element} */ (first.addedNodes[0])) || tree.steps.get(/** @type {Element} */ (first.target));
+    if (!step) return jobs.run(about.handler, asked, call);
+    asked.others = joined(asked.others || [], [about.last || null]);
+    const standIn = elements.standInIn(step, first.target, 'the first that it was told of');
+    try {
+      return jobs.runAsHandler(dispatches.beginPlain(standIn, about.name), about.handler, asked, call);
+    } finally {
+      about.last = recording.lastMoment();
+      this.noteBeforeScript();
+    }
+  }
+
+  /**
+   * Who told an observer to look at what some entries are of.
+   * @param {About} about
+   * @param {any[]} entries those of an observer: their members differ
+   */
+  toldOf({ name, told }, entries) {
+    const { contains } = this.page.natives;
+    const isOf = (/** @type {any} */ target) => (/** @type {{target: any}} */ { target: of }) => of === target || (name === 'MutationObserver' && apply(contains, target, [of]));
+    /** @type {Moment[]} */
+    const moments = [];
+    each(told, ({ target, moment }) => {
+      if (OF_ALL.has(name) || findItem(entries, isOf(target))) moments[moments.length] = moment;
+    });
+    return moments;
+  }
+
+  // ---- what is called when an object is no more
+
+  /**
+   * A callback comes after the call that registered what is gone: the registry holds the moment of that beside the page's value.
+   * @param {PageWindow} window
+   */
+  replaceRegistry(window) {
+    const observers = this;
+    const Native = window.FinalizationRegistry;
+    /** @type {(this: unknown, callback: unknown) => unknown} */
+    const FinalizationRegistry = function FinalizationRegistry(callback) {
+      if (!new.target) return apply(Native, undefined, [callback]); // which throws
+      const isSeen = typeof callback === 'function' && !observers.recording.isOver;
+      return Reflect.construct(Native, [isSeen ? observers.wrapCleanup(callback) : callback], new.target !== FinalizationRegistry ? new.target : Native);
+    };
+    putConstructor(window, 'FinalizationRegistry', FinalizationRegistry);
+    replaceMethod(Native.prototype, 'register', (native) => function register(target, value, ...token) {
+      const held = target === value || observers.recording.isOver ? value : new Held(value, observers.recording.moment());
+      return apply(native, this, joined([target, held], token));
+    });
+  }
+
+  /**
+   * @param {Function} callback
+   * @returns {import('../types').Method}
+   */
+  wrapCleanup(callback) {
+    const observers = this;
+    const about = this.describe('FinalizationRegistry', callback);
+    return function cleanUp(held) {
+      const { recording, page: { dispatches, jobs } } = observers;
+      const call = () => apply(callback, this, [held instanceof Held ? held.value : held]);
+      if (recording.isOver) return call();
+      about.type = about.type || `FinalizationRegistry-${recording.next('observer')}`;
+      const asked = { ...about.asked, others: [held.moment], why: 'the call of register()' };
+      return jobs.runAsHandler(dispatches.beginPlain(jobs.place, about.type), about.handler, asked, call);
+    };
+  }
+}
+
+/** The value that is handed to a registry's callback, and the moment of its registration. */
+class Held {
+  /**
+   * @param {unknown} value
+   * @param {Moment|null} moment
+   */
+  constructor(value, moment) {
+    this.value = value;
+    this.moment = moment;
+  }
+}
+
+export { Observers };

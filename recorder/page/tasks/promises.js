@@ -1,0 +1,222 @@
+// Calls that ask for a job: `then`, `queueMicrotask`, and promises of several promises, whose reactions come after what has settled each.
+
+import { each, findItem, joined } from '../core/lists.js';
+import { replaceMethod } from '../core/replacing.js';
+import { sliceOf } from '../core/strings.js';
+import { WeakMap, apply, functionText, getPrototypeOf } from '../core/taken.js';
+import { isThing } from '../core/things.js';
+
+/** Promises of several promises. Of `race` only the first one counts, and its reaction runs after it anyway. */
+const SEVERAL = ['all', 'allSettled', 'any'];
+
+/** So many promises that settle each other are followed. */
+const MOST_LINKS = 20;
+
+/** @typedef {import('../types').Moment} Moment */
+/**
+ * What has settled the promises of a promise of several, or what else a promise comes after. One alone has decided it: then the others say nothing.
+ * Of promises that are settled one after the other, `asker` is the event that got them all.
+ * @typedef {{moments: (Moment|null)[], isByOne: boolean, name?: string, why?: string, asker?: import('../types').TraceEvent|null}} Several
+ */
+
+/** @param {unknown} given */
+const isNativeFunction = (given) => typeof given === 'function' && sliceOf(apply(functionText, given, []), -16) === ' [native code] }';
+
+class Promises {
+  /** @param {import('../types').Page} page */
+  constructor(page) {
+    this.page = page;
+    this.recording = page.recording;
+    /**
+     * By promise.
+     * @type {WeakMap<object, Several>}
+     */
+    this.several = new WeakMap();
+    /**
+     * The promise of several promises that is being made.
+     * @type {Several|null}
+     */
+    this.making = null;
+    /**
+     * By promise: where it was settled, or the promise that settles it.
+     * @type {WeakMap<object, Moment|{by: object}>}
+     */
+    this.settled = new WeakMap();
+    this.prototype = page.window.Promise.prototype;
+  }
+
+  start() {
+    const { window } = this.page;
+    this.replaceThen(window);
+    this.replaceQueueing(window);
+    each(SEVERAL, (name) => this.replaceSeveral(window.Promise, name));
+  }
+
+  /** Whether jobs are recorded now. */
+  isSeen() {
+    return this.recording.isRunning() && !this.recording.isOver;
+  }
+
+  /** @param {import('../types').PageWindow} window */
+  replaceThen(window) {
+    const promises = this;
+    const { jobs } = this.page;
+    replaceMethod(window.Promise.prototype, 'then', (native) => function then(fulfilled, rejected) {
+      if (!promises.isSeen()) return apply(native, this, [fulfilled, rejected]);
+      if (promises.making && isNativeFunction(fulfilled) && isNativeFunction(rejected)) {
+        const before = promises.momentsOf(this);
+        return apply(native, this, [promises.watch(promises.making, fulfilled, true, before), promises.watch(promises.making, rejected, false, before)]);
+      }
+      const asked = jobs.ask(this);
+      const made = apply(native, this, [jobs.wrap(fulfilled, asked), jobs.wrap(rejected, asked)]);
+      asked.makes = made;
+      return made;
+    });
+  }
+
+  /** @param {import('../types').PageWindow} window */
+  replaceQueueing(window) {
+    const promises = this;
+    const { jobs } = this.page;
+    replaceMethod(window, 'queueMicrotask', (native) => function queueMicrotask(callback) {
+      if (!promises.isSeen()) return apply(native, window, [callback]);
+      return apply(native, window, [jobs.wrap(callback, jobs.ask(null))]);
+    });
+  }
+
+  // ---- promises of several promises
+
+  /**
+   * @param {object} owner
+   * @param {string} name
+   */
+  replaceSeveral(owner, name) {
+    const promises = this;
+    const { recording } = this;
+    replaceMethod(owner, name, (native) => function several() {
+      if (!promises.isSeen()) return apply(native, this, arguments);
+      const outer = promises.making;
+      const made = { name, moments: [recording.moment()], isByOne: false };
+      promises.making = made;
+      try {
+        const promise = apply(native, this, arguments);
+        promises.several.set(promise, made);
+        return promise;
+      } finally {
+        promises.making = outer;
+      }
+    });
+  }
+
+  /**
+   * What the browser itself registers at each of several promises.
+   * @param {Several} made
+   * @param {import('../types').Method} callback
+   * @param {boolean} isFulfilled
+   * @param {(Moment|null)[]} before what settled it before that
+   * @returns {import('../types').Method}
+   */
+  watch(made, callback, isFulfilled, before) {
+    const promises = this;
+    return function settled() {
+      promises.noteSettled(made, isFulfilled, before);
+      return apply(callback, this, arguments);
+    };
+  }
+
+  /**
+   * @param {Several} made
+   * @param {boolean} isFulfilled
+   * @param {(Moment|null)[]} before
+   */
+  noteSettled(made, isFulfilled, before) {
+    const { recording } = this;
+    if (recording.isOver) return;
+    this.page.jobs.endContinuation();
+    if (made.name !== 'allSettled' && isFulfilled === (made.name === 'any')) made.isByOne = true;
+    each(joined(before, [recording.moment()]), (moment) => {
+      if (moment && !findItem(made.moments, (one) => !!one && one.event === moment.event)) made.moments[made.moments.length] = moment;
+    });
+  }
+
+  /**
+   * What the reactions of a promise come after, beside the one that settled it.
+   * @param {unknown} promise
+   * @returns {(Moment|null)[]}
+   */
+  momentsOf(promise) {
+    const several = this.severalOf(promise);
+    const settled = this.settledIn(promise);
+    return joined(several && !several.isByOne ? several.moments : [], settled ? [settled] : []);
+  }
+
+  /**
+   * Why a reaction comes after the moments of its promise.
+   * @param {unknown} promise
+   */
+  whyOf(promise) {
+    const several = this.severalOf(promise);
+    return several ? several.why || 'one of several promises' : 'what settled the promise';
+  }
+
+  // ---- promises that are settled when a reaction is asked for
+
+  /**
+   * Where a promise was settled, if that is known.
+   * @param {unknown} promise
+   * @returns {Moment|null}
+   */
+  settledIn(promise) {
+    let at = promise;
+    for (let depth = 0; depth < MOST_LINKS && isThing(at); depth++) {
+      const known = this.settled.get(at);
+      if (!known) return null;
+      if ('event' in known) return known;
+      at = known.by;
+    }
+    return null;
+  }
+
+  /**
+   * The first reaction of a promise begins. If another task asked for it, the promise was not settled then, so that it has been now: the reactions that
+   * are asked for later come after this point too. Unless a job before in the same event comes after something else.
+   * @param {import('./jobs.js').Asked} asked
+   */
+  noteFirst({ v: promise, moment, task }) {
+    const { recording } = this;
+    if (!isThing(promise) || this.settled.has(promise) || !moment || task === recording.task) return;
+    if (recording.running.hasLateJobs || !recording.mayDispatch()) return;
+    this.settled.set(promise, recording.point(this.page.number));
+  }
+
+  /**
+   * A reaction has run, and its promise is settled, or another promise settles it.
+   * @param {import('./jobs.js').Asked} asked
+   * @param {unknown} result what the reaction returned
+   */
+  noteMade({ v: promise, moment, makes: made }, result) {
+    const { recording } = this;
+    const several = this.severalOf(promise);
+    if (several && several.asker && several.asker === moment?.event) several.moments[several.moments.length] = recording.lastMoment();
+    if (!made || recording.isOver || !recording.isCheckpoint || recording.contexts.length) return;
+    if (this.isPromise(result)) this.settled.set(made, { by: result });
+    else if (!isThing(result) && recording.mayDispatch()) this.settled.set(made, recording.point(this.page.number));
+  }
+
+  /**
+   * Whether something is a promise of the page. A proxy is asked nothing.
+   * @param {unknown} given
+   * @returns {given is object}
+   */
+  isPromise(given) {
+    const { objects } = this.recording;
+    return isThing(given) && objects !== null && !objects.kinds.isLeftOut(given) && getPrototypeOf(given) === this.prototype;
+  }
+
+  /** @param {unknown} promise */
+  severalOf(promise) {
+    return typeof promise === 'object' && promise !== null ? this.several.get(promise) : undefined;
+  }
+}
+
+export { Promises };

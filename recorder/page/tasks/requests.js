@@ -1,0 +1,157 @@
+// XMLHttpRequest and fetch.
+
+import { each } from '../core/lists.js';
+import { replaceMethod } from '../core/replacing.js';
+import { sliceOf, withoutFragment } from '../core/strings.js';
+import { String, WeakMap, apply } from '../core/taken.js';
+
+const BODY_CALLS = ['json', 'text', 'arrayBuffer', 'blob', 'formData', 'bytes'];
+
+/** @typedef {import('../types').PageWindow} PageWindow */
+/** @typedef {import('../types').Facts} Facts */
+/** @typedef {import('../types').TraceEvent} TraceEvent */
+/**
+ * A request that was sent: by which event, the last reply, and what it is of a database, with the end of the last reply in its transaction.
+ * @typedef {{number: number, sender: TraceEvent|null, lastReply?: TraceEvent, database?: 'transaction'|'request', queue?: {last: import('../types').Moment|null}}} Request
+ */
+
+class Requests {
+  /** @param {import('../types').Page} page */
+  constructor(page) {
+    this.page = page;
+    this.recording = page.recording;
+    this.natives = page.natives;
+    /**
+     * By response: its request, and the handler of the replies.
+     * @type {WeakMap<object, {request: Request, handler: number}>}
+     */
+    this.responses = new WeakMap();
+    /**
+     * By XMLHttpRequest: what it was opened for.
+     * @type {WeakMap<object, {method: string, address: string}>}
+     */
+    this.addresses = new WeakMap();
+  }
+
+  start() {
+    const { window } = this.page;
+    this.replaceXhr(window.XMLHttpRequest.prototype);
+    this.replaceFetch(window);
+  }
+
+  /**
+   * @param {Facts & {address?: string}|undefined} facts
+   * @returns {Request}
+   */
+  send(facts) {
+    const number = this.recording.next('request');
+    this.recording.noteAsking(`send ${number}`);
+    this.recording.log.name('request', number, { ...facts, url: this.whole(facts?.address) });
+    return { number, sender: this.recording.isRunning() ? this.recording.running : null };
+  }
+
+  /**
+   * The whole address of what is asked for.
+   * @param {string|undefined} address
+   */
+  whole(address) {
+    if (address === undefined) return undefined;
+    try {
+      return withoutFragment(new this.natives.URL(address, this.page.document.baseURI).href);
+    } catch {
+      return undefined; // no address
+    }
+  }
+
+  /** @param {any} owner */
+  replaceXhr(owner) {
+    const requests = this;
+    const { calls, dispatches } = this.page;
+    calls.replaceCall(owner, 'abort', false);
+    replaceMethod(owner, 'open', (native) => function open(method, address) {
+      dispatches.requests.delete(this); // what `open` dispatches is no reply of an earlier request
+      requests.addresses.set(this, { method: String(method), address: sliceOf(String(address), 0, 200) });
+      return calls.around(() => apply(native, this, arguments), false);
+    });
+    replaceMethod(owner, 'send', (native) => function send() {
+      if (requests.recording.isOver) return apply(native, this, arguments);
+      const request = requests.send(requests.addresses.get(this));
+      dispatches.requests.set(this, request);
+      if (this.upload) dispatches.requests.set(this.upload, request);
+      return calls.around(() => apply(native, this, arguments), false);
+    });
+  }
+
+  /** @param {PageWindow} window */
+  replaceFetch(window) {
+    const requests = this;
+    const { recording } = this;
+    replaceMethod(window, 'fetch', (native) => function fetch(input, options) {
+      if (recording.isOver) return apply(native, window, arguments);
+      const address = sliceOf(String((input && input.url) || input), 0, 200);
+      const request = requests.send({ method: (options && options.method) || 'GET', address });
+      return requests.settle(apply(native, window, arguments), request, requests.registerReply(), true);
+    });
+    each(BODY_CALLS, (name) => {
+      replaceMethod(window.Response.prototype, name, (native) => function body() {
+        const known = requests.responses.get(this);
+        const promise = apply(native, this, arguments);
+        return known && !recording.isOver ? requests.settle(promise, known.request, known.handler, false) : promise;
+      });
+    });
+  }
+
+  registerReply() {
+    const handler = this.recording.next('handler');
+    this.recording.note(`on ${handler}`);
+    this.recording.log.name('handler', handler, { type: 'reply of fetch' });
+    return handler;
+  }
+
+  /**
+   * A promise that settles inside a reply, so that the reactions to it run there.
+   * @param {Promise<any>} promise
+   * @param {Request} request
+   * @param {number} handler
+   * @param {boolean} isResponse
+   */
+  settle(promise, request, handler, isResponse) {
+    /** @type {Promise<any>} */
+    const settled = new this.natives.promise((resolve, reject) => {
+      const reply = (/** @type {() => void} */ call) => this.runReply(request, handler, settled, call);
+      apply(this.natives.then, promise, [(/** @type {any} what the page gets */ value) => {
+        if (isResponse) this.responses.set(value, { request, handler });
+        reply(() => resolve(value));
+      }, (/** @type {unknown} */ reason) => reply(() => reject(reason))]);
+    });
+    return settled;
+  }
+
+  /**
+   * The jobs that a reply causes run in its handler.
+   * @param {Request} request
+   * @param {number} handler
+   * @param {object} promise what the page waits for
+   * @param {() => void} call
+   */
+  runReply(request, handler, promise, call) {
+    const { recording } = this;
+    if (recording.isOver) {
+      call();
+      return;
+    }
+    recording.startTask();
+    const number = recording.next('dispatch');
+    recording.begin(`reply ${number} ${request.number}`, 'begin');
+    const beginning = recording.lastMoment();
+    this.page.promises.settled.set(promise, beginning);
+    recording.push({ number, isInline: false });
+    recording.begin(`run ${number} 0 ${handler}`, 'handler', undefined, [beginning.event, request.sender, request.lastReply]);
+    request.lastReply = recording.running;
+    recording.enter('handler');
+    call();
+    recording.leave();
+  }
+}
+
+export { Requests };

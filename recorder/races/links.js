@@ -1,0 +1,49 @@
+'use strict';
+// Links between actions, as the analyzer prints them when it explains why one action is before another. The view shows only these.
+
+const { eachAtOnce } = require('../common/at-once.js');
+const { answersAtOnce, runProgram } = require('./program.js');
+
+const AT_ONCE = 4;
+const MOST_PAIRS = 300;
+/** A view waits at most this many milliseconds for links. */
+const LONGEST = 4000;
+
+/**
+ * The steps of a path from one action to another.
+ * @param {string} traceFile
+ * @param {number} from
+ * @param {number} to
+ * @returns {Promise<{steps: [from: number, to: number, rule: number][]|null, fault: string}>} no steps if there is no path
+ */
+async function explain(traceFile, from, to) {
+  const { output, fault } = await runProgram(['explain', '--from', String(from), '--to', String(to)], traceFile);
+  if (!output.startsWith('explain ')) return { steps: null, fault: fault || output.trim() || 'the program said nothing' };
+  if (/^unordered$/m.test(output)) return { steps: null, fault: '' };
+  const steps = [...output.matchAll(/^step (\d+) (\d+) (\d+)$/gm)].map(([, ...step]) => /** @type {[number, number, number]} */ (step.map(Number)));
+  return { steps, fault: '' };
+}
+
+/**
+ * The links of the paths from the first action of each pair to its second, each `[from, to, rule]` once.
+ * @param {string} traceFile
+ * @param {[from: number, to: number][]} pairs
+ * @returns {Promise<[from: number, to: number, rule: number][]|null>} null if they are left for later, since each answer would take a minute
+ */
+async function linksBetween(traceFile, pairs) {
+  if (!answersAtOnce()) return null;
+  const until = Date.now() + LONGEST;
+  /** @type {Map<string, [number, number, number]>} */
+  const links = new Map();
+  /** @type {string[]} */
+  const faults = [];
+  await eachAtOnce(pairs.slice(0, MOST_PAIRS), AT_ONCE, async ([from, to]) => {
+    if (faults.length || Date.now() >= until) return;
+    const { steps, fault } = await explain(traceFile, from, to);
+    if (fault) faults.push(fault); // an analyzer without this subcommand
+    (steps || []).forEach((step) => links.set(step.join(' '), step));
+  });
+  return [...links.values()].sort((a, b) => a[0] - b[0] || a[1] - b[1]);
+}
+
+module.exports = { explain, linksBetween };

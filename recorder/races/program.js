@@ -1,0 +1,85 @@
+'use strict';
+// Queries the analyzer about a trace. Nothing else here decides what races.
+
+const { spawn, spawnSync } = require('node:child_process');
+const fs = require('node:fs');
+const path = require('node:path');
+const { STATUS } = require('../common/status.js');
+const { Unproved } = require('./unproved.js');
+
+/**
+ * What a run of the analyzer wrote to standard output and standard error.
+ * @typedef {{status: number|null, output: string, fault: string}} Output
+ */
+
+/** @typedef {import('./types').Judged} Judged */
+
+const TOP = path.join(__dirname, '..', '..');
+/** The path of the analyzer. `ER_CLI` names another one, with the same arguments, input and output; it is not a command line, so blanks are part of it. */
+const PROGRAM = process.env.ER_CLI || path.join(TOP, 'er_cli');
+
+const unproved = new Unproved();
+let state = process.env.ER_CLI ? 'built' : '';
+
+/** `built`, or `older` or `unbuilt` if an answer takes a minute, or `missing`, after a line on standard error. */
+function programState() {
+  if (state !== 'built') {
+    const { status, stdout } = spawnSync(path.join(TOP, 'tools', 'program'), { encoding: 'utf8', stdio: ['ignore', 'pipe', 'inherit'] });
+    state = status === 0 ? stdout.split(/\s/)[0] : 'missing';
+  }
+  return state;
+}
+
+const answersAtOnce = () => programState() === 'built';
+
+/**
+ * @param {string[]} args
+ * @param {string} traceFile
+ * @returns {Promise<Output>}
+ */
+function runProgram(args, traceFile) {
+  if (!answersAtOnce()) return unproved.query(args, traceFile);
+  const input = fs.openSync(traceFile, 'r');
+  const child = spawn(PROGRAM, args, { stdio: [input, 'pipe', 'pipe'] });
+  fs.closeSync(input);
+  /** @type {Buffer[]} */
+  const output = [];
+  /** @type {Buffer[]} */
+  const fault = [];
+  child.stdout?.on('data', (piece) => output.push(piece));
+  child.stderr?.on('data', (piece) => fault.push(piece));
+  return new Promise((resolve) => {
+    child.on('error', (cause) => resolve({ status: STATUS.noProgram, output: '', fault: `${PROGRAM} can not be run: ${cause.message}` }));
+    child.on('close', (status) => resolve({ status, output: Buffer.concat(output).toString(), fault: Buffer.concat(fault).toString().trim() }));
+  });
+}
+
+/**
+ * Has the reports of several traces ready, if each answer takes a minute: together they take no longer than one.
+ * @param {string[]} traceFiles
+ */
+async function askAhead(traceFiles) {
+  if (!answersAtOnce()) await unproved.queryReports(traceFiles);
+}
+
+/**
+ * Has a trace analyzed.
+ * @param {string} traceFile
+ * @returns {Promise<Judged>} a report, or why there is none
+ */
+async function judge(traceFile) {
+  const { status, output, fault } = await runProgram(['--json'], traceFile);
+  if (status === STATUS.ok || status === STATUS.race || status === STATUS.refused) return { status, report: JSON.parse(output) };
+  return { status: status ?? STATUS.failed, fault: fault || `the program ended with status ${status}` };
+}
+
+/**
+ * Ends the queries that run, and this process with a status: for a signal.
+ * @param {number} status
+ */
+async function endAsking(status) {
+  await unproved.end();
+  process.exit(status);
+}
+
+module.exports = { judge, runProgram, askAhead, answersAtOnce, programState, endAsking, PROGRAM };

@@ -1,0 +1,79 @@
+'use strict';
+// Places in the page's own text, by the text there: a line can move, and its text still identifies it.
+
+const { splitLines } = require('../common/lines.js');
+
+/** @typedef {import('./types').Place} Place */
+
+/** A longer line, as of a minified file, is identified by the text after the place. */
+const LONGEST_LINE = 200;
+const LONGEST_REST = 80;
+
+/** The text before a name that starts a statement; after a bracket or `else` the statement is a branch. Then that text with the sign of a count. */
+const BEGIN_OF_STATEMENT = /(?:^|[;{})]|\belse|\bdo)\s*(?:[\w$]+\.)*$/;
+const BEGIN_OF_COUNT = /(?:^|[;{})]|\belse|\bdo)\s*(?:\+\+|--)\s*(?:[\w$]+\.)*$/;
+
+/** An address without its query, and without this machine as the server. */
+const shortAddress = (/** @type {string|undefined} */ address) => (address || '').replace(/[?#].*$/, '').replace(/^\w+:\/\/(?:localhost|127\.0\.0\.1|\[::1\])(?::\d+)?(?=\/|$)/, '');
+/** An address without the digest that builds put into a file's name. */
+const lastingAddress = (/** @type {string|undefined} */ address) => shortAddress(address).replace(/([.-])(?=[0-9a-f]*\d)[0-9a-f]{6,}(?=\.)/gi, '$1*');
+const withoutBlanks = (/** @type {string} */ text) => text.trim().replace(/\s+/g, ' ');
+
+class SourceText {
+  /** @param {import('./types').NamesOfTrace} names */
+  constructor(names) {
+    this.names = names;
+    /** @type {Map<number, {[line: number]: string}>} */
+    this.texts = new Map();
+  }
+
+  /**
+   * The lines of a file by their numbers, from 1.
+   * @param {number} file
+   */
+  linesOf(file) {
+    const known = this.texts.get(file);
+    if (known) return known;
+    const { text, lines = {} } = this.names.files[file] || {};
+    const read = text === undefined ? lines : { ...['', ...splitLines(text)] };
+    this.texts.set(file, read);
+    return read;
+  }
+
+  /** @param {Place} place */
+  isLong([file, line]) {
+    return (this.linesOf(file)[line] || '').length > LONGEST_LINE;
+  }
+
+  /** @param {Place} place */
+  functionAt(place) {
+    return this.names.functions?.[place.join(':')] || '';
+  }
+
+  /**
+   * Whether a variable is counted up or down at a place, in a statement of its own: then no code uses the value.
+   * @param {Place} place
+   */
+  isCount([file, line, column]) {
+    const text = this.linesOf(file)[line] || '';
+    const before = text.slice(0, column - 1);
+    const after = text.slice(column - 1);
+    if (BEGIN_OF_STATEMENT.test(before)) return /^[\w$]+\s*(?:\+\+|--)\s*(?:[;}]|$)/.test(after) || /^(?:\+\+|--)\s*[\w$.]+\s*(?:[;}]|$)/.test(after);
+    return BEGIN_OF_COUNT.test(before) && /^[\w$]+\s*(?:[;}]|$)/.test(after);
+  }
+
+  /**
+   * A place by its text: its file, the function around it, and the text of its line.
+   * @param {Place} place
+   */
+  at(place) {
+    const [file, line, column] = place;
+    const text = this.linesOf(file)[line] || '';
+    const rest = text.slice(column - 1, column - 1 + LONGEST_REST);
+    const [word] = /^(?:[\w$]+|<[\w-]+|.)?/.exec(rest) || [];
+    const told = this.isLong(place) ? withoutBlanks(rest) : `${withoutBlanks(text)} at ${word}`;
+    return `${lastingAddress(this.names.files[file]?.address)} ${this.functionAt(place)} ${told}`;
+  }
+}
+
+module.exports = { SourceText, shortAddress, lastingAddress };

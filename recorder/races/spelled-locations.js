@@ -1,0 +1,51 @@
+'use strict';
+// What the spelling of a location in a trace says about it.
+
+const { FIRST_FIELD, FIRST_MODULE } = require('../common/numbers.js');
+
+/** Cookies and storage, by their spelling. */
+const STORED = /^(document\.cookie$|localStorage\.|sessionStorage\.)/;
+
+/**
+ * A map's key that is an object contains a number of the run.
+ * @param {string} name
+ */
+const withoutKeys = (name) => name.replace(/^\[object%20\d+\]$/, '[object]');
+
+/**
+ * The name by which an access is looked for.
+ * @param {string} kind
+ * @param {string} spelled
+ */
+const nameOf = (kind, spelled) => (kind === 'slot' ? spelled.replace(/\/\d+$/, '') : withoutKeys(spelled));
+
+/**
+ * Splits a location. The number is that of a document or an object.
+ * @param {string} location
+ */
+function partsOf(location) {
+  const [kind, number, name] = location.split(' ');
+  return { kind, number: Number(number), name };
+}
+
+/**
+ * Whether a location is a variable of an element that no user fills in.
+ * @param {string} location
+ */
+function isOfTree(location) {
+  const { kind, number, name } = partsOf(location);
+  return kind === 'var' && number >= FIRST_FIELD && number < FIRST_MODULE && name !== 'value' && name !== 'checked';
+}
+
+/**
+ * Whether a write to a location that does not change the value is recorded as a read, or not at all where the action has read the location before. In the
+ * other order the write may be recorded in another way, and at another place.
+ * @param {string} location
+ */
+function isByValue(location) {
+  const { kind, number, name } = partsOf(location);
+  if (kind !== 'var' || STORED.test(name)) return false;
+  return number >= FIRST_MODULE || number < FIRST_FIELD || isOfTree(location);
+}
+
+module.exports = { isByValue, isOfTree, nameOf, withoutKeys };

@@ -1,0 +1,163 @@
+'use strict';
+// The acts of the user in a recording: the steps of --do, those of an earlier run, and the clicks that the seed chooses.
+/* global document */
+
+const { numberOfAct } = require('../common/numbers.js');
+const { printError } = require('../common/output.js');
+const { shown } = require('../common/shown.js');
+const { within } = require('../common/time.js');
+const { ofRecording } = require('./page-script.js');
+
+/** @typedef {import('../options/step.js').Step} Step */
+
+/** @typedef {import('../browser/user.js').SpotAct} SpotAct a click that the seed chose in an earlier run */
+/** @typedef {import('../browser/user.js').Outcome} Outcome */
+/** @typedef {(Step|SpotAct) & {number: number}} Act with the number that its events have in the trace */
+
+/** So many milliseconds the target of an act is searched for that does not come early. */
+const LONGEST_SEARCH = 5000;
+/** So many milliseconds the page gets to take note of the act that comes. */
+const LONGEST_NOTE = 2000;
+
+/** Runs in the page: why an act has no target there. `seconds` is for how long it was searched. */
+function whyNoTarget(/** @type {string} */ selector, /** @type {number} */ seconds) {
+  try {
+    const element = document.querySelector(selector);
+    return element ? `the element has no size, so it can't be clicked` : `no element matches the selector, after ${seconds} s`;
+  } catch {
+    return 'the selector is not valid';
+  }
+}
+
+class Acts {
+  /**
+   * @param {import('./session.js').Session} session
+   * @param {import('./rest.js').Rest} rest
+   */
+  constructor(session, rest) {
+    this.session = session;
+    this.rest = rest;
+    /** @type {import('../browser/user.js').User|null} */
+    this.user = null;
+    /** @type {Set<number>} the numbers of the acts that were tried */
+    this.tried = new Set();
+    /** @type {{act: Act, why: string}[]} */
+    this.notDone = [];
+    this.hasClicked = false;
+  }
+
+  /** All acts in the order in which they happen, the early ones first. */
+  inOrder() {
+    const { actions } = this.session.options;
+    const early = actions.filter((act) => act.isEarly);
+    const late = actions.filter((act) => !act.isEarly);
+    return [...early, ...late].map((act, k) => ({ ...act, number: numberOfAct(k) }));
+  }
+
+  /** @returns {{early: Act[], late: Act[]}} */
+  planned() {
+    const acts = this.inOrder();
+    const both = { early: acts.filter((act) => act.isEarly), late: acts.filter((act) => !act.isEarly) };
+    return this.session.steering ? this.session.steering.actions(both) : both;
+  }
+
+  async doEarly() {
+    for (const act of this.planned().early) await this.do(act);
+  }
+
+  /** Returns whether there were any. */
+  async doLate() {
+    const { late } = this.planned();
+    for (const act of late) {
+      if (Date.now() < this.session.until) await this.do(act);
+    }
+    return late.length > 0;
+  }
+
+  /** @param {import('../browser/user.js').User} user */
+  async clickAround(user) {
+    const { until, options: { actions, clicks, seed, avoided } } = this.session;
+    if (Date.now() >= until) return;
+    const numberOfClick = () => numberOfAct(actions.length + user.picks.length - 1);
+    this.session.isDismissing = this.session.isDismissing || clicks > 0;
+    const click = (/** @type {string} */ label, /** @type {() => Promise<Outcome>} */ act) => {
+      printError(`  click at ${shown(label)}`);
+      return this.around(user, numberOfClick(), act);
+    };
+    await user.clickAround(clicks, seed, click, avoided);
+    this.hasClicked = true;
+  }
+
+  /** @param {Act} act */
+  async do(act) {
+    const { session, rest, user } = this;
+    if (!user) throw new Error('there is no page to act in yet');
+    await user.waitFor(act, act.isEarly ? session.until : Math.min(session.until, Date.now() + LONGEST_SEARCH));
+    if (session.steering?.blocks(act)) {
+      await rest.waitForRelease(() => !session.steering?.blocks(act));
+      if (!act.isEarly) await rest.waitForLoad();
+      if (!act.isEarly) await rest.waitForQuiet();
+    }
+    if (act.kind === 'spot') this.session.isDismissing = true;
+    const outcome = await this.around(user, act.number, () => user.act(act));
+    if (!outcome.isDone) this.notDone.push({ act, why: outcome.reason === 'key' ? 'there is no such key' : await this.whyNoTarget(act) });
+    this.tried.add(act.number);
+  }
+
+  /** @param {Act} act */
+  async whyNoTarget(act) {
+    const call = `(${whyNoTarget})(${JSON.stringify(act.target)}, ${LONGEST_SEARCH / 1000})`;
+    const why = await within(this.session.openTab().evaluateApart(call).catch(() => null), LONGEST_NOTE, null); // the page does not answer
+    return typeof why === 'string' ? why : 'the page did not answer';
+  }
+
+  /**
+   * Does an act. Its events have its number in the log, and those of a letter one of their own after it.
+   * @param {import('../browser/user.js').User} user
+   * @param {number} number
+   * @param {() => Promise<Outcome>} act
+   */
+  async around(user, number, act) {
+    user.beforeLetter = (/** @type {number} */ letter) => this.startLetter(number + letter);
+    await this.announce(number);
+    const outcome = await act();
+    await this.announce(0);
+    return outcome;
+  }
+
+  /** @param {number} number */
+  async startLetter(number) {
+    const { steering } = this.session;
+    const letter = { number, kind: /** @type {const} */ ('type') };
+    if (steering?.blocks(letter)) await this.rest.waitForRelease(() => !steering.blocks(letter));
+    await this.announce(number);
+  }
+
+  /** @param {number} number of the act that comes, or 0 */
+  async announce(number) {
+    const { options, ownNames } = this.session;
+    if (options.isRaw) return;
+    const call = this.session.openTab().evaluate(ofRecording(ownNames, `.setAct(${number})`));
+    await within(call.catch(() => {}), LONGEST_NOTE, undefined); // the page has gone, or does not answer
+  }
+
+  // ---- what was not done
+
+  /** The steps that could not be done, as lines. */
+  failures() {
+    const { actions } = this.session.options;
+    /** @param {Act} act */
+    const nameOf = (act) => ('from' in act && act.from) || `step ${actions.findIndex(({ said }) => said === act.said) + 1} of --do`;
+    return this.notDone.map(({ act, why }) => `${nameOf(act)}, ${act.said}: ${why}`);
+  }
+
+  /** What was not tried, as words. */
+  notReached() {
+    const { clicks } = this.session.options;
+    const left = this.hasClicked ? 0 : clicks - (this.user?.picks.length || 0);
+    const steps = this.inOrder().filter(({ number }) => !this.tried.has(number)).map(({ said }) => said);
+    return left > 0 ? [...steps, `${left} of ${clicks} clicks`] : steps;
+  }
+}
+
+module.exports = { Acts };

@@ -1,0 +1,231 @@
+'use strict';
+// Races replayed by a command: which of them, what is printed about each, and the files that are written.
+
+const { print, printError } = require('./common/output.js');
+const { changing } = require('./browser/changing.js');
+const { allOf } = require('./common/at-once.js');
+const { jsonText, shown, withoutCommands } = require('./common/shown.js');
+const { redactedObject, redactedValue } = require('./common/secrets.js');
+const { STATUS } = require('./common/status.js');
+const { writeWhole } = require('./common/whole-file.js');
+const { stoppable } = require('./common/stoppable.js');
+const { answersAtOnce, programState } = require('./races/program.js');
+const { RecordingFault } = require('./recording/recorder.js');
+const { Replay, isStop } = require('./replay/replay.js');
+const { verdictInWords, verdictOf, worstOf, orderOfResults, groupInWords, plain, VERDICTS } = require('./replay/verdict.js');
+const { ReplayProgress } = require('./replay-progress.js');
+const { besides, writePage } = require('./view.js');
+
+/** @typedef {import('./races/types').Report} Report */
+/** @typedef {import('./list/listing.js').Listing} Listing */
+/** @typedef {import('./view.js').Shown} Shown */
+
+/**
+ * What a command replays, and how; `name` is the command.
+ * @typedef {import('./recording/options.js').CommandOptions & {name: string}} Options
+ */
+
+/**
+ * What is known of the recorded run; `linked` is the model with all of the view's links.
+ * @typedef {{report: Report, model: Shown, linked: Promise<Shown>, listing: Listing}} Judged
+ */
+
+/** @typedef {{number: number, result: Parameters<typeof plain>[0]}} Result of the race with this number */
+
+const PREFIXES = /^(turned: differs|could not be turned|turned): /;
+
+/** How many races go on at once for each run that does: some wait for others, with which they share runs. */
+const LANES = 2;
+
+/**
+ * Whether races can be replayed: each replay is analyzed several times, so it needs the built analyzer. If not, a line says why.
+ * @param {string} command
+ */
+function canReplay(command) {
+  if (programState() === 'missing') return false; // a line has said so
+  if (!answersAtOnce()) {
+    printError(`${command}: nothing done: --replay needs the built analyzer, since each replay is analyzed several times: run ./er_cli --build `
+      + '(about 25 minutes on four processors), or er_page without --replay (a minute)');
+  }
+  return answersAtOnce();
+}
+
+/**
+ * The number of the race by which a problem is listed.
+ * @param {{races: number[], first?: number}} problem
+ */
+const raceOf = ({ races, first }) => (first ?? races[0]) + 1;
+
+/**
+ * The first line of a race's entry in the list; its number if it has none.
+ * @param {Listing} listing
+ * @param {number} number
+ */
+function lineOf(listing, number) {
+  const told = listing.told().find(({ line: problem }) => raceOf(problem) === number);
+  return told ? `${listing.summaryOf(told.line)}:` : `race ${number}:`;
+}
+
+/** @param {number} atOnce */
+const inWords = (atOnce) => (atOnce > 1 ? `${atOnce} runs of the page at once` : 'one run of the page after the other');
+
+class ReplayCommand {
+  /**
+   * @param {import('./recording/recorder.js').Recorder} recorder the recorded run, whose browser still runs
+   * @param {Options} options
+   * @param {string} traceFile
+   * @param {Judged} judged
+   */
+  constructor(recorder, options, traceFile, { report, model, linked, listing }) {
+    this.recorder = recorder;
+    this.options = options;
+    this.traceFile = traceFile;
+    this.report = report;
+    this.model = model;
+    this.linked = linked;
+    this.listing = listing;
+    /** @type {Result[]} */
+    this.results = [];
+  }
+
+  /** @param {string} line */
+  print(line) {
+    (this.options.isJson ? printError : print)(withoutCommands(line));
+  }
+
+  /** @param {string} text */
+  complain(text) {
+    printError(`${this.options.name}: ${text}`);
+  }
+
+  /** The races that are requested: by their numbers, else the first of each line of the list. */
+  numbers() {
+    const { races, most } = this.options;
+    const numbers = races.length ? races : [...this.listing.told().map(({ line }) => line), ...this.listing.knownLines()].map(raceOf);
+    /** @param {number} number */
+    const isThere = (number) => !!this.report.races[number - 1];
+    const wrong = numbers.find((number) => !isThere(number));
+    if (wrong !== undefined) this.complain(`there is no race ${wrong}`);
+    return [...new Set(numbers)].filter(isThere).slice(0, most);
+  }
+
+  /** Whether the page is allowed to load again and again. Requests that might change something on a server need `--yes`. */
+  mayRun() {
+    const changed = changing(this.recorder.responses?.asked || [], this.recorder.folder);
+    const foreign = changed.filter(({ isForeign }) => isForeign);
+    /** @param {{text: string}[]} requests */
+    const list = (requests) => requests.map(({ text }) => shown(text)).join(', ');
+    if (foreign.length && !this.options.mayChange) {
+      this.complain(`not run again: each run would send once more: ${list(foreign)}; --yes lets it`);
+      return false;
+    }
+    if (changed.length) printError(`Each run sends again: ${list(changed)}`);
+    return true;
+  }
+
+  /** @returns {Promise<number>} 0, or the status with which it ended before its end */
+  async run() {
+    if (!this.mayRun()) {
+      writePage(this.traceFile, await this.linked);
+      return STATUS.usage;
+    }
+    const replay = new Replay(this.recorder, this.options, this.traceFile, this.report);
+    let status = STATUS.ok;
+    try {
+      await stoppable(() => replay.interrupt(), () => this.replayEach(replay));
+    } catch (fault) {
+      if (!(fault instanceof RecordingFault)) throw fault;
+      this.complain(fault.message);
+      status = fault.status;
+    } finally {
+      await replay.close();
+    }
+    await this.printResults(replay);
+    return status;
+  }
+
+  /**
+   * Replays the races at once, the first ones first: while one waits for the analyzer, the next one has its runs.
+   * @param {Replay} replay
+   */
+  async replayEach(replay) {
+    const numbers = this.numbers();
+    const left = [...numbers];
+    replay.runs.numbers = numbers;
+    printError(`Each of ${numbers.length} run again in the other order, ${inWords(replay.runs.slots.most)}:`);
+    const progress = new ReplayProgress(replay.runs, numbers.length);
+    const goOn = async () => {
+      for (let number = left.shift(); number !== undefined; number = left.shift()) {
+        const result = await replay.reverse(this.report.races[number - 1], number);
+        this.results.push({ number, result });
+        progress.print(number, `${lineOf(this.listing, number)} ${VERDICTS[verdictOf(result)]}`);
+      }
+    };
+    try {
+      await allOf([replay.runFreely(), ...Array.from({ length: Math.min(LANES * (replay.runs.slots.most + 1), numbers.length) }, goOn)], isStop);
+    } finally {
+      progress.end();
+    }
+  }
+
+  /**
+   * Reports what came of all: in lines, in page.replay.json and in the view.
+   * @param {Replay} replay
+   */
+  async printResults(replay) {
+    for (const { number, result } of this.results) result.chance = replay.recorded.orders.chanceOf(this.report.races[number - 1]);
+    this.results.sort(orderOfResults);
+    const isInList = this.options.name === 'er_page' && !this.options.isJson; // the list comes next, and has each result
+    this.lines().slice(isInList ? -1 : 0).forEach((line) => this.print(line));
+    const races = redactedObject(this.results.map(({ number, result }) => plain(result, this.report.races[number - 1], number)));
+    this.listing.setVerdicts(0, races);
+    this.write(replay, races, await this.linked);
+  }
+
+  lines() {
+    const lines = ['Run again in the other order:'];
+    let part = '';
+    for (const { number, result } of this.results) {
+      const verdict = verdictOf(result);
+      if (verdict !== part) lines.push(`-- ${VERDICTS[verdict]}`);
+      part = verdict;
+      const worst = worstOf(result);
+      const group = groupInWords(result.group);
+      const words = verdictInWords(result).replace(PREFIXES, ''); // the part says it
+      lines.push(`${lineOf(this.listing, number)} ${worst ? `${worst.name}: ` : ''}${words}${group ? `; ${group}` : ''}`);
+    }
+    /** @param {string} verdict */
+    const count = (verdict) => this.results.filter(({ result }) => verdictOf(result) === verdict).length;
+    return [...lines, `Of ${this.results.length}: ${count('differs')} differ, ${count('not')} could not be turned, ${count('same')} have no visible difference.`];
+  }
+
+  /**
+   * @param {Replay} replay
+   * @param {ReturnType<typeof plain>[]} races
+   * @param {Shown} model
+   */
+  write(replay, races, model) {
+    const unsteady = replay.unsteady.map(({ kind, subject }) => ({ kind, subject }));
+    writeWhole(besides(this.traceFile, '.replay.json'), `${jsonText({ replay: 1, page: replay.recorder.given, races, unsteady }, 1, redactedValue)}\n`);
+    const pictures = this.results.map(({ result }) => result.picture || null);
+    const groups = redactedObject(this.results.map(({ result }) => groupInWords(result.group)));
+    const replays = races.map((race, k) => {
+      const shownRace = { ...race, differences: race.differences || [], trace: race.trace || '', picture: pictures[k], groupWords: groups[k] };
+      return /** @type {import('./view/types').ShownReplay} */ (shownRace);
+    });
+    writePage(this.traceFile, { ...model, replays, recordedPicture: replay.recorded.run.end.picture?.small || null });
+  }
+}
+
+/**
+ * Runs the page again for each race. Returns 0, or the status with which it ended before its end.
+ * @param {import('./recording/recorder.js').Recorder} recorder
+ * @param {Options} options
+ * @param {string} traceFile
+ * @param {Judged} judged
+ */
+function replayRaces(recorder, options, traceFile, judged) {
+  return new ReplayCommand(recorder, options, traceFile, judged).run();
+}
+
+module.exports = { canReplay, replayRaces };

@@ -1,0 +1,107 @@
+'use strict';
+// One thing that a run of a replay holds back.
+
+const { HOLD_NAME } = require('../browser/content-policy.js');
+
+/** @typedef {import('./steering.js').Paused} Paused */
+
+/** @param {string} type */
+const isReply = (type) => type === 'XHR' || type === 'Fetch';
+/** @param {string} address */
+const withoutHash = (address) => address.replace(/#.*$/, '');
+
+class Hold {
+  /**
+   * @param {import('./types').Wanted} wanted
+   * @param {number} id
+   */
+  constructor({ cause, due = null, needed = 0, length = null }, id) {
+    this.cause = cause;
+    this.due = due;
+    this.needed = needed;
+    this.length = length;
+    this.id = id;
+    this.isReleased = false;
+    /** Whether what had to come before came. */
+    this.isReached = false;
+    /** When it began to wait; 0 before. */
+    this.heldAt = 0;
+    /** For how many milliseconds it has waited. */
+    this.heldFor = 0;
+    this.met = 0;
+    /**
+     * The keys of the requests that wait.
+     * @type {Set<string>}
+     */
+    this.requests = new Set();
+    /** @type {() => void} */
+    this.open = () => {};
+    /** @type {Promise<void>} */
+    this.over = new Promise((resolve) => { this.open = resolve; });
+  }
+
+  /** What page/recording/steering.js gets of it, or null. */
+  forPage() {
+    const { means, word, place, way, nth, address, event } = this.cause;
+    if (means === 'callback' || means === 'event') return { id: this.id, word: word || '', place, way, nth, event };
+    if (means === 'load' && address) return { id: this.id, word: 'load', address, source: this.source(address) };
+    return null;
+  }
+
+  /**
+   * The address at which the parser or the load waits.
+   * @param {string} address
+   */
+  source(address) {
+    return new URL(`/${HOLD_NAME}?${this.id}`, address).href;
+  }
+
+  /** @param {string} address */
+  isOfPage(address) {
+    return this.cause.means === 'parser' && this.cause.address === address && !this.isReleased;
+  }
+
+  /**
+   * Whether a request is the one to hold back.
+   * @param {Paused} request
+   */
+  meets({ request, resourceType, redirectedRequestId }) {
+    const { means, address, isReply: isOfCode, nth } = this.cause;
+    if (means !== 'response' || this.isReleased || redirectedRequestId) return false;
+    if (withoutHash(request.url) !== address || isReply(resourceType) !== isOfCode) return false;
+    this.met++;
+    return this.met === nth;
+  }
+
+  /** Notes that it waits now. */
+  hold() {
+    if (!this.heldAt) this.heldAt = Date.now();
+  }
+
+  /** Whether it has a length, and has waited for it. */
+  isOver() {
+    return this.length !== null && this.heldAt > 0 && Date.now() - this.heldAt >= this.length;
+  }
+
+  /** Whether it waits for its length. */
+  isTimed() {
+    return this.length !== null && this.heldAt > 0 && !this.isReleased;
+  }
+
+  /** @param {string} key of the request that waits */
+  async wait(key) {
+    if (this.isReleased) return;
+    this.hold();
+    if (key) this.requests.add(key);
+    await this.over;
+  }
+
+  release() {
+    this.isReleased = true;
+    this.heldFor = this.heldAt ? Date.now() - this.heldAt : 0;
+    this.requests.clear();
+    this.open();
+  }
+}
+
+module.exports = { Hold };

@@ -1,0 +1,50 @@
+'use strict';
+// Tests of which races can be reversed in one run.
+
+const assert = require('node:assert');
+const { test } = require('node:test');
+const { isApartFrom } = require('./independent.js');
+
+/** @typedef {import('./independent.js').Claim} Claim */
+
+/**
+ * A race whose first action is held back, with a difference.
+ * @param {[number, number]} actions
+ * @param {string} subject
+ * @param {object} more of its cause
+ * @returns {Claim}
+ */
+function claim(actions, subject, more = {}) {
+  const race = { actions, lines: actions, modes: 'wr', location: 'var 0 x', group: 1 };
+  const side = { key: '', nth: 1, mode: 'r', kind: 'var', name: 'x', isLookUp: false, actionKey: '', nthAction: 1 };
+  const cause = { means: /** @type {const} */ ('callback'), action: actions[0], words: `${actions[0]} is put off`, ...more };
+  const difference = { kind: 'text', subject, isSeen: true, recorded: subject, other: 'none' };
+  const reversal = { cause, race, sides: /** @type {[typeof side, typeof side]} */ ([side, side]), isLoose: false, needed: 0 };
+  const one = /** @type {Claim['one']} */ (/** @type {unknown} */ ({ reversal, kept: [], astray: [] }));
+  return { one, differences: [difference, { ...difference, kind: 'picture', subject: 'the picture' }] };
+}
+
+/** @param {[action: number, cause: number][]} waits the actions that wait for a cause */
+const orderOf = (waits = []) => ({
+  waitsFor: async (/** @type {number} */ action, /** @type {{action: number}} */ cause) => waits.some(([one, other]) => one === action && other === cause.action),
+  hasToReverse: async () => false,
+});
+
+test('races of different things share a run', async () => {
+  assert.ok(await isApartFrom(claim([1, 2], 'tea'), [claim([3, 4], 'milk')], orderOf()));
+  assert.ok(await isApartFrom(claim([1, 2], 'tea'), [], orderOf()));
+});
+
+test('races do not share a run if their differences could be confused, whatever the numbers in them', async () => {
+  assert.ok(!await isApartFrom(claim([1, 2], 'tea 1'), [claim([3, 4], 'tea 2')], orderOf()));
+});
+
+test('races do not share a run if one keeps the other from coming, in either direction', async () => {
+  assert.ok(!await isApartFrom(claim([1, 2], 'tea'), [claim([3, 4], 'milk')], orderOf([[2, 3]])));
+  assert.ok(!await isApartFrom(claim([1, 2], 'tea'), [claim([3, 4], 'milk')], orderOf([[4, 1]])));
+});
+
+test('races do not share a run if one thing is held back for both, or an act of the user', async () => {
+  assert.ok(!await isApartFrom(claim([1, 2], 'tea'), [claim([1, 4], 'milk')], orderOf()));
+  assert.ok(!await isApartFrom(claim([1, 2], 'tea', { means: 'act' }), [], orderOf()));
+});

@@ -1,0 +1,73 @@
+'use strict';
+// er_suite FOLDER..: analyzes the page loads that er_browser recorded, writes their views and index.html, and prints one list of all of them.
+
+const fs = require('node:fs');
+const path = require('node:path');
+const { runCommand, printHelp } = require('./command.js');
+const { printError } = require('./common/output.js');
+const { STATUS } = require('./common/status.js');
+const { stoppable } = require('./common/stoppable.js');
+const { waitForWriters, tracesIn } = require('./driven/trace-folder.js');
+const { Known } = require('./list/known.js');
+const { reportLoads } = require('./loads.js');
+const { endAsking, programState } = require('./races/program.js');
+const { parseCommand, UsageFault } = require('./recording/options.js');
+
+/** @typedef {import('./recording/options.js').CommandOptions} CommandOptions */
+
+/** What a recorder has not written after so many milliseconds does not come. */
+const LONGEST_WAIT = 60000;
+/** Lines of a recorder's log that say nothing to a reader. */
+const QUIET_LINE = /^er_browser: (?:recording|\d+ page loads recorded)$|^ +at /;
+
+/**
+ * Prints what recorders have written to their logs, except how much they have recorded.
+ * @param {string} folder
+ */
+function printLogs(folder) {
+  for (const name of fs.readdirSync(folder).filter((file) => file.endsWith('.log'))) {
+    const lines = fs.readFileSync(path.join(folder, name), 'utf8').split('\n').filter((line) => line.trim() && !QUIET_LINE.test(line));
+    lines.forEach((line) => printError(`er_suite: ${name}: ${line}`));
+  }
+}
+
+/**
+ * @param {string} folder
+ * @returns {Promise<string[]>} the traces in it, once all recorders have written them
+ */
+async function waitForTraces(folder) {
+  if (!await waitForWriters(folder, LONGEST_WAIT)) printError('er_suite: a recorder still writes: the list is of what it has written');
+  printLogs(folder);
+  return tracesIn(folder);
+}
+
+/**
+ * @param {string[]} folders
+ * @param {CommandOptions} options
+ */
+async function judgeFolders(folders, options) {
+  const known = options.known ? Known.readFile(options.known, options.writesKnown) : null;
+  const traces = await Promise.all(folders.map(waitForTraces));
+  const page = folders.join(' ');
+  const files = traces.flat();
+  if (!files.length) {
+    printError(`er_suite: no page load was recorded in ${page}: is ER_TRACES this folder, and er_browser the browser of the suite?`);
+    return STATUS.noPage;
+  }
+  traces.forEach((some, k) => { if (!some.length) printError(`er_suite: no page load was recorded in ${folders[k]}`); });
+  return reportLoads(files, known, options, { command: 'er_suite', folder: folders[0], page });
+}
+
+/** @param {string[]} args */
+async function main(args) {
+  const { options, positionals, isHelp } = parseCommand('er_suite', args);
+  if (isHelp) return printHelp('er_suite');
+  if (!positionals.length) throw new UsageFault('');
+  const folders = [...new Map(positionals.map((folder) => [path.resolve(folder), folder])).values()];
+  const wrong = folders.find((folder) => !fs.statSync(folder, { throwIfNoEntry: false })?.isDirectory());
+  if (wrong !== undefined) throw new UsageFault(`there is no folder ${wrong}`);
+  if (programState() === 'missing') return STATUS.noProgram;
+  return stoppable(() => endAsking(STATUS.stopped), () => judgeFolders(folders, options));
+}
+
+runCommand('er_suite', main);

@@ -1,0 +1,165 @@
+'use strict';
+// Pages of pages/: dispatches of events, and what could hold a recording up.
+
+const CLICK = ['--do', 'click:button'];
+
+/** @type {import('../types').PageCase[]} */
+exports.cases = [
+  // ---- dispatches
+  {
+    page: 'click-late.html',
+    words: CLICK,
+    due: [
+      'on onBuy', 'load', 'fire button#buy mousedown', 'inline button#buy focus', 'back', 'fire button#buy mouseup',
+      'close', 'inline button#buy click', 'run onBuy', 'w count', 'close', 'back',
+    ],
+    races: ['click of button#buy'],
+  },
+  {
+    page: 'click-early.html',
+    words: ['--slow', '3500', '--do', 'early click:#buy', '--do', 'click:#buy'],
+    due: [
+      'parse script sync', 'inline button#buy click', 'exec script', 'on onBuy', 'inline button#buy click',
+      'run onBuy', 'w bought',
+    ],
+    races: ['click of button#buy'],
+  },
+  {
+    page: 'capture-and-bubble.html',
+    words: CLICK,
+    due: [
+      'on bubbled', 'on captured', 'inline button#inner click', 'run captured', 'w order', 'run bubbled', 'w order',
+    ],
+    races: ['click of div#outer'],
+  },
+  {
+    page: 'once.html',
+    words: CLICK,
+    due: [
+      'run onlyOnce', 'w click of button#go', 'w runs',
+    ],
+    races: ['click of button#go'],
+  },
+  {
+    page: 'removed-handler.html',
+    words: CLICK,
+    due: [
+      'on gone', 'on stays', 'run stays', 'w yes',
+    ],
+    never: ['run gone', 'w never'],
+    races: ['click of button#go'],
+  },
+  {
+    page: 'two-listeners.html',
+    due: [
+      'exec script', 'w click of button#go', 'exec script', 'w click of button#go',
+    ],
+    races: [],
+  },
+  {
+    page: 'inline-click.html',
+    due: [
+      'w steps', 'inline button#go click', 'run clicked', 'w steps', 'close', 'back', 'w steps',
+    ],
+  },
+  {
+    page: 'two-inline-clicks.html',
+    due: [
+      'timer', 'w who', 'inline button#go click', 'run clicked', 'w last', 'back', 'timer', 'inline button#go click',
+      'run clicked',
+    ],
+    races: ['who', 'last'],
+  },
+  {
+    page: 'throws-in-handler.html',
+    words: CLICK,
+    due: [
+      'run thrower', 'inline window error', 'run onError', 'w count', 'close', 'back',
+    ],
+    races: ['click of button#go'],
+    throws: true,
+  },
+  {
+    page: 'form.html',
+    words: ['--do', 'click:#box', '--do', 'click:#send'],
+    due: [
+      'inline input#box click', 'close', 'inline input#box input', 'w checked of input#box',
+      'inline input#box change', 'run changed', 'inline button#send click', 'close', 'inline form#form submit',
+      'run submitted',
+    ],
+    races: ['seen', 'change of input#box', 'submit of form#form'],
+  },
+  {
+    page: 'typing.html',
+    words: ['--do', 'type:#field:ab'],
+    due: [
+      'timer', 'w value of input#field', 'fire input#field keydown', 'inline input#field keypress',
+      'inline input#field input', 'w value of input#field', 'fire input#field keyup',
+    ],
+    races: ['value of input#field'],
+  },
+  {
+    page: 'address.html',
+    words: ['--do', 'click:#link'],
+    due: [
+      'w visited', 'inline a#link click', 'close', 'every 0', 'back', 'tick', 'w visited',
+    ],
+    races: ['visited'],
+  },
+  {
+    page: 'addresses.html', // in a frame, in SVG with a tab in it, and of a form
+    words: ['--do', 'click:#svg', '--do', 'click:#send', '--do', 'click:#other'],
+    due: [
+      'tick', 'w fromFrame', 'parse p#inside plain', 'w shown',
+      'inline text click', 'close', 'every 0', 'back', 'tick', 'w fromSvg',
+      'inline form submit', 'close', 'every 0', 'back', 'tick', 'w fromForm',
+      'inline form submit', 'close', 'every 0', 'back', 'tick', 'w fromButton',
+    ],
+    races: ['fromFrame', 'fromSvg', 'fromForm'],
+  },
+  {
+    page: 'svg-scripts.html',
+    words: ['--do', 'click:circle'],
+    due: [
+      'parse script inline', 'exec script', 'w isLess', 'parse script inline', 'exec script', 'r isLess', 'w both',
+      'parse script sync', 'exec script', 'w fromFile', 'w click of circle', 'r fromFile', 'w sum', 'r sum', 'inline circle click', 'w clicked',
+    ],
+  },
+  {
+    page: 'ready-states.html',
+    due: [
+      'dcl', 'run onState', 'run parsed', 'close', 'load', 'run onState', 'run loaded', 'run shown', 'close',
+    ],
+  },
+
+  // ---- what could hold a recording up
+  {
+    page: 'dialogs.html',
+    words: [...CLICK, '--do', 'click:#away', '--do', 'wait:300'],
+    due: ['exec script', 'w asked', 'inline button click', 'w answered', 'inline a#away click', 'wfire beforeunload', 'run leaving'],
+    races: ['beforeunload of window'],
+    losses: [/steps to another page not followed: 1/],
+  },
+  { page: 'dialogs-many.html', due: ['exec script', 'w n', 'w after', 'exec script', 'r after', 'w seen'], races: [] },
+  {
+    page: 'opened-window.html',
+    words: CLICK,
+    due: ['inline button click', 'w opened', 'w after', 'close'],
+    losses: [/windows that the page opened, closed at once: 1/],
+  },
+  {
+    page: 'download.html',
+    words: ['--do', 'click:#file', ...CLICK],
+    due: ['inline a#file click', 'inline button click', 'w saved'],
+  },
+  {
+    page: 'stops.html',
+    due: ['exec script', 'w behindDebugger', 'w behindPrint', 'dcl', 'load'],
+  },
+  {
+    page: 'endless-handler.html',
+    words: [...CLICK, '--time', '4'],
+    due: ['on click', 'dcl', 'load'],
+    losses: [/what came later: the recording ended before the page was quiet/],
+  },
+];

@@ -1,0 +1,164 @@
+'use strict';
+// Pages of pages/: elements, what they load, and frames.
+
+const CLICK = ['--do', 'click:button'];
+
+/** @type {import('../types').PageCase[]} */
+exports.cases = [
+  // ---- elements and what they load
+  {
+    page: 'image-load.html',
+    due: [
+      'parse img#dot image', 'on load', 'eload img#dot', 'run load', 'w pictures', 'load', 'run all', 'r pictures',
+    ],
+  },
+  {
+    page: 'image-error.html',
+    due: [
+      'parse img#lost image', 'eload img#lost', 'run error', 'w missing', 'load', 'r missing',
+    ],
+  },
+  {
+    page: 'image-later.html',
+    due: [
+      'timer', 'w size', 'new img#dot image', 'eload img#dot', 'run loaded', 'r size',
+    ],
+  },
+  {
+    page: 'image-lazy.html',
+    due: [
+      'parse img#lazy plain', 'eload img#lazy', 'w lazyLoaded',
+    ],
+    races: ['lazyLoaded'],
+  },
+  {
+    page: 'object-embed.html',
+    due: [
+      'parse object#page frame', 'parse object#picture frame', 'parse embed#second frame', 'parse image#drawn image', 'eload object#page', 'run load', 'w inPage', 'load',
+      'run all', 'r inPage', 'r shown', 'r embedded', 'r svg',
+    ],
+  },
+  {
+    page: 'sources-later.html',
+    due: [
+      'exec script', 'parse img#first image', 'timer', 'w size', 'new img#second image', 'eload img#second', 'run load', 'r size',
+    ],
+    races: ['late'],
+  },
+  {
+    page: 'style-sheet.html',
+    due: [
+      'parse link image', 'eload link', 'run load', 'w styled', 'load', 'r styled',
+    ],
+  },
+  {
+    page: 'inner-html.html',
+    due: [
+      'new b#made plain', 'on click', 'w click of b#made', 'w #made', 'r #made', 'inline b#made click', 'run click',
+      'w hit',
+    ],
+  },
+  {
+    page: 'storage.html',
+    due: [
+      'w localStorage.theme', 'w document.cookie', 'timer', 'r localStorage.theme', 'r document.cookie',
+    ],
+  },
+
+  // ---- frames
+  {
+    page: 'frames.html',
+    due: [
+      'parse iframe#inside frame', 'w load of iframe#inside', 'parse p#child plain', 'exec script', 'w fromChild',
+      'dcl', 'load', 'eload iframe#inside', 'run load', 'w whole', 'load',
+    ],
+  },
+  {
+    page: 'frame-twice.html',
+    due: [
+      'parse iframe#inside frame', 'eload iframe#inside', 'run again', 'new iframe#inside frame',
+      'parse p#second plain', 'w secondRan', 'dcl', 'load', 'eload iframe#inside',
+    ],
+  },
+  {
+    page: 'frame-in-place.html', // its empty page has a load event, and hands its window to the next one
+    due: [
+      'parse iframe#inside frame', 'load', 'eload iframe#inside', 'run fill', 'parse script sync', 'exec script', 'w given', 'parse p#shown plain',
+      'parse script inline', 'exec script', 'r given', 'w taken', 'dcl', 'load', 'run end', 'w ended', 'eload iframe#inside',
+    ],
+    races: [],
+  },
+  {
+    page: 'frame-touched.html', // its empty page is touched by code, and hands its window to the next one
+    due: [
+      'exec script', 'new iframe#inside frame', 'w early', 'parse script sync', 'exec script', 'w given', 'parse p#shown plain', 'parse script inline', 'exec script',
+      'r given', 'w taken', 'dcl', 'load', 'run end', 'r early', 'w ended', 'eload iframe#inside', 'load',
+    ],
+  },
+  {
+    page: 'frame-left.html', // its empty page is touched by code, and a page of another origin comes before this is told
+    due: ['new iframe#inside frame', 'w early', 'eload iframe#inside', 'load'],
+  },
+  {
+    page: 'frame-function.html', // code of its empty page runs once a page of another origin stands in it
+    due: ['exec script', 'w given', 'eload script', 'eload iframe#inside', 'run other', 'r given', 'w answer'],
+  },
+  {
+    page: 'frame-former.html', // once the next page has its window, the document of its empty page changes, for which its jQuery waits
+    words: CLICK,
+    due: [
+      'new iframe#inside frame', 'w early', 'parse p#own plain', 'w #own', 'dcl', 'load', 'eload iframe#inside', 'run changed', 'w changes', 'load',
+      'inline button click', 'set 0', 'timer', 'r #own', 'w found',
+    ],
+    never: ['w #former', 'inline the end of parsing behind'],
+    races: ['#own'],
+  },
+  {
+    page: 'frame-late.html', // the browser parses its page at once, and no listener hears the end of that
+    due: ['new iframe#inside frame', 'w early', 'parse p#own plain', 'w #own', 'dcl', 'load', 'eload iframe#inside', 'run filled', 'r #own', 'w found'],
+    races: [],
+  },
+  {
+    page: 'frame-lazy.html',
+    due: [
+      'parse iframe#inside plain', 'new iframe#inside frame', 'parse p#child plain', 'exec script', 'dcl', 'load', 'eload iframe#inside', 'run load', 'w whole',
+    ],
+    races: ['whole'],
+  },
+  {
+    page: 'frame-blank.html',
+    due: [
+      'on blankLoaded', 'new iframe frame', 'inline iframe load', 'run blankLoaded', 'w blanks', 'back',
+      'new p#filled plain', 'w afterwards',
+    ],
+  },
+  {
+    page: 'frame-srcdoc.html',
+    due: [
+      'parse iframe frame', 'parse p#sd plain', 'exec script', 'w ofSrcdoc', 'dcl', 'load', 'eload iframe', 'load',
+    ],
+  },
+  {
+    page: 'frame-written.html',
+    due: [
+      'parse iframe#frame frame', 'exec script', 'new p#w plain', 'w #w', 'w written',
+    ],
+  },
+  {
+    page: 'frame-timers.html',
+    due: [
+      'run load', 'set 0', 'every 0', 'close', 'w mineRan',
+    ],
+    races: ['both', 'mineRan'],
+  },
+
+  // ---- a page without a race
+  {
+    page: 'no-race.html',
+    words: CLICK,
+    due: [
+      'w clicked', 'exec script', 'w clicks', 'inline button#go click',
+    ],
+    races: [],
+  },
+];

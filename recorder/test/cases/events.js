@@ -1,0 +1,244 @@
+'use strict';
+// Pages of pages/: what an event comes after: messages, promises, callbacks, events that a call queues.
+
+/** @type {import('../types').PageCase[]} */
+exports.cases = [
+  // ---- messages
+  {
+    page: 'message-handler.html',
+    due: ['timer', 'w settings', 'on got', 'timer', 'w sent', 'post', 'message', 'inline ? message', 'run got', 'r settings', 'r sent', 'back'],
+    races: [],
+  },
+  {
+    page: 'port-started-later.html',
+    due: ['timer', 'w sent', 'post', 'timer', 'w settings', 'on the start of the port', 'message', 'inline ? message', 'run the start of the port',
+      'run got', 'r settings', 'r sent'],
+    races: [],
+  },
+  {
+    page: 'port-started-later.html',
+    version: 2,
+    due: ['new ? plain', 'timer', 'w settings', 'on the start of the port', 'fire ? message', 'run the start of the port', 'run got', 'r settings', 'r sent'],
+    races: [],
+  },
+
+  {
+    page: 'port-to-frame.html',
+    due: ['run hands', 'post', 'message', 'run takes', 'on got', 'on the start of the port', 'timer', 'w settings', 'post', 'message', 'run the start of the port',
+      'run got', 'w seen', 'r settings'],
+    races: [],
+  },
+
+  // ---- missing before: frames of two windows, observers of the parser, objects of the window, dispatches that nobody hears, texts
+  {
+    page: 'frames-of-two-windows.html',
+    due: ['run load', 'every 0', 'ask', 'every 0', 'anim', 'w last', 'tick', 'w last', 'w inFrame', 'on the end of an animation callback', 'tick',
+      'run the end of an animation callback', 'w inFrame'],
+    races: ['both', 'last'],
+  },
+  {
+    page: 'observes-parser.html',
+    due: ['w #late', 'run look', 'on what the parser waited for', 'exec script', 'run what the parser waited for', 'r ready'],
+    races: ['#late'],
+  },
+  {
+    page: 'listens-late-at-window.html',
+    due: ['parse document plain', 'new Navigation plain', 'timer', 'w navigate of Navigation', 'timer', 'inline Navigation navigate',
+      'r navigate of Navigation', 'run seen'],
+    races: ['navigate of Navigation'],
+  },
+  {
+    page: 'listens-too-late.html',
+    due: ['timer', 'r app:ready of document', 'r filled of body', 'r changed of EventTarget', 'timer', 'on seen', 'w app:ready of document'],
+    never: ['inline document app:ready'],
+    races: ['app:ready of document', 'changed of EventTarget', 'filled of body'],
+  },
+  {
+    page: 'listens-in-time.html',
+    due: ['timer', 'on seen', 'w app:ready of document', 'timer', 'inline document app:ready', 'r app:ready of document', 'run seen', 'back'],
+    races: ['app:ready of document'],
+  },
+  {
+    page: 'text-later.html',
+    due: ['parse script async', 'w content of div#data', 'r content of div#data'],
+    races: ['content of div#data'],
+  },
+
+  // ---- promises that are settled before a reaction is asked for
+  {
+    page: 'settled-before.html',
+    due: ['timer', 'w queue', 'w count', 'inline what settled the promise settled', 'on what settled the promise', 'close', 'back', 'reply', 'w items',
+      'inline what settled the promise settled', 'timer', 'run what settled the promise', 'run first', 'w count', 'timer', 'r ready', 'run what settled the promise',
+      'run uses', 'r items'],
+    races: ['queue'],
+  },
+  {
+    page: 'settled-by-await.html',
+    due: ['timer', 'on await', 'timer', 'w items', 'inline what settled the promise settled', 'on what settled the promise', 'back', 'run await', 'w who', 'timer',
+      'run what settled the promise', 'run await', 'r items', 'w who'],
+    races: ['who'],
+  },
+
+  {
+    page: 'module-of-two.html',
+    // which of the two modules comes first is the run's own
+    due: ['exec script', 'w fromShared', 'on the end of an imported module', 'back', 'exec script', 'run the end of an imported module', 'back',
+      'timer', 'run one of several promises', 'run await', 'r fromShared'],
+    races: ['last'],
+  },
+
+  // ---- what always comes in one order
+  { page: 'transition-by-ancestor.html', due: ['timer', 'w state', 'new div#panel plain', 'fire div#panel transitionend', 'r state', 'w seen'], races: [] },
+  {
+    page: 'database-order.html',
+    due: ['run makes', 'run put', 'w hasPut', 'run the request before', 'run opens', 'r hasPut', 'run first', 'w got', 'run the request before', 'run second',
+      'r got', 'run the request before', 'run done', 'r got'],
+    races: [],
+  },
+  { page: 'scrolls-by-code.html', due: ['timer', 'w isMoving', 'new document plain', 'fire document scroll', 'r isMoving'], races: [] },
+  {
+    page: 'selects-by-code.html',
+    due: ['timer', 'w isSelecting', 'new input#field plain', 'fire input#field selectionchange', 'r isMarking', 'fire input#field select', 'r isSelecting'],
+    races: [],
+  },
+  { page: 'storage-twice.html', due: ['run sets', 'fire window storage', 'w last', 'fire window storage', 'run the event before', 'w last'], races: [] },
+  { page: 'frame-empty.html', due: ['parse iframe#empty frame', 'eload iframe#empty', 'w loaded', 'exec script', 'run what the parser waited for', 'r loaded'], races: [] },
+  {
+    page: 'view-transition-order.html',
+    due: ['tick', 'w state', 'run isReady', 'w state', 'run startViewTransition', 'run isDone', 'r state'],
+    races: [],
+  },
+
+  // ---- timeouts
+  {
+    page: 'nested-clamp.html',
+    due: ['timer', 'w levels', 'set 4', 'post', 'message', 'set 0', 'timer', 'w last', 'timer', 'w last'],
+    races: ['last'],
+  },
+
+  // ---- promises of several promises, await, modules that wait
+  {
+    page: 'promise-all.html',
+    due: ['on reaction', 'timer', 'w first', 'on one of several promises', 'timer', 'w second', 'inline promise reactions then',
+      'run one of several promises', 'run reaction', 'r first', 'r second', 'close', 'back'],
+    races: [],
+  },
+  {
+    page: 'promise-all-await.html',
+    due: ['on await', 'timer', 'on one of several promises', 'timer', 'inline promise reactions then', 'run one of several promises', 'run await',
+      'r first', 'r second', 'close', 'back'],
+    races: [],
+  },
+  {
+    page: 'promise-any.html',
+    due: ['timer', 'w first', 'w second', 'timer', 'w second'],
+    never: ['on one of several promises'],
+    races: ['second'],
+  },
+  {
+    page: 'await-asker.html',
+    due: ['timer', 'w others', 'on await', 'timer', 'w asked', 'on await', 'timer', 'w settled', 'inline promise reactions then', 'run await', 'r others',
+      'back', 'inline promise reactions then', 'run await', 'r asked'],
+    races: [],
+  },
+  { page: 'await-loop.html', due: ['exec script', 'w last', 'dcl'], never: ['inline promise reactions then'], races: [] },
+  { page: 'await-nothing.html', due: ['fire promise reactions then-1', 'run await', 'w seen', 'run await', 'w seenToo', 'close'], races: [] },
+  { page: 'module-waits.html', due: ['exec script', 'timer', 'w settled', 'inline promise reactions then', 'run await', 'w inModule', 'w seen'], races: [] },
+  {
+    page: 'import-twice.html',
+    due: ['every 0', 'tick', 'w lazy', 'every 0', 'tick', 'w lazyToo'],
+    races: [],
+  },
+
+  // ---- callbacks and observers
+  { page: 'intersection-twice.html', due: ['fire promise reactions IntersectionObserver-1', 'w times', 'fire promise reactions IntersectionObserver-1', 'w times'], races: [] },
+  { page: 'observe-later.html', due: ['timer', 'w settings', 'fire promise reactions ResizeObserver-1', 'run the call of observe()', 'run resized', 'r settings'], races: [] },
+  { page: 'callbacks.html', due: ['w asked', 'every 0', 'every 0', 'tick', 'w seen'], races: [] },
+  { page: 'locks.html', due: ['every 0', 'tick', 'w last', 'tick', 'w last'], races: ['last'] },
+  {
+    page: 'view-transition.html',
+    due: ['timer', 'w asked', 'every 0', 'on done', 'tick', 'r asked', 'w seen', 'run startViewTransition', 'run done', 'r seen'],
+    races: [],
+  },
+  { page: 'geolocation.html', due: ['timer', 'w asked', 'every 0', 'tick', 'r asked', 'w seen'], races: [] },
+  {
+    page: 'registry.html',
+    due: ['timer', 'w registered', 'on the call of register()', 'fire promise reactions FinalizationRegistry-1', 'run the call of register()', 'run gone',
+      'r registered', 'w seen'],
+    races: [],
+  },
+  {
+    page: 'reporting.html',
+    due: ['timer', 'w observed', 'on the call of observe()', 'fire promise reactions ReportingObserver-1', 'run the call of observe()', 'run told', 'r observed',
+      'w seen'],
+    races: [],
+  },
+  { page: 'scheduler-yield.html', due: ['w part', 'fire promise reactions then-1', 'run await', 'w part'], races: [] },
+  { page: 'stream-read.html', due: ['w asked', 'reply', 'run await', 'w got', 'w whole'], races: [] },
+
+  // ---- events that a call queues
+  {
+    page: 'hash-by-timers.html',
+    due: ['timer', 'w first', 'new window plain', 'fire window hashchange', 'run changed', 'w last', 'timer', 'w second', 'new window plain', 'fire window hashchange'],
+    never: ['wfire hashchange'],
+    races: ['first', 'last', 'second', 'seen'],
+  },
+  {
+    page: 'hash-by-click.html',
+    words: ['--do', 'click:#link'],
+    due: ['inline a#link click', 'w clicked', 'close', 'new window plain', 'fire window hashchange', 'run changed', 'r clicked'],
+    races: ['hashchange of window'],
+  },
+  { page: 'history-back.html', due: ['timer', 'w asked', 'new window plain', 'fire window popstate', 'run stepped', 'r asked'], races: [] },
+  {
+    page: 'rejections.html',
+    due: ['timer', 'w first', 'new window plain', 'fire window unhandledrejection', 'run unhandled', 'r first', 'timer', 'w second', 'new window plain',
+      'fire window unhandledrejection', 'r second'],
+    races: ['last'],
+  },
+  { page: 'toggles.html', due: ['set 5', 'set 1', 'set 0', 'w isShown', 'new div#over plain', 'fire div#over toggle', 'run toggle'], never: ['fire dialog#dialog cancel'], races: [] },
+  {
+    page: 'storage-event.html',
+    due: ['timer', 'w first', 'new window plain', 'fire window storage', 'run stored', 'timer', 'w second', 'new window plain', 'fire window storage', 'r second'],
+    races: ['last'],
+  },
+  { page: 'transition.html', due: ['timer', 'w asked', 'new p#text plain', 'fire p#text transitionend', 'run faded', 'r asked'], races: [] },
+  {
+    page: 'animation.html',
+    due: ['timer', 'w asked', 'new p#text plain', 'fire p#text animationstart', 'run begins', 'r asked', 'close', 'on the event before', 'fire p#text animationend',
+      'run the event before', 'run ends', 'r started'],
+    races: [],
+  },
+  {
+    page: 'media-calls.html',
+    words: ['--do', 'click:button'],
+    due: ['timer', 'w change', 'timer', 'w chosen', 'new audio#sound plain', 'fire audio#sound loadedmetadata', 'run known', 'r chosen', 'close',
+      'on the event before', 'fire audio#sound canplay', 'run the event before', 'run ready', 'r seconds', 'inline button click', 'w asked', 'new audio#sound plain',
+      'fire audio#sound play', 'run begins', 'r asked', 'close', 'on the event before', 'fire audio#sound ended', 'run the event before', 'run over', 'r isPlaying'],
+    races: ['click of button'],
+  },
+  {
+    page: 'media-unordered.html',
+    due: ['timer', 'new audio#sound plain', 'fire audio#sound volumechange', 'run louder', 'fire audio#sound volumechange', 'run louder'],
+    races: ['last', 'loadedmetadata of audio#sound', 'place'],
+  },
+  {
+    page: 'full-screen.html',
+    words: ['--do', 'click:button'],
+    due: ['inline button click', 'run asks', 'w asked', 'new p#text plain', 'fire p#text fullscreenchange', 'run filled', 'r asked'],
+    races: ['click of button'],
+  },
+  {
+    page: 'navigate-by-click.html',
+    words: ['--do', 'click:#link'],
+    due: ['inline a#link click', 'run clicked', 'w asked', 'close', 'inline Navigation navigate', 'run goes', 'r asked', 'on handler', 'run handler', 'w shown',
+      'new Navigation plain', 'back', 'fire Navigation navigatesuccess', 'run over', 'r shown'],
+    races: ['click of a#link'],
+  },
+  {
+    page: 'navigate-by-script.html',
+    due: ['timer', 'w asked', 'inline Navigation navigate', 'run goes', 'r asked', 'close', 'back', 'w shown', 'r shown', 'w behind'],
+    races: [],
+  },
+  { page: 'focus-late.html', due: ['timer', 'w focus of window'], never: ['wfire focus'], races: [] },
+];

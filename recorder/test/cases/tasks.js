@@ -1,0 +1,156 @@
+'use strict';
+// Pages of pages/: timers, microtasks and requests.
+
+/** @type {import('../types').PageCase[]} */
+exports.cases = [
+  // ---- timers and jobs
+  {
+    page: 'timer.html',
+    due: [
+      'set 10', 'set 0', 'timer', 'r cart', 'timer', 'w cart',
+    ],
+    races: ['cart'],
+  },
+  {
+    page: 'interval.html',
+    due: [
+      'every 5', 'tick', 'w ticks', 'tick', 'w ticks', 'tick', 'w ticks',
+    ],
+  },
+  {
+    page: 'nested-timers.html',
+    due: [
+      'set 5', 'timer', 'w depth', 'set 0', 'timer', 'w depth',
+    ],
+  },
+  {
+    page: 'idle-callbacks.html',
+    due: [
+      'exec script', 'every 0', 'every 0', 'tick', 'w seen', 'on the end of an idle callback', 'tick', 'inline the end of an idle callback behind',
+      'run the end of an idle callback', 'back', 'r seen', 'w seen',
+    ],
+    races: ['other'],
+  },
+  {
+    page: 'leaving.html',
+    due: ['timer', 'wfire pagehide', 'run hides', 'w steps', 'close', 'on an event before', 'fire document visibilitychange', 'run an event before', 'run changes',
+      'wfire unload', 'run an event before', 'run goes', 'r steps'],
+    races: ['pagehide of window', 'unload of window', 'visibilitychange of document'],
+  },
+  {
+    page: 'text-timer.html',
+    due: [
+      'set 1', 'timer', 'w late',
+    ],
+  },
+  {
+    page: 'animation-frame.html',
+    due: [
+      'w painted', 'ask', 'anim', 'r painted', 'w painted',
+    ],
+  },
+  {
+    page: 'animation-frame.html',
+    version: 2,
+    due: [
+      'w painted', 'every 0', 'tick', 'r painted', 'w painted',
+    ],
+  },
+  {
+    page: 'promise.html',
+    due: [
+      'w value', 'on soon', 'w afterwards', 'exec script', 'r value',
+    ],
+  },
+  {
+    page: 'promise-of-another.html',
+    due: [
+      'on reaction', 'set 0', 'timer', 'r settle', 'inline promise reactions then', 'run reaction', 'r later',
+      'close', 'back',
+    ],
+  },
+  {
+    page: 'mutation-observer.html',
+    due: [
+      'on changed', 'exec script', 'new i plain', 'inline promise reactions then', 'run changed', 'w changes',
+    ],
+  },
+  {
+    page: 'messages.html',
+    due: [
+      'on got', 'timer', 'w b', 'post', 'message', 'inline ? message', 'run got', 'w last', 'close', 'back', 'message', 'inline ? message', 'run got', 'w last',
+    ],
+    races: ['last'],
+  },
+  {
+    page: 'messages.html',
+    version: 2,
+    due: [
+      'on got', 'timer', 'w b', 'new ? plain', 'fire ? message', 'run got', 'fire ? message', 'run got',
+    ],
+    races: ['last'],
+  },
+  {
+    page: 'broadcast.html',
+    due: ['on got', 'timer', 'post', 'message', 'w last', 'message', 'w last'],
+    races: ['last'],
+  },
+  {
+    page: 'broadcast.html',
+    version: 2,
+    due: ['on got', 'timer', 'fire ? message', 'run got', 'w last', 'fire ? message', 'run got', 'w last'],
+    races: ['last'],
+  },
+  {
+    page: 'worker.html',
+    words: ['--time', '20'],
+    due: [
+      'new Worker plain', 'fire Worker message', 'run answered', 'w answer',
+    ],
+  },
+  {
+    page: 'worker-file.html',
+    words: ['--time', '20'],
+    due: [
+      'new Worker plain', 'fire Worker message', 'run answered', 'w answer',
+    ],
+  },
+
+  // ---- requests
+  {
+    page: 'file-reader.html',
+    due: ['timer', 'w text', 'on onText', 'send', 'reply', 'run onText', 'w text', 'close'],
+    races: [],
+  },
+  {
+    page: 'indexed-db.html',
+    due: ['send', 'on upgrade', 'on opened', 'reply', 'run upgrade', 'reply', 'run opened', 'w kept', 'send', 'send', 'on stored', 'reply', 'run stored', 'w kept'],
+    races: [],
+  },
+  {
+    page: 'xhr.html',
+    due: [
+      'on onAnswer', 'send', 'reply', 'run onAnswer', 'w answer', 'close',
+    ],
+  },
+  {
+    page: 'xhr-events.html',
+    due: [
+      'inline XMLHttpRequest readystatechange', 'run onState', 'close', 'back', 'send', 'reply', 'run onState',
+      'reply', 'run onState',
+    ],
+  },
+  {
+    page: 'fetch.html',
+    due: [
+      'send', 'on gotHead', 'on gotBody', 'reply', 'run reply of fetch', 'close', 'reply', 'run reply of fetch',
+      'w items', 'close',
+    ],
+  },
+  {
+    page: 'fetch-await.html',
+    due: [
+      'send', 'reply', 'w head', 'close', 'reply', 'w items', 'close',
+    ],
+  },
+];

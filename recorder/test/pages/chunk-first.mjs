@@ -1,0 +1,1 @@
+import { own } from './chunk.mjs'; globalThis.seenFirst = own + fromShared; globalThis.last = 1;

@@ -1,0 +1,1 @@
+import './chunk.mjs'; globalThis.seenSecond = fromShared; globalThis.last = 2;

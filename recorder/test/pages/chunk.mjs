@@ -1,0 +1,1 @@
+export const own = 1; globalThis.fromShared = 1;

@@ -1,0 +1,1 @@
+var fromFile = isLess ? 'from a file' : '';

@@ -1,0 +1,1 @@
+seen = document.currentScript.parentNode.textContent;

@@ -1,0 +1,90 @@
+'use strict';
+// er_browser where nothing can be recorded: the suite goes on, and a line says why, on standard error and in the log of the folder.
+
+const assert = require('node:assert');
+const { spawnSync } = require('node:child_process');
+const fs = require('node:fs');
+const path = require('node:path');
+const { after, before, test } = require('node:test');
+const { sleep } = require('../common/time.js');
+const { waitForWriters, tracesIn } = require('../driven/trace-folder.js');
+const { run, start, temporaryFolder } = require('./cleanup.js');
+const { serveSuite } = require('./suite-server.js');
+
+const TOP = path.join(__dirname, '..', '..');
+const BROWSER = path.join(TOP, 'er_browser');
+const LIMIT = { timeout: 120000 };
+const LONGEST = 60000;
+const folder = temporaryFolder('suite-faults');
+/** @type {{origin: string, close: () => void}} */
+let server;
+before(async () => { server = await serveSuite(); });
+after(() => server.close());
+
+/**
+ * Starts the browser with the shop.
+ * @param {string} traces @param {string} profile @param {string[]} more
+ */
+const open = (traces, profile, more = []) => start(BROWSER, ['--headless', '--no-sandbox', '--disable-gpu', '--no-first-run',
+  `--user-data-dir=${path.join(folder, profile)}`, ...more, `${server.origin}/shop/index.html`], { env: { ...process.env, ER_TRACES: traces, TMPDIR: folder } });
+
+/** @param {() => boolean} isDue */
+async function until(isDue) {
+  for (const last = Date.now() + LONGEST; !isDue() && Date.now() < last;) await sleep(100);
+  assert.ok(isDue());
+}
+
+/** @param {string} traces */
+const logOf = (traces) => fs.readdirSync(traces).filter((name) => name.endsWith('.log')).map((name) => fs.readFileSync(path.join(traces, name), 'utf8')).join('');
+
+/** @param {import('./cleanup.js').Command} browser */
+async function end(browser) {
+  browser.kill('SIGTERM');
+  await browser.ended;
+}
+
+test('a folder that cannot be written: a line, and the browser', LIMIT, async () => {
+  const file = path.join(folder, 'file');
+  fs.writeFileSync(file, '');
+  const browser = open(path.join(file, 'traces'), 'unwritable', ['--remote-debugging-port=0']);
+  await until(() => /DevTools listening/.test(browser.said));
+  assert.match(browser.said, /^er_browser: nothing is recorded: the folder .* cannot be written$/m);
+  await end(browser);
+});
+
+test('a full disk: a line in the log and on standard error, and the browser goes on', LIMIT, async (t) => {
+  const traces = path.join(folder, 'small');
+  fs.mkdirSync(traces);
+  if (spawnSync('mount', ['-t', 'tmpfs', '-o', 'size=8k', 'none', traces]).status !== 0) {
+    t.skip('no tmpfs can be mounted here');
+    return;
+  }
+  try {
+    const browser = open(traces, 'full');
+    await until(() => /a page load is not recorded: .* can not be written: ENOSPC/.test(browser.said));
+    assert.strictEqual(browser.exitCode, null);
+    await end(browser);
+    assert.ok(await waitForWriters(traces, LONGEST));
+    assert.match(logOf(traces), /^er_browser: a page load is not recorded: .*ENOSPC/m);
+    assert.deepStrictEqual(fs.readdirSync(traces).filter((name) => !name.endsWith('.log')).filter((name) => !/\.trace$/.test(name)), []);
+  } finally {
+    spawnSync('umount', ['-l', traces]);
+  }
+});
+
+test('two recorders on one browser: the second one says so, and the first one records', LIMIT, async () => {
+  const traces = path.join(folder, 'two');
+  const browser = open(traces, 'both');
+  await until(() => fs.existsSync(traces) && tracesIn(traces).length > 0);
+  const second = open(traces, 'both');
+  await until(() => /another recorder \(process \d+\) records the browser/.test(second.said));
+  assert.match(logOf(traces), /nothing is recorded: another recorder/);
+  await end(second);
+  const [port] = fs.readFileSync(path.join(folder, 'both', 'DevToolsActivePort'), 'utf8').split('\n');
+  const attached = await run(path.join(TOP, 'er_record'), ['--attach', `127.0.0.1:${port}`, path.join(folder, 'third.trace')], { longest: LONGEST });
+  assert.strictEqual(attached.status, 5, attached.stderr);
+  assert.match(attached.stderr, /another recorder holds the first tab/);
+  await end(browser);
+  assert.ok(await waitForWriters(traces, LONGEST));
+  assert.ok(fs.readFileSync(tracesIn(traces)[0], 'utf8').endsWith('\nend\n'));
+});

@@ -1,0 +1,43 @@
+'use strict';
+// The scripts and handler attributes that stay as they are, since the recorder cannot read them: why, and where.
+
+const { shown } = require('../common/shown.js');
+
+/**
+ * @typedef {import('../instrument/syntax/types').Fault} Fault
+ * @typedef {{address: string, line: number, column: number}} Place
+ * @typedef {Place & {what: string, message: string}} Unparsed
+ * @typedef {'scripts'|'handler attributes'|'javascript: addresses'} Unmarkable
+ */
+
+/** What is said of each kind of fault. */
+const WORDS = { other: 'that are no JavaScript', syntax: 'whose syntax is not known', depth: 'that are nested too deeply' };
+/** So many places of a kind are in its line. */
+const MOST_PLACES = 5;
+
+class Unmarked {
+  constructor() {
+    /** @type {Unparsed[]} */
+    this.list = [];
+  }
+
+  /**
+   * @param {Unmarkable} what
+   * @param {Fault} fault
+   * @param {Place} place
+   */
+  add(what, { kind, message }, { address, line, column }) {
+    this.list.push({ what: `${what} ${WORDS[kind]}`, address: shown(address), line, column, message: shown(message) });
+  }
+
+  /** A line for each kind, with its count and its first places. */
+  lines() {
+    return [...new Set(this.list.map(({ what }) => what))].map((kind) => {
+      const all = this.list.filter(({ what }) => what === kind);
+      const places = all.slice(0, MOST_PLACES).map(({ address, line, column, message }) => `${address}:${line}:${column}: ${message}`);
+      return `${kind}, kept as they are: ${all.length} (${places.join('; ')}${all.length > MOST_PLACES ? '; ..' : ''})`;
+    });
+  }
+}
+
+module.exports = { Unmarked };

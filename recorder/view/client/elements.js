@@ -1,0 +1,87 @@
+// Makes elements. Texts of the recorded page become text nodes only.
+
+const PIECE = 200;
+
+/**
+ * Makes an element: `make('p', { class: 'x' }, 'text', other)`.
+ * @template {keyof HTMLElementTagNameMap} T
+ * @param {T} tag
+ * @param {{[name: string]: string}} attributes
+ * @param {(Node|string)[]} children
+ */
+function make(tag, attributes = {}, ...children) {
+  const element = document.createElement(tag);
+  Object.entries(attributes).forEach(([name, value]) => element.setAttribute(name, value));
+  element.append(...children);
+  return element;
+}
+
+/**
+ * @template {keyof SVGElementTagNameMap} T
+ * @param {T} tag
+ * @param {{[name: string]: string|number}} attributes
+ * @param {(Node|string)[]} children
+ */
+function makeSvg(tag, attributes = {}, ...children) {
+  const element = document.createElementNS('http://www.w3.org/2000/svg', tag);
+  Object.entries(attributes).forEach(([name, value]) => element.setAttribute(name, String(value)));
+  element.append(...children);
+  return element;
+}
+
+/**
+ * A control of the page by its id.
+ * @param {string} id
+ */
+const control = (id) => /** @type {HTMLInputElement|HTMLSelectElement} */ (document.getElementById(id));
+
+/**
+ * @param {number} number
+ * @param {string} one
+ */
+const counted = (number, one) => `${number} ${one}${number === 1 ? '' : 's'}`;
+
+/** @param {string} kind */
+const badge = (kind) => make('span', { class: `badge ${kind}` }, kind);
+
+/**
+ * A line that opens; its content is made when it first does.
+ * @param {string} className
+ * @param {HTMLElement} summary
+ * @param {() => Node} build
+ */
+function foldable(className, summary, build) {
+  const details = make('details', { class: className });
+  details.append(summary);
+  details.addEventListener('toggle', () => {
+    if (!details.open || details.dataset.built) return;
+    details.dataset.built = 'yes';
+    details.append(build());
+  });
+  return details;
+}
+
+/**
+ * A long list, a piece at a time.
+ * @template T
+ * @param {T[]} items
+ * @param {(item: T) => Node} build
+ */
+function pieces(items, build) {
+  const list = make('div', { class: 'list' });
+  let shown = 0;
+  const more = make('button', { type: 'button', class: 'more' });
+  const show = () => {
+    const next = items.slice(shown, shown + PIECE);
+    shown += next.length;
+    more.before(...next.map((item) => build(item)));
+    more.textContent = `Show more (${items.length - shown} left)`;
+    more.hidden = shown >= items.length;
+  };
+  more.addEventListener('click', show);
+  list.append(more);
+  show();
+  return list;
+}
+
+export { make, makeSvg, control, counted, badge, foldable, pieces };

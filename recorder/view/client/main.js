@@ -1,0 +1,92 @@
+// The page of the view: lists the problems, filters and orders them. Runs in a reader's browser.
+
+import { control, counted, foldable, make, pieces } from './elements.js';
+import { groups } from './model.js';
+import { problemBox } from './races.js';
+import { isHarmless, rankOfVerdict } from './replays.js';
+
+/**
+ * @typedef {import('./model.js').Race} Race
+ * @typedef {import('./races.js').Line} Line
+ */
+
+/**
+ * @param {Race} race
+ * @param {string} kind
+ * @param {string} text
+ */
+function matches(race, kind, text) {
+  if (kind !== 'all' && race.kind !== kind) return false;
+  return !text || race.searched.includes(text);
+}
+
+/** The groups of which a race matches, each with those of its races. */
+function filtered() {
+  const kind = control('kind').value;
+  const text = control('text').value.trim().toLowerCase();
+  const isAll = kind === 'all' && !text;
+  const found = groups.map((group) => ({ ...group, isAll, races: group.races.filter((race) => matches(race, kind, text)) }));
+  return found.filter(({ first, races }) => races.length > 0 || matches(first, kind, text));
+}
+
+/** @param {Line} line */
+const sizeOf = ({ groups: some }) => some.reduce((sum, { size }) => sum + size, 0);
+/** @param {Line} line */
+const rankOf = ({ problem }) => problem?.order ?? Infinity;
+/** @type {{[order: string]: (a: Line, b: Line) => number}} */
+const ORDERS = {
+  verdict: (a, b) => rankOfVerdict(a) - rankOfVerdict(b) || ORDERS.looks(a, b),
+  looks: (a, b) => (rankOf(a) === rankOf(b) ? ORDERS.size(a, b) : rankOf(a) - rankOf(b)),
+  size: (a, b) => sizeOf(b) - sizeOf(a) || ORDERS.trace(a, b),
+  trace: (a, b) => a.groups[0].number - b.groups[0].number,
+};
+
+/**
+ * Groups whose first races are of one problem are one line.
+ * @param {import('./model.js').Group[]} found
+ */
+function folded(found) {
+  /** @type {Map<unknown, Line>} */
+  const lines = new Map();
+  for (const group of found) {
+    const { problem } = group.first;
+    const line = lines.get(problem || group);
+    if (line) line.groups.push(group);
+    else lines.set(problem || group, { problem, groups: [group] });
+  }
+  return [...lines.values()].sort(ORDERS[control('order').value]);
+}
+
+/**
+ * The lines in pieces; those that have no visible difference in the other order are folded.
+ * @param {Line[]} lines
+ */
+function piecesByVerdict(lines) {
+  const harmless = lines.filter(isHarmless);
+  if (!harmless.length) return [pieces(lines, problemBox)];
+  const others = lines.filter((line) => !harmless.includes(line));
+  const summary = make('summary', {}, `${counted(harmless.length, 'problem')} with no visible difference in the other order`);
+  return [pieces(others, problemBox), foldable('harmless', summary, () => pieces(harmless, problemBox))];
+}
+
+/**
+ * How many races the groups have: those that are shown if there is a filter.
+ * @param {ReturnType<filtered>} found
+ */
+const countRaces = (found) => found.reduce((sum, { isAll, size, races }) => sum + (isAll ? size : races.length), 0);
+
+function render() {
+  const found = filtered();
+  const lines = folded(found);
+  control('found').textContent = `${counted(lines.length, 'problem')}: ${counted(found.length, 'group')} with ${counted(countRaces(found), 'race')}`;
+  control('groups').replaceChildren(...piecesByVerdict(lines));
+}
+
+function start() {
+  ['kind', 'order'].forEach((id) => control(id).addEventListener('change', render));
+  control('text').addEventListener('input', render);
+  document.querySelector('form')?.addEventListener('submit', (event) => event.preventDefault());
+  render();
+}
+
+export { start };

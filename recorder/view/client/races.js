@@ -1,0 +1,87 @@
+// The boxes of races, groups and problems.
+
+import { badge, counted, foldable, make, pieces } from './elements.js';
+import { raceOf } from './model.js';
+import { whyBox } from './origins.js';
+import { Picture } from './picture.js';
+import { replayBox, verdictBadge } from './replays.js';
+import { sourceBox } from './source.js';
+
+/**
+ * @typedef {import('./model.js').Race} Race
+ * @typedef {import('./model.js').Group} Group
+ * @typedef {import('./model.js').ShownProblem} ShownProblem
+ */
+/**
+ * A line of the view: a problem, and those of its groups that match the filter.
+ * @typedef {{problem: ShownProblem|undefined, groups: Group[]}} Line
+ */
+
+/** @param {Race} race */
+function raceBox(race) {
+  const box = make('article', { class: 'race' });
+  const sources = make('div', { class: 'columns' });
+  sources.append(sourceBox(race.places[0], 'First:'), sourceBox(race.places[1], 'Second:'));
+  box.append(sources, ...replayBox(race), new Picture(race).draw(), whyBox(race));
+  box.append(make('p', { class: 'lines' }, `In the trace: lines ${race.lines.join(' and ')}, ${race.spelled}`));
+  return box;
+}
+
+/**
+ * @param {Group} group
+ * @param {ShownProblem|undefined} problem
+ */
+function groupBox({ number, size, first, races }, problem = undefined) {
+  const badges = problem ? lookBadges(problem) : [];
+  const summary = make('summary', {}, badge(first.kind), make('span', { class: 'sentence' }, problem?.summary || first.words), ...badges, ...verdictBadge(first),
+    make('span', { class: 'size' }, counted(size, 'race')));
+  return foldable('group', summary, () => {
+    const box = make('div', { class: 'inside' }, ...(problem ? [make('p', { class: 'lines' }, first.words), ...problem.seen ? [seenBox(problem)] : []] : []), raceBox(first));
+    const others = races.filter((race) => race !== first);
+    if (others.length) box.append(otherRaces(others));
+    const left = size - others.length - 1;
+    if (left > 0 && races.length > others.length) box.append(make('p', { class: 'lines' }, `${counted(left, 'further race')} of group ${number} of the report ${left === 1 ? 'is' : 'are'} not shown here.`));
+    return box;
+  });
+}
+
+/**
+ * The pattern of a line, and whether it is known.
+ * @param {ShownProblem} problem
+ */
+function lookBadges(problem) {
+  const badges = problem.look === 'other' ? [] : [make('span', { class: `badge look rank${problem.rank}`, title: problem.seen }, problem.look)];
+  return problem.isKnown ? [make('span', { class: 'badge look known' }, 'known'), ...badges] : badges;
+}
+
+/**
+ * A problem of one group is that group; one of several opens to them.
+ * @param {Line} line
+ */
+function problemBox({ problem, groups }) {
+  if (groups.length === 1 || !problem) return groupBox(groups[0], problem);
+  const races = groups.reduce((sum, { size }) => sum + size, 0);
+  const first = raceOf.get(problem.first) || groups[0].first;
+  const summary = make('summary', {}, badge(first.kind), make('span', { class: 'sentence' }, problem.summary), ...lookBadges(problem), ...verdictBadge(first),
+    make('span', { class: 'size' }, `${counted(groups.length, 'group')}, ${counted(races, 'race')}`));
+  return foldable('problem', summary, () => {
+    const box = make('div', { class: 'inside' });
+    if (problem.seen) box.append(seenBox(problem));
+    box.append(pieces(groups, (group) => groupBox(group)));
+    return box;
+  });
+}
+
+/** @param {ShownProblem} problem */
+const seenBox = ({ look, seen }) => make('p', { class: 'seen' }, `It looks like: ${look}. In this recording: ${seen}.`);
+
+/** @param {Race[]} others */
+function otherRaces(others) {
+  const summary = make('summary', {}, `${counted(others.length, 'more race')} that this one covers`);
+  return foldable('others', summary, () => pieces(others, (race) => {
+    const line = make('summary', {}, badge(race.kind), make('span', { class: 'sentence' }, race.words), ...verdictBadge(race));
+    return foldable('one', line, () => raceBox(race));
+  }));
+}
+
+export { problemBox };

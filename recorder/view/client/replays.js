@@ -1,0 +1,130 @@
+// Races that were run again in the other order: their verdicts, the differences, and the ends of both runs.
+
+import { counted, foldable, make, makeSvg } from './elements.js';
+import { model, raceOf } from './model.js';
+
+/**
+ * @typedef {import('./model.js').Race} Race
+ * @typedef {import('../types').ShownReplay} ShownReplay
+ * @typedef {import('../types').Difference} Difference
+ * @typedef {'none'|'not'|'differs'|'same'} Verdict
+ */
+
+/** What the replay of a race found, by the race's number. */
+const replayOf = new Map((model.replays || []).map((replay) => [replay.race, replay]));
+/** @type {{[verdict: string]: string}} */
+const VERDICTS = { differs: 'turned: differs', same: 'turned: no visible difference', not: 'not turned' };
+/** The order of lines: what differs, the worst effect first; then what could not be reversed, what was not tried, and the harmless. */
+const EFFECTS = ['an uncaught error', 'a lost act', 'a lost input', 'a lost event', 'another content', 'another state'];
+/** @type {{[verdict: string]: number}} */
+const RANKS = { not: EFFECTS.length, none: EFFECTS.length + 1, same: EFFECTS.length + 2 };
+
+/**
+ * @param {ShownReplay|undefined} replay
+ * @returns {Verdict}
+ */
+function verdictOf(replay) {
+  if (!replay) return 'none';
+  if (replay.verdict !== 'turned') return 'not';
+  return replay.differences.length ? 'differs' : 'same';
+}
+
+/**
+ * The badge of a race that was run again, or nothing.
+ * @param {Race} race
+ */
+function verdictBadge(race) {
+  const replay = replayOf.get(race.number);
+  if (!replay) return [];
+  const verdict = verdictOf(replay);
+  return [make('span', { class: `badge verdict ${verdict}`, title: replay.words }, VERDICTS[verdict]), ...replay.effect ? [make('span', { class: 'badge effect' }, replay.effect)] : []];
+}
+
+/**
+ * What was found of the races of a line: the replay with the worst effect.
+ * @param {import('./races.js').Line} line
+ */
+function replayOfLine({ problem, groups }) {
+  const firsts = new Set([problem?.first, ...groups.map(({ first }) => first.number)]);
+  const found = [...replayOf.values()].filter(({ race }) => firsts.has(race) || (problem && raceOf.get(race)?.problem === problem));
+  return found.sort((a, b) => rankOfReplay(a) - rankOfReplay(b))[0];
+}
+
+/** @param {ShownReplay|undefined} replay */
+function rankOfReplay(replay) {
+  const verdict = verdictOf(replay);
+  return verdict === 'differs' ? EFFECTS.indexOf(replay?.effect || '') : RANKS[verdict];
+}
+
+/** @param {import('./races.js').Line} line */
+const rankOfVerdict = (line) => rankOfReplay(replayOfLine(line));
+
+/** @param {import('./races.js').Line} line */
+const isHarmless = (line) => verdictOf(replayOfLine(line)) === 'same';
+
+// ---- the box of a race
+
+/** @param {Difference[]} differences */
+function differenceTable(differences) {
+  const table = make('table', { class: 'differences' }, make('tr', {}, ...['What', 'In the recorded order', 'In the other order'].map((word) => make('th', {}, word))));
+  for (const { kind, subject, recorded, other } of differences) {
+    const what = subject.includes(kind) ? subject : `${kind}: ${subject}`;
+    table.append(make('tr', {}, make('td', {}, what), make('td', {}, recorded), make('td', {}, other)));
+  }
+  return table;
+}
+
+/**
+ * A picture of an end, with boxes around what differs.
+ * @param {string|null|undefined} data
+ * @param {string} title
+ * @param {[number, number, number, number][]} boxes
+ */
+function pictureBox(data, title, boxes) {
+  const box = make('figure', { class: 'end' }, make('figcaption', {}, title));
+  if (!data) {
+    box.append(make('p', {}, 'No picture was taken.'));
+    return box;
+  }
+  const marks = boxes.map(([x, y, width, height]) => makeSvg('rect', { x, y, width, height, 'vector-effect': 'non-scaling-stroke' }));
+  const over = makeSvg('svg', { viewBox: '0 0 1 1', preserveAspectRatio: 'none', 'aria-hidden': 'true' }, ...marks);
+  box.append(make('div', { class: 'marked' }, make('img', { src: `data:image/webp;base64,${data}`, alt: title }), over));
+  return box;
+}
+
+/**
+ * @param {Difference[]|undefined} differences
+ * @param {string} words
+ */
+function foldedTable(differences, words) {
+  if (!differences?.length) return [];
+  const summary = make('summary', {}, `${counted(differences.length, 'difference')} ${words}`);
+  return [foldable('others', summary, () => differenceTable(differences))];
+}
+
+/** @param {string} text */
+const asSentence = (text) => `${text[0].toUpperCase()}${text.slice(1)}.`;
+
+/** @param {Race} race */
+function replayBox(race) {
+  const replay = replayOf.get(race.number);
+  if (!replay) return [];
+  const box = make('section', { class: 'replay' }, make('h4', {}, 'Run again in the other order'));
+  if (replay.verdict !== 'turned') {
+    box.append(make('p', {}, asSentence(replay.words)));
+    return [box];
+  }
+  box.append(make('p', {}, `To turn them, ${replay.means}. The two came in the other order then${replay.isListed ? ', and the program lists them as a race of that run too' : ''}.`));
+  [replay.note, replay.comparedAt, replay.groupWords].forEach((text) => { if (text) box.append(make('p', {}, asSentence(text))); });
+  if (replay.differences.length) box.append(make('p', {}, `What differs at the end (${replay.effect}):`), differenceTable(replay.differences));
+  else box.append(make('p', {}, 'No visible difference was found at the end.'));
+  box.append(...foldedTable(replay.beside, 'that no user sees'), ...foldedTable(replay.unsteady, 'by itself, in runs in which nothing was turned too'),
+    ...foldedTable(replay.byDelay, 'that the delay alone makes, with the two in their recorded order'));
+  const boxes = replay.differences.find(({ kind }) => kind === 'picture')?.boxes || [];
+  const pictures = make('div', { class: 'columns' });
+  pictures.append(pictureBox(model.recordedPicture, 'The end in the recorded order', boxes), pictureBox(replay.picture, 'The end in the other order', boxes));
+  box.append(pictures, make('p', {}, 'The trace of the run in the other order, for its own view: ', make('code', {}, replay.command || replay.trace)));
+  return [box];
+}
+
+export { isHarmless, rankOfVerdict, replayBox, verdictBadge };
