@@ -19,8 +19,10 @@ for (const one of cases) {
   const name = one.version ? `${one.page} in version ${one.version}` : one.page;
   test(name, { timeout: 150000 }, async () => {
     const trace = await recordPage(browser, one.page, one.words, one.version);
-    const missing = firstMissing(trace.readable, one.due || []);
-    assert.strictEqual(missing, null, `missing or out of its order: ${missing}\n${trace.readable.join('\n')}`);
+    for (const due of [one.due || [], ...(one.besides || [])]) {
+      const missing = firstMissing(trace.readable, due);
+      assert.strictEqual(missing, null, `missing or out of its order: ${missing}\n${trace.readable.join('\n')}`);
+    }
     for (const record of one.never || []) assert.ok(!trace.left.includes(record), `not due: ${record}\n${trace.left.join('\n')}`);
     const { refused, races } = judge(trace);
     assert.strictEqual(refused, '', `${refused}\n${trace.text.split('\n').map((line, k) => `${k + 1} ${line}`).join('\n')}`);

@@ -9,6 +9,8 @@ export interface PageCase {
   words?: string[];
   /** Records with names in place of numbers, in this order. */
   due?: string[];
+  /** Further lists, each in an order of its own: nothing orders them with `due`. */
+  besides?: string[][];
   /** Records that the rules leave out, or that no record is. */
   never?: string[];
   /** The locations of its races. */
