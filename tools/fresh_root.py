@@ -9,7 +9,7 @@ from staging import TOP
 LONGEST = 300
 LONGEST_INSTALL = 3600
 TESTER = "tester"
-# folders that the machine's own users and programs beside Debian's have: the checkout and the kit stand in one of them, or are hidden besides
+# folders that the machine's own users and programs beside Debian's have: the checkout and the toolchain are in one of them, or are hidden too
 HIDDEN = ["/opt", "/srv", "/mnt", "/media", "/work", "/home", "/root", "/usr/local", "/tmp", "/var/tmp", "/run"]
 # dpkg's own records, and those of what it calls
 KEPT_BY_DPKG = ("var/lib/dpkg", "var/lib/apt", "var/cache", "var/log", "etc/ld.so.cache")

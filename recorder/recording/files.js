@@ -74,7 +74,7 @@ function writeFiles(recorded, options, traceFile) {
   for (const { location, accesses: count, pairs } of large) lines.push(`${location}, more than the program takes: ${count} accesses, ${pairs} pairs`);
   if (refused) lines.push(`records that no trace may have, left out: ${refused}`);
   if (leftOut) lines.push(`parse steps in which nothing happened, left out for the limit on actions: ${leftOut}`);
-  if (cut) lines.push(`records behind the limits on actions, accesses and lines, cut off: ${cut}`);
+  if (cut) lines.push(`records over the limits on actions, accesses and lines, cut off: ${cut}`);
   return lines;
 }
 

@@ -106,7 +106,7 @@ class Scripts {
     this.noteRun(element, number);
     page.inOrder.begins(number);
     if (kind !== 'async') page.joins.here(page.observers.takeObserved(), 'what the parser waited for');
-    if (kind === 'defer') page.loading.comeBehindParsing();
+    if (kind === 'defer') page.loading.comeAfterParsing();
   }
 
   /**
@@ -185,11 +185,11 @@ class Scripts {
   whyTooLate(number, kind) {
     const { tree, loading } = this.page;
     if (!tree.staticScripts.has(number)) return '';
-    if (loading.hasBegunLoad) return 'it ran behind load';
+    if (loading.hasBegunLoad) return 'it ran after load';
     if (kind === 'async') return '';
-    if (loading.hasBegunDomContentLoaded) return 'it ran behind DOMContentLoaded';
+    if (loading.hasBegunDomContentLoaded) return 'it ran after DOMContentLoaded';
     if (kind === 'defer') return '';
-    if (tree.hasRunDeferred) return 'it ran behind a deferred script';
+    if (tree.hasRunDeferred) return 'it ran after a deferred script';
     return tree.lastParsed === number ? '' : 'the parser had gone on';
   }
 
