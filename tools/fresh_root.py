@@ -55,7 +55,7 @@ class Failed(Exception):
 
 
 class FreshRoot:
-    """Either this machine's Debian, without what stands in HIDDEN, or one that debootstrap makes in `archive`."""
+    """Either this machine's Debian, without what is in HIDDEN, or one that debootstrap makes in `archive`."""
 
     def __init__(self, folder, archive=None):
         self.archive = archive
@@ -79,7 +79,7 @@ class FreshRoot:
         shutil.copy(source, self.path(name))
 
     def words(self, words, user=TESTER, cwd="/", **env):
-        """The words that run a command in there: as a user who is not root, unless it is told otherwise."""
+        """The words that run a command in there: as a user who is not root, unless `user` names another."""
         rights = ["setpriv", "--reuid", user, "--regid", user, "--clear-groups"] if user != "root" else []
         env = {"PATH": "/usr/sbin:/usr/bin:/sbin:/bin", "HOME": f"/home/{user}", "LANG": "C.UTF-8", **env}
         told = [f"{name}={value}" for name, value in env.items() if value is not None]

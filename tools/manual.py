@@ -1,4 +1,4 @@
-"""Manual pages out of what the commands tell with --help: no option stands in one of them alone."""
+"""Manual pages out of what the commands print with --help: each option is in both."""
 import re
 from collections import Counter
 

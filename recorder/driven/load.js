@@ -118,7 +118,7 @@ class Load {
 
   losses() {
     const lines = lossesOf(this.intake, this.sources);
-    if (this.late) lines.push(`what came later than ${this.options.time} s or after the end: ${this.late} pieces`);
+    if (this.late) lines.push(`lines of the page that came later than ${this.options.time} s, or after the end of the load: ${this.late} pieces`);
     return lines;
   }
 }

@@ -108,7 +108,7 @@ class Reach {
 
   /** A page of so many hidden elements, or so many tasks: acts at what is still hidden get no order. */
   giveUp() {
-    this.recording.log.miss('what shows hidden elements, as there is too much of it');
+    this.recording.log.miss('what shows hidden elements: the page has too many of them');
     each(keysOf(this.waiting), (element) => this.forget(element));
   }
 

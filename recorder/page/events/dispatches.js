@@ -90,7 +90,7 @@ class Dispatches {
     const { recording } = this;
     recording.endPiece();
     if (!recording.mayDispatch()) {
-      recording.log.miss('dispatches that a parse step or the begin of a dispatch called, or that were too deep');
+      recording.log.miss('dispatches that a parse step or the start of a dispatch called, or that were nested too deep');
       return false;
     }
     // no rule puts the registration at an object before its first event: the running code looks there

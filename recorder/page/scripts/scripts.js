@@ -173,7 +173,7 @@ class Scripts {
     const standIn = recording.next('element');
     recording.noteBeside(number, `new ${this.page.number} ${standIn} async`);
     recording.log.name('element', standIn, { standsFor: number, why });
-    recording.log.miss('scripts that ran later than the format lets them: async ones stand for them');
+    recording.log.miss('scripts that ran later than the format allows, recorded as async ones');
     return standIn;
   }
 
