@@ -80,7 +80,7 @@ function copyViews(judged, folder) {
     try {
       fs.copyFileSync(besides(file, '.html'), path.join(folder, name), fs.constants.COPYFILE_FICLONE);
     } catch (fault) {
-      throw new WriteFault(`${path.join(folder, name)} can not be written: ${fault instanceof Error ? fault.message : fault}`);
+      throw new WriteFault(`${path.join(folder, name)} cannot be written: ${fault instanceof Error ? fault.message : fault}`);
     }
     return name;
   });
@@ -135,7 +135,7 @@ function listLoads(judged, failed, known, options, { folder, page }) {
 async function reportLoads(files, known, options, place) {
   const { judged, failed } = await judgeLoads(files, place.command, known, options);
   if (!judged.length) return failed;
-  if (failed) printError(`${place.command}: ${files.length - judged.length} of ${files.length} page loads were not judged`);
+  if (failed) printError(`${place.command}: ${files.length - judged.length} of ${files.length} page loads could not be analyzed`);
   return listLoads(judged, failed, known, options, place);
 }
 

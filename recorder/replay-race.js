@@ -42,7 +42,7 @@ const MOST_RECORDINGS = 3;
  */
 async function racesOf(trace, numbers, origin) {
   const { report, fault, leftOut } = await judgeWithin(trace);
-  if (!report || report.refused) throw new CommandFault(`the program gave no report of ${trace}: ${fault || report?.refused?.cause}`, STATUS.refused);
+  if (!report || report.refused) throw new CommandFault(`the analyzer gave no report of ${trace}: ${fault || report?.refused?.cause}`, STATUS.refused);
   const wrong = numbers.find((number) => !report.races[number - 1]);
   if (wrong !== undefined) throw new CommandFault(`there is no race ${wrong} in ${trace}: it has ${report.races.length}`, STATUS.usage);
   const { text, names } = leftOut.length ? readOrigin(trace) : origin; // what is left out is no longer in the file
@@ -150,7 +150,7 @@ async function main(args) {
   const { options, positionals, isHelp } = parseCommand('er_replay', args);
   if (isHelp) return printHelp('er_replay');
   if (positionals.length !== 1) throw new UsageFault('');
-  if (!options.races.length) throw new UsageFault('--race K says which race of OUT.trace, and is missing');
+  if (!options.races.length) throw new UsageFault('--race K is missing: the number of a race of OUT.trace');
   const hasTime = args.some((arg) => /^--time(=|$)/.test(arg));
   return canReplay('er_replay') ? replayTrace(positionals[0], options, hasTime) : STATUS.noProgram;
 }

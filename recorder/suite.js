@@ -36,7 +36,7 @@ function printLogs(folder) {
  * @returns {Promise<string[]>} the traces in it, once all recorders have written them
  */
 async function waitForTraces(folder) {
-  if (!await waitForWriters(folder, LONGEST_WAIT)) printError('er_suite: a recorder still writes: the list is of what it has written');
+  if (!await waitForWriters(folder, LONGEST_WAIT)) printError('er_suite: a recorder still writes: the list has what it has written so far; call er_suite again later for the rest');
   printLogs(folder);
   return tracesIn(folder);
 }

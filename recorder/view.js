@@ -108,7 +108,7 @@ function writePage(traceFile, shown) {
 async function viewTrace(traceFile, command, known = null, isLinkedLater = false) {
   const { status, report, fault, leftOut } = await judgeWithin(traceFile);
   if (!report) {
-    printError(`${command}: the program gave no report: ${fault}`);
+    printError(`${command}: the analyzer gave no report: ${fault}`);
     return { status };
   }
   if (report.refused) {
@@ -116,9 +116,9 @@ async function viewTrace(traceFile, command, known = null, isLinkedLater = false
     return { status };
   }
   const shown = await writeView(traceFile, report, known, isLinkedLater);
-  if (leftOut.length) printError(`${command}: ${traceFile} is written again, since it had more than the program takes`);
+  if (leftOut.length) printError(`${command}: ${traceFile} is written again without what is over the limits of the analyzer`);
   for (const { words, accesses, pairs } of shown.problems.leftOut) {
-    printError(`${command}: not judged: ${words}, with ${accesses} accesses and ${pairs} pairs`);
+    printError(`${command}: left out, over the limits of the analyzer: ${words}, with ${accesses} accesses and ${pairs} pairs`);
   }
   return { status, view: { status, report, isRewritten: leftOut.length > 0, ...shown } };
 }

@@ -1,6 +1,6 @@
 """Edits of must-fail and wrong-bodies: whether one applies, which function it changes, and which of them one check can try together.
 
-An edit of a function's body leaves what its callers know of it, its contract. So edits of the bodies of different functions, none of which names another of them, are tried by one check: each is refused where an error stands in its own function, or in a proof file of that.
+An edit of a function's body leaves what its callers know of it, its contract. So edits of the bodies of different functions, none of which names another of them, are tried by one check: each is refused if an error is in its own function, or in a proof file of that.
 """
 import os
 import re

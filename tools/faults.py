@@ -1,6 +1,6 @@
 """Runs of the built program with faults, for tools/check-faults and tools/check-damage.
 
-tools/faults.c is compiled and put in front of the C library. What it is to do stands in the environment of a run.
+tools/faults.c is compiled and preloaded before the C library. What it does is given in the environment of a run.
 """
 import collections
 import multiprocessing
@@ -29,7 +29,7 @@ def build(folder):
 
 
 class Runner:
-    """Runs the program behind the library, one run at a time, over files in memory."""
+    """Runs the analyzer with the library preloaded, one run at a time, over files in memory."""
 
     def __init__(self, program, library):
         self.program, self.library = program, library

@@ -9,7 +9,7 @@ from staging import TOP
 LONGEST = 300
 LONGEST_INSTALL = 3600
 TESTER = "tester"
-# folders that the machine's own users and programs beside Debian's have: the checkout and the kit stand in one of them, or are hidden besides
+# folders that the machine's own users and programs beside Debian's have: the checkout and the toolchain are in one of them, or are hidden too
 HIDDEN = ["/opt", "/srv", "/mnt", "/media", "/work", "/home", "/root", "/usr/local", "/tmp", "/var/tmp", "/run"]
 # dpkg's own records, and those of what it calls
 KEPT_BY_DPKG = ("var/lib/dpkg", "var/lib/apt", "var/cache", "var/log", "etc/ld.so.cache")
@@ -55,7 +55,7 @@ class Failed(Exception):
 
 
 class FreshRoot:
-    """Either this machine's Debian, without what stands in HIDDEN, or one that debootstrap makes in `archive`."""
+    """Either this machine's Debian, without what is in HIDDEN, or one that debootstrap makes in `archive`."""
 
     def __init__(self, folder, archive=None):
         self.archive = archive
@@ -79,7 +79,7 @@ class FreshRoot:
         shutil.copy(source, self.path(name))
 
     def words(self, words, user=TESTER, cwd="/", **env):
-        """The words that run a command in there: as a user who is not root, unless it is told otherwise."""
+        """The words that run a command in there: as a user who is not root, unless `user` names another."""
         rights = ["setpriv", "--reuid", user, "--regid", user, "--clear-groups"] if user != "root" else []
         env = {"PATH": "/usr/sbin:/usr/bin:/sbin:/bin", "HOME": f"/home/{user}", "LANG": "C.UTF-8", **env}
         told = [f"{name}={value}" for name, value in env.items() if value is not None]

@@ -149,9 +149,9 @@ class Installed:
             status, output, fault = self.run("er_record", SHOP, "home.trace", HOME=home)
             yield f"with {home} as home", None if status == 0 and "home.trace" in self.files(WORK) else (status, output, fault)
         for words in (["er_page", SHOP], ["er_record", SHOP, "page.trace"], ["er_view", "page-gnome-docs-search.trace"]):
-            yield f"{words[0]} in a folder that takes no files", refusal(self.run(*words, cwd=EXAMPLES), 5, "can not be written")
+            yield f"{words[0]} in a folder that takes no files", refusal(self.run(*words, cwd=EXAMPLES), 5, "cannot be written")
         self.run("chmod", "a-w", "shop.races", f"{WORK}/shop.races/page.replay")
-        yield "er_replay in a folder that takes no files", refusal(self.run("er_replay", "shop.races/page.trace", "--race", "1"), 5, "can not be written")
+        yield "er_replay in a folder that takes no files", refusal(self.run("er_replay", "shop.races/page.trace", "--race", "1"), 5, "cannot be written")
         status, output, fault = self.run("er_record", SHOP, "temporary.trace", TMPDIR="/nowhere")
         yield "no temporary folder", None if status == 5 and "no temporary folder can be made" in fault else (status, output, fault)
 

@@ -1,4 +1,4 @@
-"""Manual pages out of what the commands tell with --help: no option stands in one of them alone."""
+"""Manual pages out of what the commands print with --help: each option is in both."""
 import re
 from collections import Counter
 
@@ -14,7 +14,7 @@ PURPOSES = {
 # its --help and --version are those of Chromium, so recorder/help.js has its text
 OF_CHROMIUM = "er_browser"
 SYNOPSIS = re.compile(r"(?:usage|   or): (.*)")
-# what is explained begins with two spaces, and its words stand behind a gap or in lines that are set in further
+# what is explained starts with two spaces; its explanation comes after a gap, or in lines that are indented further
 ENTRY = re.compile(r"  (\S.*?)(?:  +(\S.*))?")
 FURTHER = re.compile(r"   +(\S.*)")
 HEADING = re.compile(r"([A-Z][a-z ]+):")
@@ -53,7 +53,7 @@ class Help:
             (self.below if self.entries else self.above).append(line)
 
     def parts(self, line, entry):
-        """What is explained, and its words; they may stand behind one space, in the column of the others."""
+        """What is explained, and its explanation, which can come after one space, in the column of the others."""
         if not entry[2] and line[self.column - 1 : self.column] == " ":
             return line[: self.column].strip(), [line[self.column :]]
         return entry[1], [entry[2]] if entry[2] else []

@@ -29,7 +29,7 @@ function parseEndpoint(text) {
 }
 
 /** @param {NodeJS.ErrnoException} fault */
-const connectFault = (fault) => new BrowserFault(fault.code === 'ECONNREFUSED' ? 'there is no browser at this port' : fault.message);
+const connectFault = (fault) => new BrowserFault(fault.code === 'ECONNREFUSED' ? 'no browser listens at this port: start it with --remote-debugging-port' : fault.message);
 
 /**
  * A JSON answer of the browser's own small web server.
@@ -44,14 +44,14 @@ function request({ host, port }, path) {
       response.setEncoding('utf8');
       response.on('data', (piece) => {
         text += piece;
-        if (text.length > LARGEST_ANSWER) asked.destroy(new Error('what answers there is no browser'));
+        if (text.length > LARGEST_ANSWER) asked.destroy(new Error('the program at this port is not a browser with a DevTools port'));
       });
       response.on('end', () => {
         try {
           resolve(JSON.parse(text));
         } catch {
           // no JSON
-          reject(new BrowserFault('what answers there is no browser'));
+          reject(new BrowserFault('the program at this port is not a browser with a DevTools port'));
         }
       });
     });
@@ -67,7 +67,7 @@ function request({ host, port }, path) {
 async function pathOfSocket(endpoint) {
   const version = /** @type {{webSocketDebuggerUrl?: unknown}|null} */ (await request(endpoint, '/json/version'));
   const address = version?.webSocketDebuggerUrl;
-  if (typeof address !== 'string' || !address) throw new BrowserFault('what answers there is no browser');
+  if (typeof address !== 'string' || !address) throw new BrowserFault('the program at this port is not a browser with a DevTools port');
   return new URL(address).pathname;
 }
 

@@ -41,7 +41,7 @@ const NO_SANDBOX = 'it has no sandbox of its own here: install the package chrom
 /** The browser does not run as root with its sandbox. */
 function sandboxFlags() {
   if (!process.getuid || process.getuid() !== 0) return [];
-  printErrorOnce("Chromium's own sandbox is off: it does not start with it for root.");
+  printErrorOnce("Chromium's own sandbox is off, since it does not start with it as root: record pages that you do not trust as another user.");
   return ['--no-sandbox'];
 }
 

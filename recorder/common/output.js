@@ -15,7 +15,7 @@ const linesOf = (text) => String(text).split('\n').map(withoutCommands).join('\n
  */
 const print = (text) => console.log(linesOf(text));
 
-/** How a terminal is told of a color. */
+/** What sets a color of a terminal. */
 const STYLE = /(\u001b\[[0-9;]*m)/;
 
 /**

@@ -11,7 +11,7 @@ class WriteFault extends Error {}
  * @param {string} file
  * @param {unknown} fault
  */
-const faultOf = (file, fault) => new WriteFault(`${file} can not be written: ${fault instanceof Error ? fault.message : fault}`);
+const faultOf = (file, fault) => new WriteFault(`${file} cannot be written: ${fault instanceof Error ? fault.message : fault}`);
 
 /**
  * Whether a new file takes the place of what is there: anything but a file, as /dev/stdout, stays what it is.
@@ -50,7 +50,7 @@ function writeWhole(file, text) {
 }
 
 /**
- * Fails at once if a file can not be written later.
+ * Fails at once if a file cannot be written later.
  * @param {string} file
  */
 function mustTake(file) {

@@ -6,7 +6,7 @@ const { WriteFault } = require('../common/whole-file.js');
 const { BrowserFault } = require('../browser/protocol.js');
 const { withoutCommands } = require('../common/shown.js');
 
-/** `launch` opens it: it leads to the suite's standard error until the browser ends. */
+/** `launch` opens it: it is the suite's standard error until the browser ends. */
 const SUITE = 5;
 /** @type {Set<string>} */
 const said = new Set();

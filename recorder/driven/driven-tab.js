@@ -92,7 +92,7 @@ class DrivenTab {
 
   /**
    * Waits until a document that comes can be recorded. Where it began before the tab took what it was sent, that is taken when the document is there: the
-   * script comes as a part of it, and nothing tells that it was shown.
+   * script comes as a part of it, and no event reports that it was shown.
    */
   async waitForSetting() {
     await this.ready;

@@ -64,9 +64,9 @@ async function findEndpoint({ port, profile, pid }) {
     const found = port || portIn(profile);
     const endpoint = { host: '127.0.0.1', port: found };
     if (found && (!port || await listens(endpoint))) return endpoint;
-    if (!isAlive(pid)) throw new BrowserFault('the browser has ended before it took a client');
+    if (!isAlive(pid)) throw new BrowserFault('the browser ended before it accepted a connection');
   }
-  throw new BrowserFault('the browser takes no client');
+  throw new BrowserFault('the browser accepted no connection in time');
 }
 
 module.exports = { findEndpoint, isAlive };

@@ -57,9 +57,9 @@ class LoadSources extends Sources {
    * @param {number} line
    * @param {number} column
    */
-  textBehind(address, line, column) {
+  textAndOffset(address, line, column) {
     this.find(address);
-    return super.textBehind(address, line, column);
+    return super.textAndOffset(address, line, column);
   }
 
   /** @param {string} address */

@@ -1,5 +1,5 @@
 'use strict';
-// One page load in a tab that a driver drives: what the page tells, and the trace of it, written each time that it came to rest, and at the end.
+// One page load in a tab that a driver drives: the lines that the page sends, and its trace, which is written each time that the page came to rest, and at the end.
 
 const { Responses } = require('../browser/responses.js');
 const { within } = require('../common/time.js');
@@ -109,7 +109,7 @@ class Load {
     this.ended = new Date();
   }
 
-  /** What OUT.names.json tells of it. */
+  /** What OUT.names.json has of it. */
   facts() {
     const { number, tab, opener, address, test, why, errors, intake } = this;
     const times = { begun: this.begun.toISOString(), ...(this.ended ? { ended: this.ended.toISOString() } : {}) };
@@ -118,7 +118,7 @@ class Load {
 
   losses() {
     const lines = lossesOf(this.intake, this.sources);
-    if (this.late) lines.push(`what came later than ${this.options.time} s or behind the end: ${this.late} pieces`);
+    if (this.late) lines.push(`lines of the page that came later than ${this.options.time} s, or after the end of the load: ${this.late} pieces`);
     return lines;
   }
 }

@@ -1,5 +1,5 @@
 'use strict';
-// A call that fails is told in the words of the page's own code. No browser.
+// A call that fails is reported in the words of the page's own code. No browser.
 
 const assert = require('node:assert');
 const { test } = require('node:test');

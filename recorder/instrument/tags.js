@@ -131,7 +131,7 @@ function makeReader() {
     }
 
     /**
-     * Where parse5 7.1 is behind the HTML Standard: a `select` contains any element, and `noframes` is text in the body too.
+     * Where parse5 7.1 is older than the HTML Standard: a `select` contains any element, and `noframes` is text in the body too.
      * @param {Tag} tag
      */
     correct({ name, namespace }) {

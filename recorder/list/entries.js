@@ -24,7 +24,7 @@ const MOST_NAMED = 3;
 /** So many races of a problem are looked through for what else has the same two places. */
 const MOST_RACES = 500;
 const LONGEST_REPLAY = 240;
-const HERE = /(?:^|[;:] )here (.*?)(?:; and behind it|$)/;
+const HERE = /(?:^|[;:] )here (.*?)(?:; and covered by it|$)/;
 const PREFIX_OF_VERDICT = /^(turned: differs|could not be turned|turned): /;
 
 /** Where a callback was requested, and the place in a library by way of which. */
@@ -87,7 +87,7 @@ class Entries {
   }
 
   /**
-   * What stands in each side's place in the other races of a problem.
+   * What takes each side's place in the other races of a problem.
    * @param {Listed} line
    */
   alsoOf({ run, first, races, sites: [one, two], look }) {

@@ -48,7 +48,7 @@ class Known {
     }
     const found = LINE.exec(line);
     if (!found) throw new KnownFault(`${this.file}, line ${number}: no name of a race, 12 hexadecimal digits: ${line.slice(0, 60)}`);
-    if (this.entries.has(found[1])) throw new KnownFault(`${this.file}, line ${number}: the name ${found[1]} stands in an earlier line too`);
+    if (this.entries.has(found[1])) throw new KnownFault(`${this.file}, line ${number}: the name ${found[1]} is in an earlier line too: remove one of the lines`);
     this.entries.set(found[1], { words: found[2] || '', comments: this.rest });
     this.rest = [];
   }

@@ -86,7 +86,7 @@ test('the first line of an older file stays the file\'s', async () => {
 
 test('what is wrong in a file of known races is told with its line', () => {
   assert.throws(() => new Known('# a\n\nabc race\n', 'known'), (fault) => fault instanceof KnownFault && /^known, line 3: no name of a race/.test(fault.message));
-  assert.throws(() => new Known('0123456789ab\n0123456789ab\n', 'known'), /line 2: the name 0123456789ab stands in an earlier line too/);
+  assert.throws(() => new Known('0123456789ab\n0123456789ab\n', 'known'), /line 2: the name 0123456789ab is in an earlier line too/);
   assert.throws(() => Known.readFile(path.join(folder, 'none'), false), /there is no such file/);
   assert.throws(() => Known.readFile(folder, true), KnownFault);
 });

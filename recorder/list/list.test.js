@@ -199,7 +199,7 @@ test('a line looks as the worst race that it covers, and has its words', async (
   assert.deepStrictEqual(details[0], ['cause', '`ready` may change before or after it is read at page.html']);
   assert.strictEqual(line.look.name, 'late handler');
   assert.match(line.words, /^"ready"/);
-  assert.match(line.look.seen, /^and behind it, a handler that comes late: .*: The handler "click of button#go" is set by .* and looked for by the click at button#go; nothing orders them\.$/);
+  assert.match(line.look.seen, /^and covered by it, a handler that comes late: .*: The handler "click of button#go" is set by .* and looked for by the click at button#go; nothing orders them\.$/);
 });
 
 test('where a variable is counted, and nobody uses the value', () => {

@@ -59,7 +59,7 @@ class Problems {
     });
     this.leads.forEach((race, k) => problems.get(this.ofRaces[race].problem)?.groups.push(k));
     const list = [...problems.values()].map((one) => this.complete(one));
-    this.lookBehind(list);
+    this.lookAtCovered(list);
     return list.sort((a, b) => a.look.rank - b.look.rank || a.races[0] - b.races[0]);
   }
 
@@ -117,7 +117,7 @@ class Problems {
    * pattern of the worst race that it covers; the words of that race come after its own, and its name stays.
    * @param {Problem[]} list
    */
-  lookBehind(list) {
+  lookAtCovered(list) {
     const byName = new Map(list.map((one) => [one.name, one]));
     const problemOf = (/** @type {number} */ race) => /** @type {Problem} */ (byName.get(this.ofRaces[race].problem));
     /** @type {number[][]} */
@@ -147,8 +147,8 @@ class Problems {
   lookAs(one, race) {
     if (race === undefined || this.ofRaces[race].look.rank >= one.look.rank) return;
     const { look } = this.ofRaces[race];
-    const behind = `and behind it, ${look.seen ? `${look.seen}: ` : ''}${this.words.race(this.report.races[race])}`;
-    one.look = { ...look, seen: [one.look.seen, behind].filter(Boolean).join('; ') };
+    const covered = `and covered by it, ${look.seen ? `${look.seen}: ` : ''}${this.words.race(this.report.races[race])}`;
+    one.look = { ...look, seen: [one.look.seen, covered].filter(Boolean).join('; ') };
     one.worst = race;
   }
 

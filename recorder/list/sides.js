@@ -112,7 +112,7 @@ class Sides {
   }
 
   /**
-   * What tells a side from those of other races: the target of an event, else the callback.
+   * What distinguishes a side from those of other races: the target of an event, else the callback.
    * @param {Race} race
    * @param {number} k
    */

@@ -74,7 +74,6 @@ URL is a web address, a file or a folder.
 ${USER_AND_NETWORK}
 
 ${RECORDING}
-
   --headed          show the browser's window
 
 Replay in the other order:
@@ -220,6 +219,9 @@ Environment:
   ER_TEST           name that is stored with each load
   CHROMIUM          the browser (/usr/bin/chromium)
 
+Examples:
+  ER_TRACES=$PWD/traces CHROME_BIN=/path/to/er_browser npx karma start
+
 Exit status:
   that of Chromium
 
@@ -228,13 +230,17 @@ Documentation: docs/suites.md`,
   er_suite: `usage: er_suite FOLDER.. [options]
    or: er_suite --help | --version
 
-Analyzes the page loads that er_browser recorded into each FOLDER (ER_TRACES): prints one
-list of their races, and writes a view of each load, and index.html into the first FOLDER.
+Analyzes the page loads that er_browser recorded into each FOLDER (ER_TRACES). Prints one
+list of their races, writes a view of each load, and index.html into the first FOLDER.
 
 Options:
 ${LISTING}
 ${OUTPUTS}
 ${OUTPUTS_OF_LOADS}
+
+Examples:
+  er_suite traces --known races.known --sarif races.sarif
+  er_suite traces-1 traces-2 --junit races.xml --html races
 
 Exit status:
   0    no race, or only known ones and acts of a user against each other
@@ -257,6 +263,10 @@ Analyzes a recorded page and writes OUT.html, its races with their places in its
 Options:
   --why             print why one action of the trace comes before another one, or that
                     nothing orders them; writes no view
+
+Examples:
+  er_view shop.races/page.trace
+  er_view shop.races/page.trace --why 3 7
 
 Exit status:
   0    no race, or the answer of --why

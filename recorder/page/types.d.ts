@@ -19,7 +19,7 @@ export interface Settings extends OwnNames {
   keepsAll: boolean;
   /** The names of the files of libraries. */
   libraries: RegExp | null;
-  /** How little a file tells a reader: 0 of the page's own code, 1 of a file that was made small, 2 of a library. */
+  /** How little a file says to a reader: 0 of the page's own code, 1 of a file that was made small, 2 of a library. */
   foreignness(address: string, libraries: RegExp | null, find: PatternTools['find']): 0 | 1 | 2;
   /** How the browser runs a script, by its attributes (common/html.js). */
   scriptType(type: string | null, language: string | null, tools: PatternTools): 'classic' | 'module' | 'importmap' | null;
@@ -27,7 +27,7 @@ export interface Settings extends OwnNames {
   codeOfAddress(address: string, decode: (text: string) => string, tools: PatternTools): string | null | undefined;
   /** Where the ranges of numbers begin (common/numbers.js). */
   numbers: { FIRST_FIELD: number, FIRST_OBJECT: number };
-  /** What a replay keeps back. */
+  /** What a replay holds back. */
   holds: (Hold | null)[] | null;
   /** The chance of the run. */
   fixed: { seed: number, date: number } | null;
@@ -63,8 +63,8 @@ export interface TextTools {
 }
 
 /**
- * What is kept back: its note in the log (`set`, `every`, `ask`, `post`, `on` or `send`), the place of the code in the browser's copy, the way of the
- * calls that led there ('' where the place is all that is told), and which of those with both it is; or `load` with the page's address. With `event`, an
+ * What is held back: its note in the log (`set`, `every`, `ask`, `post`, `on` or `send`), the place of the code in the browser's copy, the way of the
+ * calls that led there ('' if only the place is known), and which of those with both it is; or `load` with the page's address. With `event`, an
  * event at the target of the handler that is noted, or at an element.
  */
 export interface Hold {
@@ -87,7 +87,7 @@ export interface Held extends Hold {
   waiting: Waiting[];
   /** The browser's number of a callback. */
   timer: number | null;
-  /** The target whose events are kept back, and how many have been met. */
+  /** The target whose events are held back, and how many have been met. */
   target: EventTarget | null;
   met: number;
   /** What the window's load waits for. */
@@ -148,13 +148,13 @@ export interface NewDispatch {
   beginning?: TraceEvent;
   event?: Event;
   target?: Target;
-  /** The group of the handler that ran last, and what tells it from the next one. */
+  /** The group of the handler that ran last, and what distinguishes it from the next one. */
   group?: number;
   visit?: string;
   /** The page whose load event waits for it. */
   awaits?: Page;
   /** Events that a rule puts before it. */
-  behind?: TraceEvent[];
+  comesAfter?: TraceEvent[];
   /** Actions after which its handlers come, the reason, and the events that have been written for them. */
   moments?: Moments | null;
   why?: string;

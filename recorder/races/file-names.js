@@ -29,7 +29,7 @@ function shortName(address) {
 const cut = (part) => (part.length > LONGEST_PART ? `${part.slice(0, LONGEST_PART)}…` : part);
 
 /**
- * What tells an address from others with the same last part: the first part of the query that not all have, else the folders that differ.
+ * What distinguishes an address from others with the same last part: the first part of the query that not all have, else the folders that differ.
  * @param {string} address
  * @param {string[]} all the addresses with this short name
  */

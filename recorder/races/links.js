@@ -18,7 +18,7 @@ const LONGEST = 4000;
  */
 async function explain(traceFile, from, to) {
   const { output, fault } = await runProgram(['explain', '--from', String(from), '--to', String(to)], traceFile);
-  if (!output.startsWith('explain ')) return { steps: null, fault: fault || output.trim() || 'the program said nothing' };
+  if (!output.startsWith('explain ')) return { steps: null, fault: fault || output.trim() || 'the analyzer printed nothing' };
   if (/^unordered$/m.test(output)) return { steps: null, fault: '' };
   const steps = [...output.matchAll(/^step (\d+) (\d+) (\d+)$/gm)].map(([, ...step]) => /** @type {[number, number, number]} */ (step.map(Number)));
   return { steps, fault: '' };

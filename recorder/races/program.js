@@ -70,7 +70,7 @@ async function askAhead(traceFiles) {
 async function judge(traceFile) {
   const { status, output, fault } = await runProgram(['--json'], traceFile);
   if (status === STATUS.ok || status === STATUS.race || status === STATUS.refused) return { status, report: JSON.parse(output) };
-  return { status: status ?? STATUS.failed, fault: fault || `the program ended with status ${status}` };
+  return { status: status ?? STATUS.failed, fault: fault || `the analyzer ended with status ${status}` };
 }
 
 /**

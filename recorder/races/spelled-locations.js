@@ -1,9 +1,9 @@
 'use strict';
-// What the spelling of a location in a trace says about it.
+// What the text of a location in a trace says about it.
 
 const { FIRST_FIELD, FIRST_MODULE } = require('../common/numbers.js');
 
-/** Cookies and storage, by their spelling. */
+/** Cookies and storage, by the text of their locations. */
 const STORED = /^(document\.cookie$|localStorage\.|sessionStorage\.)/;
 
 /**

@@ -13,7 +13,7 @@ const COMMAND = path.join(__dirname, '..', '..', 'tools', 'unproved');
 /** The arguments for the report of a trace, as text and as JSON. */
 const REPORTS = [[], ['--json']];
 /** @type {Output} */
-const NO_ANSWER = { status: 10, output: '', fault: 'the program is not built' };
+const NO_ANSWER = { status: 10, output: '', fault: 'the analyzer is not built' };
 
 /**
  * A query is about what the trace contains: a file that was written again is another trace.

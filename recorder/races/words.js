@@ -167,7 +167,7 @@ class Words extends ThingWords {
   }
 
   /**
-   * Calls a function while everything that tells two sides apart is in the words.
+   * Calls a function while everything that distinguishes two sides is in the words.
    * @template T
    * @param {() => T} tell
    * @returns {T}

@@ -67,7 +67,7 @@ class AttachedRecorder extends Session {
       throw new RecordingFault(`${given}: ${fault instanceof Error ? fault.message : fault}`, STATUS.failed);
     }
     const { tab } = this;
-    if (await tab.evaluate(IS_TAKEN)) throw new RecordingFault(`${given}: another recorder holds the first tab`, STATUS.failed);
+    if (await tab.evaluate(IS_TAKEN)) throw new RecordingFault(`${given}: another recorder records the first tab`, STATUS.failed);
     tab.onAny('Target.detachedFromTarget', ({ sessionId }) => { this.isEnded = this.isEnded || sessionId === tab.sessionId; });
     tab.onAny('Target.targetDestroyed', ({ targetId }) => { this.isEnded = this.isEnded || targetId === tab.targetId; });
   }

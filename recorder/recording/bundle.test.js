@@ -33,7 +33,7 @@ test('a module sees what it imports, under its own name, and no other name', (t)
   assert.deepStrictEqual(exports, { told: [42, 'inner', 40, 1, 'what is given'] });
 });
 
-test('a module runs once, behind those that it imports', (t) => {
+test('a module runs once, after those that it imports', (t) => {
   const { list } = run(t, {
     'main.js': "import { list } from './list.js';\nimport { b } from './b.js';\n\nlist.push('main', b);\n\nexport { list };\n",
     'list.js': 'const list = [];\n\nexport { list };\n',

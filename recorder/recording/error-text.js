@@ -38,7 +38,7 @@ function messageOf(description, sources) {
   if (!MARK.test(line)) return line;
   const [, before, code, after] = FAILED_CALL.exec(line) || [];
   const [, address, row, column] = FIRST_FRAME.exec(description) || [];
-  const place = code && address ? sources?.textBehind(address, Number(row), Number(column)) : null;
+  const place = code && address ? sources?.textAndOffset(address, Number(row), Number(column)) : null;
   const own = place ? ownCallSite(code, place) : null;
   return own === null ? withoutMarks(line) : `${before}${own}${after}`;
 }

@@ -71,10 +71,10 @@ function writeFiles(recorded, options, traceFile) {
   const facts = { page: recorded.given, trace: path.basename(traceFile), recording, ...load, ofLibraries: accesses.libraries(), ...tooMuch, unmarked };
   writeWhole(namesFile(traceFile), names.toJson(facts));
   const lines = accesses.lines();
-  for (const { location, accesses: count, pairs } of large) lines.push(`${location}, more than the program takes: ${count} accesses, ${pairs} pairs`);
-  if (refused) lines.push(`records that no trace may have, left out: ${refused}`);
+  for (const { location, accesses: count, pairs } of large) lines.push(`${location}, over the analyzer's limits, left out: ${count} accesses, ${pairs} pairs`);
+  if (refused) lines.push(`records that the analyzer would refuse, left out: ${refused}`);
   if (leftOut) lines.push(`parse steps in which nothing happened, left out for the limit on actions: ${leftOut}`);
-  if (cut) lines.push(`records behind the limits on actions, accesses and lines, cut off: ${cut}`);
+  if (cut) lines.push(`records over the limits on actions, accesses and lines, cut off: ${cut}`);
   return lines;
 }
 

@@ -100,7 +100,7 @@ function readText(file) {
     return fs.readFileSync(file, 'utf8');
   } catch (fault) {
     const { code, message } = /** @type {NodeJS.ErrnoException} */ (fault);
-    throw new OriginFault(code === 'ENOENT' ? `there is no file ${file}` : `${file} can not be read: ${message}`);
+    throw new OriginFault(code === 'ENOENT' ? `there is no file ${file}` : `${file} cannot be read: ${message}`);
   }
 }
 
@@ -114,9 +114,9 @@ function readNames(file) {
     if (typeof names === 'object' && names) return names;
   } catch (fault) {
     if (fault instanceof OriginFault) throw fault;
-    throw new OriginFault(`${file} is no file of names: ${/** @type {Error} */ (fault).message}`);
+    throw new OriginFault(`${file} is not a names file of er_record: ${/** @type {Error} */ (fault).message}`);
   }
-  throw new OriginFault(`${file} is no file of names`);
+  throw new OriginFault(`${file} is not a names file of er_record`);
 }
 
 /** @param {unknown} list */
@@ -132,9 +132,9 @@ function readOrigin(traceFile) {
   const names = readNames(file);
   const { recording } = names;
   if (!recording || !isTexts(recording.words) || typeof recording.page !== 'string') {
-    throw new OriginFault(`${file} does not tell how the page was recorded: record it again`);
+    throw new OriginFault(`${file} does not say how the page was recorded: record the page again`);
   }
-  if (recording.digest !== digestOf(text)) throw new OriginFault(`${file} is that of another trace`);
+  if (recording.digest !== digestOf(text)) throw new OriginFault(`${file} belongs to another trace: keep OUT.trace and OUT.names.json together`);
   if ([recording.page, ...recording.words || []].some((one) => one.includes(HIDDEN))) {
     throw new OriginFault(`${traceFile} was recorded with a secret in its address or in a step, which is not saved: record it again with er_page --replay`);
   }
@@ -156,7 +156,7 @@ function optionsOf({ words = [], picks = [], salt = 0 }, file) {
     const options = parseOptions(words);
     return { ...options, actions: [...options.actions, ...picks], salt };
   } catch (fault) {
-    throw new OriginFault(`${file} has no options of this version: ${/** @type {Error} */ (fault).message}`);
+    throw new OriginFault(`${file} has options that this version does not know: ${/** @type {Error} */ (fault).message}`);
   }
 }
 

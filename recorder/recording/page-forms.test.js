@@ -10,7 +10,7 @@ const { childAt, isFunction, keysOf } = require('../instrument/syntax/children.j
 const { parse } = require('../instrument/syntax/parse.js');
 
 const PAGE = path.join(__dirname, '..', 'page');
-/** What each method stands at that a page can replace. */
+/** The object of each method that a page can replace. */
 const REPLACEABLE = new Set([Array, String, RegExp, Function, Number, Promise].flatMap((Class) => Object.getOwnPropertyNames(Class.prototype))
   .filter((name) => !['constructor', 'length', 'name', 'arguments', 'caller'].includes(name)));
 const GETTERS = new Set(['prepareStackTrace', 'stackTraceLimit', 'anchorNode', 'anchorOffset', 'focusNode', 'focusOffset', 'selectionStart', 'selectionEnd', 'scrollTop', 'scrollLeft']);

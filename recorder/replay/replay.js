@@ -165,7 +165,7 @@ class Replay {
     if (!turns) return 'the page never rests: the runs are compared at the same time';
     const { count } = turns;
     const came = countTurns(run.recorder.intake.entries, turns);
-    return came === count ? `the page never rests: compared behind ${count} of its own turns in each run` : `the page never rests: compared behind ${count} of its own turns and ${came}`;
+    return came === count ? `the page never rests: compared after ${count} of its own turns in each run` : `the page never rests: compared after ${count} of its own turns and ${came}`;
   }
 }
 

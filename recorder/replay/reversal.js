@@ -41,11 +41,11 @@ async function judgeReversal(run, hold, { sides, isLoose }) {
  */
 async function judgeRace(run, pair, line) {
   const { report, fault, leftOut } = await judgeWithin(run.file);
-  if (!report || fault || report.refused) return { isTurned: false, why: `the program gave no report of this run: ${fault || report?.refused?.cause}` };
+  if (!report || fault || report.refused) return { isTurned: false, why: `the analyzer gave no report of this run: ${fault || report?.refused?.cause}` };
   if (report.races.some((race) => race.actions.join(' ') === pair.join(' '))) return { isTurned: true, isListed: true, pair, note: '' };
   const location = run.keys.actions.lines[line - 1].slice(2);
   const note = leftOut.some((one) => one.location === location)
-    ? 'in this run the accesses there are more than the program takes, so it was not asked about them'
+    ? 'in this run the accesses there are over the limits of the analyzer, so they were left out'
     : `in this run the rules order them: ${called('er_view')} ${run.file} --why ${pair.join(' ')}`;
   return { isTurned: true, isListed: false, pair, note };
 }

@@ -169,7 +169,7 @@ test('no browser at the port, and what is no browser', LIMIT, async () => {
   assert.match(none.stderr, /there is no browser at this port/);
   const other = await run(path.join(TOP, 'er_record'), words(new URL(address).port), { longest: LONGEST_RUN });
   assert.strictEqual(other.status, 5);
-  assert.match(other.stderr, /what answers there is no browser/);
+  assert.match(other.stderr, /the program at this port is not a browser/);
   const far = await run(path.join(TOP, 'er_record'), ['--attach', 'example.com:9222', 'x.trace'], { longest: LONGEST_RUN });
   assert.strictEqual(far.status, 2);
 });

@@ -1,5 +1,5 @@
 'use strict';
-// How the commands end: what they write, what they say, their statuses, and that no browser and no folder is left behind.
+// How the commands end: what they write and print, their exit statuses, and that no browser and no folder is left.
 
 const assert = require('node:assert');
 const { spawn } = require('node:child_process');
@@ -16,7 +16,7 @@ const folder = temporaryFolder('test');
 /** @param {string} name */
 const traceFile = (name) => path.join(folder, `${name}.trace`);
 /**
- * A folder for temporary files of its own, so that what is left behind is seen.
+ * A folder for temporary files of its own, so that what is left is seen.
  * @param {string} name
  */
 function temporary(name) {
@@ -229,7 +229,7 @@ test('a trace that is refused', { timeout: 150000 }, async () => {
   assert.match(stderr, /refused at line 2: unknown/);
 });
 
-test('a test that a signal ends leaves nothing behind', { timeout: 150000 }, async () => {
+test('a test that a signal ends leaves nothing', { timeout: 150000 }, async () => {
   const own = temporary('ended');
   const env = { ...process.env, TMPDIR: own, NODE_TEST_CONTEXT: undefined };
   const command = start(process.execPath, ['--stack-size=4000', path.join(__dirname, 'pages.test.js')], { env });

@@ -59,14 +59,14 @@ test('bad input is refused in a line', async () => {
   await refused([TRACE, '--race', '1', '--fast'], 2, /unknown option: --fast/);
   assert.strictEqual(await refused(['no.trace', '--race', '1'], 4, /^er_replay: there is no file no\.trace$/m), 1);
   assert.strictEqual(await refused([TRACE, '--race', '99'], 2, /^er_replay: there is no race 99 in .*: it has \d+$/m), 1);
-  assert.strictEqual(await refused([copyWith('old', () => undefined), '--race', '1'], 4, /does not tell how the page was recorded: record it again$/m), 1);
+  assert.strictEqual(await refused([copyWith('old', () => undefined), '--race', '1'], 4, /does not say how the page was recorded: record the page again$/m), 1);
   assert.strictEqual(await refused([copyWith('other', (recording) => ({ ...recording, digest: 'x' })), '--race', '1'], 4, /is that of another trace$/m), 1);
   assert.strictEqual(await refused([copyWith('gone', (recording) => ({ ...recording, page: 'gone.html' })), '--race', '1'], 4, /the page is gone: there is no .*gone\.html$/m), 1);
   assert.strictEqual(await refused([copyWith('newer', (recording) => ({ ...recording, words: [...recording.words, '--newer'] })), '--race', '1'], 4, /has no options of this version: unknown option: --newer$/m), 1);
   assert.strictEqual(await refused([copyWith('driven', (recording) => ({ ...recording, isAttached: true })), '--race', '1'], 4, /was recorded with --attach/), 1);
   fs.writeFileSync(path.join(folder, 'site', 'bad.names.json'), '{');
   fs.copyFileSync(TRACE, path.join(folder, 'site', 'bad.trace'));
-  assert.strictEqual(await refused([path.join(folder, 'site', 'bad.trace'), '--race', '1'], 4, /is no file of names/), 1);
+  assert.strictEqual(await refused([path.join(folder, 'site', 'bad.trace'), '--race', '1'], 4, /is not a names file of er_record/), 1);
 });
 
 test('a race is found again, also where the page and the trace were moved and the page has a further line', { timeout: LONGEST + 10000 }, async () => {

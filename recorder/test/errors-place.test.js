@@ -1,5 +1,5 @@
 'use strict';
-// Where an error of a page is told to be: never in the recorder's own script. No browser.
+// The place that is reported of a page's error: never in the recorder's own script. No browser.
 
 const assert = require('node:assert');
 const { EventEmitter } = require('node:events');
@@ -9,7 +9,7 @@ const { parseOptions } = require('../recording/options.js');
 const { Recorder } = require('../recording/recorder.js');
 
 /**
- * What is told of an error, as the browser tells the recorder of it.
+ * What is reported of an error, from what the browser sends.
  * @param {object} details
  */
 function toldOf(details) {

@@ -1,5 +1,5 @@
 'use strict';
-// The errors of a page are told as without the recorder: the same ones, each with its place. In a browser.
+// The errors of a page are reported as without the recorder: the same ones, each with its place. In a browser.
 
 const assert = require('node:assert');
 const path = require('node:path');

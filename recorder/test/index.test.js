@@ -61,7 +61,7 @@ test('errors have codes', LIMIT, async () => {
   // @ts-expect-error: a member that the types do not allow
   await fails(record(SHOP, { trace: none, what: 1 }), 'USAGE', /unknown option: what/);
   await fails(record(SHOP, { trace: none, time: -1 }), 'USAGE', /--time/);
-  await fails(record(SHOP, { trace: '/nowhere/x.trace' }), 'FAILED', /can not be written/);
+  await fails(record(SHOP, { trace: '/nowhere/x.trace' }), 'FAILED', /cannot be written/);
   await fails(attach('example.com:1', { trace: none }), 'USAGE', /--attach/);
   await fails(judge(path.join(folder, 'lacking.trace')), 'NO_PAGE');
   await fails(list([]), 'USAGE');

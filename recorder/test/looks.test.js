@@ -64,7 +64,7 @@ test('look-objects.html', { timeout: 150000 }, async () => {
   }
 });
 
-// The address runs in a task of its own, which no rule puts behind another act; the user's click asked for it all the same.
+// The address runs in a task of its own, which no rule puts after another act; the user's click requested it all the same.
 test('look-address.html', { timeout: 150000 }, async () => {
   const trace = await recordPage(browser, 'look-address.html', ['--do', 'click:#close', '--do', 'click:#open'], undefined, false);
   const report = await judgeText(trace.text);

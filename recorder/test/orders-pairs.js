@@ -76,7 +76,7 @@ class RunPairs {
   }
 
   /**
-   * Whether it is a step of the parser that is told from no other: a text, whose pieces differ from run to run, or an element without a place.
+   * Whether it is a step of the parser that nothing distinguishes from others: a text, whose pieces differ from run to run, or an element without a place.
    * @param {number} number
    */
   isNameless(number) {

@@ -34,7 +34,7 @@ async function stepsOf(file, [from, to]) {
 }
 
 /**
- * The number that an action of a run has in another one; null if the other one lacks it, undefined if it can not be told.
+ * The number that an action of a run has in another one; null if the other one lacks it, undefined if it cannot be known.
  * @param {RunPairs} run
  * @param {number} number
  * @param {RunPairs} other

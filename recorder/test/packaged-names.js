@@ -121,8 +121,8 @@ function lost(runs, names) {
 }
 
 /**
- * Of the two sides of each race: for how many a place in the page's own code is told, that of the access or of its action; else one in a library, or none.
- * `access` and `byWay` count how many are the access's own, and how many are told by way of a library.
+ * Of the two sides of each race: for how many a place in the page's own code is known, that of the access or of its action; else one in a library, or none.
+ * `access` and `byWay` count how many are the access's own, and how many are known by way of a library.
  * @param {Problems} problems
  * @param {Counts} counts
  */
@@ -148,7 +148,7 @@ function hasWay({ words: [word, number, , handler] }, names) {
 }
 
 /**
- * Of the sides of the race by which each problem is told those with a place in the page's own code.
+ * Of the sides of the race that each problem shows those with a place in the page's own code.
  * @param {Problems} problems
  * @param {Counts} counts
  */

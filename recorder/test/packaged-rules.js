@@ -1,7 +1,7 @@
 #!/usr/bin/env node
 'use strict';
 // packaged-rules.js FOLDER [PACKAGE..]: records pages of Debian packages (packaged.json; those that are installed) with all their accesses, makes of
-// each recording the whole trace and the one that the rules leave, and tells which races of the whole are missing in the other, and by which rule.
+// each recording the whole trace and the one that the rules leave, and prints which races of the whole are missing in the other, and by which rule.
 
 const fs = require('node:fs');
 const path = require('node:path');

@@ -1,7 +1,7 @@
 #!/usr/bin/env node
 'use strict';
 // packaged.js [--times N] [--server] [--depth DEPTH] [FOLDER] [PACKAGE..]: records pages of Debian packages (packaged.json; those that are installed),
-// each also without the recorder, and tells whether the trace is accepted, whether the page throws the same, and how long the load took:
+// each also without the recorder, and prints whether the trace is accepted, whether the page throws the same, and how long the load took:
 // the median of N recordings with and without the recorder, alternately. With --server the pages come from a web server of its own.
 
 const fs = require('node:fs');

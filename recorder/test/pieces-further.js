@@ -1,5 +1,5 @@
 'use strict';
-// More pieces of code in which marks could change what happens, by what they are made of. `say` tells what is compared.
+// More pieces of code in which marks could change what happens, by what they are made of. `say` gets what is compared.
 
 exports.further = {
   // ---- generators, promises, async code

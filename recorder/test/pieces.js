@@ -1,5 +1,5 @@
 'use strict';
-// Pieces of code in which marks could change what happens. `say` tells what is compared.
+// Pieces of code in which marks could change what happens. `say` gets what is compared.
 
 exports.pieces = {
   'members and calls': 'var o = { n: 1, f() { return this.n } }; say(o.n, o.f(), o["n"], o["f"](), (o).n, (0, o).n, o.f.call({ n: 2 }))',
@@ -43,7 +43,7 @@ exports.pieces = {
   'generators that end early': 'function* g() { try { yield 1; yield 2 } finally { say("end") } } for (var x of g()) break; var [a] = g(); say(a, [...g()]); function* d() { var r = yield* g(); return r } say([...d()])',
   'async': 'var o = { n: 1 }; async function f() { let m = 0; const up = () => { m++ }; o.n = await 2; o.n += await 3; up(); m += await 4; m ||= await 5; m &&= await 6; o.q ??= await 7; o["k"] = await 8; say(o, m); for await (const x of [1, Promise.resolve(2)]) say(x); try { await Promise.reject(o.n) } catch (e) { say(e) } return o.q } f().then((v) => say("done", v)); say("first", o.n)',
   'jobs in their order': 'async function a(k) { "use strict"; say(k, 1); await null; say(k, 2, await await 3, await (4, 5)); try { await Promise.reject(6) } catch (e) { say(k, e) } finally { await 7 } return [await 8, ...await [9]] } a("x").then(say); Promise.resolve().then(() => say("t1")).then(() => say("t2")); a("y"); const arrow = async (k) => await a(k); class C { async m() { return await this.n } get n() { return arrow("z") } static async *g() { yield await 1; for await (const v of [2]) yield v } } new C().m().then(say); (async () => { for await (const v of C.g()) say(v); say(await { then(f) { f(await_ = "thenable") } }) })(); var await_',
-  'compound before and behind await': 'var o = { n: 1 }; async function f() { o.n += await (o.n = 10, 5); say(o.n); let m = 1; const s = () => { m = 50 }; m += await (s(), 5); say(m) } f()',
+  'compound before and after await': 'var o = { n: 1 }; async function f() { o.n += await (o.n = 10, 5); say(o.n); let m = 1; const s = () => { m = 50 }; m += await (s(), 5); say(m) } f()',
   'logical assignment': 'var n = 0; var o = { a: 1, b: 0, c: null }; o.a ||= n++; o.b &&= n++; o.c ??= 5; o.d ||= 6; o["a"] &&= 7; let x = null; const g = () => x; x ??= 1; x ||= n++; x &&= 3; let fn; (() => fn)(); fn ??= function () {}; let ar; (() => ar)(); ar ||= () => 1; say(o, n, g(), fn.name, ar.name)',
   'names of functions': 'let a = function () {}, b = () => 1, c = class {}, d = class { static name = "own" }; var o = { e: function () {}, f: () => 1, g() {}, ["h" + 1]: () => 1 }; let l; (() => l)(); l = () => 1; var { m = () => 1 } = {}; let n = (0, () => 1); o.p = () => 1; var v = function () {}; function again() { var w = () => 1; w = () => 2; (() => w)(); return w.name } say(a.name, b.name, c.name, d.name, o.e.name, o.f.name, o.g.name, o.h1.name, l.name, m.name, n.name, o.p.name, v.name, again())',
   'texts of functions': 'function f(a) { let n = a.b; return () => n++ } var o = { m() { return this.x.y } }; class A { #p = 1; get q() { return this.#p } } say(f.toString(), o.m.toString(), A.toString(), String((x) => x.y[0]), `${async function* g() { yield a.b }}`)',

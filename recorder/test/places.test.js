@@ -1,5 +1,5 @@
 'use strict';
-// Where the page's own code asks a library for something, both places are told, in a real browser.
+// Where the page's own code asks a library for something, both places are printed, in a real browser.
 
 const assert = require('node:assert');
 const { after, before, test } = require('node:test');
@@ -28,7 +28,7 @@ async function actionsOf(words, given = libraries) {
   return inWords.actions.list.map(({ number }) => inWords.action(number));
 }
 
-test('the page\'s own place, with the library\'s behind it', LIMIT, async () => {
+test('the page\'s own place, with the library\'s after it', LIMIT, async () => {
   const actions = await actionsOf([]);
   for (const due of ['the timeout wrapped set at by-way-of-library.html:7, by way of jquery-tiny.js:1', 'the timeout wrapped set at by-way-of-library.html:8, by way of jquery-tiny.js:1',
     'the click handler three at by-way-of-library.html:9, by way of jquery-tiny.js:2', 'the load handler four of the request for data.json at by-way-of-library.html:10, by way of jquery-tiny.js:5',

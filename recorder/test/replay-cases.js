@@ -1,7 +1,7 @@
 'use strict';
 // Pages with one race: a location of it in words, what the user does, what differs where it is turned, in whichever order it was recorded (`null`:
-// nothing that is seen), and the worst effect (replay/verdict.js). Those that are `isLong` stand in the longer run alone
-// (recorder/README.md). Of `cases` test/looks.test.js tells what they look like.
+// nothing that is seen), and the worst effect (replay/verdict.js). Those that are `isLong` are only in the longer run
+// (recorder/README.md). Of `cases` test/looks.test.js has the patterns.
 
 /**
  * Of two that write one text the later one's stands there.
@@ -70,7 +70,7 @@ exports.more = [
   { page: 'race-lines.html', location: 'last', isLong: true, worst: CONTENT, differs: /the order of the lines: (tea|milk) in the recorded order, (tea|milk) in the other order/ },
   { page: 'race-draft.html', words: ['--do', 'wait:500', '--do', 'type:#text:tea'], location: 'value of textarea#text', isLong: true, worst: 'a lost input', differs: /value of textarea#text: kept draft tea in the recorded order, / },
   { page: 'race-checkbox.html', words: ['--do', 'wait:500', '--do', 'click:#agree'], location: 'checked of input#agree', isLong: true, worst: 'a lost input', differs: /checked of input#agree: true in the recorded order, false in the other order/ },
-  { page: 'race-restless.html', location: 'state', worst: CONTENT, differs: last('soon'), says: /the page never rests: compared behind \d+ of its own turns in each run/ },
+  { page: 'race-restless.html', location: 'state', worst: CONTENT, differs: last('soon'), says: /the page never rests: compared after \d+ of its own turns in each run/ },
   { page: 'race-post-late.html', location: 'cart', worst: CONTENT, differs: last('bought', 'empty'), says: /; not sent again without --yes: POST http:\/\/shop\.invalid:1\/reset/ },
   { page: 'race-post-late.html', words: ['--replay', '--yes'], location: 'cart', isLong: true, worst: CONTENT, differs: last('bought', 'empty'), says: /^(?!.*not sent again)/ },
   { page: 'race-slow-note.html', words: ['--do', 'wait:3500'], location: 'came', isLong: true, differs: null, says: /but what the delay alone does too: text in the other order alone: "The network is slow"/ },

@@ -67,7 +67,7 @@ describe('pages with a user', () => {
 });
 
 /**
- * Those that stand in the gate come from the folder there.
+ * Those that are in CI come from the folder there.
  * @type {{page: string, location: string, said: RegExp, isLong?: boolean}[]}
  */
 const OF_SERVER = [

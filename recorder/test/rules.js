@@ -91,7 +91,7 @@ class Comparison {
   }
 
   /**
-   * A race of what is left is one of the whole; a side that is told as a read may be a write there.
+   * A race of what is left is one of the whole; a side that is written as a read can be a write there.
    * @param {Race} race
    */
   isOfWhole(race) {

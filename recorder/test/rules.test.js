@@ -7,13 +7,13 @@ const { Accesses } = require('../trace/accesses.js');
 const { judgeLines } = require('./list-support.js');
 const { Comparison } = require('./rules.js');
 
-/** Three timeouts that nothing orders, with accesses to one variable, as the page tells them. */
+/** Three timeouts that nothing orders, with accesses to one variable, as the page sends them. */
 const BEGIN = ['parse 0 1 inline', 'exec 1', 'every 1 0', 'every 2 0', 'every 3 0'];
 /** @param {string[]} lines */
 const entriesOf = (lines) => lines.map((line) => ({ text: line.split('\t')[0], place: line.split('\t')[1] }));
 
 /**
- * @param {string[][]} actions what each of the timeouts tells of all accesses
+ * @param {string[][]} actions what each of the timeouts sends of all accesses
  * @param {string[]} told the lines that its rules leave
  */
 async function compare(actions, told, location = 'var 3000000 n own') {

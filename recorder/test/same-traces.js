@@ -1,7 +1,7 @@
 #!/usr/bin/env node
 'use strict';
 // same-traces.js [--times N] [--packaged] [--words FILE] CHECKOUT [PAGE..]: records pages by the recorder of another checkout and by this one, alternately,
-// and compares the traces, but for numbers that differ by run. By hand, after a change that is to change no trace.
+// and compares the traces, except numbers that differ by run. By hand, after a change that is to change no trace.
 //
 // The pages are those of pages.test.js, or with --packaged those of packaged.json whose package is installed. A page whose order differs from run to run
 // is recorded up to N times by each (4): it is the same if any two traces are equal. Ends with 1 where a page is different.

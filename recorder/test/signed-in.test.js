@@ -1,5 +1,5 @@
 'use strict';
-// Pages behind a log-in: cookies, a stored state, a profile that stays, and what a page knows of the browser.
+// Pages that need a log-in: cookies, a stored state, a profile that stays, and what a page knows of the browser.
 
 const assert = require('node:assert');
 const { spawnSync } = require('node:child_process');

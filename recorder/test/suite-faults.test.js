@@ -61,7 +61,7 @@ test('a full disk: a line in the log and on standard error, and the browser goes
   }
   try {
     const browser = open(traces, 'full');
-    await until(() => /a page load is not recorded: .* can not be written: ENOSPC/.test(browser.said));
+    await until(() => /a page load is not recorded: .* cannot be written: ENOSPC/.test(browser.said));
     assert.strictEqual(browser.exitCode, null);
     await end(browser);
     assert.ok(await waitForWriters(traces, LONGEST));

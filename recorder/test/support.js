@@ -26,10 +26,10 @@ const PAGES = path.join(__dirname, 'pages');
  * @typedef {ReturnType<typeof traceOf>} Trace
  * @typedef {import('../trace/names.js').Names} TraceNames
  * @typedef {import('../races/types').Race} Race
- * @typedef {string|number} Digits a number, or the word of a record that spells it
+ * @typedef {string|number} Digits a number, or the word of a record for it
  */
 
-/** One whose page may ask where it is on the globe, and is told. */
+/** One whose page may ask where it is on the globe, and gets an answer. */
 class RecorderSomewhere extends Recorder {
   async prepareTab() {
     await super.prepareTab();
@@ -217,7 +217,7 @@ function reportOf(trace) {
   return { races: [], ...JSON.parse(stdout) };
 }
 
-/** Words that note where the two sides of a race have nothing to tell them apart but their numbers. */
+/** Words that note where the two sides of a race differ only in their numbers. */
 class NotingWords extends Words {
   isNumbered = false;
 

@@ -13,7 +13,7 @@ const { parseOptions } = require('../recording/options.js');
 const { Recorder } = require('../recording/recorder.js');
 
 const ALL = Buffer.from(Array.from({ length: 256 }, (_, byte) => byte));
-/** A script of its own file, and a handler, whose text is told by its characters' numbers. */
+/** A script of its own file, and a handler, whose text is given by its characters' numbers. */
 const CODE = "document.body.append(' file ' + [...'é€'].map((sign) => sign.charCodeAt(0))); window['caf\\u00e9 \\u2603'] = 1;";
 const HTML = `<title>café</title><p id=a onclick="this.title = '&#9731;é'; a.textContent = a.title.length + ' ' + a.title.charCodeAt(1)">café</p>
 <script>document.body.append(document.characterSet + ' inline ' + [...'é€'].map((sign) => sign.charCodeAt(0))); window['caf\\u00e9 \\u2603'] = 1; a.click();</script><script src="code.js"></script>`;

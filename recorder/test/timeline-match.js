@@ -22,7 +22,7 @@ const ACTIONS = {
 const WITH_CALL = new Set(['TimerFire', 'FireAnimationFrame', 'FireIdleCallback']);
 /** In which events an action can begin. Others begin in several ways; that a channel of broadcasts has a message is no event. */
 const EVENTS = { timer: ['TimerFire'], anim: ['FireAnimationFrame'], exec: ['EvaluateScript', 'v8.evaluateModule'] };
-/** The events that tell what calls a handler. */
+/** The events that show what calls a handler. */
 const AROUND = new Set(['EventDispatch', 'XHRReadyStateChange', 'XHRLoad', 'HandlePostMessage', 'TimerFire', 'FireAnimationFrame', 'FireIdleCallback']);
 /** The recorder's function around each handler of the page (page/events/handlers.js). */
 const HANDLER = 'wrapped';

@@ -1,5 +1,5 @@
 'use strict';
-// The commands in a clone in which nothing is built: a copy, with a stand-in for the kit's rt, so that no answer takes a minute.
+// The commands in a clone in which nothing is built: a copy, with a stand-in for the toolchain's rt, so that no answer takes a minute.
 
 const assert = require('node:assert');
 const fs = require('node:fs');
@@ -12,7 +12,7 @@ const VERSION = fs.readFileSync(path.join(TOP, 'VERSION'), 'utf8').trim();
 const LONGEST_RUN = 90000;
 const LONGEST_TEST = 150000;
 const ANSWERS = process.env.ER_CLI || path.join(TOP, 'crates', 'er_cli', 'out', 'er_cli');
-const UNPROVED = /^er_cli: the program is not built yet: .* NOT PROVED on this machine yet\ner_cli: .*er_cli --build proves and builds it .*\n/m;
+const UNPROVED = /^er_cli: the analyzer is not built yet: .* NOT PROVED on this machine yet\ner_cli: .*er_cli --build proves and builds it .*\n/m;
 const TABS = path.join(TOP, 'examples', 'page-jquery-ui-tabs-with-requests');
 const folder = temporaryFolder('unbuilt');
 const clone = path.join(folder, 'clone');
@@ -89,7 +89,7 @@ test('no answer: nothing is written', { timeout: LONGEST_TEST }, async () => {
   const file = traceOf('refused-source');
   const { status, stderr } = await call('er_view', [file], { DOES: 'refuse' });
   assert.strictEqual(status, 10);
-  assert.match(stderr, /error: a slip in the source\ner_cli: the source is refused\ner_view: the program gave no report/);
+  assert.match(stderr, /error: a slip in the source\ner_cli: the source is refused\ner_view: the analyzer gave no report/);
   assert.ok(!fs.existsSync(file.replace('.trace', '.html')));
 });
 

@@ -112,13 +112,13 @@ test('groups in words, a filter, and what folds out', { timeout: 150000 }, async
   await pick(tab, 7);
   assert.match(await textOf(tab, '.picked'), /^Action 7, line 20: .*click/);
   await pick(tab, 0);
-  assert.match(await textOf(tab, '.picked'), /Action 0, .*Action 7, .*From action 0 these steps lead to action 7, as the program explains it:.*\(action 7\) by rule 16/);
+  assert.match(await textOf(tab, '.picked'), /Action 0, .*Action 7, .*From action 0 these steps lead to action 7:.*\(action 7\) by rule 16/);
   await pick(tab, 4);
   await pick(tab, 5);
   assert.match(await textOf(tab, '.picked'), /Nothing orders action 4 and action 5: they race on "cart"\./);
   await pick(tab, 3);
   await pick(tab, 7);
-  assert.match(await textOf(tab, '.picked'), /does not hold whether something orders action 3 and action 7\. The program tells it:\.\/er_view .*shop\.trace --why 3 7$/);
+  assert.match(await textOf(tab, '.picked'), /does not contain whether something orders action 3 and action 7\. This command prints it:\.\/er_view .*shop\.trace --why 3 7$/);
   assert.match(await textOf(tab, '.others summary'), /1 more race/);
   await clickAt(tab, '.others > summary');
   await clickAt(tab, '.one > summary');

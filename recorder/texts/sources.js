@@ -1,5 +1,5 @@
 'use strict';
-// The texts of the pages and scripts of one run: what the browser gets in their place, and the places that a position in its copy stands for.
+// The texts of the pages and scripts of one run: their copies, which the browser gets, and the place in the text for a position in its copy.
 
 const { HANDLER_NAMES } = require('../common/handler-names.js');
 const { instrument } = require('../instrument/instrument.js');
@@ -219,7 +219,7 @@ class Sources {
    * @param {number} column
    * @returns {{text: string, offset: number, known: Map<string, string|null>}|null}
    */
-  textBehind(address, line, column) {
+  textAndOffset(address, line, column) {
     const found = this.copyAt(address);
     return found && { text: found.source.text, offset: found.copy.originalOffsetAt(line, column), known: found.source.callSites };
   }

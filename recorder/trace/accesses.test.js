@@ -12,7 +12,7 @@ const placed = (lines, options) => new Accesses(entriesOf(lines)).entries(option
 
 const LOG = ['parse 0 1 plain', 'new 0 2 plain', 'exec 1', 'set 1 0', 'timer 1', 'at 1 var 3000000 total own', 'in 2 w 1\t7', 'in 3 r 1\t8'];
 
-test('each access stands behind the begin of its action', () => {
+test('each access comes after the start of its action', () => {
   assert.deepStrictEqual(placed(LOG), ['parse 0 1 plain', 'new 0 2 plain', 'exec 1', 'w var 3000000 total', 'set 1 0', 'timer 1', 'r var 3000000 total']);
   assert.strictEqual(new Accesses(entriesOf(LOG)).entries()[3].place, '7');
 });

@@ -113,7 +113,7 @@ class Intake {
   }
 
   /**
-   * What stands beside a line is left out if it is wrong, and the line stays: else the numbers of later actions would be others.
+   * What comes with a line is left out if it is wrong, and the line stays: else the numbers of later actions would be others.
    * @param {string} line
    */
   takeEntry(line) {

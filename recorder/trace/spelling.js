@@ -1,5 +1,5 @@
 'use strict';
-// Spells a log as records of one version of the format, all of which the analyzer takes (spelling/legal.js).
+// Writes a log as records of one version of the format, all of which the analyzer takes (spelling/legal.js).
 //
 // A line of the log is a record, or one of these. After tabs it has its place in the browser's copy (or the number of a mark), what an access found
 // or wrote (page/log/values.js), and, if code requests something, the number of its stack: trace/names.js takes the first place in it outside of libraries.
@@ -14,7 +14,7 @@
 // - `module N`, `is N E`, `asked I known`, `came N I`: the run of the module's script element, or of what `import()` asked for, by its address, else in the
 //   order of the calls.
 // - `at N LOCATION`, `in A MODE N`: an access to a variable of an object, a scope or a window in action A, written once it may race (trace/accesses.js puts
-//   it there). MODE is `r`, `w`, or `k`: a write of the value that was there, told as a read.
+//   it there). MODE is `r`, `w`, or `k`: a write of the value that was there, written as a read.
 // - `all MODE N WHY`, `same N`: with `--keep` the same in its own place, whatever the rules say of it, which is WHY; the write of N by the running action
 //   left the old value.
 
@@ -107,7 +107,7 @@ class Spelling {
   }
 
   /**
-   * A record, with what is known of the entry that is spelled.
+   * A record, with what is known of the entry that is written.
    * @param {string} text
    */
   put(text) {

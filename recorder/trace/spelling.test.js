@@ -1,5 +1,5 @@
 'use strict';
-// How a log is spelled in each version of the format, and what is left out for the limit on actions. No browser.
+// How a log is written in each version of the format, and what is left out for the limit on actions. No browser.
 
 const assert = require('node:assert');
 const { test } = require('node:test');
@@ -17,7 +17,7 @@ test('notes go to where they belong', () => {
   assert.deepStrictEqual(spell(lines, 1), ['parse 0 1 plain', 'every 3000000001 0', 'new 0 2 plain', 'new 0 4 plain', 'new 0 5 plain', 'parse 0 3 plain']);
 });
 
-test('what nothing that ran has made in a frame stands behind its document', () => {
+test('what nothing that ran has made in a frame comes after its document', () => {
   const lines = ['parse 0 1 plain', 'early new 2 8 async', 'early new 0 9 plain', 'new 0 2 plain', 'parse 0 3 frame 1', 'beside 3 new 0 4 frame 2', 'beside 8 new 2 10 plain', 'exec 8'];
   assert.deepStrictEqual(spell(lines, 3),
     ['parse 0 1 plain', 'new 0 9 plain', 'new 0 2 plain', 'parse 0 3 frame 1', 'new 0 4 frame 2', 'new 2 8 async', 'new 2 10 plain', 'exec 8']);

@@ -33,7 +33,7 @@ function leftOut({ leftOut: all = [] }) {
   if (!all.length) return '';
   const told = all.slice(0, MOST_LEFT_OUT).map(({ words, pairs }) => `${words} (${pairs} pairs)`).join(', ');
   const more = all.length > MOST_LEFT_OUT ? ` and ${all.length - MOST_LEFT_OUT} more` : '';
-  return `<p class="left-out">Not judged, since it is more than the program takes: the accesses to ${escapeText(told)}${more}.</p>\n`;
+  return `<p class="left-out">Left out, since they are over the limits of the analyzer: the accesses to ${escapeText(told)}${more}.</p>\n`;
 }
 
 /**
@@ -52,8 +52,8 @@ function notShown({ totals, races, report }) {
  */
 function unproved({ isUnproved, command }) {
   if (!isUnproved) return '';
-  return `<p class="unproved">The program that tells these races was not built when this page was made: the same source told them, compiled without its proof. The ways that lead
-from one action to another are left for later: after <code>./er_cli --build</code>, <code>${escapeText(command)}</code> writes this page with them.</p>\n`;
+  return `<p class="unproved">The analyzer was not built when this page was made: its source, compiled without its proof, found these races. The paths between actions are missing:
+after <code>./er_cli --build</code>, <code>${escapeText(command)}</code> writes this page with them.</p>\n`;
 }
 
 /**

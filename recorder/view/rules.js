@@ -1,5 +1,5 @@
 'use strict';
-// Each rule in few words (docs/rules.md).
+// Each rule in few words (docs/rules.md), for the view and `er_view --why`.
 
 /** @type {{[rule: number]: string}} */
 const RULES = {
@@ -21,19 +21,19 @@ const RULES = {
   16: 'handlers run inside their dispatch, group after group',
   17: 'two events of one type at one target come as recorded',
   18: 'a timeout comes after it was set',
-  19: 'timeouts come in the order of their setting, where the later one has no lesser delay',
+  19: 'timeouts come in the order in which they were set, if the later one has no shorter delay',
   20: 'an interval ticks after it was set, and in order',
   21: 'a reply comes after its request, and replies in order',
-  22: 'an event that code causes begins after what caused it, which goes on behind it',
+  22: 'an event that code causes starts after the code before its call, and ends before the code after it',
   23: 'the pieces of one event come in order',
   24: 'a message comes after it was posted',
-  25: 'messages come in the order of their posting',
-  26: 'an animation callback comes after it was asked for',
-  27: 'animation callbacks come in the order in which they were asked for',
-  28: 'a job runs after it was queued',
-  29: 'jobs run in the order of their queueing',
-  30: 'a job runs before the callbacks that its asker set, posted or asked for',
-  31: 'a job that begins inside a dispatch runs before its close',
+  25: 'messages come in the order in which they were posted',
+  26: 'an animation callback comes after it was requested',
+  27: 'animation callbacks come in the order in which they were requested',
+  28: 'a microtask runs after it was queued',
+  29: 'microtasks run in the order in which they were queued',
+  30: 'a microtask runs before the callbacks that the code which queued it set, posted or requested',
+  31: 'a microtask that starts inside a dispatch runs before the end of the dispatch',
 };
 
 /** @param {number} number */

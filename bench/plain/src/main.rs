@@ -17,10 +17,10 @@ const MOST_RACES: usize = 262_144;
 const MOST_CLASSES: usize = 32_768;
 const MOST_ROUNDS: u32 = 1_500;
 
-/// Why a line is refused, as docs/format.md spells it.
+/// Why a line is refused, in the words of docs/format.md.
 type Cause = &'static str;
 type Number = u32;
-/// An event is told by its first action.
+/// An event is identified by its first action.
 type Action = u32;
 
 // ---------------------------------------------------------------- tables
@@ -55,7 +55,7 @@ fn number_of(texts: &mut Texts, text: &[u8]) -> u32 {
 }
 
 // ---------------------------------------------------------------- records
-/// The forms of a record but for accesses: those before `New` begin an action.
+/// The forms of a record except accesses: those before `New` begin an action.
 #[derive(Clone, Copy, PartialEq, Eq, Hash, PartialOrd)]
 enum Form {
     Parse, Exec, Timer, Tick, Dcl, Load, Eload, Fire, Wfire, Reply, Inline, Run, Close, Back, Message, Anim, Job,
@@ -63,7 +63,7 @@ enum Form {
 }
 use Form::*;
 
-/// Each form with its word and what stands behind it. A letter is a number of what begins with it, `m` say a message:
+/// Each form with its keyword and what comes after it. A letter is a number of what begins with it, `m` say a message:
 /// a small one is declared here, a capital one must be declared before; `#` is any number, `?` a kind, `"` a name.
 const FORMS: [(Form, &[u8], &[u8]); 25] = [
     (Parse, b"parse", b"De?"), (Exec, b"exec", b"E"), (Timer, b"timer", b"T"), (Tick, b"tick", b"I"),
@@ -112,7 +112,7 @@ impl<'a> Tokens<'a> {
         Number::try_from(token.iter().try_fold(0, digit)?).ok()
     }
 
-    /// A name stays as it is spelled, since it has one spelling.
+    /// A name stays as it is written, since it can be written in one way.
     fn name(&mut self) -> Option<&'a [u8]> {
         let token = self.word()?;
         let (mut at, mut bytes) = (0, 0);
@@ -147,7 +147,7 @@ fn is_escape(bytes: &[u8]) -> bool {
     digit(high).zip(digit(low)).is_some_and(|(high, low)| !stands_for_itself((high * 16 + low) as u8))
 }
 
-/// An access: whether it writes, and its location as it is spelled, which has one spelling.
+/// An access: whether it writes, and its location as it is written, which can be written in one way.
 fn access_of(line: &[u8]) -> Option<(bool, &[u8])> {
     let (mode, location) = line.split_at_checked(2)?;
     let mut tokens = Tokens(Some(location));
@@ -156,7 +156,7 @@ fn access_of(line: &[u8]) -> Option<(bool, &[u8])> {
         .then_some((mode == b"w ", location))
 }
 
-/// The record that a line spells in a trace of the version, but for an access.
+/// The record that a line encodes in a trace of the version, except an access.
 fn record_of(line: &[u8], version: usize) -> Option<Record<'_>> {
     let mut tokens = Tokens(Some(line));
     let word = tokens.word()?;
@@ -782,7 +782,7 @@ impl<R: BufRead> Lines<R> {
     }
 }
 
-/// What a report tells of a trace.
+/// What a report contains.
 struct Judged {
     page: Page, accesses: Accesses, races: Vec<(u32, u32)>, named: Vec<usize>, groups: Vec<(usize, usize)>,
 }

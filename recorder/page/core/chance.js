@@ -28,8 +28,8 @@ function fixChance(window, { seed, date }) {
   };
   const Native = window.Date;
   const { now: clock, prototype: { toString: dateText } } = Native;
-  const behind = Math.round(date - beginOf(window)); // the browser's clock has whole milliseconds, but for when the page began
-  const now = () => clock() + behind;
+  const offset = Math.round(date - beginOf(window)); // the browser's clock has whole milliseconds, except the page's start
+  const now = () => clock() + offset;
   /** @param {unknown[]} args */
   function FixedDate(...args) {
     if (!new.target) return apply(dateText, new Native(now()), []);

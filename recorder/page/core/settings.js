@@ -1,4 +1,4 @@
-// What a recording is told from outside: one object, which page-script.js writes behind the modules.
+// The settings of a recording, from outside of the page: one object, which page-script.js writes after the modules.
 
 /* global given */
 

@@ -4,7 +4,7 @@
 /* global window */
 
 /**
- * The functions that stand at an object, as `Object.keys`, apart from it.
+ * The functions of an object, as `Object.keys`, apart from it.
  * @template T
  * @param {T} owner
  * @returns {T}

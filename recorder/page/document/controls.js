@@ -9,7 +9,7 @@ const CONTROLS = 'button,input,select,textarea';
 const IS_CONTROL = /^(button|input|select|textarea)$/;
 /** Disabled by its own attribute, or by that of a fieldset around it, which does not count in a legend. */
 const IS_KEPT = ':disabled:is([disabled], :not(legend *))';
-/** What a browser tells no disabled control. Pointers, the wheel, the right button, what is pasted and a selection do reach one. */
+/** The events that a browser does not dispatch at a disabled control. Pointers, the wheel, the right button, what is pasted and a selection do reach one. */
 const ACTS = new Set(['mousedown', 'mouseup', 'click', 'dblclick', 'keydown', 'keypress', 'keyup', 'beforeinput', 'textInput', 'input', 'change', 'focus',
   'focusin', 'blur', 'focusout']);
 const ENABLED = 'the code that enabled it';
@@ -138,8 +138,8 @@ class Controls {
     const enabled = this.reached(event, target);
     const moments = joined(enabled ? [enabled] : [], this.page.reach.momentsOf(event, target));
     if (!moments.length) return 0;
-    dispatch.behind = mapped(moments, ({ event: cause }) => cause);
-    return this.standInBehind(target, moments, moments.length === (enabled ? 1 : 0));
+    dispatch.comesAfter = mapped(moments, ({ event: cause }) => cause);
+    return this.standInAfter(target, moments, moments.length === (enabled ? 1 : 0));
   }
 
   /**
@@ -148,7 +148,7 @@ class Controls {
    * @param {Moment[]} moments
    * @param {boolean} isEnabling
    */
-  standInBehind(target, moments, isEnabling) {
+  standInAfter(target, moments, isEnabling) {
     const ofTarget = this.standIns.get(target) || new Map();
     this.standIns.set(target, ofTarget);
     let key = '';
@@ -158,7 +158,7 @@ class Controls {
   }
 
   /**
-   * It is made after what made the target and what enabled or showed it. No rule is known to put the one before the other, so an event of its own tells all.
+   * It is made after what made the target and what enabled or showed it. No rule is known to put the one before the other, so an event of its own comes after all.
    * @param {Target} target
    * @param {Moment[]} moments
    * @param {boolean} isEnabling
@@ -169,7 +169,7 @@ class Controls {
     const number = page.elements.declaredNumber(target);
     const standIn = recording.next('element');
     const dispatch = page.dispatches.beginPlain(number, isEnabling ? 'enabling' : 'showing');
-    if (page.joins.tell(dispatch, moments, why).length > 1) recording.close(dispatch); // which is behind all handlers
+    if (page.joins.tell(dispatch, moments, why).length > 1) recording.close(dispatch); // its close is after all handlers
     recording.log.line(`new ${page.numberOfDocumentOf(target)} ${standIn} plain`);
     recording.log.name('element', standIn, { standsFor: number, why });
     recording.finishTop();
@@ -184,10 +184,10 @@ class Controls {
   tellOf(dispatch) {
     const { event, target } = dispatch;
     const moment = this.reached(event, target);
-    if (!moment || findItem(this.recording.dispatches, ({ behind }) => behind && hasItem(behind, moment.event))) return;
+    if (!moment || findItem(this.recording.dispatches, ({ comesAfter }) => comesAfter && hasItem(comesAfter, moment.event))) return;
     if (!this.page.handlers.hasOneOf(target, event.type, moment.event)) return;
     this.page.joins.here([moment], ENABLED);
-    dispatch.behind = [moment.event];
+    dispatch.comesAfter = [moment.event];
   }
 }
 

@@ -156,7 +156,7 @@ class Elements {
   }
 
   /**
-   * The kind as a declaration spells it: a frame also declares the document inside it.
+   * The kind as a declaration writes it: a frame also declares the document inside it.
    * @param {Element} element
    * @param {boolean} isStatic whether the parser made it
    */

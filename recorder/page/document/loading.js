@@ -22,7 +22,7 @@ class Loading {
     this.recording = page.recording;
     this.hasBegunDomContentLoaded = false;
     this.hasBegunLoad = false;
-    /** The next page in the window of an empty one: the browser may parse it at once, and tells no listener so. */
+    /** The next page in the window of an empty one: the browser can parse it at once, and then no listener hears of it. */
     this.isHeardLate = false;
     this.loaded = new WeakSet();
     /**
@@ -122,9 +122,9 @@ class Loading {
     const standIn = recording.next('element');
     recording.noteBeside(tree.lastParsed, `new ${page.number} ${standIn} plain`);
     recording.log.name('element', standIn, { standsFor: elements.number(page.document), why: 'the end of parsing' });
-    const isBehindRun = this.lastRun.number === tree.lastParsed; // else a parse step stands between
-    recording.begin(`fire ${dispatch.number} ${standIn} readystatechange`, 'begin', undefined, isBehindRun ? [] : [scripts.last.event]);
-    this.comeBehind(dispatch, isBehindRun ? [this.lastRun.end] : [], 'the end of a script');
+    const isAfterRun = this.lastRun.number === tree.lastParsed; // else a parse step stands between
+    recording.begin(`fire ${dispatch.number} ${standIn} readystatechange`, 'begin', undefined, isAfterRun ? [] : [scripts.last.event]);
+    this.comeAfter(dispatch, isAfterRun ? [this.lastRun.end] : [], 'the end of a script');
     dispatch.whenClosed = () => { this.parsed = [recording.lastMoment()]; };
     return true;
   }
@@ -138,11 +138,11 @@ class Loading {
   }
 
   /** A deferred script begins to run. */
-  comeBehindParsing() {
+  comeAfterParsing() {
     const { parsed } = this;
     this.parsed = [];
     this.page.joins.here(parsed, 'the end of parsing');
-    this.noteBehindParsing();
+    this.noteAfterParsing();
   }
 
   /**
@@ -157,7 +157,7 @@ class Loading {
   }
 
   /** A rule puts the running event after the parsing (5, 6, 8, 10). */
-  noteBehindParsing() {
+  noteAfterParsing() {
     const { after } = this.recording.running;
     each(this.endOfParsing(), ({ event }) => { after[after.length] = event; });
   }
@@ -168,7 +168,7 @@ class Loading {
    * @param {Moments} ends
    * @param {string} why
    */
-  comeBehind(dispatch, ends, why) {
+  comeAfter(dispatch, ends, why) {
     dispatch.moments = ends;
     dispatch.why = why;
   }
@@ -183,11 +183,11 @@ class Loading {
     dispatch.end = end;
     if (end === 'dcl') {
       dispatch.awaits = this.page;
-      this.comeBehind(dispatch, joined(this.parsed, this.page.observers.takeObserved()), 'the end of parsing');
-    } else this.comeBehind(dispatch, this.awaited, 'what load waits for');
+      this.comeAfter(dispatch, joined(this.parsed, this.page.observers.takeObserved()), 'the end of parsing');
+    } else this.comeAfter(dispatch, this.awaited, 'what load waits for');
     this.moment = /** @type {Dispatch} */ (dispatch);
     this.recording.begin(`${end} ${dispatch.number} ${this.page.number}`, 'begin');
-    this.noteBehindParsing();
+    this.noteAfterParsing();
     return true;
   }
 
@@ -235,7 +235,7 @@ class Loading {
     const { event, target } = dispatch;
     const step = this.isOfDocument(event, target) ? positionOf(LEAVING, event.type) : -1;
     if (step < 0 || this.leaving.step > step || (event.type === 'visibilitychange' && this.leaving.step < positionOf(LEAVING, 'pagehide'))) return;
-    this.comeBehind(dispatch, this.leaving.ends, 'an event before');
+    this.comeAfter(dispatch, this.leaving.ends, 'an event before');
     dispatch.whenClosed = () => {
       this.leaving = { step, ends: (dispatch.group || 0) < 0 ? this.leaving.ends : [this.recording.lastMoment()] };
     };

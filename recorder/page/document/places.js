@@ -57,7 +57,7 @@ class Places {
     if (element.namespaceURI !== HTML_NAMESPACE || style.display === 'contents') return true;
     const box = apply(natives.getBoundingClientRect, element, []);
     if (!(box.width > 0 && box.height > 0)) return style.overflow === 'visible' && apply(natives.firstChild, element, []) !== null;
-    if (style.overflow === 'visible' && element.firstElementChild) return true; // what stands in it may stand elsewhere
+    if (style.overflow === 'visible' && element.firstElementChild) return true; // what is in it can be shown elsewhere
     if (box.right + window.scrollX <= 0 || box.bottom + window.scrollY <= 0) return false;
     return !this.isClipped(element, box) && !this.isUnderOther(element, box);
   }

@@ -42,14 +42,14 @@ class Reach {
     this.page = page;
     this.recording = page.recording;
     this.natives = page.natives;
-    /** By element: its state, or null where a user may reach it at any time. What stands in something that has no box has no state of its own. */
+    /** By element: its state, or null where a user may reach it at any time. What is in something without a box has no state of its own. */
     this.states = this.recording.reaches;
     this.came = this.recording.came;
     /** @type {{element: Element, isMade: boolean}[]} */
     this.fresh = [];
     /** @type {Map<Element, State>} */
     this.waiting = new Map();
-    /** What stands in something without a box. */
+    /** What is in something without a box. */
     this.covered = new WeakSet();
     /**
      * The transitions that show something now, as the browser says after the code of a task.
@@ -108,7 +108,7 @@ class Reach {
 
   /** A page of so many hidden elements, or so many tasks: acts at what is still hidden get no order. */
   giveUp() {
-    this.recording.log.miss('what shows hidden elements, as there is too much of it');
+    this.recording.log.miss('what shows hidden elements: the page has too many of them');
     each(keysOf(this.waiting), (element) => this.forget(element));
   }
 
@@ -145,7 +145,7 @@ class Reach {
   }
 
   /**
-   * Whether it stands in something without a box, which tells of it too.
+   * Whether it is in something without a box, whose state is its own too.
    * @param {Element} element
    */
   isCovered(element) {
@@ -178,7 +178,7 @@ class Reach {
   }
 
   /**
-   * An element has a box now: what stands in it is looked at for the first time.
+   * An element has a box now: what is in it is looked at for the first time.
    * @param {Element} root
    */
   lookInside(root) {

@@ -1,5 +1,5 @@
-// Shadow trees that the parser makes, as of `<template shadowrootmode>`: their elements are parse steps like others, and their scripts run. No look-up
-// by an id in the document finds what stands in one.
+// Shadow trees that the parser makes, as of `<template shadowrootmode>`: their elements are parse steps like others, and their scripts run. No lookup
+// by an id in the document finds what is in one.
 
 import { each, findItem, hasItem } from '../core/lists.js';
 import { withoutFragment } from '../core/strings.js';
@@ -16,7 +16,7 @@ class Shadows {
   }
 
   /**
-   * Whether a node stands in one of them.
+   * Whether a node is in one of them.
    * @param {Node} node
    */
   has(node) {
@@ -35,13 +35,13 @@ class Shadows {
     each(apply(this.natives.querySelectorAllOfFragment, root, ['*']), (inside) => this.page.tree.add(inside, 'parser'));
   }
 
-  /** The template stands in an element that the parser has not closed. */
+  /** The template is in an element that the parser has not closed. */
   lookAround() {
     for (let at = this.page.tree.lastParsedElement; at; at = at.parentElement || /** @type {ShadowRoot} */ (apply(this.natives.getRootNode, at, [])).host) this.look(at);
   }
 
   /**
-   * A script in a shadow tree begins to run: the browser does not say which one. `address` is that of its file, or of the page where it stands in
+   * A script in a shadow tree begins to run: the browser does not say which one. `address` is that of its file, or of the page where it is in
    * it: then it is the last element that the parser made, or one in a closed tree.
    * @param {string} address
    * @returns {Element|null|undefined} undefined where no such script is known

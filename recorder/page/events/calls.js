@@ -43,7 +43,7 @@ class Calls {
   constructor(page) {
     this.page = page;
     this.recording = page.recording;
-    /** How much stands on the stack inside the call of `document.write` that runs. */
+    /** How much is on the stack inside the call of `document.write` that runs. */
     this.writing = 0;
   }
 

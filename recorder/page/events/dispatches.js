@@ -32,7 +32,7 @@ class Dispatches {
      */
     this.registrars = new Map();
     /**
-     * Events that a call has dispatched and a record tells of.
+     * Events that a call has dispatched and that have a record.
      * @type {WeakSet<Event>}
      */
     this.told = new WeakSet();
@@ -90,7 +90,7 @@ class Dispatches {
     const { recording } = this;
     recording.endPiece();
     if (!recording.mayDispatch()) {
-      recording.log.miss('dispatches that a parse step or the begin of a dispatch called, or that were too deep');
+      recording.log.miss('dispatches that a parse step or the start of a dispatch called, or that were nested too deep');
       return false;
     }
     // no rule puts the registration at an object before its first event: the running code looks there
@@ -160,7 +160,7 @@ class Dispatches {
       return;
     }
     const element = page.controls.standIn(dispatch) || page.elements.declaredNumber(target);
-    recording.begin(`fire ${dispatch.number} ${element} ${type}`, 'begin', undefined, dispatch.behind);
+    recording.begin(`fire ${dispatch.number} ${element} ${type}`, 'begin', undefined, dispatch.comesAfter);
   }
 
   /**
@@ -177,7 +177,7 @@ class Dispatches {
   }
 
   /**
-   * The look-up of handlers at each node of the path; the driver spells it as reads of all slots that are ever written there.
+   * The lookup of handlers at each node of the path; trace/spelling.js writes it as reads of all slots that are ever written there.
    * @param {EventTarget[]} path
    * @param {string} type
    */

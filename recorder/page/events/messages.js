@@ -112,7 +112,7 @@ class Messages {
     this.recording.begin(`message ${message} ${dispatch.number} ${standIn}`, 'begin', undefined, [sender]);
     dispatch.moments = [this.recording.starts.get(target)];
     dispatch.why = 'the start of the port';
-    this.page.joins.tellOf(dispatch); // at once, so that the look-up of handlers comes behind it too
+    this.page.joins.tellOf(dispatch); // at once, so that the lookup of handlers comes after it too
     return true;
   }
 

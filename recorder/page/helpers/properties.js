@@ -24,7 +24,7 @@ function accessing({ recording, properties }) {
     try {
       properties.access(object, name, modes, site);
     } catch {
-      recording.log.miss('accesses that could not be looked at');
+      recording.log.miss('accesses whose objects could not be examined');
     }
   };
 }

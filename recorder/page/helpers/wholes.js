@@ -12,7 +12,7 @@ function looking({ recording }) {
     try {
       visit();
     } catch {
-      recording.log.miss('accesses that could not be looked at');
+      recording.log.miss('accesses whose objects could not be examined');
     }
   };
 }

@@ -51,7 +51,7 @@ class Log {
     const isPlace = typeof place === 'number' || (typeof place === 'string' && !has(place, '\t'));
     const rest = stack ? `\t${place}\t${found}\t${stack}` : found ? `\t${place}\t${found}` : place === '' ? '' : `\t${place}`;
     const line = `${text}${rest}`;
-    if (!isPlace || has(text, '\t') || has(line, '\n')) this.miss('lines with words that no line has');
+    if (!isPlace || has(text, '\t') || has(line, '\n')) this.miss('lines of the log in an unknown form, left out');
     else this.#add(line);
   }
 

@@ -25,7 +25,7 @@ const PARTS = { style: STYLE, classList: CLASSES, dataset: DATA, __proto__: null
 const CHANGES_CONTENT = new Set(['appendChild', 'insertBefore', 'removeChild', 'replaceChild', 'append', 'prepend', 'replaceChildren']);
 const READS_CONTENT = new Set(['hasChildNodes', 'contains']);
 const READS_ATTRIBUTE = new Set(['getAttribute', 'hasAttribute']);
-/** Their variables are those of the properties of the same name (fields.js), and look-ups (lookups.js). */
+/** Their variables are those of the properties of the same name (fields.js), and lookups (lookups.js). */
 const OTHERS = new Set(['id', 'value', 'checked']);
 /** @param {string} attribute */
 const isOther = (attribute) => OTHERS.has(attribute) || sliceOf(attribute, 0, 2) === 'on';

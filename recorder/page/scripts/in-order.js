@@ -27,8 +27,8 @@ class InOrder {
   note(element, number) {
     if (element.localName !== 'script' || /** @type {HTMLScriptElement} */ (element).async !== false || !this.page.elements.has(element, 'src')) return;
     const { recording, last } = this;
-    const isBehind = last && (last.maker === recording.running || recording.isBeforeRunning(last.maker));
-    this.last = { maker: recording.running, before: isBehind ? last : null, ends: [] };
+    const isAfter = last && (last.maker === recording.running || recording.isBeforeRunning(last.maker));
+    this.last = { maker: recording.running, before: isAfter ? last : null, ends: [] };
     this.scripts.set(number, this.last);
   }
 

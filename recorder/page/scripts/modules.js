@@ -127,7 +127,7 @@ class Modules {
     const isDeferred = elements.kinds.get(number) === 'defer';
     if (isDeferred) scripts.noteDeferred(number);
     scripts.noteRun(element, number);
-    if (isDeferred) this.page.loading.comeBehindParsing();
+    if (isDeferred) this.page.loading.comeAfterParsing();
     recording.log.line(`is ${run.number} ${number}`);
   }
 

@@ -72,7 +72,7 @@ class Ready {
   }
 
   /**
-   * What runs while a call does stands in the caller's event, and the rest of that is not after the parsing in every order. What a callback hands over
+   * What runs while a call does is in the caller's event, and the rest of that is not after the parsing in every order. What a callback passes on
    * in such a call runs after its own call, and still inside the first.
    * @param {Function} callback
    * @param {Document} document for which its jQuery waits
@@ -82,7 +82,7 @@ class Ready {
     const asked = this;
     /** @type {import('../types').Method} */
     const run = function run() {
-      if (asked.running === 0 && document === asked.page.document) asked.comeBehindParsing();
+      if (asked.running === 0 && document === asked.page.document) asked.comeAfterParsing();
       return apply(callback, this, arguments);
     };
     if (!this.isProxy(callback)) showAs(run, callback);
@@ -90,7 +90,7 @@ class Ready {
   }
 
   /** A timeout that runs such a callback is jQuery's own; another event is the page's, or has its order by a rule. */
-  comeBehindParsing() {
+  comeAfterParsing() {
     const { recording, page } = this;
     if (recording.isOver || recording.running.kind !== 'timer') return;
     const ends = page.loading.endOfParsing();

@@ -106,7 +106,7 @@ class Scripts {
     this.noteRun(element, number);
     page.inOrder.begins(number);
     if (kind !== 'async') page.joins.here(page.observers.takeObserved(), 'what the parser waited for');
-    if (kind === 'defer') page.loading.comeBehindParsing();
+    if (kind === 'defer') page.loading.comeAfterParsing();
   }
 
   /**
@@ -173,7 +173,7 @@ class Scripts {
     const standIn = recording.next('element');
     recording.noteBeside(number, `new ${this.page.number} ${standIn} async`);
     recording.log.name('element', standIn, { standsFor: number, why });
-    recording.log.miss('scripts that ran later than the format lets them: async ones stand for them');
+    recording.log.miss('scripts that ran later than the format allows, recorded as async ones');
     return standIn;
   }
 
@@ -185,11 +185,11 @@ class Scripts {
   whyTooLate(number, kind) {
     const { tree, loading } = this.page;
     if (!tree.staticScripts.has(number)) return '';
-    if (loading.hasBegunLoad) return 'it ran behind load';
+    if (loading.hasBegunLoad) return 'it ran after load';
     if (kind === 'async') return '';
-    if (loading.hasBegunDomContentLoaded) return 'it ran behind DOMContentLoaded';
+    if (loading.hasBegunDomContentLoaded) return 'it ran after DOMContentLoaded';
     if (kind === 'defer') return '';
-    if (tree.hasRunDeferred) return 'it ran behind a deferred script';
+    if (tree.hasRunDeferred) return 'it ran after a deferred script';
     return tree.lastParsed === number ? '' : 'the parser had gone on';
   }
 

@@ -51,7 +51,7 @@ class Jobs {
    * Whether no rule puts all of these before the running event.
    * @param {Asked} asked
    */
-  isBehindMore(asked) {
+  lacksOrder(asked) {
     return this.page.joins.needed(joined([asked.moment], this.othersOf(asked))).length > 0 && this.recording.mayDispatch();
   }
 
@@ -106,7 +106,7 @@ class Jobs {
     this.endContinuation();
     if (!recording.isCheckpoint || this.loneOf(asked)) return this.runAsHandler(this.beginLone(asked), handler, asked, call);
     this.page.promises.noteFirst(asked);
-    if (!this.isBehindMore(asked)) return this.runHere('job', call);
+    if (!this.lacksOrder(asked)) return this.runHere('job', call);
     return this.runAsHandler(this.beginInline('a promise reaction'), handler, asked, call);
   }
 
@@ -210,7 +210,7 @@ class Jobs {
     recording.turns = TURNS_OF_A_CHECKPOINT;
     const isAlone = !recording.isCheckpoint || !!this.loneOf(asked);
     if (!isAlone) this.page.promises.noteFirst(asked);
-    if (!isAlone && !this.isBehindMore(asked)) return;
+    if (!isAlone && !this.lacksOrder(asked)) return;
     if (recording.isCheckpoint) recording.endPiece();
     const dispatch = isAlone ? this.beginLone(asked) : this.beginInline('what stands behind an await');
     this.beginHandler(dispatch, this.page.joins.registerIn(asked.moment, { type: 'await' }, asked.site), asked);

@@ -1,17 +1,17 @@
-// Observers: a mutation observer's callback is a job, those of the others are tasks. Each comes after the call that told the observer what to look at.
+// Observers: a mutation observer's callback is a job, those of the others are tasks. Each comes after the call of `observe()`.
 
 import { each, findItem, joined, keep } from '../core/lists.js';
 import { putConstructor, replaceMethod } from '../core/replacing.js';
 import { Reflect, Set, WeakMap, apply } from '../core/taken.js';
 
 const OBSERVERS = ['MutationObserver', 'IntersectionObserver', 'ResizeObserver', 'PerformanceObserver', 'ReportingObserver'];
-/** Those whose news are not of one thing that they were told to look at. */
+/** Those whose entries are not of one thing for which `observe()` was called. */
 const OF_ALL = new Set(['PerformanceObserver', 'ReportingObserver']);
 
 /** @typedef {import('../types').Moment} Moment */
 /** @typedef {import('../types').PageWindow} PageWindow */
 /**
- * What is known of an observer: its type in the trace, who made it, who told it to look at what, and the end of its last call.
+ * What is known of an observer: its type in the trace, who made it, who called `observe()` for what, and the end of its last call.
  * @typedef {{name: string, handler: number, asked: import('./jobs.js').Asked, type: string, told: {target: any, moment: Moment}[], hold: import('../types').Held|undefined, last?: Moment}} About
  */
 
@@ -137,7 +137,7 @@ class Observers {
   }
 
   /**
-   * Who told an observer to look at what some entries are of.
+   * Who called `observe()` for what some entries are of.
    * @param {About} about
    * @param {any[]} entries those of an observer: their members differ
    */
@@ -192,7 +192,7 @@ class Observers {
   }
 }
 
-/** The value that is handed to a registry's callback, and the moment of its registration. */
+/** The value that is passed to a registry's callback, and the moment of its registration. */
 class Held {
   /**
    * @param {unknown} value

@@ -57,7 +57,7 @@ async function unorderedOf(traceFile, actions, pair) {
  * @property {number} needed how many actions the two accesses need
  * @property {number} asked how many of them were queried
  * @property {string[]} missing the actions, in words, that did not come again,
- * @property {string[]} behind that came after the two,
+ * @property {string[]} behind those that came after the two,
  * @property {string[]} unordered and that the analyzer does not put before them
  */
 
@@ -90,7 +90,7 @@ async function checkOrder({ traceFile, keys, race, number }, run) {
 function otherWayInWords(order) {
   if (!order) return '';
   /** @type {[kind: string, actions: string[]][]} */
-  const kinds = [['did not come', order.missing], ['came behind the two', order.behind], ['is not before them by the rules there', order.unordered]];
+  const kinds = [['did not come', order.missing], ['came after the two', order.behind], ['is not before them by the rules there', order.unordered]];
   const [kind, some] = kinds.find(([, list]) => list.length) || ['', []];
   if (!kind) return '';
   const more = some.length > 1 ? ` (and ${some.length - 1} more)` : '';

@@ -96,11 +96,11 @@ exports.cases = [
     ],
   },
   {
-    page: 'frame-left.html', // its empty page is touched by code, and a page of another origin comes before this is told
+    page: 'frame-left.html', // its empty page is touched by code, and a page of another origin comes before this is recorded
     due: ['new iframe#inside frame', 'w early', 'eload iframe#inside', 'load'],
   },
   {
-    page: 'frame-function.html', // code of its empty page runs once a page of another origin stands in it
+    page: 'frame-function.html', // code of its empty page runs once a page of another origin is in it
     due: ['exec script', 'w given', 'eload script', 'eload iframe#inside', 'run other', 'r given', 'w answer'],
   },
   {

@@ -38,7 +38,7 @@ function readSaid(said) {
 }
 
 /**
- * The line that says what went wrong: the first one of the command, else the first one of any command or with an error that Node tells, else the last one.
+ * The line that says what went wrong: the first one of the command, else the first one of any command or with an error of Node, else the last one.
  * @param {string} text what was said on standard error
  * @param {string} [command] the name of the command, where it calls other ones
  */

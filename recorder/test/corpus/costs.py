@@ -1,10 +1,10 @@
 #!/usr/bin/env python3
-"""Runs a command of the shell on a file, and tells its seconds of processor time and the most memory that it had, in KiB.
+"""Runs a command of the shell on a file, and prints its seconds of processor time and the most memory that it had, in KiB.
 
 Usage: costs.py COMMAND FILE
 
-The shell leaves the command behind and ends, and the command's end comes to this process: so what is told is of the command alone. The system counts what a
-process had before it became another program too, which of a child of this one would be more than most commands take. What a shell leaves behind ignores
+The shell ends before the command, and the command's end comes to this process: so the figures are those of the command only. The system counts what a
+process had before it became another program too, which of a child of this one would be more than most commands take. What a shell leaves running ignores
 Ctrl-C, which env undoes.
 """
 import ctypes

@@ -1,5 +1,5 @@
 'use strict';
-// The figures of an evaluation: what a page's line tells of it, and what the lines of all pages come to.
+// The figures of an evaluation: those of a page from its line, and the sums over all pages.
 
 const { areTimesGood, isDone } = require('./lines.js');
 
@@ -18,7 +18,7 @@ const { areTimesGood, isDone } = require('./lines.js');
 
 /** At what a race is that is found with objects and closures alone (measure.js). */
 const OF_OBJECTS = ['object', 'closure', 'module'];
-/** What a difference does, the worst first, as a replay tells it (replay/verdict.js). */
+/** What a difference does, the worst first, in the words of a replay (replay/verdict.js). */
 const EFFECTS = ['an uncaught error', 'a lost act', 'a lost input', 'a lost event', 'another content', 'another state'];
 /**
  * Why a race could not be turned, by what the replay says last of it.
@@ -114,7 +114,7 @@ function replaysOf({ races }) {
 }
 
 /**
- * The figures of a page by its line; null where its first recording has nothing. Its loads are told where nothing else was at work.
+ * The figures of a page by its line; null where its first recording has nothing. Its loads are included if nothing else was at work.
  * @param {Line} line
  * @returns {Figures|null}
  */

@@ -1,7 +1,7 @@
 'use strict';
 // Which records of a trace the analyzer would refuse: these are left out, as a page may have written any log.
 //
-// Of the records that `take` accepts, in this order, it holds (docs/format.md, "Refusals"): each is one of the version, in its only spelling; no
+// Of the records that `take` accepts, in this order, it holds (docs/format.md, "Refusals"): each is one of the version, written in its only form; no
 // number is used before it was declared, and none is declared or started twice; only scripts run; dispatches nest; and no rule leads from an event
 // back to one that has begun. The limits on numbers of records, accesses and pairs are the concern of trace/limits.js. With a record that begins an
 // action all up to the next one is left out.

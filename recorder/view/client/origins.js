@@ -87,7 +87,7 @@ function stepList(steps) {
 }
 
 /**
- * What is known of two actions, the earlier one first. Only the program decides what is ordered: for a pair about which it was not asked, the box has the command.
+ * What is known of two actions, the earlier one first. Only the analyzer decides what is ordered: for a pair about which it was not asked, the box has the command.
  * @param {number} from
  * @param {number} to
  */
@@ -96,8 +96,8 @@ function pairBox(from, to) {
   const race = racesOfPair.get(`${from} ${to}`);
   if (race) return make('p', {}, `Nothing orders ${both}: they race on "${race.location}".`);
   const steps = stepsBetween(from, to);
-  if (steps) return make('div', {}, make('p', {}, `From action ${from} these steps lead to action ${to}, as the program explains it:`), stepList(steps));
-  const box = make('div', {}, make('p', {}, `This page does not hold whether something orders ${both}. The program tells it:`));
+  if (steps) return make('div', {}, make('p', {}, `From action ${from} these steps lead to action ${to}:`), stepList(steps));
+  const box = make('div', {}, make('p', {}, `This page does not contain whether something orders ${both}. This command prints it:`));
   box.append(make('pre', { class: 'question' }, `${model.command} --why ${from} ${to}`));
   return box;
 }

@@ -114,7 +114,7 @@ function replayBox(race) {
     box.append(make('p', {}, asSentence(replay.words)));
     return [box];
   }
-  box.append(make('p', {}, `To turn them, ${replay.means}. The two came in the other order then${replay.isListed ? ', and the program lists them as a race of that run too' : ''}.`));
+  box.append(make('p', {}, `To turn them, ${replay.means}. The two came in the other order then${replay.isListed ? ', and the analyzer lists them as a race of that run too' : ''}.`));
   [replay.note, replay.comparedAt, replay.groupWords].forEach((text) => { if (text) box.append(make('p', {}, asSentence(text))); });
   if (replay.differences.length) box.append(make('p', {}, `What differs at the end (${replay.effect}):`), differenceTable(replay.differences));
   else box.append(make('p', {}, 'No visible difference was found at the end.'));

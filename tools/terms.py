@@ -1,0 +1,43 @@
+"""The terms of this project, for tools/english: what not to write, what to write in its place, and a pattern that finds it where a pattern can.
+
+A row is (not, but, pattern of documents and help, pattern of comments). Without a pattern a reader has to judge. In comments, which are for developers,
+"stands for", "tells apart" and "leads to" have their usual meaning.
+"""
+SAME = "the pattern of documents"
+TERMS = [
+    ("behind (in time, in text)", "after", r"behind", SAME),
+    ("front, proper front (of bytes)", "prefix, proper prefix", r"(?:proper )?fronts?", None),
+    ("words (of a command); word (of the trace)", "arguments, option, subcommand; keyword", None, None),
+    ("ends; ends that tell their bytes", "streams: source, sink; observable streams", None, None),
+    ("tells, says, is told", "prints (text), reports (a result), shows (view), lists", r"tells?|told", r"(?:tells?|told)(?! (?:[\w'.]+ ){0,7}apart)"),
+    ("asks (code, the browser; the program)", "requests, schedules, calls; queries, runs", None, None),
+    ("the program, to judge", "the analyzer (`er_cli`), to analyze; people judge", None, None),
+    ("handed", "passed", r"handed", SAME),
+    ("kept", "distinct (accesses), stored (data)", None, None),
+    ("kept back, let go", "held back, released", r"(?:kept|keeps|keep|keeping) back|lets? go|letting go", SAME),
+    ("turned, came the other way round", "reversed (fixed output: `turned`)", None, None),
+    ("begin (noun); close", "start; close (a record)", None, None),
+    ("leads to, joins", "has a path to, happens before", r"leads? to", None),
+    ("lawful", "legal (trace), valid (order)", r"lawful", SAME),
+    ("look-up; candidate, conflict", "lookup; candidate pair", r"look-ups?", SAME),
+    ("place (in a chain)", 'position; "place" is file, line, column', None, None),
+    ("what it looks like, look", "pattern (fixed: `look`)", None, None),
+    ("part (of the list); lasting name", "section (fixed: `part`); stable name (fixed: `name`)", r"lasting", SAME),
+    ("act, action of a user", "act (fixed: `--do`, `--acts`)", None, None),
+    ("job; task (version 3)", 'microtask; "version-3 event"', None, None),
+    ("mark, marked; functions in place of the browser's", "instrument, instrumented code; hooks", r"functions in place of the browser's", SAME),
+    ("stand-in", "stand-in element, one-shot interval, ordering handler", None, None),
+    ("spelled", "written, encoded", r"spell(?:s|ed|ing)?", SAME),
+    ("fault, count of faults", "error, error count", None, None),
+    ("memory runs out", 'an allocation fails (fixed: "out of memory")', r"memory runs out", SAME),
+    ("meter", "counter (`compares`, `tests`)", r"meters?", SAME),
+    ("false race; missing race", "false positive; false negative", None, None),
+    ("steady, by itself", "stable (fixed: `unsteady`)", None, None),
+    ("worked rows; wrong body, plant, edit", "worked examples; mutant", r"worked rows?|wrong bod(?:y|ies)", SAME),
+    ("kit; the gate", "toolchain; CI (`.ci/run`)", None, None),
+    ("in turns, side by side", "alternately, in parallel", r"in turns|side by side", SAME),
+    ("it stands in, for, at ..", "it is in ..", r"stands? (?:for|in|at|on|under|beside|above|below)", r"stands? (?:in|at|on|under|beside|above|below)"),
+    ("it says so", "name the actor and the thing", r"it says so", SAME),
+    ("but for", "except", r"but for", SAME),
+    ("that one's, as it were", "name the thing; leave it out", r"that one's|as it were", SAME),
+]
