@@ -8,7 +8,7 @@ const { Known } = require('./list/known.js');
 const { LoadsListing } = require('./list/loads-listing.js');
 const { plainListing } = require('./list/json.js');
 const { judgeLoads } = require('./loads.js');
-const { programState, askAhead } = require('./races/program.js');
+const { answersAtOnce, programState, askAhead } = require('./races/program.js');
 const { recordInto } = require('./record.js');
 const { AttachedRecorder } = require('./recording/attached-recorder.js');
 const { namesFile } = require('./recording/files.js');
@@ -111,7 +111,7 @@ async function raceOf(trace, problem) {
  */
 async function replay({ trace, problem, mayChange }) {
   checkTraces([trace]);
-  if (programState() !== 'built') throw new TaskFault(STATUS.noProgram, 'a replay needs the built analyzer: run ./er_cli --build');
+  if (!answersAtOnce()) throw new TaskFault(STATUS.noProgram, 'a replay needs the built analyzer, or a Rust compiler: run ./er_cli --build');
   const race = await raceOf(trace, problem);
   const { options } = parseCommand('er_replay', [`--race=${race}`, ...mayChange ? ['--yes'] : [], trace]);
   const status = await replayTrace(trace, options, false);

@@ -38,14 +38,14 @@ const PREFIXES = /^(turned: differs|could not be turned|turned): /;
 const LANES = 2;
 
 /**
- * Whether races can be replayed: each replay is analyzed several times, so it needs the built analyzer. If not, a line says why.
+ * Whether races can be replayed: each replay is analyzed several times, so answers must come at once. If not, a line says why.
  * @param {string} command
  */
 function canReplay(command) {
   if (programState() === 'missing') return false; // a line has said so
   if (!answersAtOnce()) {
-    printError(`${command}: nothing done: --replay needs the built analyzer, since each replay is analyzed several times: run ./er_cli --build `
-      + '(about 25 minutes on four processors), or er_page without --replay (a minute)');
+    printError(`${command}: nothing done: --replay analyzes each replay several times, and each answer takes two minutes until the analyzer is built: `
+      + 'run ./er_cli --build (about 25 minutes on four processors), or er_page without --replay');
   }
   return answersAtOnce();
 }

@@ -15,7 +15,7 @@ const { parseArguments, UsageFault } = require('./options/parse.js');
 const { atSignalsMercy } = require('./phase.js');
 const { Actions } = require('./races/actions.js');
 const { linksBetween } = require('./races/links.js');
-const { endAsking, programState } = require('./races/program.js');
+const { endAsking, isProved, programState } = require('./races/program.js');
 const { judgeWithin } = require('./races/within-limits.js');
 const { Model, MOST_LINKS } = require('./view/model.js');
 const { quoted } = require('./view/quoted.js');
@@ -82,9 +82,9 @@ async function writeView(traceFile, report, known, isLinkedLater) {
   const trace = quoted(traceFile);
   const commands = { viewer: called('er_view'), trace: traceFile, command: `${called('er_view')} ${trace}`, report: `${called('er_cli')} < ${trace}` };
   /** @type {Shown} */
-  const shown = { ...busy(() => model.build(links || [], ordered)), leftOut: problems.leftOut, ofLibraries: problems.ofLibraries, isUnproved: !links, ...commands };
+  const shown = { ...busy(() => model.build(links || [], ordered)), leftOut: problems.leftOut, ofLibraries: problems.ofLibraries, isUnproved: !isProved(), lacksLinks: !links, ...commands };
   busy(() => writePage(traceFile, shown));
-  const linked = queried.then((all) => ({ ...shown, links: (all || []).slice(0, MOST_LINKS), isUnproved: !all }));
+  const linked = queried.then((all) => ({ ...shown, links: (all || []).slice(0, MOST_LINKS), lacksLinks: !all }));
   linked.catch(() => {}); // its fault is that of the command that waits for it
   return { model: shown, problems, linked };
 }

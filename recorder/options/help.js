@@ -117,7 +117,7 @@ Exit status:
        complete: its time was over before the page was quiet
   5    the browser failed, or a file could not be written
   6    a step of --do could not be done; all files are written
-  10   no analyzer; with --replay, also if it is not built
+  10   no analyzer; with --replay, also if each answer takes minutes
   70   an internal error
   130  stopped by Ctrl-C
 
@@ -200,7 +200,7 @@ Exit status:
   4    the page, the trace or its names cannot be used
   5    the browser failed, or a file could not be written
   6    a step of --do could not be done
-  10   the analyzer is not built
+  10   no analyzer, or each answer takes minutes
   70   an internal error
   130  stopped by Ctrl-C
 

@@ -17,20 +17,28 @@ const { Unproved } = require('./unproved.js');
 const TOP = path.join(__dirname, '..', '..');
 /** The path of the analyzer. `ER_CLI` names another one, with the same arguments, input and output; it is not a command line, so blanks are part of it. */
 const PROGRAM = process.env.ER_CLI || path.join(TOP, 'er_cli');
+/** The states in which answers come at once. */
+const AT_ONCE = ['built', 'plain'];
 
 const unproved = new Unproved();
 let state = process.env.ER_CLI ? 'built' : '';
+let program = PROGRAM;
 
-/** `built`, or `older` or `unbuilt` if an answer takes a minute, or `missing`, after a line on standard error. */
+/**
+ * `built`; `plain` if a program without proofs answers, after lines on standard error; `older` or `unbuilt` if an answer takes a minute; or `missing`, after a
+ * line on standard error.
+ */
 function programState() {
-  if (state !== 'built') {
-    const { status, stdout } = spawnSync(path.join(TOP, 'tools', 'program'), { encoding: 'utf8', stdio: ['ignore', 'pipe', 'inherit'] });
+  if (!AT_ONCE.includes(state)) {
+    const { status, stdout } = spawnSync(path.join(TOP, 'tools', 'program'), ['--plain'], { encoding: 'utf8', stdio: ['ignore', 'pipe', 'inherit'] });
     state = status === 0 ? stdout.split(/\s/)[0] : 'missing';
+    if (state === 'plain') program = stdout.trim().slice('plain '.length);
   }
   return state;
 }
 
-const answersAtOnce = () => programState() === 'built';
+const answersAtOnce = () => AT_ONCE.includes(programState());
+const isProved = () => programState() === 'built';
 
 /**
  * @param {string[]} args
@@ -40,7 +48,7 @@ const answersAtOnce = () => programState() === 'built';
 function runProgram(args, traceFile) {
   if (!answersAtOnce()) return unproved.query(args, traceFile);
   const input = fs.openSync(traceFile, 'r');
-  const child = spawn(PROGRAM, args, { stdio: [input, 'pipe', 'pipe'] });
+  const child = spawn(program, args, { stdio: [input, 'pipe', 'pipe'] });
   fs.closeSync(input);
   /** @type {Buffer[]} */
   const output = [];
@@ -49,7 +57,7 @@ function runProgram(args, traceFile) {
   child.stdout?.on('data', (piece) => output.push(piece));
   child.stderr?.on('data', (piece) => fault.push(piece));
   return new Promise((resolve) => {
-    child.on('error', (cause) => resolve({ status: STATUS.noProgram, output: '', fault: `${PROGRAM} can not be run: ${cause.message}` }));
+    child.on('error', (cause) => resolve({ status: STATUS.noProgram, output: '', fault: `${program} can not be run: ${cause.message}` }));
     child.on('close', (status) => resolve({ status, output: Buffer.concat(output).toString(), fault: Buffer.concat(fault).toString().trim() }));
   });
 }
@@ -82,4 +90,4 @@ async function endAsking(status) {
   process.exit(status);
 }
 
-module.exports = { judge, runProgram, askAhead, answersAtOnce, programState, endAsking, PROGRAM };
+module.exports = { judge, runProgram, askAhead, answersAtOnce, isProved, programState, endAsking, PROGRAM };

@@ -14,8 +14,11 @@ const LONGEST_TEST = 150000;
 const ANSWERS = process.env.ER_CLI || path.join(TOP, 'crates', 'er_cli', 'out', 'er_cli');
 const UNPROVED = /^er_cli: the analyzer is not built yet: .* NOT PROVED on this machine yet\ner_cli: .*er_cli --build proves and builds it .*\n/m;
 const TABS = path.join(TOP, 'examples', 'page-jquery-ui-tabs-with-requests');
+const PLAIN = /^er_cli: NOT PROVED: the program is not built yet, so a second program answers, .*\(bench\/plain\)\ner_cli: .*er_cli --build proves and builds the program .*\n/m;
 const folder = temporaryFolder('unbuilt');
 const clone = path.join(folder, 'clone');
+/** The same, in which bench/plain can be compiled. */
+const plain = path.join(folder, 'plain');
 const temporary = path.join(folder, 'temporary');
 
 /** @param {string} name */
@@ -24,6 +27,8 @@ function copy(name) {
 }
 
 ['er_cli', 'er_page', 'er_record', 'er_view', 'recorder', 'crates.txt', 'VERSION', 'crates/er_cli/src', 'tools/program', 'tools/unproved', 'tools/version', 'examples/shop'].forEach(copy);
+fs.cpSync(clone, plain, { recursive: true });
+fs.writeFileSync(path.join(plain, 'tools', 'plain'), '#!/bin/sh\necho "$ANSWERS"\n', { mode: 0o755 });
 fs.mkdirSync(temporary);
 fs.mkdirSync(path.join(folder, 'bin'));
 fs.symlinkSync(path.join(TOP, 'tools', 'stand-in-rt'), path.join(folder, 'bin', 'rt'));
@@ -32,6 +37,8 @@ fs.symlinkSync(process.execPath, path.join(folder, 'node', 'node'));
 const env = { ...process.env, ER_CLI: '', ANSWERS, TMPDIR: temporary, PATH: `${path.join(folder, 'bin')}:${process.env.PATH}` };
 /** @type {(command: string, words: string[], more?: NodeJS.ProcessEnv) => ReturnType<typeof run>} */
 const call = (command, words, more = {}) => run(path.join(clone, command), words, { cwd: folder, env: { ...env, ...more }, longest: LONGEST_RUN });
+/** @type {(command: string, words: string[]) => ReturnType<typeof run>} */
+const callPlain = (command, words) => run(path.join(plain, command), words, { cwd: plain, env, longest: LONGEST_RUN });
 
 /**
  * A trace of its own for a test.
@@ -49,7 +56,7 @@ test('the view of a trace: its races, and a sentence in place of the ways', { ti
   assert.strictEqual(status, 1, stderr);
   assert.strictEqual(stderr.replace(UNPROVED, ''), '');
   const page = fs.readFileSync(file.replace('.trace', '.html'), 'utf8');
-  assert.ok(page.includes('after <code>./er_cli --build</code>') && page.includes('"links":[]'), 'the view tells that the ways are left for later');
+  assert.ok(page.includes('After <code>./er_cli --build</code>') && page.includes('"links":[]'), 'the view tells that the ways are left for later');
 });
 
 test('why one action comes before another', { timeout: LONGEST_TEST }, async () => {
@@ -69,7 +76,31 @@ test('a page: its races are told in one go, and said not to be proved', { timeou
   assert.match(fs.readFileSync(path.join(own, 'page.html'), 'utf8'), /class="unproved"/);
 });
 
-test('races are not run again without a built program', { timeout: LONGEST_TEST }, async () => {
+test('a program without proofs answers at once: the paths of a view, and why', { timeout: LONGEST_TEST }, async () => {
+  const file = traceOf('plain');
+  const { status, stderr } = await callPlain('er_view', [file]);
+  assert.strictEqual(status, 1, stderr);
+  assert.strictEqual(stderr.replace(PLAIN, ''), '');
+  const page = fs.readFileSync(file.replace('.trace', '.html'), 'utf8');
+  assert.ok(page.includes('class="unproved"') && page.includes('a second program without proofs'), 'the view says what found its races');
+  assert.ok(!page.includes('"links":[]'), 'the view has paths');
+  const why = await callPlain('er_view', [file, '--why', '24', '89']);
+  assert.match(why.stdout, /by rule 14/);
+  assert.match(why.stderr, PLAIN);
+});
+
+test('a program without proofs answers replays, and they are said not to be proved', { timeout: LONGEST_TEST }, async () => {
+  const { status, stdout, stderr } = await callPlain('er_page', ['examples/shop/index.html', '--replay', '--most', '1', '--slow', '300', '--do', 'early click:#add']);
+  assert.strictEqual(status, 1, stderr);
+  assert.match(stdout, /^Of 1: /m);
+  assert.match(stderr, PLAIN);
+  assert.strictEqual(stderr.match(/NOT PROVED/g)?.length, 1, stderr);
+  const own = path.join(plain, 'shop.races');
+  assert.ok(fs.existsSync(path.join(own, 'page.replay.json')));
+  assert.match(fs.readFileSync(path.join(own, 'page.html'), 'utf8'), /class="unproved"/);
+});
+
+test('races are not run again where each answer takes minutes', { timeout: LONGEST_TEST }, async () => {
   const { status, stdout, stderr } = await call('er_page', ['clone/examples/small.html', '--replay']);
   assert.strictEqual(status, 10);
   assert.strictEqual(stdout, '');

@@ -47,13 +47,15 @@ function notShown({ totals, races, report }) {
 }
 
 /**
- * If the program was not built: what that means for this page, and how to get the rest.
+ * If the analyzer was not built: what that means for this page, and how to get the rest.
  * @param {ViewModel} model
  */
-function unproved({ isUnproved, command }) {
+function unproved({ isUnproved, lacksLinks, command }) {
   if (!isUnproved) return '';
-  return `<p class="unproved">The analyzer was not built when this page was made: its source, compiled without its proof, found these races. The paths between actions are missing:
-after <code>./er_cli --build</code>, <code>${escapeText(command)}</code> writes this page with them.</p>\n`;
+  const who = lacksLinks ? 'its source, compiled without the proof, found these races. The paths between actions are missing'
+    : 'a second program without proofs found these races and paths';
+  return `<p class="unproved">Not proved: the analyzer was not built when this page was made, so ${who}. After <code>./er_cli --build</code>,
+<code>${escapeText(command)}</code> writes this page with ${lacksLinks ? 'them' : 'proved answers'}.</p>\n`;
 }
 
 /**

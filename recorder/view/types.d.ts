@@ -94,7 +94,10 @@ export interface ViewModel {
   excerpts: { [key: string]: Excerpt };
   leftOut: (LeftOut & { words: string })[];
   ofLibraries: CountOfLibraries | null;
+  /** Whether the analyzer was not built, so that something without a proof answered. */
   isUnproved: boolean;
+  /** Whether the links between actions are left for later. */
+  lacksLinks: boolean;
   /** The command that views traces, the trace of this view, and both together for a shell; the command that reports all races. */
   viewer: string;
   trace: string;

@@ -35,7 +35,7 @@ async function modelOf(lines, facts = {}, trace = 'page.trace') {
   const ordered = { problems: listing.problems, nameOf: (/** @type {number} */ race) => problems.ofRaces[race].problem, leads: problems.leads, summaryOf: listing.summaryOf.bind(listing) };
   const built = new Model(report, names, new Actions(text.replace(/end\n$/, ''))).build([], ordered);
   const commands = { viewer: './er_view', trace, command: `./er_view ${quoted(trace)}`, report: `./er_cli < ${quoted(trace)}` };
-  const page = renderPage({ ...built, leftOut: [], ofLibraries: null, isUnproved: false, ...commands });
+  const page = renderPage({ ...built, leftOut: [], ofLibraries: null, isUnproved: false, lacksLinks: false, ...commands });
   const { user, system } = process.cpuUsage(begin);
   return { report, model: built, page, seconds: (user + system) / 1e6 };
 }

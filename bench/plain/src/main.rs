@@ -1,13 +1,21 @@
 //! The plain program: docs/format.md and docs/rules.md read once more, without proofs, in Rust of the standard library.
-//! docs/performance.md measures the product against it, and `tools/check-plain` compares the answers of both.
-//! Usage: plain [check | gen --number N]
+//! It takes the arguments of docs/report.md. docs/performance.md measures the product against it, `tools/check-plain` compares the answers of both, and it
+//! answers while the product is not built (docs/report.md, "Before it is built").
 
+mod arguments;
+mod explain;
+mod json;
+mod json_lines;
+mod schedule;
+
+use arguments::Command;
 use std::collections::HashMap;
 use std::hash::{BuildHasherDefault, Hasher};
 use std::{io::{self, BufRead, BufWriter, Read, Write}, process::exit};
 
 const MOST_LINES: usize = 2_097_152;
 const MOST_LINE_BYTES: usize = 1_024;
+const MOST_JSON_BYTES: usize = 4_096;
 const MOST_NAME: usize = 255;
 const MOST_ACTIONS: usize = 32_768;
 const MOST_INLINE: usize = 256;
@@ -92,19 +100,44 @@ impl Record<'_> {
     }
 }
 
-/// The tokens of a line that are still to be read.
-struct Tokens<'a>(Option<&'a [u8]>);
+/// The tokens of a line that are still to be read; of a line of JSON also whether each is a number.
+#[derive(Clone, Copy)]
+struct Tokens<'a> { rest: Option<&'a [u8]>, are_numbers: Option<&'a [bool]> }
 
 impl<'a> Tokens<'a> {
-    fn word(&mut self) -> Option<&'a [u8]> {
-        let rest = self.0?;
+    fn of_text(line: &'a [u8]) -> Self {
+        Tokens { rest: Some(line), are_numbers: None }
+    }
+
+    fn next(&mut self, is_number: bool) -> Option<&'a [u8]> {
+        if let Some(are_numbers) = &mut self.are_numbers {
+            let (&first, left) = are_numbers.split_first()?;
+            *are_numbers = left;
+            if first != is_number {
+                return None;
+            }
+        }
+        let rest = self.rest?;
         let end = rest.iter().position(|&b| b == b' ');
-        self.0 = end.map(|at| &rest[at + 1..]);
+        self.rest = end.map(|at| &rest[at + 1..]);
         Some(&rest[..end.unwrap_or(rest.len())])
     }
 
+    fn word(&mut self) -> Option<&'a [u8]> {
+        self.next(false)
+    }
+
+    fn is_at_end(&self) -> bool {
+        self.rest.is_none()
+    }
+
+    /// Whether these are all tokens: a keyword, and in a first line a number behind it.
+    fn are(mut self, keyword: &[u8], version: Option<Number>) -> bool {
+        self.word() == Some(keyword) && version.map_or(true, |version| self.number() == Some(version)) && self.is_at_end()
+    }
+
     fn number(&mut self) -> Option<Number> {
-        let token = self.word()?;
+        let token = self.next(true)?;
         if token.is_empty() || token.len() > 10 || (token[0] == b'0' && token.len() > 1) {
             return None;
         }
@@ -148,17 +181,19 @@ fn is_escape(bytes: &[u8]) -> bool {
 }
 
 /// An access: whether it writes, and its location as it is written, which can be written in one way.
-fn access_of(line: &[u8]) -> Option<(bool, &[u8])> {
-    let (mode, location) = line.split_at_checked(2)?;
-    let mut tokens = Tokens(Some(location));
-    let is_one = matches!(mode, b"r " | b"w ") && matches!(tokens.word()?, b"var" | b"elem" | b"slot");
-    (is_one && tokens.number().is_some() && tokens.name().is_some() && tokens.0.is_none())
-        .then_some((mode == b"w ", location))
+fn access_of(mut tokens: Tokens<'_>) -> Option<(bool, &[u8])> {
+    let mode = tokens.word()?;
+    if !matches!(mode, b"r" | b"w") {
+        return None;
+    }
+    let location = tokens.rest?;
+    let is_one = matches!(tokens.word()?, b"var" | b"elem" | b"slot");
+    (is_one && tokens.number().is_some() && tokens.name().is_some() && tokens.is_at_end())
+        .then_some((mode == b"w", location))
 }
 
 /// The record that a line encodes in a trace of the version, except an access.
-fn record_of(line: &[u8], version: usize) -> Option<Record<'_>> {
-    let mut tokens = Tokens(Some(line));
+fn record_of(mut tokens: Tokens<'_>, version: usize) -> Option<Record<'_>> {
     let word = tokens.word()?;
     let &(form, _, pattern) = FORMS.iter().find(|known| known.1 == word)?;
     if version < 3 && matches!(form, Message | Anim | Job | Post | Ask | Queue) {
@@ -172,7 +207,7 @@ fn record_of(line: &[u8], version: usize) -> Option<Record<'_>> {
             _ => record.numbers[at] = tokens.number()?,
         }
     }
-    tokens.0.is_none().then_some(record)
+    tokens.is_at_end().then_some(record)
 }
 
 // ---------------------------------------------------------------- clocks
@@ -181,7 +216,7 @@ fn record_of(line: &[u8], version: usize) -> Option<Record<'_>> {
 #[derive(Default)]
 struct Clocks {
     chain: Vec<u16>, place: Vec<u16>, row: Vec<u32>, rows: Vec<Box<[u16]>>, lengths: Vec<u16>, links: u64,
-    last_sources: Vec<Action>, last_links: u64,
+    last_sources: Vec<Action>, last_links: Vec<Action>,
     /// Whether the last row has its own chain's number too, as others with its sources need it.
     is_whole: bool,
 }
@@ -208,7 +243,7 @@ impl Clocks {
         if chain as usize == self.lengths.len() {
             self.lengths.push(0);
         }
-        self.links += self.last_links;
+        self.links += self.last_links.len() as u64;
         self.chain.push(chain);
         self.place.push(self.lengths[chain as usize]);
         self.row.push(row);
@@ -220,20 +255,20 @@ impl Clocks {
         sources.sort_unstable_by(|a, b| b.cmp(a));
         sources.dedup();
         let mut row = Vec::new();
-        self.last_links = 0;
+        self.last_links.clear();
         for &source in sources.iter() {
             let (chain, place) = (self.chain[source as usize], self.place[source as usize]);
             if reaches(&row, chain, place) {
                 continue;
             }
-            self.last_links += 1;
+            self.last_links.push(source);
             let other = &self.rows[self.row[source as usize] as usize];
             row.resize(row.len().max(other.len()).max(chain as usize + 1), 0);
             row.iter_mut().zip(other).for_each(|(count, &one)| *count = (*count).max(one));
             row[chain as usize] = place + 1;
         }
         let chain = self.fit(&row, 0);
-        self.is_whole = self.last_links != 1 || chain != self.chain[sources[0] as usize];
+        self.is_whole = self.last_links.len() != 1 || chain != self.chain[sources[0] as usize];
         if !self.is_whole {
             return (self.row[sources[0] as usize], chain);
         }
@@ -289,6 +324,8 @@ struct Page {
     made: Table<(u8, Number), Made>,
     last: Table<Key, Action>, all: Table<(Of, Number), Vec<Action>>, begun: Table<Form, Vec<Begun>>,
     types: Texts, place_of_close: Table<Action, Key>, sources: Vec<Action>,
+    /// Only for an explanation.
+    told: Option<explain::Told>,
 }
 
 impl Page {
@@ -508,6 +545,10 @@ impl Page {
         if record.form < New {
             self.collect(record);
             self.clocks.push(&mut self.sources);
+            if let Some(told) = &mut self.told {
+                told.note(record, &self.stack);
+                told.links.push(self.clocks.last_links.clone());
+            }
             self.begin(record);
         }
         let piece = self.event.len() as Action - 1;
@@ -751,11 +792,18 @@ fn group(clocks: &Clocks, pairs: &[Class]) -> Result<(Vec<usize>, Vec<(usize, us
 }
 
 // ---------------------------------------------------------------- reading
-/// Why there is no report: the line that is refused and its cause, or a read that failed.
-enum Stop { Refused(usize, Cause), ReadFault }
+/// Why there is no report: the line that is refused and its cause, or a read or a write that failed.
+enum Stop { Refused(usize, Cause), ReadFault, WriteFault }
+
+impl From<io::Error> for Stop {
+    fn from(_: io::Error) -> Self {
+        Stop::WriteFault
+    }
+}
 
 /// The lines of an input that is read as it comes, with the line read last, without its LF, and its number.
-struct Lines<R> { input: R, line: Vec<u8>, number: usize }
+/// A line of JSON is made a line of text, and `are_numbers` says which of its tokens are numbers.
+struct Lines<R> { input: R, line: Vec<u8>, number: usize, of_json: bool, are_numbers: Vec<bool> }
 
 impl<R: BufRead> Lines<R> {
     fn refuse(&self, cause: Cause) -> Stop {
@@ -767,18 +815,27 @@ impl<R: BufRead> Lines<R> {
     }
 
     fn next(&mut self) -> Result<(), Stop> {
+        let most = if self.of_json { MOST_JSON_BYTES } else { MOST_LINE_BYTES };
         self.number += 1;
         if self.number > MOST_LINES && !self.is_at_end()? {
             return Err(self.refuse("too-many-lines"));
         }
         self.line.clear();
-        let mut front = (&mut self.input).take(MOST_LINE_BYTES as u64 + 1);
+        let mut front = (&mut self.input).take(most as u64 + 1);
         front.read_until(b'\n', &mut self.line).map_err(|_| Stop::ReadFault)?;
         match self.line.pop() {
-            Some(b'\n') => Ok(()),
-            Some(_) if self.line.len() == MOST_LINE_BYTES => Err(self.refuse("long-line")),
-            _ => Err(self.refuse("no-end")),
+            Some(b'\n') => {}
+            Some(_) if self.line.len() == most => return Err(self.refuse("long-line")),
+            _ => return Err(self.refuse("no-end")),
         }
+        if self.of_json {
+            (self.line, self.are_numbers) = json_lines::text_of(&self.line);
+        }
+        Ok(())
+    }
+
+    fn tokens(&self) -> Tokens<'_> {
+        Tokens { rest: Some(&self.line), are_numbers: self.of_json.then_some(&self.are_numbers) }
     }
 }
 
@@ -787,24 +844,28 @@ struct Judged {
     page: Page, accesses: Accesses, races: Vec<(u32, u32)>, named: Vec<usize>, groups: Vec<(usize, usize)>,
 }
 
-fn judge(input: impl BufRead) -> Result<Judged, Stop> {
-    let mut lines = Lines { input, line: Vec::new(), number: 0 };
+/// Reads a trace to its end, and answers by `find`.
+fn read<T>(
+    input: impl BufRead, of_json: bool, told: Option<explain::Told>, find: impl FnOnce(Page, Accesses) -> Result<T, Cause>,
+) -> Result<T, Stop> {
+    let mut lines = Lines { input, line: Vec::new(), number: 0, of_json, are_numbers: Vec::new() };
     lines.next()?;
-    let versions: [&[u8]; 3] = [b"webtrace 1", b"webtrace 2", b"webtrace 3"];
-    let version = versions.iter().position(|&version| version == lines.line).ok_or(lines.refuse("bad-header"))? + 1;
-    let mut page = Page { version, ..Page::default() };
+    let newest = if of_json { 2 } else { 3 };
+    let is_of = |version: &Number| lines.tokens().are(b"webtrace", Some(*version));
+    let version = (1..=newest).find(is_of).ok_or(lines.refuse("bad-header"))? as usize;
+    let mut page = Page { version, told, ..Page::default() };
     let mut accesses = Accesses::default();
     lines.next()?;
-    while lines.line != b"end" {
-        let taken = take(&lines.line, lines.number as u32, &mut page, &mut accesses);
+    while !lines.tokens().are(b"end", None) {
+        let taken = take(lines.tokens(), lines.number as u32, &mut page, &mut accesses);
         taken.map_err(|cause| lines.refuse(cause))?;
         lines.next()?;
     }
-    let judged = find(page, accesses).map_err(|cause| lines.refuse(cause))?;
-    if lines.is_at_end()? { Ok(judged) } else { Err(Stop::Refused(lines.number + 1, "after-end")) }
+    let found = find(page, accesses).map_err(|cause| lines.refuse(cause))?;
+    if lines.is_at_end()? { Ok(found) } else { Err(Stop::Refused(lines.number + 1, "after-end")) }
 }
 
-fn take(line: &[u8], number: u32, page: &mut Page, accesses: &mut Accesses) -> Result<(), Cause> {
+fn take(line: Tokens<'_>, number: u32, page: &mut Page, accesses: &mut Accesses) -> Result<(), Cause> {
     if let Some((writes, location)) = access_of(line) {
         return accesses.add(number, page.running().ok_or("misplaced")?, writes, location);
     }
@@ -814,7 +875,7 @@ fn take(line: &[u8], number: u32, page: &mut Page, accesses: &mut Accesses) -> R
     Ok(())
 }
 
-fn find(page: Page, accesses: Accesses) -> Result<Judged, Cause> {
+fn judge(page: Page, accesses: Accesses) -> Result<Judged, Cause> {
     if accesses.pairs > MOST_PAIRS {
         return Err("too-many-pairs");
     }
@@ -826,16 +887,25 @@ fn find(page: Page, accesses: Accesses) -> Result<Judged, Cause> {
 }
 
 // ---------------------------------------------------------------- the report
-fn write_races(judged: &Judged, out: &mut impl Write) -> io::Result<()> {
-    let mut spelled: Vec<&[u8]> = vec![b""; judged.accesses.locations.len()];
-    for (text, &number) in &judged.accesses.locations {
+fn mode_of(access: &Access) -> char {
+    if access.writes { 'w' } else { 'r' }
+}
+
+/// The locations by their numbers.
+fn spelled_locations(accesses: &Accesses) -> Vec<&[u8]> {
+    let mut spelled: Vec<&[u8]> = vec![b""; accesses.locations.len()];
+    for (text, &number) in &accesses.locations {
         spelled[number as usize] = text;
     }
+    spelled
+}
+
+fn write_races(judged: &Judged, out: &mut impl Write) -> io::Result<()> {
+    let spelled = spelled_locations(&judged.accesses);
     writeln!(out, "report 1")?;
     for (race, &(first, second)) in judged.races.iter().enumerate() {
         let (x, y) = (&judged.accesses.kept[first as usize], &judged.accesses.kept[second as usize]);
-        let mode = |access: &Access| if access.writes { 'w' } else { 'r' };
-        write!(out, "race {} {} {} {}{} ", race + 1, x.line, y.line, mode(x), mode(y))?;
+        write!(out, "race {} {} {} {}{} ", race + 1, x.line, y.line, mode_of(x), mode_of(y))?;
         write!(out, "{} {} ", x.action, y.action)?;
         out.write_all(spelled[x.location as usize])?;
         out.write_all(b"\n")?;
@@ -867,34 +937,71 @@ fn generated(rounds: u32) -> String {
     text + "timer 2\nw var 0 a\ntimer 1\nr var 0 a\nend\n"
 }
 
-/// The status of the process: docs/report.md, "Status".
-fn answer(rounds: Option<u32>, out: &mut impl Write) -> Result<i32, i32> {
-    let judged = match rounds {
-        Some(rounds) => judge(generated(rounds).as_bytes()),
-        None => judge(io::stdin().lock()),
-    };
-    let written = match &judged {
-        Err(Stop::ReadFault) => return Err(4),
-        Err(Stop::Refused(line, cause)) => writeln!(out, "refused {line} {cause}"),
-        Ok(judged) => match rounds {
-            Some(rounds) => writeln!(out, "generated {rounds}"),
-            None => write_races(judged, out),
+/// Writes the answer, and returns the status: docs/report.md, "Status".
+fn answer(command: &Command, out: &mut impl Write) -> Result<i32, Stop> {
+    let input = io::stdin().lock();
+    let is_racy = |judged: &Judged| !judged.races.is_empty() as i32;
+    match *command {
+        Command::Check { json, of_json } => {
+            let judged = read(input, of_json, None, judge)?;
+            if json {
+                json::write_report(&judged, out)?;
+            } else {
+                write_races(&judged, out)?;
+                write_counts(&judged, out)?;
+            }
+            Ok(is_racy(&judged))
         }
-        .and_then(|()| write_counts(judged, out)),
+        Command::Gen { rounds } => {
+            let judged = read(generated(rounds).as_bytes(), false, None, judge)?;
+            writeln!(out, "generated {rounds}")?;
+            write_counts(&judged, out)?;
+            Ok(is_racy(&judged))
+        }
+        Command::Schedule { race } => {
+            let orders = read(input, false, None, |page, accesses| schedule::find(page, accesses, race as usize))?;
+            schedule::write(&orders, out)?;
+            Ok(1)
+        }
+        Command::Explain { from, to } => {
+            let found = read(input, false, Some(explain::Told::default()), |page, _| explain::find(&page, from, to))?;
+            explain::write(&found, out)?;
+            Ok(0)
+        }
+    }
+}
+
+/// The same, with the line of a refusal.
+fn run(command: &Command, out: &mut impl Write) -> Result<i32, Stop> {
+    let status = match answer(command, out) {
+        Err(Stop::Refused(line, cause)) if command.is_json() => {
+            json::write_refusal(line, cause, out)?;
+            3
+        }
+        Err(Stop::Refused(line, cause)) => {
+            writeln!(out, "refused {line} {cause}")?;
+            3
+        }
+        other => other?,
     };
-    written.and_then(|()| out.flush()).map_err(|_| 5)?;
-    Ok(judged.map_or(3, |judged| !judged.races.is_empty() as i32))
+    out.flush()?;
+    Ok(status)
+}
+
+/// Prints why there is no answer, and ends.
+fn fail(status: i32, line: &str) -> ! {
+    // where standard error is closed, the status tells it alone
+    let _ = writeln!(io::stderr(), "{line}");
+    exit(status)
 }
 
 fn main() {
-    let words: Vec<String> = std::env::args().skip(1).collect();
-    let rounds = match words.iter().map(String::as_str).collect::<Vec<_>>()[..] {
-        [] | ["check"] => None,
-        ["gen", "--number", number] => match Tokens(Some(number.as_bytes())).number() {
-            Some(rounds @ 1..=MOST_ROUNDS) => Some(rounds),
-            _ => exit(2),
-        },
-        _ => exit(2),
-    };
-    exit(answer(rounds, &mut BufWriter::new(io::stdout().lock())).unwrap_or_else(|status| status));
+    let arguments: Result<Vec<String>, _> = std::env::args_os().skip(1).map(|argument| argument.into_string()).collect();
+    let Ok(arguments) = arguments else { fail(7, "er_cli: arguments could not be read") };
+    let Some(command) = arguments::command_of(&arguments) else { fail(2, arguments::USAGE) };
+    match run(&command, &mut BufWriter::new(io::stdout().lock())) {
+        Ok(status) => exit(status),
+        Err(Stop::ReadFault) => fail(4, "er_cli: input could not be read"),
+        Err(_) => fail(5, "er_cli: output could not be written"),
+    }
 }
