@@ -1,6 +1,6 @@
 'use strict';
 // Puts modules together into one text, for a page or a world of its own. Each module is a function, so only its exports can be seen outside of it. Names
-// are the same as in the file, in stacks too.
+// are the same as in the file, in stacks too, and the first line of each module has the name of its file.
 //
 // The modules have only two forms, so no parser is needed: `import { a, b as c } from './file.js';` at the start of a line, and one `export { a, b };` at
 // the end. Other forms are refused, as are names that are not exported, and cycles.
@@ -20,7 +20,9 @@ const namesIn = (braces) => braces.slice(1, -1).split(',').map((name) => name.tr
 
 /** The modules of a bundle, each after those that it imports. */
 class Bundle {
-  constructor() {
+  /** @param {string} folder of the module whose exports are wanted: names of files are relative to it */
+  constructor(folder) {
+    this.folder = folder;
     /** @type {Map<string, Module|null>} by file; null while the imports of the module are read */
     this.modules = new Map();
     /** @type {string[]} */
@@ -45,9 +47,14 @@ class Bundle {
     const other = OTHER.exec(text);
     if (other) throw new Error(`${file}: ${other[0]}: imports have one form, exports are at the end`);
     const module = { constant: `module${this.texts.length}`, exported };
-    this.texts.push(`const ${module.constant} = (() => {\n${text}})();`);
+    this.texts.push(`const ${module.constant} = (() => { // ${this.nameOf(file)}\n${text}})();`);
     this.modules.set(file, module);
     return module;
+  }
+
+  /** @param {string} file */
+  nameOf(file) {
+    return path.relative(this.folder, file);
   }
 
   /**
@@ -70,7 +77,7 @@ class Bundle {
  * @returns {string} a function of the parameters that runs the modules and returns the exports
  */
 function bundled(entry, parameters) {
-  const bundle = new Bundle();
+  const bundle = new Bundle(path.dirname(path.resolve(entry)));
   const { constant } = bundle.add(path.resolve(entry));
   return `(function (${parameters.join(', ')}) {\n'use strict';\n${bundle.texts.join('\n')}\nreturn ${constant};\n})`;
 }

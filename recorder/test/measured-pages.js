@@ -1,5 +1,5 @@
 'use strict';
-// The pages that orders.js and timeline.js are given, and the tables that they write: names of pages.json, files of pages/, or addresses.
+// The pages that orders.js, timeline.js and profile.js are given, and the tables that they write: names of pages.json, files of pages/, or addresses.
 
 const { execFileSync } = require('node:child_process');
 const fs = require('node:fs');
@@ -65,13 +65,14 @@ function commitAndDate() {
  * @param {string} file
  * @param {string} heading
  * @param {string} text
+ * @param {string} [title] of the file
  */
-function writeSection(file, heading, text) {
+function writeSection(file, heading, text, title = 'Orders in a real browser') {
   const old = fs.existsSync(file) ? fs.readFileSync(file, 'utf8') : '';
   const sections = old.split(/^(?=## )/m).filter((one) => one.startsWith('## ') && !one.startsWith(`## ${heading}\n`));
   const own = `## ${heading}\n\n${commitAndDate()}. ${text}\n\n`;
   const all = [own, ...sections.map((one) => `${one.trimEnd()}\n\n`)].sort().join('').trimEnd();
-  fs.writeFileSync(file, `# Orders in a real browser (${commitAndDate()})\n\n${all}\n`);
+  fs.writeFileSync(file, `# ${title} (${commitAndDate()})\n\n${all}\n`);
 }
 
 module.exports = { measuredOf, pageOf, tableOf, writeSection };
