@@ -55,7 +55,7 @@ function runTests(body) {
   const head = `const { test } = require('node:test');\nconst fs = require('node:fs');\nconst count = ${JSON.stringify(path.join(folder, 'count'))};\n`;
   const failsOnce = "const fails = (name) => { fs.appendFileSync(count, name); return fs.readFileSync(count, 'utf8').split(name).length < 3; };\n";
   for (const name of ['pages', 'replay']) fs.writeFileSync(path.join(folder, 'test', `${name}.test.js`), name === 'pages' ? head + failsOnce + body : '');
-  // The test that runs this one is told by a variable, which would change what the inner one prints.
+  // The test that runs this one sets a variable, which would change what the inner one prints.
   const env = { ...process.env, ER_CLI: '/bin/true', NODE_TEST_CONTEXT: undefined };
   const { status, stdout, stderr } = spawnSync(path.join(folder, 'run-tests'), [], { env, encoding: 'utf8', timeout: 60000 });
   return { status, said: `${stdout}${stderr}` };

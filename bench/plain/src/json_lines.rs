@@ -61,7 +61,7 @@ impl Reader<'_> {
         (digits > 0).then_some(())
     }
 
-    /// A string, as a name is spelled in a line of text.
+    /// A string, as a name is written in a line of text.
     fn string(&mut self, text: &mut Vec<u8>) -> Option<()> {
         self.next()?;
         loop {

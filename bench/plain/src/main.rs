@@ -131,7 +131,7 @@ impl<'a> Tokens<'a> {
         self.rest.is_none()
     }
 
-    /// Whether these are all tokens: a keyword, and in a first line a number behind it.
+    /// Whether these are all tokens: a keyword, and in a first line a number after it.
     fn are(mut self, keyword: &[u8], version: Option<Number>) -> bool {
         self.word() == Some(keyword) && version.map_or(true, |version| self.number() == Some(version)) && self.is_at_end()
     }
@@ -990,7 +990,7 @@ fn run(command: &Command, out: &mut impl Write) -> Result<i32, Stop> {
 
 /// Prints why there is no answer, and ends.
 fn fail(status: i32, line: &str) -> ! {
-    // where standard error is closed, the status tells it alone
+    // where standard error is closed, only the status says it
     let _ = writeln!(io::stderr(), "{line}");
     exit(status)
 }

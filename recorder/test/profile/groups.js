@@ -21,7 +21,7 @@ const PARTS = /** @type {[RegExp, string][]} */ ([
 const IDLE = new Set(['(idle)', '(root)']);
 
 /**
- * The modules of the page's script by line: what stands at a line is of the last module that begins before it.
+ * The modules of the page's script by line: a line is of the last module that begins before it.
  * @param {string} script
  */
 function modulesOf(script) {
