@@ -54,15 +54,15 @@ function copyWith(name, change) {
 
 test('bad input is refused in a line', async () => {
   assert.strictEqual((await command('er_replay', ['--help'])).status, 0);
-  await refused([TRACE], 2, /--race K says which race/);
+  await refused([TRACE], 2, /--race K is missing/);
   await refused([TRACE, '--race', 'x'], 2, /--race takes a whole number from 1 on: x/);
   await refused([TRACE, '--race', '1', '--fast'], 2, /unknown option: --fast/);
   assert.strictEqual(await refused(['no.trace', '--race', '1'], 4, /^er_replay: there is no file no\.trace$/m), 1);
   assert.strictEqual(await refused([TRACE, '--race', '99'], 2, /^er_replay: there is no race 99 in .*: it has \d+$/m), 1);
   assert.strictEqual(await refused([copyWith('old', () => undefined), '--race', '1'], 4, /does not say how the page was recorded: record the page again$/m), 1);
-  assert.strictEqual(await refused([copyWith('other', (recording) => ({ ...recording, digest: 'x' })), '--race', '1'], 4, /is that of another trace$/m), 1);
+  assert.strictEqual(await refused([copyWith('other', (recording) => ({ ...recording, digest: 'x' })), '--race', '1'], 4, /belongs to another trace: /m), 1);
   assert.strictEqual(await refused([copyWith('gone', (recording) => ({ ...recording, page: 'gone.html' })), '--race', '1'], 4, /the page is gone: there is no .*gone\.html$/m), 1);
-  assert.strictEqual(await refused([copyWith('newer', (recording) => ({ ...recording, words: [...recording.words, '--newer'] })), '--race', '1'], 4, /has no options of this version: unknown option: --newer$/m), 1);
+  assert.strictEqual(await refused([copyWith('newer', (recording) => ({ ...recording, words: [...recording.words, '--newer'] })), '--race', '1'], 4, /has options that this version does not know: unknown option: --newer$/m), 1);
   assert.strictEqual(await refused([copyWith('driven', (recording) => ({ ...recording, isAttached: true })), '--race', '1'], 4, /was recorded with --attach/), 1);
   fs.writeFileSync(path.join(folder, 'site', 'bad.names.json'), '{');
   fs.copyFileSync(TRACE, path.join(folder, 'site', 'bad.trace'));
