@@ -11,6 +11,7 @@ const os = require('node:os');
 const path = require('node:path');
 const { parseArgs } = require('node:util');
 const { run, temporaryFolder } = require('./cleanup.js');
+const { FORMS } = require('../trace/records.js');
 const { readPackaged, isInstalled } = require('./packaged-pages.js');
 
 /**
@@ -22,11 +23,11 @@ const TOP = path.join(__dirname, '..', '..');
 const LONGEST_RUN = 120000;
 const MOST_SHOWN = 6;
 
-/** What the numbers of a record are, by its keyword: a letter for each argument; a dot is no number. */
-const NUMBERS = {
-  parse: 'de.d', new: 'de.d', exec: 'e', timer: 't', tick: 'i', dcl: 'pd', load: 'pd', eload: 'pe', fire: 'pe', wfire: 'pd', reply: 'pr', inline: 'pe',
-  run: 'pgh', close: 'p', back: 'p', message: 'm', anim: 'a', job: 'j', on: 'h', set: 't', every: 'i', send: 'r', post: 'm', ask: 'a', queue: 'j',
-};
+/**
+ * What the numbers of a record are, by its keyword: a letter for each argument (`g` for a group); a dot is no number, or one that is the same in each run.
+ * @type {{[word: string]: string}}
+ */
+const NUMBERS = Object.fromEntries(FORMS.map(({ word, arguments: given }) => [word, given.toLowerCase().replace('?', '.d').replace(/^p#/, 'pg').replace(/[^a-z]/g, '.')]));
 const LOCATIONS = { var: 'o', elem: 'd', slot: 'e' };
 
 /**
@@ -58,7 +59,7 @@ class Renaming {
       // the name of a slot may end with the number of its handler
       return `${keyword} ${kind} ${this.of(LOCATIONS[/** @type {'var'} */ (kind)], number)} ${kind === 'slot' ? withoutChance(name).replace(/\/\d+$/, '/h') : withoutChance(name)}`;
     }
-    const kinds = NUMBERS[/** @type {'parse'} */ (keyword)] || '';
+    const kinds = NUMBERS[keyword] || '';
     return [keyword, ...words.map((word, k) => (kinds[k] && kinds[k] !== '.' && /^\d+$/.test(word) ? this.of(kinds[k], word) : word))].join(' ');
   }
 }

@@ -1,6 +1,9 @@
 'use strict';
 // The shape of each line: which tokens follow a keyword, for records of the trace and for lines of the page's log alone.
 
+const format = require('../format.json');
+const { BEGINS, FORMS } = require('../records.js');
+
 /**
  * @typedef {(token: string) => boolean} Check
  * @typedef {Check[]} Shape what the tokens after the keyword are
@@ -37,63 +40,47 @@ function name(token) {
  */
 const oneOf = (...words) => (token) => words.includes(token);
 
+const frame = [oneOf('frame'), number];
 /** @type {Shape[]} */
 const locations = [[oneOf('var'), number, name], [oneOf('elem'), number, name], [oneOf('slot'), number, name]];
-const frame = [oneOf('frame'), number];
+/** @type {{[word: string]: string[]}} */
+const KINDS = format.kinds;
 
 /**
- * What begins an action, in the log as in a trace.
- * @type {[word: string, shapes: Shape[]][]}
+ * The shapes of a form's tokens after its keyword.
+ * @param {import('../records.js').Form} form
+ * @returns {Shape[]}
  */
-const BEGINNINGS = [
-  ['parse', [[number, number, oneOf('plain', 'inline', 'sync', 'defer', 'async', 'image')], [number, number, ...frame]]],
-  ['exec', [[number]]],
-  ['timer', [[number]]],
-  ['tick', [[number]]],
-  ['dcl', [[number, number]]],
-  ['load', [[number, number]]],
-  ['eload', [[number, number]]],
-  ['fire', [[number, number, name]]],
-  ['wfire', [[number, number, name]]],
-  ['reply', [[number, number]]],
-  ['inline', [[number, number, name]]],
-  ['run', [[number, number, number]]],
-  ['close', [[number]]],
-  ['back', [[number]]],
-  ['anim', [[number]]],
-  ['job', [[number]]],
-];
-/** @type {[word: string, shapes: Shape[]][]} */
-const COMMON_NOTES = [
-  ['new', [[number, number, oneOf('plain', 'async', 'image')], [number, number, ...frame]]],
-  ['on', [[number]]],
-  ['every', [[number, number]]],
-  ['send', [[number]]],
-  ['ask', [[number]]],
-  ['queue', [[number]]],
-];
-/** @type {[word: string, shapes: Shape[]][]} */
-const ACCESSES = [['r', locations], ['w', locations]];
+function shapesOf({ word, arguments: given }) {
+  if (given === '@') return locations;
+  const shape = [...given].map((one) => (one === '"' ? name : one === '?' ? oneOf(...KINDS[word]) : number));
+  return given.endsWith('?') ? [shape, [...shape.slice(0, -1), ...frame]] : [shape];
+}
 
 /**
- * The records of version 3 (docs/format.md).
+ * The records of the format.
  * @type {Map<string, Shape[]>}
  */
-const RECORD_SHAPES = new Map([...BEGINNINGS, ...COMMON_NOTES, ...ACCESSES, ['message', [[number]]], ['set', [[number, number]]], ['post', [[number]]]]);
-/** These came with version 3. */
-const OF_VERSION_3 = new Set(['message', 'anim', 'job', 'post', 'ask', 'queue']);
+const RECORD_SHAPES = new Map(FORMS.map((form) => [form.word, shapesOf(form)]));
+const VERSIONS = new Map(FORMS.map(({ word, version }) => [word, version]));
+/**
+ * The lines of the log that are records.
+ * @type {[word: string, shapes: Shape[]][]}
+ */
+const AS_RECORDS = [...RECORD_SHAPES].filter(([word]) => !['message', 'set', 'post'].includes(word));
+const NOTES_AS_RECORDS = AS_RECORDS.filter(([word]) => !BEGINS.has(word) && RECORD_SHAPES.get(word) !== locations);
 
 /**
  * The notes of the log, which may stand after `early`, `beside E`, `into A` and `since P`.
  * @type {Map<string, Shape[]>}
  */
-const NOTE_SHAPES = new Map([...COMMON_NOTES, ['set', [[number, number, number], [number, number, oneOf('unknown')]]], ['post', [[number, number, number]]]]);
+const NOTE_SHAPES = new Map([...NOTES_AS_RECORDS, ['set', [[number, number, number], [number, number, oneOf('unknown')]]], ['post', [[number, number, number]]]]);
 /**
  * The lines of the log (trace/spelling.js says what they mean).
  * @type {Map<string, Shape[]>}
  */
 const LINE_SHAPES = new Map([
-  ...BEGINNINGS, ...NOTE_SHAPES, ...ACCESSES,
+  ...AS_RECORDS, ...NOTE_SHAPES,
   ['message', [[number, number, number]]],
   ['look', [[number, name]]],
   ['module', [[number]]],
@@ -131,7 +118,7 @@ function fits(shapes, [word, ...rest]) {
  */
 function isRecord(text, version) {
   const tokens = text.split(' ');
-  return text.length <= LONGEST_LINE && fits(RECORD_SHAPES, tokens) && (version >= 3 || !OF_VERSION_3.has(tokens[0]));
+  return text.length <= LONGEST_LINE && fits(RECORD_SHAPES, tokens) && version >= (VERSIONS.get(tokens[0]) || 0);
 }
 
 /**

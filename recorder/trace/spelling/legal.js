@@ -7,7 +7,7 @@
 // action all up to the next one is left out.
 
 const { isRecord } = require('../log/shapes.js');
-const { BEGINS } = require('../records.js');
+const { BEGINS, FORMS, LETTERS, RECORDS } = require('../records.js');
 const { Documents } = require('./documents.js');
 
 /**
@@ -17,11 +17,11 @@ const { Documents } = require('./documents.js');
 
 const MOST_INLINE = 256;
 /** The words of events in which code runs: it may dispatch others. */
-const RUNS_CODE = new Set(['exec', 'timer', 'tick', 'run', 'close', 'message', 'anim', 'job']);
+const RUNS_CODE = new Set([...BEGINS].filter((word) => !['parse', 'back'].includes(word) && !RECORDS[word].isDispatch));
 /** The notes that declare a number of their own kind. */
-const DECLARES = new Map([['on', 'handler'], ['set', 'timeout'], ['every', 'interval'], ['send', 'request'], ['post', 'message'], ['ask', 'animation'], ['queue', 'job']]);
-/** What begins once after its declaration. */
-const STARTS_ONCE = new Map([['timer', 'timeout'], ['message', 'message'], ['anim', 'animation'], ['job', 'job']]);
+const DECLARES = new Map(FORMS.filter((form) => !BEGINS.has(form.word) && /^[a-z]/.test(form.arguments)).map((form) => [form.word, LETTERS[form.arguments[0]]]));
+/** What begins once after the note that declares it. */
+const STARTS_ONCE = new Map(FORMS.filter(({ starts, asked }) => starts && asked).map(({ word, starts = '' }) => [word, LETTERS[starts.toLowerCase()]]));
 
 class LegalTrace {
   /** @param {number} version */
