@@ -16,6 +16,7 @@ import { Elements } from './document/elements.js';
 import { Kinds } from './document/kinds.js';
 import { Loading } from './document/loading.js';
 import { Reach } from './document/reach.js';
+import { Reactions } from './document/reactions.js';
 import { Shadows } from './document/shadows.js';
 import { Sources } from './document/sources.js';
 import { Tree } from './document/tree.js';
@@ -97,6 +98,7 @@ class Page {
     this.requests = new Requests(this);
     this.connections = new Connections(this);
     this.messages = new Messages(this);
+    this.reactions = new Reactions(this);
     this.scripts = new Scripts(this);
     this.modules = new Modules(this);
     this.addresses = new Addresses(this);
@@ -127,7 +129,7 @@ class Page {
     if (this.recording.objects) this.recording.objects.addWindow(this);
     this.beginDocument();
     const parts = [this.chaos, this.handlers, this.onHandlers, this.capturing, this.calls, this.lookups, this.fields, this.causes, this.media, this.navigations, this.timers, this.callbacks,
-      this.jobs, this.promises, this.observers, this.requests, this.connections, this.messages, this.unseen];
+      this.jobs, this.promises, this.observers, this.requests, this.connections, this.messages, this.reactions, this.unseen];
     each(parts, (part) => part.start());
     this.replaceToString();
     this.tree.start(maker);

@@ -44,10 +44,7 @@ class Texts {
   writeRest() {
     const { recording, page } = this;
     if (!this.waiting.length) return;
-    const number = recording.next('element');
-    recording.declared.add(number);
-    recording.log.name('element', number, { tag: '#text', document: page.number });
-    recording.beginParse(page.number, `${number} plain`);
+    recording.beginStepOf(page.number, { tag: '#text' });
     this.write();
   }
 }

@@ -162,7 +162,7 @@ class Tree {
     if (attributeName === 'disabled') this.page.controls.noteAttribute(target, oldValue, maker);
     if (maker !== 'script') return;
     if (attributeName === 'open') this.page.causes.noteOpen(target);
-    else if (attributeName === 'class' || attributeName === 'style') this.page.motions.noteChange(target);
+    else if (attributeName) this.page.motions.noteChange(target, attributeName);
   }
 
   /**
@@ -236,6 +236,7 @@ class Tree {
     }
     page.controls.noteAdded(node, maker);
     page.reach.noteAdded(node, maker);
+    page.motions.noteAdded(node);
     if (!page.shadows.has(node)) this.writeId(elements.idOf(node), maker);
     if (maker === 'parser') page.shadows.look(node);
   }

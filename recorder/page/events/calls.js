@@ -72,7 +72,8 @@ class Calls {
   around(call, isInsertion) {
     const { recording, page } = this;
     if (recording.isOver || (settings.isDriven && !recording.isRunning())) return call();
-    if (isInsertion) page.tree.collect(recording.isRunning() ? 'script' : 'parser');
+    if (!recording.isRunning()) page.jobs.beginUnseen();
+    else if (isInsertion) page.tree.collect('script');
     const height = recording.dispatches.length;
     recording.enter('call');
     try {

@@ -48,7 +48,9 @@ class Causes {
     replaceMethod(owner, name, (native) => function change() {
       const before = isOpen(this);
       const result = apply(native, this, arguments);
-      if (isOpen(this) !== before) each(types, (type) => queued.noteAgain(this, type, recording.moment()));
+      if (isOpen(this) === before) return result;
+      // the browser merges two `toggle` events, and no others
+      each(types, (type) => (type === 'toggle' ? queued.noteAgain(this, type, recording.moment()) : queued.note(this, type, recording.moment())));
       return result;
     });
   }

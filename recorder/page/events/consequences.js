@@ -5,22 +5,27 @@ import { Map, Set } from '../core/taken.js';
 
 const FOCUS = ['focus', 'blur', 'focusin', 'focusout', 'change', 'select', 'selectionchange'];
 const EDITS = ['beforeinput', 'input', 'change', 'click', 'submit', 'reset', 'invalid', ...FOCUS];
+const OPENS = ['beforetoggle', 'toggle', 'cancel', 'close'];
+const CLIPBOARD = ['copy', 'cut', 'paste'];
 /** By the type of the cause. */
 const CONSEQUENCES = new Map([
   ['pointerdown', ['mousedown']],
   ['pointerup', ['mouseup']],
   ['mousedown', [...FOCUS, 'selectstart', 'contextmenu']],
-  ['mouseup', ['click', 'auxclick', 'contextmenu', 'dblclick', ...FOCUS]],
-  ['click', ['click', 'dblclick', 'toggle', 'formdata', 'close', 'popstate', 'navigate', ...EDITS]],
-  ['keydown', ['keypress', 'cancel', 'close', 'toggle', 'popstate', ...EDITS]],
+  ['mouseup', ['click', 'auxclick', 'contextmenu', 'dblclick', ...OPENS, ...FOCUS]],
+  ['click', ['click', 'dblclick', 'command', 'formdata', 'popstate', 'navigate', ...OPENS, ...EDITS]],
+  ['keydown', ['keypress', 'popstate', 'navigate', ...OPENS, ...CLIPBOARD, ...EDITS]],
   ['keypress', EDITS],
+  ['paste', EDITS],
+  ['cut', EDITS],
+  ['drop', EDITS],
   ['keyup', ['click']],
   ['beforeinput', ['input', 'change']],
   ['input', ['change']],
   ['change', FOCUS],
   ['blur', FOCUS],
   ['focus', FOCUS],
-  ['submit', ['formdata', 'close', 'toggle', 'navigate']],
+  ['submit', ['formdata', ...OPENS]],
 ]);
 /** Those that the browser queues after a user's act come within so many milliseconds; so does a key's letter, which can be an act of its own. */
 const LATER = new Set(['select', 'selectionchange', 'toggle', 'close', 'keypress']);

@@ -1,4 +1,5 @@
-// Events of transitions and animations: their cause is who changed the class or the style of the element or of one around it, if the motion starts soon after that.
+// Events of transitions and animations: their cause is who changed the class or the style of the element or of one around it, if the motion starts soon
+// after that, and if nothing else there can have started it.
 
 import { findItem, keysOf } from '../core/lists.js';
 import { Map, WeakMap, apply } from '../core/taken.js';
@@ -12,11 +13,18 @@ const FIRST_OF_MOTION = new Map([
 const MOTIONS_IN_ORDER = ['transitionrun', 'transitionstart', 'transitionend', 'animationstart', 'animationiteration', 'animationend'];
 /** A change of class or style counts as the cause of a motion that starts within this many frames. */
 const FRAMES_OF_A_CHANGE = 3;
+/** An animation can start by itself as its element comes, if that was less than so many milliseconds before the change. */
+const LONGEST_START = 250;
 /** `nodeType` of a shadow root. */
 const FRAGMENT = 11;
 
 /** @typedef {Event & {target: Element, propertyName?: string, animationName?: string, pseudoElement: string}} MotionEvent */
+/** @typedef {import('../types').Moment} Moment */
 /** @typedef {import('./queued.js').Cause} Cause */
+/**
+ * Changes of an element by one event: whether one was of its class or style, and whether other events changed it too.
+ * @typedef {Cause & {moment: Moment, time: number, isOfStyle: boolean, isMixed: boolean}} Change
+ */
 
 class Motions {
   /** @param {import('../types').Page} page */
@@ -24,10 +32,15 @@ class Motions {
     this.page = page;
     this.recording = page.recording;
     /**
-     * The last change of an element's class or style in the last few frames.
-     * @type {WeakMap<Element, Cause>}
+     * The changes of an element's attributes in the last few frames.
+     * @type {WeakMap<Element, Change>}
      */
     this.changed = new WeakMap();
+    /**
+     * When an element came into the document, and in which event.
+     * @type {WeakMap<Element, {time: number, event: import('../types').TraceEvent}>}
+     */
+    this.came = new WeakMap();
     /**
      * By element, and by `nameOfMotion`: the change that started the motion.
      * @type {WeakMap<Element, Map<string, Cause>>}
@@ -41,13 +54,26 @@ class Motions {
     return !!findItem(keysOf(FIRST_OF_MOTION), (type) => listened.has(type));
   }
 
+  /** @param {Element} element */
+  noteAdded(element) {
+    this.came.set(element, { time: this.page.natives.now(), event: this.recording.running });
+  }
+
   /**
-   * A script has changed the class or the style of an element.
+   * A script has changed an attribute of an element.
    * @param {Element} element
+   * @param {string} name of the attribute
    */
-  noteChange(element) {
+  noteChange(element, name) {
     if (!this.isHeard()) return;
-    const change = { moment: this.recording.lastMoment() };
+    const moment = this.recording.lastMoment();
+    const isOfStyle = name === 'class' || name === 'style';
+    const before = this.changed.get(element);
+    if (before && before.moment.event === moment.event) {
+      before.isOfStyle = before.isOfStyle || isOfStyle;
+      return;
+    }
+    const change = { moment, time: this.page.natives.now(), isOfStyle, isMixed: !!before };
     this.changed.set(element, change);
     this.afterFrames(FRAMES_OF_A_CHANGE, () => {
       if (this.changed.get(element) === change) this.changed.delete(element);
@@ -64,19 +90,33 @@ class Motions {
   }
 
   /**
-   * The change that starts a motion of an element: its own, or that of an ancestor. Undefined if there are several, which one it was is not known.
-   * @param {Element} element
+   * The change that starts a motion of an element: its own, or that of an ancestor. Undefined if several events changed attributes there, or if the element
+   * came just before: which one it was is not known.
+   * @param {MotionEvent} event
    * @returns {Cause|undefined}
    */
-  changeAround(element) {
-    /** @type {Cause|undefined} */
+  changeAround({ target: element, animationName }) {
+    /** @type {Change|undefined} */
     let found;
     for (let one = /** @type {Element|null} */ (element); one; one = parentOf(this.page.natives, one)) {
       const change = this.changed.get(one);
-      if (change && found && change.moment?.event !== found.moment?.event) return undefined;
-      found = found || change;
+      if (change?.isMixed || (change && found && change.moment.event !== found.moment.event)) return undefined;
+      if (!found || (!found.isOfStyle && change)) found = change;
     }
-    return found;
+    return found?.isOfStyle && !(animationName && this.hasJustCome(element, found)) ? found : undefined;
+  }
+
+  /**
+   * Whether an element, or one around it, came just before a change, and by another event.
+   * @param {Element} element
+   * @param {Change} change
+   */
+  hasJustCome(element, change) {
+    for (let one = /** @type {Element|null} */ (element); one; one = parentOf(this.page.natives, one)) {
+      const came = this.came.get(one);
+      if (came && came.event !== change.moment.event && change.time - came.time < LONGEST_START) return true;
+    }
+    return false;
   }
 
   /**
@@ -84,7 +124,7 @@ class Motions {
    * @param {MotionEvent} event
    */
   noteStart(event) {
-    const change = this.changeAround(event.target);
+    const change = this.changeAround(event);
     const started = this.started.get(event.target) || new Map();
     this.started.set(event.target, started);
     if (change) started.set(nameOfMotion(event), change);

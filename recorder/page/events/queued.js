@@ -2,7 +2,7 @@
 // created in the action that caused the event: so rule 14 puts the cause before the event.
 
 import { findItem, keep, takeFirst } from '../core/lists.js';
-import { Set, WeakMap } from '../core/taken.js';
+import { Map, Set, WeakMap } from '../core/taken.js';
 import { isMedia } from '../core/things.js';
 import { spellName } from '../log/spelling.js';
 import { MEDIA_IN_ORDER } from './media.js';
@@ -39,8 +39,8 @@ class Queued {
      */
     this.waiting = new WeakMap();
     /**
-     * By target: the event that was expected last, whether it has come or not.
-     * @type {WeakMap<EventTarget, Expected>}
+     * By target and type: the event that was expected last, whether it has come or not.
+     * @type {WeakMap<EventTarget, Map<string|null, Expected>>}
      */
     this.noted = new WeakMap();
     /**
@@ -73,28 +73,31 @@ class Queued {
    * @param {string|null} type null: any type
    * @param {Moment|null} moment the cause; without one, or after the end of the recording, nothing is expected
    * @param {(event: any) => boolean} [isIt] whether an event of the type is the expected one
+   * @returns {Expected|undefined}
    */
   note(target, type, moment, isIt = () => true) {
-    if (this.recording.isOver || !moment) return;
+    if (this.recording.isOver || !moment) return undefined;
     const list = this.waiting.get(target) || [];
     this.waiting.set(target, list);
-    const before = this.lastOf(target, type);
-    list[list.length] = { type, moment, isIt, before };
-    this.noted.set(target, list[list.length - 1]);
+    const noted = { type, moment, isIt, before: this.lastOf(target, type) };
+    list[list.length] = noted;
+    const ofTarget = this.noted.get(target) || new Map();
+    this.noted.set(target, ofTarget);
+    ofTarget.set(type, noted);
     if (list.length > MOST_WAITING_EVENTS) takeFirst(list);
+    return noted;
   }
 
   /**
-   * The last event that was expected at a target, if it is of the type and the running event comes after its cause: of two that are queued one after the
-   * other the second comes after the first.
+   * The last event of a type that was expected at a target, if the running event comes after its cause: of two that are queued one after the other the
+   * second comes after the first.
    * @param {EventTarget} target
    * @param {string|null} type
    * @returns {Cause|null}
    */
   lastOf(target, type) {
-    const last = this.noted.get(target);
-    if (!last || last.type !== type || !last.moment) return null;
-    return this.recording.isBeforeRunning(last.moment.event) ? last : null;
+    const last = this.noted.get(target)?.get(type);
+    return last?.moment && this.recording.isBeforeRunning(last.moment.event) ? last : null;
   }
 
   /**
@@ -106,8 +109,7 @@ class Queued {
   noteOnce(target, type, moment) {
     const isWaiting = findItem(this.waiting.get(target) || [], (one) => one.type === type);
     if (isWaiting) return;
-    this.note(target, type, moment);
-    const noted = this.noted.get(target);
+    const noted = this.note(target, type, moment);
     this.page.motions.afterFrames(FRAMES_OF_A_CALL, () => {
       const list = this.waiting.get(target);
       if (list) this.waiting.set(target, keep(list, (one) => one !== noted));

@@ -70,6 +70,18 @@ class Lines extends Shared {
     this.running.parsed = document;
   }
 
+  /**
+   * A step of the parser that makes no element of the page.
+   * @param {number} document
+   * @param {import('../types').Facts} facts
+   */
+  beginStepOf(document, facts) {
+    const number = this.next('element');
+    this.declared.add(number);
+    this.log.name('element', number, { ...facts, document });
+    this.beginParse(document, `${number} plain`);
+  }
+
   /** Accesses that were looked at so far are looked at again. */
   startPiece() {
     this.pieces++;

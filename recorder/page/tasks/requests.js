@@ -128,6 +128,17 @@ class Requests {
   }
 
   /**
+   * A promise is settled in the microtasks of an event, which has aborted what it waits for.
+   * @param {object} promise
+   * @param {() => void} call
+   */
+  settleHere(promise, call) {
+    const { recording } = this;
+    if (!recording.isOver && recording.mayDispatch()) this.page.promises.settled.set(promise, recording.point(this.page.number));
+    call();
+  }
+
+  /**
    * The jobs that a reply causes run in its handler.
    * @param {Request} request
    * @param {number} handler
@@ -136,8 +147,8 @@ class Requests {
    */
   runReply(request, handler, promise, call) {
     const { recording } = this;
-    if (recording.isOver) {
-      call();
+    if (recording.isOver || recording.isCheckpoint) {
+      this.settleHere(promise, call);
       return;
     }
     recording.startTask();

@@ -26,11 +26,6 @@ class Timers {
     this.page = page;
     this.recording = page.recording;
     /**
-     * The idle callback that was asked for last.
-     * @type {InQueue|null}
-     */
-    this.lastIdle = null;
-    /**
      * The animation callback of this window that was asked for last, if it is not the first window.
      * @type {InQueue|null}
      */
@@ -173,18 +168,6 @@ class Timers {
   }
 
   /**
-   * Two idle callbacks that one event asks for come in this order, unless one has a time by which it has to come.
-   * @param {IdleRequestOptions|undefined} options
-   */
-  placeOfIdle(options) {
-    const { recording } = this;
-    if (!recording.isRunning() || (options && (options.timeout || 0) > 0)) return null;
-    const before = this.lastIdle?.asker === recording.running ? this.lastIdle : null;
-    this.lastIdle = { asker: recording.running, before, ends: [], why: 'the end of an idle callback' };
-    return this.lastIdle;
-  }
-
-  /**
    * Animation callbacks of one window come in the order in which they were asked for. Those of the first window have a record that says so, and which
    * would put those of two windows in order too: the other windows have none.
    */
@@ -215,7 +198,7 @@ class Timers {
       recording.log.name('interval', number, { why: name, function: nameOfFunction(callback) });
       const hold = steering.asks(words[0]);
       const asker = recording.running;
-      const place = isIdle ? timers.placeOfIdle(rest[0]) : isQueue ? timers.placeOfFrame() : null;
+      const place = isQueue && !isIdle ? timers.placeOfFrame() : null;
       const run = steering.limited(words[0], (time) => timers.run(`${words[1]} ${number}`, 'tick', asker, callback, [time], { place }));
       const ask = (/** @type {import('../types').Callback} */ next) => apply(native, window, joined([next], rest));
       return steering.note(hold, ask(steering.callback(hold, run, ask)));

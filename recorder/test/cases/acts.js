@@ -3,6 +3,20 @@
 
 /** @type {import('../types').PageCase[]} */
 exports.cases = [
+  // ---- what follows an act in its task
+  {
+    page: 'command.html',
+    words: ['--do', 'click:button'],
+    due: ['inline button#opens click', 'w chosen', 'inline dialog#dialog command', 'r chosen', 'w opened', 'inline dialog#dialog beforetoggle', 'r opened'],
+    races: ['click of button#opens'],
+  },
+  {
+    page: 'cut.html',
+    words: ['--do', 'click:#field', '--do', 'key:Control+a', '--do', 'key:Control+x'],
+    due: ['fire input#field keydown', 'inline input#field cut', 'w taken', 'inline input#field input', 'r taken'],
+    races: ['cut of input#field'],
+  },
+
   // ---- acts at a control that is disabled first
   ...[3, 2, 1].map((version) => ({
     page: 'control-enabled.html',

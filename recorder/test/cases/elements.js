@@ -65,6 +65,23 @@ exports.cases = [
     ],
   },
 
+  // ---- custom elements that the parser makes
+  {
+    page: 'custom-parsed.html',
+    due: ['parse x-card plain', 'w size', 'parse x-card#card plain', 'w #card', 'r size', 'w made', 'on heard', 'r made', 'w filled', 'on job', 'r filled', 'w after',
+      'parse p#second plain', 'exec script', 'r made', 'r filled', 'r after'],
+    never: ['inline x-card#card filled'],
+    races: ['after'],
+    losses: [/^dispatches that a parse step .* called/],
+  },
+  // the definition comes before the element, or it upgrades it
+  { page: 'custom-async.html', due: ['parse script async', 'parse x-box#box plain', 'exec script', 'r made'], races: ['made'] },
+  {
+    page: 'custom-constructor.html',
+    due: ['on code', 'fire promise reactions code-1', 'run code', 'w made', 'parse x-tab#tab plain'],
+    races: [],
+  },
+
   // ---- frames
   {
     page: 'frames.html',

@@ -95,6 +95,13 @@ exports.cases = [
       'r got', 'run the request before', 'run done', 'r got'],
     races: [],
   },
+  {
+    page: 'motion-of-two.html',
+    due: ['timer', 'timer', 'w state', 'fire div#panel transitionend', 'r state'],
+    never: ['new div#panel plain'],
+    races: ['state', 'transitionend of div#panel'],
+  },
+  { page: 'motion-of-new.html', due: ['timer', 'message', 'w state', 'fire p animationstart', 'r state'], races: ['state'] },
   { page: 'scrolls-by-code.html', due: ['timer', 'w isMoving', 'new document plain', 'fire document scroll', 'r isMoving'], races: [] },
   {
     page: 'selects-by-code.html',
@@ -108,6 +115,34 @@ exports.cases = [
     due: ['tick', 'w state', 'run isReady', 'w state', 'run startViewTransition', 'run isDone', 'r state'],
     races: [],
   },
+
+  // ---- a dialog's `close`, which is never merged; a request that code aborts
+  {
+    page: 'dialog-twice.html',
+    due: ['timer', 'new dialog#dialog plain', 'new dialog#dialog plain', 'fire dialog#dialog close', 'w last', 'on the event before', 'fire dialog#dialog close',
+      'run the event before', 'w last'],
+    races: [],
+  },
+  { page: 'dialog-of-two.html', due: ['fire dialog#dialog close', 'w last', 'fire dialog#dialog close', 'w last'], never: ['on the event before'], races: ['last', 'open of dialog#dialog'] },
+  { page: 'fetch-aborted.html', due: ['timer', 'send', 'post', 'message', 'w state', 'r state', 'w seen'], never: ['reply'], races: [] },
+
+  // ---- orders and accesses that are lost (docs/lost.md)
+  { page: 'media-load.html', due: ['fire audio#sound loadeddata', 'w state', 'load', 'r state'], races: ['state'] },
+  { page: 'rel-later.html', due: ['timer', 'w state', 'fire link#sheet load', 'r state'], races: ['load of link#sheet', 'state'] },
+  {
+    page: 'form-navigates.html',
+    words: ['--do', 'click:#button'],
+    due: ['inline form#form submit', 'w sent', 'back', 'back', 'fire Navigation navigate', 'r sent'],
+    races: ['navigate of Navigation', 'sent', 'submit of form#form'],
+  },
+  {
+    page: 'handler-names.html',
+    words: ['--do', 'click:#button'],
+    due: ['timer', 'w count of input#button', 'inline input#button click', 'run click', 'w seen'],
+    never: ['r count', 'r count of input#button'],
+    races: [],
+  },
+  { page: 'written-late.html', due: ['timer', 'new script plain', 'r late', 'close', 'fire document DOMContentLoaded'], never: ['w late'], races: ['content of html'] },
 
   // ---- timeouts
   {
@@ -134,6 +169,12 @@ exports.cases = [
     due: ['timer', 'w first', 'w second', 'timer', 'w second'],
     never: ['on one of several promises'],
     races: ['second'],
+  },
+  {
+    page: 'promise-settled.html',
+    due: ['on reaction', 'timer', 'w second', 'timer', 'w first', 'inline promise reactions then', 'run one of several promises', 'run one of several promises',
+      'run reaction', 'r first', 'r second'],
+    races: [],
   },
   {
     page: 'await-asker.html',

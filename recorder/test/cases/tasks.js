@@ -25,11 +25,8 @@ exports.cases = [
   },
   {
     page: 'idle-callbacks.html',
-    due: [
-      'exec script', 'every 0', 'every 0', 'tick', 'w seen', 'on the end of an idle callback', 'tick', 'inline the end of an idle callback behind',
-      'run the end of an idle callback', 'back', 'r seen', 'w seen',
-    ],
-    races: ['other'],
+    due: ['exec script', 'every 0', 'every 0', 'tick', 'w seen', 'tick', 'r seen', 'w seen'],
+    races: ['other', 'seen'],
   },
   {
     page: 'leaving.html',

@@ -1,0 +1,153 @@
+// Custom elements that the parser makes: their reactions run while no code is on the stack.
+
+import { each } from '../core/lists.js';
+import { replaceMethod } from '../core/replacing.js';
+import { Reflect, apply, getOwnPropertyDescriptor } from '../core/taken.js';
+import { nameOfFunction } from '../log/values.js';
+
+/** The reactions that the browser calls for elements of the parser, and takes from the prototype before any other code of the page runs in `define`. */
+const REACTIONS = ['connectedCallback', 'attributeChangedCallback'];
+
+/** @typedef {import('../types').Moment} Moment */
+/**
+ * A reaction of one definition: its name, who defined it, and whether the parser has waited for that.
+ * @typedef {{name: string, function: string|undefined, moment: Moment|null, isBefore: boolean}} Reaction
+ */
+
+class Reactions {
+  /** @param {import('../types').Page} page */
+  constructor(page) {
+    this.page = page;
+    this.recording = page.recording;
+  }
+
+  start() {
+    const reactions = this;
+    const { CustomElementRegistry } = this.page.window;
+    replaceMethod(CustomElementRegistry.prototype, 'define', (native) => function define(name, constructor) {
+      const restores = reactions.recording.isOver ? [] : reactions.watch(constructor);
+      try {
+        return apply(native, this, arguments);
+      } finally {
+        each(restores, (restore) => restore());
+      }
+    });
+  }
+
+  // ---- definitions
+
+  /**
+   * The browser finds functions of the recorder in place of the reactions of a definition. It looks once.
+   * @param {unknown} constructor
+   * @returns {(() => void)[]} what puts the page's own in their places
+   */
+  watch(constructor) {
+    /** @type {(() => void)[]} */
+    const restores = [];
+    const prototype = typeof constructor === 'function' ? getOwnPropertyDescriptor(constructor, 'prototype')?.value : null;
+    if (typeof prototype !== 'object' || !prototype) return restores;
+    each(REACTIONS, (name) => {
+      const restore = name in prototype && this.replaceReaction(prototype, name);
+      if (restore) restores[restores.length] = restore;
+    });
+    return restores;
+  }
+
+  /**
+   * @param {object} prototype
+   * @param {string} name
+   * @returns {(() => void)|null} null if the page allows no other property there
+   */
+  replaceReaction(prototype, name) {
+    const reactions = this;
+    const own = getOwnPropertyDescriptor(prototype, name);
+    let isReplaced = true;
+    const restore = () => {
+      if (isReplaced) isReplaced = own ? !Reflect.defineProperty(prototype, name, own) : !Reflect.deleteProperty(prototype, name);
+    };
+    const get = () => {
+      restore();
+      const callback = Reflect.get(prototype, name);
+      return typeof callback === 'function' ? reactions.wrap(callback, reactions.describe(name, callback)) : callback;
+    };
+    if (own && !own.configurable) return null;
+    return Reflect.defineProperty(prototype, name, { configurable: true, enumerable: !!own && own.enumerable, get }) ? restore : null;
+  }
+
+  /**
+   * @param {string} name
+   * @param {Function} callback
+   * @returns {Reaction}
+   */
+  describe(name, callback) {
+    const moment = this.recording.moment();
+    const isBefore = !!moment && (moment.event.blocks === this.page || moment.event.parsed === this.page.number);
+    return { name, function: nameOfFunction(callback), moment, isBefore };
+  }
+
+  /**
+   * @param {Function} callback
+   * @param {Reaction} reaction
+   * @returns {import('../types').Method}
+   */
+  wrap(callback, reaction) {
+    const reactions = this;
+    const { recording } = this;
+    return function reacts() {
+      const call = () => apply(callback, this, arguments);
+      return recording.isOver || recording.isRunning() ? call() : reactions.run(this, reaction, call);
+    };
+  }
+
+  // ---- reactions
+
+  /**
+   * The reaction is in a step of the parser if that comes after the definition. Otherwise a definition that came later would have called it, so it is an
+   * event after both.
+   * @template T
+   * @param {Element} element
+   * @param {Reaction} reaction
+   * @param {() => T} call
+   */
+  run(element, reaction, call) {
+    const { recording, page } = this;
+    recording.startTask();
+    const step = page.tree.isParsing() ? this.stepOf(element) : null;
+    if (!step || !reaction.isBefore) return this.runApart(element, reaction, step, call);
+    recording.enter('callback');
+    try {
+      return call();
+    } finally {
+      recording.leave();
+    }
+  }
+
+  /**
+   * The step that made an element, if that has just been. Before the parser inserts the element it is a step of its own.
+   * @param {Element} element
+   */
+  stepOf(element) {
+    const { recording, page } = this;
+    const { lastStep, lastParsedElement } = page.tree;
+    if (lastParsedElement === element && lastStep && recording.running === lastStep.event) return lastStep;
+    recording.beginStepOf(page.number, { tag: element.localName });
+    return recording.lastMoment();
+  }
+
+  /**
+   * @template T
+   * @param {Element} element
+   * @param {Reaction} reaction
+   * @param {Moment|null} step
+   * @param {() => T} call
+   */
+  runApart(element, reaction, step, call) {
+    const { page: { dispatches, elements, jobs, joins } } = this;
+    const handler = joins.registerIn(reaction.moment, { type: reaction.name, function: reaction.function });
+    const place = step ? elements.standInIn(step, element, 'its reaction') : jobs.place;
+    const type = step ? reaction.name : `${reaction.name}-${this.recording.next('reaction')}`;
+    return jobs.runAsHandler(dispatches.beginPlain(place, type), handler, { v: null, moment: reaction.moment }, call);
+  }
+}
+
+export { Reactions };
