@@ -18,6 +18,7 @@ const { parseCommand, UsageFault } = require('./recording/options.js');
 const { phase } = require('./phase.js');
 const { Recorder } = require('./recording/recorder.js');
 const { listPages } = require('./many-pages.js');
+const { listFlow } = require('./page-flow.js');
 const { recordInto } = require('./record.js');
 const { canReplay, replayRaces } = require('./replay-command.js');
 const { withEnd, chance } = require('./replay/replay.js');
@@ -166,6 +167,7 @@ async function main(args) {
   if (programState() === 'missing' || (options.isReplayed && !canReplay('er_page'))) return STATUS.noProgram;
   if (isOfMany) return listPages(options);
   const [given] = positionals;
+  if (options.flowOfMany) return listFlow(given, options);
   return pageRaces({ given, folder: folderFor(given), options });
 }
 

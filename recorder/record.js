@@ -123,7 +123,8 @@ async function recordInto(given, traceFile, options, recorder = new Recorder(giv
 async function main(args) {
   const { options, positionals, isHelp } = parseCommand('er_record', args);
   if (isHelp) return printHelp('er_record');
-  const { attach } = options;
+  const { attach, flowOfMany } = options;
+  if (flowOfMany) throw new UsageFault(`the flow loads several pages, which er_page records: ${flowOfMany}`);
   if (positionals.length !== (attach ? 1 : 2)) throw new UsageFault('');
   const given = attach ? `${attach.host}:${attach.port}` : positionals[0];
   const recorder = attach ? new AttachedRecorder(given, options, attach) : new Recorder(given, options);

@@ -131,34 +131,43 @@ class Tab {
    * @returns {Promise<any>} whatever the page answers
    */
   async evaluateApart(expression) {
+    return (await this.resultApart(expression, true)).value;
+  }
+
+  /**
+   * The number by which the protocol knows an object of that world, or undefined.
+   * @param {string} expression
+   * @returns {Promise<string|undefined>}
+   */
+  async objectApart(expression) {
+    return (await this.resultApart(expression, false)).objectId;
+  }
+
+  /**
+   * @param {string} expression
+   * @param {boolean} returnByValue
+   * @returns {Promise<{value?: any, objectId?: string}>} whatever the page answers
+   */
+  async resultApart(expression, returnByValue) {
     try {
-      if (this.world) return await this.evaluateIn(this.world, expression);
+      if (this.world) return (await this.send('Runtime.evaluate', { expression, returnByValue, contextId: this.world })).result;
     } catch (fault) {
       if (!/context/.test(/** @type {Error} */ (fault).message)) throw fault; // else the world was that of an earlier document
     }
     const frameId = await this.mainFrame();
     const { executionContextId } = await this.send('Page.createIsolatedWorld', { frameId });
     this.world = executionContextId;
-    return this.evaluateIn(executionContextId, expression);
+    return (await this.send('Runtime.evaluate', { expression, returnByValue, contextId: executionContextId })).result;
   }
 
   /**
-   * @param {number} contextId
+   * The value of an expression in the page's own world; of a promise, if it is waited for, what it gives.
    * @param {string} expression
+   * @param {boolean} [awaitPromise]
    * @returns {Promise<any>} whatever the page answers
    */
-  async evaluateIn(contextId, expression) {
-    const { result } = await this.send('Runtime.evaluate', { expression, returnByValue: true, contextId });
-    return result.value;
-  }
-
-  /**
-   * The value of an expression in the page's own world.
-   * @param {string} expression
-   * @returns {Promise<any>} whatever the page answers
-   */
-  async evaluate(expression) {
-    const { result } = await this.send('Runtime.evaluate', { expression, returnByValue: true });
+  async evaluate(expression, awaitPromise = false) {
+    const { result } = await this.send('Runtime.evaluate', { expression, returnByValue: true, awaitPromise });
     return result.value;
   }
 }

@@ -1,17 +1,18 @@
 'use strict';
-// What a user does: clicks, keys and waits, by the browser's own input, so that the page sees trusted events.
+// A user at a page, by the browser's own input, so that the page sees trusted events: a pointer and keys. What each step does with these: user-steps.js.
 
-const { keepSecret } = require('../common/secrets.js');
 const { sleep, within } = require('../common/time.js');
-const { chordOf, chordOfCharacter, eventsOf } = require('./input/keyboard.js');
-const { findTarget, isSecretField, pickTarget } = require('./input/targets.js');
+const { bitsOf, chordOfCharacter, eventsOf, halfOf, isModifier } = require('./input/keyboard.js');
+const { callOf, cssWhere } = require('./input/selectors.js');
+const { findTarget, pickTarget } = require('./input/targets.js');
+const { doStep } = require('./user-steps.js');
 
 /**
  * @typedef {import('./input/targets.js').Point} Point
  * @typedef {import('./input/targets.js').Spot} Spot
  * @typedef {import('../options/step.js').Step} Step
- * @typedef {{isDone: true}|{isDone: false, reason: 'target'|'key'}} Outcome of an act: `reason` is what there is none of
- * @typedef {Spot & {kind: 'spot', isEarly: false, said: string, number?: number, text?: undefined}} SpotAct what the seed has picked
+ * @typedef {{isDone: true}|{isDone: false, why: string|null}} Outcome of an act: without a reason it has no target
+ * @typedef {Spot & {kind: 'spot', isEarly: false, said: string, number?: number, text?: undefined, where?: undefined}} SpotAct what the seed has picked
  */
 
 /** In milliseconds. */
@@ -19,9 +20,6 @@ const KEY_PAUSE = 30;
 const ACTION_PAUSE = 120;
 const LONGEST_ACTION = 8000;
 const EARLY_POLL = 10;
-
-/** @type {Outcome} */
-const DONE = { isDone: true };
 
 /**
  * @param {Step|SpotAct} action
@@ -43,6 +41,11 @@ class User {
      * @type {((number: number) => Promise<void>)|null}
      */
     this.beforeLetter = null;
+    /**
+     * The modifier keys that are held down.
+     * @type {Set<string>}
+     */
+    this.held = new Set();
   }
 
   /**
@@ -54,22 +57,49 @@ class User {
    * @returns {Promise<R|null>}
    */
   call(found, ...parameters) {
-    const answer = this.tab.evaluateApart(`(${found})(${parameters.map((one) => JSON.stringify(one)).join(', ')})`).catch(() => null); // the page has gone
+    const answer = this.tab.evaluateApart(callOf(found, parameters)).catch(() => null); // the page has gone
     return within(answer, LONGEST_ACTION, null);
   }
 
+  // ---- the pointer
+
   /** @param {Point} point */
-  async click({ x, y }) {
-    /** @param {string} type */
-    const send = (type) => this.tab.send('Input.dispatchMouseEvent', { type, x, y, button: 'left', clickCount: 1 });
-    await this.tab.send('Input.dispatchMouseEvent', { type: 'mouseMoved', x, y });
-    await send('mousePressed');
-    await send('mouseReleased');
+  async moveTo({ x, y }) {
+    await this.tab.send('Input.dispatchMouseEvent', { type: 'mouseMoved', x, y, modifiers: bitsOf(this.held) });
   }
+
+  /**
+   * @param {Point} point
+   * @param {string} [button]
+   * @param {number} [times] how often it is clicked in a row
+   */
+  async click({ x, y }, button = 'left', times = 1) {
+    await this.moveTo({ x, y });
+    for (let clickCount = 1; clickCount <= times; clickCount++) {
+      for (const type of ['mousePressed', 'mouseReleased']) {
+        await this.tab.send('Input.dispatchMouseEvent', { type, x, y, button, clickCount, modifiers: bitsOf(this.held) });
+      }
+    }
+  }
+
+  // ---- keys
 
   /** @param {import('./input/keyboard.js').Chord} chord */
   async press(chord) {
     for (const event of eventsOf(chord)) await this.tab.send('Input.dispatchKeyEvent', event);
+  }
+
+  /**
+   * Presses or releases one key. Returns false if there is no such key.
+   * @param {string} name
+   * @param {boolean} isDown
+   */
+  async half(name, isDown) {
+    if (isModifier(name) && isDown) this.held.add(name);
+    else this.held.delete(name);
+    const event = halfOf(name, this.held, isDown);
+    if (event) await this.guarded(this.tab.send('Input.dispatchKeyEvent', event).then(() => {}));
+    return event !== null;
   }
 
   /**
@@ -93,6 +123,8 @@ class User {
     }
   }
 
+  // ---- steps
+
   /**
    * An action that opens a dialog or stops in the page does not hold the recording up.
    * @param {Promise<void>} work
@@ -101,58 +133,28 @@ class User {
     await within(work.catch(() => {}), LONGEST_ACTION); // what it did until then is the recording
   }
 
-  /** @param {Step|SpotAct} action */
+  /**
+   * @param {Step|SpotAct} action
+   * @returns {Promise<Outcome>}
+   */
   async act(action) {
-    const outcome = await this.tryAct(action);
+    /** @type {Outcome} */
+    let outcome = { isDone: true };
+    if (isSpot(action)) await this.clickSpot(action);
+    else outcome = await doStep(this, action);
     await sleep(ACTION_PAUSE);
     return outcome;
   }
 
   /**
-   * @param {Step|SpotAct} action
-   * @returns {Promise<Outcome>}
-   */
-  async tryAct(action) {
-    if (action.kind === 'key') return this.pressKey(action);
-    if (isSpot(action)) await this.clickSpot(action);
-    else if (action.kind === 'wait') await sleep(Number(action.target));
-    else return this.actAt(action, await this.call(findTarget, action.target));
-    return DONE;
-  }
-
-  /**
-   * @param {Step} action
-   * @returns {Promise<Outcome>}
-   */
-  async pressKey({ target }) {
-    const chord = chordOf(target);
-    if (chord) await this.guarded(this.press(chord));
-    else if ([...target].length === 1) await this.guarded(this.typeCharacter(target));
-    else return { isDone: false, reason: 'key' };
-    return DONE;
-  }
-
-  /**
-   * @param {Step} action
-   * @param {Point|null} target
-   * @returns {Promise<Outcome>}
-   */
-  async actAt(action, target) {
-    if (!target) return { isDone: false, reason: 'target' };
-    if (action.kind === 'type' && await this.call(isSecretField, action.target)) keepSecret(action.text || '');
-    await this.guarded(this.click(target));
-    if (action.kind === 'type') await this.type(action.text || '');
-    return DONE;
-  }
-
-  /**
-   * Waits until the target of an early action is there.
+   * Waits until the target of an action is there.
    * @param {Step|SpotAct} action
    * @param {number} until
    */
   async waitFor(action, until) {
-    if (action.kind === 'wait' || action.kind === 'key') return;
-    while (Date.now() < until && !(await this.call(findTarget, action.target))) await sleep(EARLY_POLL);
+    const where = isSpot(action) ? cssWhere(action.target) : action.where;
+    if (!where || action.kind === 'waitForElement') return; // a step of its own, which waits
+    while (Date.now() < until && !(await this.call(findTarget, where))) await sleep(EARLY_POLL);
   }
 
   /**
@@ -180,7 +182,7 @@ class User {
    */
   async clickSpot(spot) {
     /** @param {string} selector */
-    const find = async (selector) => (this.picks.includes(spot) ? null : this.call(findTarget, selector, spot.inside));
+    const find = async (selector) => (this.picks.includes(spot) ? null : this.call(findTarget, cssWhere(selector), spot.inside));
     const found = await find(spot.target) || await find(spot.place);
     await this.guarded(this.click(found || spot));
     if (spot.isText) await this.type('in');

@@ -1,7 +1,7 @@
 'use strict';
 // Records each page load of each tab of a browser that another program drives.
 
-const { complain, faultInWords } = require('./complaints.js');
+const complaints = require('./complaints.js');
 const { Load } = require('./load.js');
 const { SharedSources } = require('./load-sources.js');
 const { DrivenTab } = require('./driven-tab.js');
@@ -35,12 +35,14 @@ function isPage({ responseStatusCode: status, responseHeaders = [] }) {
 
 class BrowserRecorder {
   /**
-   * @param {import('../browser/attached.js').AttachedChromium} browser
+   * @param {import('../browser/protocol.js').Protocol} browser
    * @param {import('./trace-folder.js').TraceFolder} folder
    * @param {import('./load.js').Options & {depth: 'globals'|'objects', keepsAll: boolean}} options as parseOptions gives them
+   * @param {(text: string) => void} complain
    */
-  constructor(browser, folder, options) {
+  constructor(browser, folder, options, complain = complaints.complain) {
     this.browser = browser;
+    this.complain = complain;
     this.folder = folder;
     this.options = options;
     this.ownNames = ownNames();
@@ -115,10 +117,12 @@ class BrowserRecorder {
   // ---- requests and responses
 
   /**
+   * What another session of this process has paused, that session answers.
    * @param {ProtocolEvent} event
    * @param {string|undefined} sessionId
    */
   async pass(event, sessionId) {
+    if (sessionId && !this.sessions.has(sessionId)) return;
     this.paused.note(/** @type {import('./paused.js').PausedEvent} */ (event), sessionId);
     const tab = sessionId ? this.sessions.get(sessionId) : this.tabs.get(event.frameId) || await this.tabAt(event.frameId);
     const isResponse = event.responseStatusCode !== undefined || event.responseErrorReason !== undefined;
@@ -226,7 +230,7 @@ class BrowserRecorder {
 
   /** @param {LoadOfPage} load */
   write(load) {
-    this.writing = this.writing.then(() => load.write()).catch((fault) => complain(`a page load is not recorded: ${faultInWords(fault)}`)).then(() => {
+    this.writing = this.writing.then(() => load.write()).catch((fault) => this.complain(`a page load is not recorded: ${complaints.faultInWords(fault)}`)).then(() => {
       if (load.isOver && this.loads.delete(load) && load.hasTrace()) this.written++;
     });
   }

@@ -3,12 +3,16 @@
 
 const USER_AND_NETWORK = `User and network:
   --do ACTION       act as a user after load, in the order given: "click:SELECTOR",
-                    "type:SELECTOR:TEXT", "key:NAME", "wait:MS"; after the prefix
-                    "early ", as soon as the target exists. TEXT starts after the last
-                    colon; put SELECTOR in quotes if TEXT has a colon: type:"#at":10:30
+                    "hover:SELECTOR", "type:SELECTOR:TEXT", "select:SELECTOR:OPTION",
+                    "upload:SELECTOR:FILE", "press:SELECTOR:KEY", "key:KEY" (as
+                    Control+a), "wait:MS"; after the prefix "early ", as soon as the
+                    target exists. TEXT starts after the last colon; put SELECTOR in
+                    quotes if TEXT has a colon: type:"#at":10:30. SELECTOR is CSS, or
+                    text=WORDS, role=button[name="Save"], xpath=PATH; >>> leads inside
   --flow FILE       do the steps of a user flow that the Recorder panel of Chrome
-                    DevTools exported as JSON; its page is URL if none is given
-  --keep-going      if a step of --do cannot be done, warn and go on
+                    DevTools exported as JSON; its page is URL if none is given. If it
+                    loads several pages, er_page records each, and lists all
+  --keep-going      if a step cannot be done, warn and go on
   --clicks N        then click N times on what is in view, chosen by the seed
   --seed N          seed for --clicks (1)
   --avoid REGEX     texts and names of what --clicks avoids, or "none" (delete, log out,
@@ -116,7 +120,7 @@ Exit status:
   4    the page did not load, or no race was found but the recording is not
        complete: its time was over before the page was quiet
   5    the browser failed, or a file could not be written
-  6    a step of --do could not be done; all files are written
+  6    a step of --do or --flow could not be done; all files are written
   10   no analyzer; with --replay, also if each answer takes minutes
   70   an internal error
   130  stopped by Ctrl-C
@@ -154,7 +158,7 @@ Exit status:
   2    wrong arguments; nothing is recorded
   4    the page did not load, or its time was over before it was quiet
   5    the browser failed, or a file could not be written
-  6    a step of --do could not be done; all files are written
+  6    a step of --do or --flow could not be done; all files are written
   70   an internal error
   130  stopped by Ctrl-C
 

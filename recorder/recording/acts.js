@@ -1,7 +1,7 @@
 'use strict';
 // The acts of the user in a recording: the steps of --do, those of an earlier run, and the clicks that the seed chooses.
-/* global document */
 
+const { whyNoTarget } = require('../browser/input/fields.js');
 const { numberOfAct } = require('../common/numbers.js');
 const { printError } = require('../common/output.js');
 const { shown } = require('../common/shown.js');
@@ -19,15 +19,8 @@ const LONGEST_SEARCH = 5000;
 /** So many milliseconds the page gets to take note of the act that comes. */
 const LONGEST_NOTE = 2000;
 
-/** Runs in the page: why an act has no target there. `seconds` is for how long it was searched. */
-function whyNoTarget(/** @type {string} */ selector, /** @type {number} */ seconds) {
-  try {
-    const element = document.querySelector(selector);
-    return element ? `the element has no size, so it can't be clicked` : `no element matches the selector, after ${seconds} s`;
-  } catch {
-    return 'the selector is not valid';
-  }
-}
+/** @param {Act} act */
+const longestSearch = (act) => ('given' in act && act.given?.timeout) || LONGEST_SEARCH;
 
 class Acts {
   /**
@@ -69,9 +62,19 @@ class Acts {
   async doLate() {
     const { late } = this.planned();
     for (const act of late) {
-      if (Date.now() < this.session.until) await this.do(act);
+      if (Date.now() >= this.session.until) break;
+      if (!await this.do(act) && this.endsFlow(act)) break;
     }
     return late.length > 0;
+  }
+
+  /**
+   * Whether a step that could not be done is of a flow, whose further steps count on it. In another order of the page they need not.
+   * @param {Act} act
+   */
+  endsFlow(act) {
+    const { options: { keepsGoing }, steering } = this.session;
+    return 'from' in act && !!act.from && !keepsGoing && !steering;
   }
 
   /** @param {import('../browser/user.js').User} user */
@@ -92,7 +95,7 @@ class Acts {
   async do(act) {
     const { session, rest, user } = this;
     if (!user) throw new Error('there is no page to act in yet');
-    await user.waitFor(act, act.isEarly ? session.until : Math.min(session.until, Date.now() + LONGEST_SEARCH));
+    await user.waitFor(act, act.isEarly ? session.until : Math.min(session.until, Date.now() + longestSearch(act)));
     if (session.steering?.blocks(act)) {
       await rest.waitForRelease(() => !session.steering?.blocks(act));
       if (!act.isEarly) await rest.waitForLoad();
@@ -100,15 +103,18 @@ class Acts {
     }
     if (act.kind === 'spot') this.session.isDismissing = true;
     const outcome = await this.around(user, act.number, () => user.act(act));
-    if (!outcome.isDone) this.notDone.push({ act, why: outcome.reason === 'key' ? 'there is no such key' : await this.whyNoTarget(act) });
+    if (!outcome.isDone) this.notDone.push({ act, why: outcome.why ?? await this.whyNoTarget(user, act) });
     this.tried.add(act.number);
+    return outcome.isDone;
   }
 
-  /** @param {Act} act */
-  async whyNoTarget(act) {
-    const call = `(${whyNoTarget})(${JSON.stringify(act.target)}, ${LONGEST_SEARCH / 1000})`;
-    const why = await within(this.session.openTab().evaluateApart(call).catch(() => null), LONGEST_NOTE, null); // the page does not answer
-    return typeof why === 'string' ? why : 'the page did not answer';
+  /**
+   * @param {import('../browser/user.js').User} user
+   * @param {Act} act
+   */
+  async whyNoTarget(user, act) {
+    const why = act.where ? await within(user.call(whyNoTarget, act.where, longestSearch(act) / 1000), LONGEST_NOTE, null) : null; // the page does not answer
+    return why ?? 'the page did not answer';
   }
 
   /**
@@ -148,7 +154,7 @@ class Acts {
     const { actions } = this.session.options;
     /** @param {Act} act */
     const nameOf = (act) => ('from' in act && act.from) || `step ${actions.findIndex(({ said }) => said === act.said) + 1} of --do`;
-    return this.notDone.map(({ act, why }) => `${nameOf(act)}, ${act.said}: ${why}`);
+    return this.notDone.map(({ act, why }) => `${nameOf(act)}, ${act.said}: ${why}${this.endsFlow(act) ? '; the steps after it were not done' : ''}`);
   }
 
   /** What was not tried, as words. */

@@ -4,7 +4,7 @@
 const { credentialsOf, withoutCredentials } = require('../common/address.js');
 const { keepPattern } = require('../common/secrets.js');
 const { AVOIDED } = require('../options/avoided.js');
-const { readFlow } = require('../options/flow.js');
+const { readFlow, readStep } = require('../options/flow.js');
 const { LIBRARIES } = require('../options/libraries.js');
 const { parseArguments, UsageFault } = require('../options/parse.js');
 const { keepSecretsOf } = require('../options/secrets-of.js');
@@ -14,6 +14,7 @@ const {
   wholeNumber, fileName, pattern, colors, depth, endpoint, header, credentials, webAddress, cookie, viewport, userAgent,
 } = require('../options/values.js');
 const { NEWEST_VERSION } = require('../trace/spelling.js');
+const { checkOptions } = require('./check-options.js');
 
 /** @typedef {import('../options/step.js').Step} Step */
 /** @typedef {import('../browser/user.js').SpotAct} SpotAct */
@@ -23,6 +24,7 @@ const { NEWEST_VERSION } = require('../trace/spelling.js');
  * @typedef {object} RecordingOptions
  * @property {(Step|SpotAct)[]} actions what the user does, in the order given; of a replay also the clicks that the seed chose
  * @property {string|null} flowPage the page of a user flow
+ * @property {string|null} flowOfMany the file of a flow that loads other pages
  * @property {boolean} keepsGoing whether a step that can't be done is only a warning
  * @property {number} clicks so many clicks on what is in view follow
  * @property {number} seed chooses them
@@ -88,7 +90,7 @@ const MOST_JOBS = 100;
 /** @returns {CommandOptions} */
 function defaults() {
   return {
-    actions: [], flowPage: null, keepsGoing: false, clicks: 0, seed: 1, avoided: AVOIDED, slow: 0, time: 30, version: NEWEST_VERSION, root: null, fallback: null,
+    actions: [], flowPage: null, flowOfMany: null, keepsGoing: false, clicks: 0, seed: 1, avoided: AVOIDED, slow: 0, time: 30, version: NEWEST_VERSION, root: null, fallback: null,
     headers: [], credentials: null, ignoresCertificateErrors: false, cookies: [], storageState: null, userDataDir: null, viewport: null, userAgent: null,
     isHeaded: false, isRaw: false, chaos: null, depth: 'objects', libraries: LIBRARIES, keepsAll: false, attach: null, isLive: false, runs: 1, known: null, writesKnown: false,
     countsActs: false, isJson: false, sarif: null, color: 'auto', junit: null, html: null, list: null, sitemap: null, jobs: 0, isFresh: false, isReplayed: false,
@@ -99,8 +101,10 @@ function defaults() {
 /**
  * @param {CommandOptions} options
  * @param {import('../options/flow.js').Flow} flow
+ * @param {string} file
  */
-function takeFlow(options, { page, viewport: size, steps }) {
+function takeFlow(options, { page, viewport: size, steps, isOfMany }, file) {
+  if (isOfMany) options.flowOfMany = file;
   options.actions.push(...steps);
   options.flowPage = page;
   options.viewport = options.viewport || size;
@@ -121,7 +125,7 @@ const SERVER = {
 /** @type {Table} */
 const RECORDING = {
   do: { take: (options, value, name) => { options.actions.push(parseStep(name, value)); } },
-  flow: { take: (options, value, name) => { takeFlow(options, readFlow(name, value)); } },
+  flow: { take: (options, value, name) => { takeFlow(options, readFlow(name, value), value); } },
   'keep-going': { isFlag: true, take: (options) => { options.keepsGoing = true; } },
   clicks: { take: (options, value, name) => { options.clicks = wholeNumber(name, value); } },
   seed: { take: (options, value, name) => { options.seed = wholeNumber(name, value); } },
@@ -192,8 +196,8 @@ const TABLES = {
   er_replay: { ...AGAIN, ...SERVER, time: RECORDING.time, redact: RECORDING.redact, viewport: RECORDING.viewport, 'user-agent': RECORDING['user-agent'] },
   er_suite: { ...LISTING, ...OF_LOADS },
 };
-/** @type {Table} */
-const ANY = { ...TABLES.er_page, ...TABLES.er_record };
+/** @type {Table} `step` is one of a flow, as a recording saves it */
+const ANY = { ...TABLES.er_page, ...TABLES.er_record, step: { take: (options, value, name) => { options.actions.push(readStep(name, value)); } } };
 
 /**
  * Says which command takes an option that another one does not know.
@@ -203,27 +207,6 @@ function withCommand(fault) {
   const [, name] = fault instanceof UsageFault ? /^unknown option: --(.*)$/.exec(fault.message) || [] : [];
   const others = name ? Object.keys(TABLES).filter((command) => Object.hasOwn(TABLES[command], name)) : [];
   return others.length ? new UsageFault(`unknown option: --${name} (an option of ${others.join(' and ')})`) : fault;
-}
-
-/**
- * Checks options that depend on each other.
- * @param {CommandOptions} options
- */
-function check(options) {
-  const { attach, writesKnown, known, runs, isReplayed } = options;
-  const isActing = options.actions.length > 0 || options.clicks > 0 || options.isRaw;
-  if (attach && isActing) throw new UsageFault('--attach cannot be combined with --do, --clicks or --raw: the driver acts');
-  if (writesKnown && !known) throw new UsageFault('--write-known requires --known FILE');
-  checkMany(options);
-  if (runs > 1 && isReplayed) throw new UsageFault('--replay cannot be combined with --runs');
-}
-
-/** @param {CommandOptions} options */
-function checkMany({ list, sitemap, jobs, isFresh, runs, isReplayed, isLive }) {
-  const isOfMany = list || sitemap;
-  if (!isOfMany && (jobs || isFresh)) throw new UsageFault('--jobs and --fresh require --list FILE or --sitemap URL');
-  if (list && sitemap) throw new UsageFault('--list cannot be combined with --sitemap');
-  if (isOfMany && (runs > 1 || isReplayed || isLive)) throw new UsageFault('--list and --sitemap cannot be combined with --runs, --replay or --live');
 }
 
 /**
@@ -257,7 +240,7 @@ function parseBy(args, table) {
   const { positionals, isHelp } = parseArguments(args, table, options);
   const addresses = positionals.map((one) => withoutUser(one, options));
   keepSecretsOf(options, positionals);
-  if (!isHelp) check(options);
+  if (!isHelp) checkOptions(options);
   return { options, positionals: addresses, isHelp };
 }
 

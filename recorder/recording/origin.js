@@ -59,16 +59,13 @@ const toPage = (page, traceFile) => (isAddress(page) ? page : path.join(path.dir
  */
 function argumentsOf(options) {
   const numbers = [['seed', options.seed], ['slow', options.slow], ['time', options.time], ['version', options.version]];
-  const acts = options.actions.filter(({ kind }) => KINDS.has(kind)).flatMap(({ said }) => ['--do', said]);
+  const acts = options.actions.flatMap((act) => (act.kind === 'spot' ? [] : act.given ? [`--step=${JSON.stringify(act.given)}`] : ['--do', act.said]));
   const libraries = options.libraries ? options.libraries.source : 'none';
   const { viewport, userAgent } = options;
   const shape = [...viewport ? ['--viewport', `${viewport.width}x${viewport.height}`] : [], ...userAgent ? [`--user-agent=${userAgent}`] : []];
   const flags = [options.keepsAll && '--keep', options.isLive && '--live', options.keepsGoing && '--keep-going'].flatMap((flag) => flag || []);
   return [...acts, ...numbers.flatMap(([name, value]) => [`--${name}`, String(value)]), '--depth', options.depth, `--libraries=${libraries}`, ...shape, ...flags];
 }
-
-/** @type {Set<string>} the kinds of steps of --do; an act of another kind is one that the seed chose */
-const KINDS = new Set(['click', 'type', 'key', 'wait']);
 
 /**
  * What OUT.names.json saves.

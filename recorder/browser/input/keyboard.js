@@ -121,4 +121,30 @@ function eventsOf({ key, modifiers }) {
   return [...down, { type: isText ? 'keyDown' : 'rawKeyDown', ...fields(key, bits), text: isText ? key.text : undefined }, { type: 'keyUp', ...fields(key, bits) }, ...up];
 }
 
-module.exports = { chordOf, chordOfCharacter, eventsOf, isKey };
+/**
+ * The call of the protocol that presses or releases one key, while others are held; null if there is no such key.
+ * @param {string} name
+ * @param {Set<string>} held the modifier keys that are held
+ * @param {boolean} isDown
+ * @returns {import('../protocol.js').ProtocolObject|null} parameters of Input.dispatchKeyEvent
+ */
+function halfOf(name, held, isDown) {
+  const modifier = MODIFIERS.get(name);
+  const chord = modifier ? { key: modifier.key } : chordOf([...held, name].join('+'));
+  if (!chord) return null;
+  const { key } = chord;
+  const isText = isDown && key.text !== undefined && ![...held].some((one) => one !== 'Shift');
+  const fields = { modifiers: bitsOf(held), key: key.key, code: key.code, windowsVirtualKeyCode: key.keyCode, location: key.location };
+  return { type: isText ? 'keyDown' : isDown ? 'rawKeyDown' : 'keyUp', ...fields, text: isText ? key.text : undefined };
+}
+
+/** @param {string} name */
+const isModifier = (name) => MODIFIERS.has(name);
+
+/**
+ * The modifier keys that are held, as the protocol has them.
+ * @param {Set<string>} held
+ */
+const bitsOf = (held) => [...held].reduce((all, name) => all | (MODIFIERS.get(name)?.bit || 0), 0);
+
+module.exports = { halfOf, isModifier, bitsOf, chordOf, chordOfCharacter, eventsOf, isKey };

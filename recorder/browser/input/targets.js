@@ -1,34 +1,47 @@
 'use strict';
-// Functions that run in the page: where a user can click. Each is sent as its text, so it uses no name of this file.
+// Functions that run in the page: where a user can click. Each is sent as its text, with the functions of selectors.js.
 /* eslint-env browser */
 
+const { findAll } = require('./selectors.js');
+
 /**
+ * @typedef {import('./selectors.js').Where} Where
  * @typedef {{x: number, y: number}} Point
  * @typedef {Point & {isText: boolean, what: string, target: string, place: string, inside: Point}} Spot what a user may click: `target` and `place`
  *   are selectors, by an id and by its position alone, `inside` the place in it
  */
 
 /**
- * Where an element of a selector can be clicked, or null. `inside` is the place in it that was clicked before.
- * @param {string} selector
- * @param {Point} [inside]
+ * Where the first element that a selector means can be clicked, or null. `inside` is the place in it that was clicked before.
+ * @param {Where} where
+ * @param {Point|null} [inside]
  * @returns {Point|null}
  */
-function findTarget(selector, inside) {
-  const element = document.querySelector(selector);
+function findTarget(where, inside) {
+  const [element] = findAll(where);
   if (!element) return null;
+  const view = element.ownerDocument.defaultView || window;
   let box = element.getBoundingClientRect();
-  if (box.top < 0 || box.bottom > innerHeight || box.left < 0 || box.right > innerWidth) {
+  if (box.top < 0 || box.bottom > view.innerHeight || box.left < 0 || box.right > view.innerWidth || view !== window) {
     element.scrollIntoView({ block: 'center', inline: 'center' });
     box = element.getBoundingClientRect();
   }
   if (box.width < 1) return null;
-  const usual = { x: box.left + Math.min(box.width / 2, 200), y: box.top + Math.min(box.height / 2, 100) };
-  if (!inside) return usual;
+  const around = { x: 0, y: 0 };
+  for (let frame = view.frameElement; frame; frame = frame.ownerDocument.defaultView?.frameElement || null) {
+    const outer = frame.getBoundingClientRect();
+    around.x += outer.left + frame.clientLeft;
+    around.y += outer.top + frame.clientTop;
+  }
   const boxes = [...element.getClientRects()].map(({ left, top, width, height }) => ({ x: left + width / 2, y: top + height / 2 }));
   /** @param {Point} point */
-  const isHit = ({ x, y }) => element.contains(document.elementFromPoint(x, y));
-  return [{ x: box.left + inside.x, y: box.top + inside.y }, ...boxes].find(isHit) || usual;
+  const isHit = ({ x, y }) => {
+    const hit = /** @type {Document|ShadowRoot} */ (element.getRootNode()).elementFromPoint(x, y);
+    return element.contains(hit);
+  };
+  const usual = { x: box.left + Math.min(box.width / 2, 200), y: box.top + Math.min(box.height / 2, 100) };
+  const found = inside ? [{ x: box.left + inside.x, y: box.top + inside.y }, ...boxes].find(isHit) || usual : usual;
+  return { x: found.x + around.x, y: found.y + around.y };
 }
 
 /**
@@ -86,13 +99,4 @@ function pickTarget(seed, avoided) {
   return { x, y, isText, label, what: element.localName + (element.id ? `#${element.id}` : ''), target: pathOf(hit, true), place: pathOf(hit, false), inside: { x: x - left, y: y - top } };
 }
 
-/**
- * Whether what is typed into an element is a secret.
- * @param {string} selector
- */
-function isSecretField(selector) {
-  const element = document.querySelector(selector);
-  return !!element && element.matches('input[type=password],[autocomplete$=password],[autocomplete=one-time-code]');
-}
-
-module.exports = { findTarget, isSecretField, pickTarget };
+module.exports = { findTarget, pickTarget };

@@ -1,0 +1,42 @@
+'use strict';
+// Which options can be combined.
+
+const { UsageFault } = require('../options/parse.js');
+
+/** @typedef {import('./options.js').CommandOptions} CommandOptions */
+
+/**
+ * Checks options that depend on each other.
+ * @param {CommandOptions} options
+ */
+function checkOptions(options) {
+  const { attach, writesKnown, known, runs, isReplayed } = options;
+  const isActing = options.actions.length > 0 || options.clicks > 0 || options.isRaw;
+  if (attach && isActing) throw new UsageFault('--attach cannot be combined with --do, --clicks or --raw: the driver acts');
+  if (writesKnown && !known) throw new UsageFault('--write-known requires --known FILE');
+  checkMany(options);
+  checkFlow(options);
+  if (runs > 1 && isReplayed) throw new UsageFault('--replay cannot be combined with --runs');
+}
+
+/** @param {CommandOptions} options */
+function checkMany({ list, sitemap, jobs, isFresh, runs, isReplayed, isLive }) {
+  const isOfMany = list || sitemap;
+  if (!isOfMany && (jobs || isFresh)) throw new UsageFault('--jobs and --fresh require --list FILE or --sitemap URL');
+  if (list && sitemap) throw new UsageFault('--list cannot be combined with --sitemap');
+  if (isOfMany && (runs > 1 || isReplayed || isLive)) throw new UsageFault('--list and --sitemap cannot be combined with --runs, --replay or --live');
+}
+
+/**
+ * A flow over several pages is recorded load by load, without what belongs to one page.
+ * @param {CommandOptions} options
+ */
+function checkFlow({ flowOfMany, list, sitemap, runs, isReplayed, clicks, slow, isRaw, chaos, root, fallback, actions }) {
+  if (!flowOfMany) return;
+  const others = { '--list': list, '--sitemap': sitemap, '--runs': runs > 1, '--replay': isReplayed, '--clicks': clicks, '--slow': slow, '--raw': isRaw,
+    '--chaos': chaos !== null, '--root': root, '--fallback': fallback, '--do': actions.some((act) => !('given' in act)) };
+  const [wrong] = Object.entries(others).find(([, isGiven]) => isGiven) || [];
+  if (wrong) throw new UsageFault(`${wrong} cannot be combined with a flow that loads several pages: ${flowOfMany}`);
+}
+
+module.exports = { checkOptions };
