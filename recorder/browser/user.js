@@ -146,13 +146,14 @@ class User {
   }
 
   /**
-   * Waits until the target of an early action is there.
+   * Waits until the target of an action is there.
    * @param {Step|SpotAct} action
    * @param {number} until
+   * @param {() => Promise<boolean>} isInVain whether it can't come any more
    */
-  async waitFor(action, until) {
+  async waitFor(action, until, isInVain) {
     if (action.kind === 'wait' || action.kind === 'key') return;
-    while (Date.now() < until && !(await this.call(findTarget, action.target))) await sleep(EARLY_POLL);
+    while (Date.now() < until && !(await this.call(findTarget, action.target)) && !(await isInVain())) await sleep(EARLY_POLL);
   }
 
   /**

@@ -66,12 +66,12 @@ function commitAndDate() {
  * @param {string} heading
  * @param {string} text
  */
-function writeSection(file, heading, text) {
+function writeSection(file, heading, text, title = 'Orders in a real browser') {
   const old = fs.existsSync(file) ? fs.readFileSync(file, 'utf8') : '';
   const sections = old.split(/^(?=## )/m).filter((one) => one.startsWith('## ') && !one.startsWith(`## ${heading}\n`));
   const own = `## ${heading}\n\n${commitAndDate()}. ${text}\n\n`;
   const all = [own, ...sections.map((one) => `${one.trimEnd()}\n\n`)].sort().join('').trimEnd();
-  fs.writeFileSync(file, `# Orders in a real browser (${commitAndDate()})\n\n${all}\n`);
+  fs.writeFileSync(file, `# ${title} (${commitAndDate()})\n\n${all}\n`);
 }
 
 module.exports = { measuredOf, pageOf, tableOf, writeSection };
