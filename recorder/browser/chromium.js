@@ -22,7 +22,8 @@ const FLAGS = [
   // no keyring, no dialogs of the browser itself, the same colors on each machine
   '--password-store=basic', '--no-default-browser-check', '--disable-hang-monitor', '--disable-prompt-on-repost', '--force-color-profile=srgb',
   // one process for a page and all its frames, so that their actions come in one order
-  '--disable-site-isolation-trials', '--disable-features=IsolateOrigins,site-per-process,BackForwardCache,Prerender2',
+  // nor do the popups of the address bar load, hundreds of scripts for each window: no page sees them
+  '--disable-site-isolation-trials', '--disable-features=IsolateOrigins,site-per-process,BackForwardCache,Prerender2,WebUIOmniboxPopup,WebUIOmniboxAimPopup',
   '--remote-debugging-pipe',
 ];
 // Not among them, as a page would do something else than in a user's browser: --disable-ipc-flooding-protection (a page that floods its

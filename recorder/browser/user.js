@@ -150,11 +150,12 @@ class User {
    * Waits until the target of an action is there.
    * @param {Step|SpotAct} action
    * @param {number} until
+   * @param {() => Promise<boolean>} [isInVain] whether it can't come any more
    */
-  async waitFor(action, until) {
+  async waitFor(action, until, isInVain = async () => false) {
     const where = isSpot(action) ? cssWhere(action.target) : action.where;
     if (!where || action.kind === 'waitForElement') return; // a step of its own, which waits
-    while (Date.now() < until && !(await this.call(findTarget, where))) await sleep(EARLY_POLL);
+    while (Date.now() < until && !(await this.call(findTarget, where)) && !(await isInVain())) await sleep(EARLY_POLL);
   }
 
   /**

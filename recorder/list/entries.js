@@ -23,9 +23,7 @@ const { pathInFolder } = require('./places.js');
 const MOST_NAMED = 3;
 /** So many races of a problem are looked through for what else has the same two places. */
 const MOST_RACES = 500;
-const LONGEST_REPLAY = 240;
 const HERE = /(?:^|[;:] )here (.*?)(?:; and covered by it|$)/;
-const PREFIX_OF_VERDICT = /^(turned: differs|could not be turned|turned): /;
 
 /** Where a callback was requested, and the place in a library by way of which. */
 const ASKED = /, [a-z]+ at (\S+)(?: \(via \S+\))?$/;
@@ -120,7 +118,7 @@ class Entries {
     const replay = this.listing.verdictOf(line);
     const seen = this.listing.seenInWords(line);
     /** @type {Entry['details']} */
-    const all = [['cause', cause ? summaryOf(cause) : ''], ['recorded', here], ['replayed', replay ? replayInWords(replay) : ''], ['runs', seen]];
+    const all = [['cause', cause ? summaryOf(cause) : ''], ['recorded', here], ['replayed', replay ? replay.sentence || replay.words : ''], ['runs', seen]];
     return all.filter(([, text]) => text);
   }
 
@@ -130,12 +128,6 @@ class Entries {
     const inProblems = others.length ? ` in ${others.length + 1} problems` : '';
     return size > 1 ? `and ${size - 1} more race${size > 2 ? 's' : ''}${inProblems}` : '';
   }
-}
-
-/** @param {import('./types').Verdict} verdict */
-function replayInWords({ effect, words }) {
-  const told = `${effect ? `${effect}: ` : ''}${effect ? words.replace(PREFIX_OF_VERDICT, '') : words.replace(/^turned: /, '')}`;
-  return told.length > LONGEST_REPLAY ? `${told.slice(0, LONGEST_REPLAY)}..` : told;
 }
 
 module.exports = { Entries };

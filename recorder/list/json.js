@@ -64,7 +64,7 @@ function plainProblem(listing, problem, { failing, lines }, folder) {
  */
 function replayOf(listing, problem) {
   const found = listing.verdictOf(problem);
-  return found ? { replay: { race: found.race, verdict: found.verdict, differs: !!found.effect, effect: found.effect, words: found.words } } : {};
+  return found ? { replay: { race: found.race, verdict: found.verdict, differs: !!found.effect, effect: found.effect, sentence: found.sentence, words: found.words } } : {};
 }
 
 /** @param {Listing} listing @param {ListFacts} facts */

@@ -176,10 +176,11 @@ test('what came of a race in the other order stands in the object and in SARIF',
   const listing = new Listing([await run()], null);
   const [problem] = listing.problems;
   const words = 'turned: differs: error in the other order alone: TypeError';
-  listing.setVerdicts(0, [{ race: problem.races[0] + 1, verdict: 'turned', effect: 'an uncaught error', words }]);
+  const sentence = 'in the other order an uncaught error: TypeError';
+  listing.setVerdicts(0, [{ race: problem.races[0] + 1, verdict: 'turned', effect: 'an uncaught error', sentence, words }]);
   const plain = plainListing(listing, { page: 'page', status: 1, files: [], folder: null });
   const [told, ...others] = plain.problems.filter(({ replay }) => replay);
-  assert.deepStrictEqual(told.replay, { race: problem.races[0] + 1, verdict: 'turned', differs: true, effect: 'an uncaught error', words });
+  assert.deepStrictEqual(told.replay, { race: problem.races[0] + 1, verdict: 'turned', differs: true, effect: 'an uncaught error', sentence, words });
   assert.deepStrictEqual([told.name, others], [problem.name, []]);
   const [result] = sarifOf(listing, { page: PAGE, folder: null }).runs[0].results.filter(({ properties }) => properties?.replay);
   assert.match(result.message.text, /Run again in the other order: turned: differs: error/);

@@ -105,6 +105,8 @@ export interface Verdict {
   verdict: string;
   effect?: string;
   words: string;
+  /** The short form for the list. */
+  sentence?: string;
   differences?: { kind: string }[];
 }
 

@@ -95,7 +95,8 @@ class Acts {
   async do(act) {
     const { session, rest, user } = this;
     if (!user) throw new Error('there is no page to act in yet');
-    await user.waitFor(act, act.isEarly ? session.until : Math.min(session.until, Date.now() + longestSearch(act)));
+    const until = act.isEarly ? session.until : Math.min(session.until, Date.now() + longestSearch(act));
+    await user.waitFor(act, until, rest.nothingComes(until));
     if (session.steering?.blocks(act)) {
       await rest.waitForRelease(() => !session.steering?.blocks(act));
       if (!act.isEarly) await rest.waitForLoad();

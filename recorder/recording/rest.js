@@ -78,6 +78,24 @@ class Rest {
     return isSame && !session.openRequests(); // a request may have started meanwhile
   }
 
+  /**
+   * Makes a function that is called again and again: whether a page has become quiet in which nothing is due until a time. False in a run that is not compared.
+   * @param {number} until
+   */
+  nothingComes(until) {
+    const { session } = this;
+    let actions = -1;
+    let quietSince = 0;
+    this.placeAtRest = null;
+    return async () => {
+      if (!session.awaited) return false;
+      await session.flush();
+      if (session.openRequests() || session.intake.actions !== actions) quietSince = Date.now();
+      actions = session.intake.actions;
+      return Date.now() - quietSince >= QUIET && this.isAtRest(until);
+    };
+  }
+
   /** If the ends of runs are compared, a page that still does something is waited for longer. */
   waitForEnd() {
     const { whenOver, turns } = this.session.options;

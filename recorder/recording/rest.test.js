@@ -52,3 +52,20 @@ test('a page that scrolls, or asks for something at the second look, is not at r
   assert.deepStrictEqual(await looksOf(scrolls), [false, false, false, true]);
   assert.deepStrictEqual(await looksOf(asks), [false, false, true, true]);
 });
+
+test('nothing comes to a quiet page in which nothing is due, once it has been quiet for a while', async () => {
+  /** @param {Parameters<typeof quietPage>[1]} [facts] */
+  const comes = async (facts) => {
+    const { rest } = quietPage(['0 0'], facts).recorder;
+    const comesNothing = rest.nothingComes(Date.now() + 60000);
+    const answers = [];
+    for (let k = 0; k < 30 && !answers[k - 1]; k++) {
+      answers.push(await comesNothing());
+      await new Promise((resolve) => setTimeout(resolve, 50));
+    }
+    return answers;
+  };
+  const [quiet, due, asking, plain] = await Promise.all([comes(), comes({ log: ['set 1 30000 0'] }), comes({ open: () => 1 }), comes({ isCompared: false })]);
+  assert.deepStrictEqual([quiet[0], quiet[quiet.length - 1]], [false, true]);
+  [due, asking, plain].forEach((answers) => assert.ok(answers.every((one) => !one)));
+});

@@ -3,6 +3,7 @@
 
 const { someInWords } = require('./found/compare.js');
 const { otherWayInWords } = require('./found/lawful.js');
+const { sentenceOf } = require('./sentence.js');
 
 /** @typedef {import('./types').Result} Result */
 /** @typedef {import('./types').Difference} Difference */
@@ -120,7 +121,7 @@ function verdictInWords(result) {
 
 /**
  * What OUT.replay.json contains of a race: the race as in the report (`race`, `lines`, `location`); `verdict` ('turned' or 'not turned'), `effect` (the worst
- * one), `words`; `means`, what was held back, `why` it was not reversed, and notes (`note`).
+ * one), `words`, and `sentence`, the short form for the list; `means`, what was held back, `why` it was not reversed, and notes (`note`).
  * The differences, each `{kind, subject, recorded, other}`: `differences` can be noticed, `beside` cannot; `unsteady` ones are there in one order too, `byDelay`
  * ones come from the delay.
  * `isListed`: the analyzer lists the two in the new trace; `isSteady`: the run with nothing reversed has the recorded order; `isSeenTwice`: in a second
@@ -138,7 +139,8 @@ function plain(result, race, number) {
   const { verdict, why, means, note, isListed, isSteady, isSeenTwice, astray, differences, beside, unsteady, byDelay, group, order, chance, comparedAt, trace } = result;
   const worst = worstOf(result);
   return {
-    race: number, lines: race.lines, location: race.location, verdict, effect: worst ? worst.name : undefined, words: verdictInWords(result), why, means, note,
+    race: number, lines: race.lines, location: race.location, verdict, effect: worst ? worst.name : undefined, words: verdictInWords(result), sentence: sentenceOf(result, worst?.difference), why,
+    means, note,
     isListed, isSteady, isSeenTwice, astray, differences, beside, unsteady, byDelay, group, order, chance, comparedAt, trace,
   };
 }

@@ -1,0 +1,109 @@
+'use strict';
+// What a replay found of a race, as one short sentence for the list: what the other order does to the page and its user, by the kind of effect.
+
+/** @typedef {import('./types').Difference} Difference */
+/** @typedef {import('./types').Result} Result */
+
+const LONGEST = 100;
+const LONGEST_WHY = 160;
+const NONE = 'none';
+
+/** @param {string} text */
+const cut = (text) => (text.length > LONGEST ? `${text.slice(0, LONGEST)}..` : text);
+/** @param {string} text */
+const quoted = (text) => `"${cut(text)}"`;
+/** @param {Difference} one whether only the other order has it */
+const isNew = ({ recorded }) => recorded === NONE;
+/** @param {string} address */
+const fileOf = (address) => address.replace(/^https?:\/\/\S*\/(?=[^/]+$)/, '');
+
+/**
+ * A value in the other order, and the recorded one.
+ * @param {string} subject
+ * @param {Difference} one
+ */
+function valueIn(subject, { recorded, other }) {
+  if (other === NONE) return `${subject} is not set`;
+  return recorded === NONE ? `${subject} is ${quoted(other)}, and not set as recorded` : `${subject} is ${quoted(other)} instead of ${quoted(recorded)}`;
+}
+
+/**
+ * The event and the handler of a lost event.
+ * @param {Difference} one
+ */
+function ofEvent({ subject, recorded }) {
+  const [, event = subject, handler = 'its handler'] = /^(.*?): (.*)$/.exec(subject) || [];
+  return recorded === 'not run' ? `${event} finds ${handler}` : `${event} does not find ${handler}`;
+}
+
+/**
+ * What the other order does, by the kind of the difference.
+ * @type {{[kind: string]: (one: Difference) => string}}
+ */
+const CLAUSES = {
+  error: (one) => (isNew(one) ? `an uncaught error: ${cut(one.subject)}` : `without the uncaught error ${cut(one.subject)}`),
+  'console error': (one) => (isNew(one) ? `an error in the console: ${cut(one.subject)}` : `without the error in the console ${cut(one.subject)}`),
+  event: ofEvent,
+  text: (one) => (isNew(one) ? `the text ${quoted(one.subject)} appears` : `the text ${quoted(one.subject)} is missing`),
+  'order of lines': () => 'the lines of the text are in another order',
+  element: (one) => (isNew(one) ? `the element ${cut(one.subject)} is in the page` : `the element ${cut(one.subject)} is missing`),
+  dialog: (one) => (isNew(one) ? `a dialog opens: ${cut(one.subject)}` : `the dialog ${quoted(one.subject)} does not open`),
+  field: (one) => valueIn(`the ${one.subject}`, one),
+  storage: (one) => valueIn(one.subject, one),
+  title: (one) => valueIn('the title', one),
+  hash: (one) => valueIn('the hash of the address', one),
+  focus: ({ recorded, other }) => `the focus is on ${other || 'nothing'} instead of ${recorded || 'nothing'}`,
+  load: ({ other }) => `the load event of the window ${other}`,
+  request: ({ subject, other }) => `${cut(fileOf(subject))} is ${other === 'made' ? '' : 'not '}requested`,
+  picture: () => 'the picture of the page differs',
+};
+
+/**
+ * A text that only one order has, and the text in its place.
+ * @param {Difference} one
+ * @param {Difference[]} all
+ */
+function withOther(one, all) {
+  const other = one.kind === 'text' && all.filter(({ kind }) => kind === 'text').length === 2 && all.find((each) => each.kind === 'text' && isNew(each) !== isNew(one));
+  if (!other) return null;
+  const [added, missing] = isNew(one) ? [one, other] : [other, one];
+  return `the text is ${quoted(added.subject)} instead of ${quoted(missing.subject)}`;
+}
+
+/**
+ * @param {Difference} one
+ * @param {Difference[]} all
+ */
+const clauseOf = (one, all) => withOther(one, all) || (CLAUSES[one.kind] || (() => valueIn(one.subject, one)))(one);
+
+/**
+ * The sentence of a race that differs. An event that finds no handler says nothing of what its user sees, so what else differs comes with it.
+ * @param {Difference[]} differences
+ * @param {Difference} worst
+ */
+function ofDifferences(differences, worst) {
+  const clause = clauseOf(worst, differences);
+  if (worst.kind !== 'event') return `in the other order ${clause}`;
+  const visible = differences.find(({ kind }) => kind !== 'event' && kind !== 'picture') || differences.find(({ kind }) => kind === 'picture');
+  return `in the other order ${clause}, and ${visible ? clauseOf(visible, differences) : 'nothing else differs'}`;
+}
+
+/** @param {Result} result */
+function ofNone({ byDelay = [], unsteady = [] }) {
+  if (byDelay.some(({ isSeen }) => isSeen)) return 'no visible difference, except what a delay in the recorded order does too';
+  return unsteady.some(({ isSeen }) => isSeen) ? 'no visible difference, except what differs by itself' : 'no visible difference';
+}
+
+/**
+ * @param {Result} result
+ * @param {Difference|undefined} worst the worst difference, if there is one
+ */
+function sentenceOf(result, worst) {
+  const { verdict, why = '', differences = [], astray = [] } = result;
+  if (verdict !== 'turned') return `could not be turned: ${why.length > LONGEST_WHY ? `${why.slice(0, LONGEST_WHY)}..` : why}`;
+  const found = worst ? ofDifferences(differences, worst) : ofNone(result);
+  const others = astray.length ? `; race${astray.length > 1 ? 's' : ''} ${astray.join(', ')} came in another order too` : '';
+  return found + others;
+}
+
+module.exports = { sentenceOf };

@@ -1,0 +1,51 @@
+'use strict';
+// What a replay found as a sentence, by the kind of effect.
+
+const assert = require('node:assert');
+const { test } = require('node:test');
+const { sentenceOf } = require('./sentence.js');
+const { worstOf } = require('./verdict.js');
+
+/** @typedef {import('./types').Difference} Difference */
+/** @typedef {import('./types').Result} Result */
+
+/** @type {(kind: string, subject: string, recorded: string, other: string, isOfUser?: boolean) => Difference} */
+const difference = (kind, subject, recorded, other, isOfUser = false) => ({ kind, subject, isSeen: true, recorded, other, isOfUser });
+/** @param {Partial<Result>} result */
+const told = (result) => sentenceOf({ verdict: 'turned', ...result }, worstOf(result)?.difference);
+/** @param {Difference[]} differences */
+const of = (...differences) => told({ differences });
+const LOST = difference('event', 'the click at button#buy: the click handler onBuy', 'the click handler onBuy', 'not run', true);
+
+test('an effect of each kind is a short sentence', () => {
+  assert.strictEqual(of(difference('error', 'TypeError: x is null (index.html:10)', 'none', 'TypeError: x is null (index.html:10)')),
+    'in the other order an uncaught error: TypeError: x is null (index.html:10)');
+  assert.strictEqual(of(difference('error', 'TypeError: x', 'TypeError: x', 'none')), 'in the other order without the uncaught error TypeError: x');
+  assert.strictEqual(of(difference('field', 'value of input#field', 'books tea', 'books ea', true)), 'in the other order the value of input#field is "books ea" instead of "books tea"');
+  assert.strictEqual(of(difference('storage', 'localStorage.volume', '3', 'none')), 'in the other order localStorage.volume is not set');
+  assert.strictEqual(of(difference('hash', 'hash', '#a', '#b')), 'in the other order the hash of the address is "#b" instead of "#a"');
+  assert.strictEqual(of(difference('request', 'http://localhost/a/cart.json', 'made', 'not made')), 'in the other order cart.json is not requested');
+  assert.strictEqual(of(difference('picture', 'the picture', 'as recorded', '79 of 784300 points differ')), 'in the other order the picture of the page differs');
+});
+
+test('two texts are one clause, more are told by the first', () => {
+  const [gone, come] = [difference('text', 'price 0', 'price 0', 'none'), difference('text', 'price 7', 'none', 'price 7')];
+  assert.strictEqual(of(gone, come), 'in the other order the text is "price 7" instead of "price 0"');
+  assert.strictEqual(of(gone), 'in the other order the text "price 0" is missing');
+  assert.strictEqual(of(gone, come, difference('text', 'sum', 'none', 'sum')), 'in the other order the text "price 0" is missing');
+});
+
+test('a lost act comes with what its user sees', () => {
+  assert.strictEqual(of(LOST), 'in the other order the click at button#buy does not find the click handler onBuy, and nothing else differs');
+  assert.strictEqual(of(LOST, difference('picture', 'the picture', 'as recorded', '1'), difference('text', 'bought', 'bought', 'none')),
+    'in the other order the click at button#buy does not find the click handler onBuy, and the text "bought" is missing');
+  assert.strictEqual(of({ ...LOST, recorded: 'not run', other: 'the click handler onBuy' }), 'in the other order the click at button#buy finds the click handler onBuy, and nothing else differs');
+});
+
+test('what has no visible difference, or was not turned', () => {
+  const seen = [difference('text', 'slow', 'none', 'slow')];
+  assert.strictEqual(told({ differences: [] }), 'no visible difference');
+  assert.strictEqual(told({ differences: [], byDelay: seen }), 'no visible difference, except what a delay in the recorded order does too');
+  assert.strictEqual(told({ differences: [], unsteady: seen, astray: [4] }), 'no visible difference, except what differs by itself; race 4 came in another order too');
+  assert.strictEqual(told({ verdict: 'not turned', why: 'both come from one act of the user' }), 'could not be turned: both come from one act of the user');
+});
