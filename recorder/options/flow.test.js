@@ -1,5 +1,5 @@
 'use strict';
-// User flows of the Recorder panel, and selectors in the spelling of Playwright, as steps.
+// User flows of the Recorder panel, and selectors as Playwright writes them, as steps.
 
 const assert = require('node:assert');
 const { test } = require('node:test');

@@ -45,7 +45,7 @@ function targetOf(kind, rest) {
 }
 
 /**
- * How the element of a step is found; of a key and a wait there is none. A selector that cannot be right is told before anything is recorded.
+ * How the element of a step is found; of a key and a wait there is none. A selector that cannot be right is reported before anything is recorded.
  * @param {string} name of the option
  * @param {Step['kind']} kind
  * @param {string} target

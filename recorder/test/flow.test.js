@@ -15,7 +15,7 @@ const LONGEST_RUN = 90000;
 const folder = temporaryFolder('flow');
 const SECRET = 'hunter22-secret';
 
-/** Tells the server of each event that a user makes, with its target, and with the value of a field. */
+/** Sends the server each event that a user makes, with its target, and with the value of a field. */
 const TELLS = `<script>for (const type of ['click', 'dblclick', 'auxclick', 'mouseover', 'keydown', 'keyup', 'change', 'wheel', 'input'])
   addEventListener(type, (event) => { const { target, key = '', ctrlKey } = event; fetch('/seen?' + encodeURIComponent([type, event.composedPath()[0].id, event.isTrusted,
     key && (ctrlKey ? 'Control+' : '') + key, target.files?.length ? target.files[0].name : target.value].join(' '))); }, { capture: true, passive: true });</script>`;

@@ -8,7 +8,13 @@ const { run } = require('../cleanup.js');
 const LONGEST_CALL = 900000;
 const FIELD = /^([A-Z][\w-]*): (.*)$/;
 
-/** @typedef {{name: string, version: string, size: number, section: string, architecture: string, description: string, relations: string, depends: string}} Package */
+/** The field of debtags, which may go on in further lines. */
+const TAGS = /^Tag:(.*(?:\n .*)*)/m;
+
+/**
+ * @typedef {{name: string, version: string, size: number, section: string, architecture: string, description: string, relations: string, depends: string,
+ *   tags: string[]}} Package
+ */
 
 /**
  * One paragraph of apt's list; null where it is none of a package.
@@ -25,7 +31,11 @@ function parsePackage(paragraph) {
   if (!fields.Package) return null;
   const { Package: name, Version: version = '', Section: section = '', Architecture: architecture = '', Description: description = '', Depends: depends = '' } = fields;
   const relations = [depends, fields.Recommends, fields.Suggests].filter(Boolean).join(', ');
-  return { name, version, size: Number(fields.Size) || 0, section, architecture, description, relations, depends: [depends, fields.Recommends].filter(Boolean).join(', ') };
+  const tags = (TAGS.exec(paragraph)?.[1] || '').split(',').map((tag) => tag.trim()).filter(Boolean);
+  return {
+    name, version, size: Number(fields.Size) || 0, section, architecture, description, relations, tags,
+    depends: [depends, fields.Recommends].filter(Boolean).join(', '),
+  };
 }
 
 /**
