@@ -166,7 +166,7 @@ test('no browser at the port, and what is no browser', LIMIT, async () => {
   const words = (/** @type {number|string} */ port) => ['--attach', `127.0.0.1:${port}`, path.join(folder, 'none.trace')];
   const none = await run(path.join(TOP, 'er_record'), words(await freePort()), { longest: LONGEST_RUN });
   assert.strictEqual(none.status, 5);
-  assert.match(none.stderr, /there is no browser at this port/);
+  assert.match(none.stderr, /no browser listens at this port/);
   const other = await run(path.join(TOP, 'er_record'), words(new URL(address).port), { longest: LONGEST_RUN });
   assert.strictEqual(other.status, 5);
   assert.match(other.stderr, /the program at this port is not a browser/);
