@@ -9,12 +9,12 @@ use std::io::{self, Write};
 pub struct Told { starts: Vec<Start>, pub links: Vec<Vec<Action>> }
 
 /// A record that starts an action, and the dispatches that are on the stack then.
-struct Start { form: Form, numbers: [Number; 3], within: Vec<Number> }
+struct Start { form: Form, pattern: &'static [u8], numbers: [Number; 3], within: Vec<Number> }
 
 impl Told {
     pub fn note(&mut self, record: &Record, stack: &[Number]) {
         let within = if record.form == Job { stack.to_vec() } else { Vec::new() };
-        self.starts.push(Start { form: record.form, numbers: record.numbers, within });
+        self.starts.push(Start { form: record.form, pattern: record.pattern, numbers: record.numbers, within });
     }
 }
 
@@ -185,37 +185,29 @@ impl Events<'_> {
         }
     }
 
-    /// The letter of the number of a task that an event runs.
-    fn task(&self, start: &Start) -> Option<&Made> {
-        let letter = match start.form {
-            Timer => b't',
-            Message => b'm',
-            Anim => b'a',
-            Job => b'j',
-            Tick => b'i',
-            _ => return None,
-        };
-        self.made(letter, start.numbers[0])
+    /// The task that an event runs, a timeout, an interval, a message, an animation callback or a job: what it is, and how it was declared.
+    fn task(&self, start: &Start) -> Option<(u8, &Made)> {
+        let letter = start.pattern[0];
+        let task = b"TIMAJ".contains(&letter).then(|| self.made(letter.to_ascii_lowercase(), start.numbers[0]))?;
+        task.map(|made| (letter, made))
     }
 
     fn by_tasks(&self, rule: u32, recorded: bool) -> bool {
         let (from, to) = (self.from, self.to);
-        let Some(task) = self.task(to) else { return false };
-        match (rule, to.form) {
-            (18, Timer) | (24, Message) | (26, Anim) | (28, Job) => task.maker == self.u,
-            (20, Tick) => task.maker == self.u || (recorded && from.form == Tick && from.numbers[0] == to.numbers[0]),
-            (19, Timer) | (25, Message) | (27, Anim) | (29, Job) => recorded && from.form == to.form && self.is_earlier(task),
-            (30, Timer | Tick | Message | Anim) => {
-                recorded && from.form == Job && self.task(from).is_some_and(|job| job.maker == task.maker)
-            }
+        let Some((letter, task)) = self.task(to) else { return false };
+        let earlier = self.task(from).filter(|_| recorded);
+        match (rule, letter) {
+            (18, b'T') | (24, b'M') | (26, b'A') | (28, b'J') => task.maker == self.u,
+            (20, b'I') => task.maker == self.u || earlier.is_some_and(|one| one.0 == letter && from.numbers[0] == to.numbers[0]),
+            (19, b'T') | (25, b'M') | (27, b'A') | (29, b'J') => earlier.is_some_and(|one| one.0 == letter && self.is_earlier(one.1, task, letter)),
+            (30, b'T' | b'I' | b'M' | b'A') => earlier.is_some_and(|one| one.0 == b'J' && one.1.maker == task.maker),
             _ => false,
         }
     }
 
-    /// Whether the first task was declared earlier than this one, with no greater delay of a timeout.
-    fn is_earlier(&self, task: &Made) -> bool {
-        let Some(earlier) = self.task(self.from) else { return false };
-        let is_timer = self.to.form == Timer;
+    /// Whether a task was declared earlier than another of its kind, with no greater delay of a timeout.
+    fn is_earlier(&self, earlier: &Made, task: &Made, letter: u8) -> bool {
+        let is_timer = letter == b'T';
         let is_led = match self.page.version {
             1 if is_timer => earlier.maker == task.maker,
             _ => self.page.clocks.joins(earlier.piece, task.piece),
