@@ -109,7 +109,12 @@ exports.cases = [
     races: [],
   },
   { page: 'storage-twice.html', due: ['run sets', 'fire window storage', 'w last', 'fire window storage', 'run the event before', 'w last'], races: [] },
-  { page: 'frame-empty.html', due: ['parse iframe#empty frame', 'eload iframe#empty', 'w loaded', 'exec script', 'run what the parser waited for', 'r loaded'], races: [] },
+  {
+    page: 'frame-empty.html',
+    due: ['parse iframe#empty frame', 'eload iframe#empty', 'w loaded', 'exec script', 'run what the parser waited for', 'r loaded',
+      'parse iframe#blank frame', 'eload iframe#blank', 'w loadedToo', 'exec script', 'run what the parser waited for', 'r loadedToo'],
+    races: [],
+  },
   {
     page: 'view-transition-order.html',
     due: ['tick', 'w state', 'run isReady', 'w state', 'run startViewTransition', 'run isDone', 'r state'],
