@@ -132,6 +132,11 @@ exports.cases = [
   { page: 'fetch-aborted.html', due: ['timer', 'send', 'post', 'message', 'w state', 'r state', 'w seen'], never: ['reply'], races: [] },
 
   // ---- orders and accesses that are lost (docs/lost.md)
+  {
+    page: 'document-open.html',
+    due: ['load', 'timer', 'new img#dot image', 'inline document DOMContentLoaded', 'eload img#dot', 'w state', 'wfire load', 'w seen'],
+    races: ['load of window'],
+  },
   { page: 'media-load.html', due: ['fire audio#sound loadeddata', 'w state', 'load', 'r state'], races: ['state'] },
   { page: 'rel-later.html', due: ['timer', 'w state', 'fire link#sheet load', 'r state'], races: ['load of link#sheet', 'state'] },
   {
