@@ -123,7 +123,8 @@ class TimelineMatch {
     const expected = ACTIONS[/** @type {keyof ACTIONS} */ (name)];
     if (what === HANDLER) this.count(`handler in ${this.around() || 'nothing'}`.replace(/ EventDispatch .*$/, ' EventDispatch'), hasEntered, this.around());
     else if (expected && what !== this.recorder && !begins.includes('own') && (calls.length || !WITH_CALL.has(name))) {
-      this.count(isInside ? `${name} inside an action` : name, isInside || begins.some((line) => expected.test(line)), what || calls[0] || '');
+      const kind = name === 'EvaluateScript' && !what ? `${name} without an address` : name;
+      this.count(isInside ? `${kind} inside an action` : kind, isInside || begins.some((line) => expected.test(line)), what || calls[0] || '');
     }
   }
 

@@ -267,6 +267,7 @@ class Loading {
  * @param {Element} element
  * @param {import('./elements.js').Elements} elements
  */
-const isEmptyFrame = (element, elements) => element.localName === 'iframe' && !elements.has(element, 'src') && !elements.has(element, 'srcdoc');
+const isEmptyFrame = (element, elements) => element.localName === 'iframe' && !elements.has(element, 'srcdoc')
+  && fits(/^\s*(about:blank\s*)?$/i, elements.attribute(element, 'src') || '');
 
 export { Loading };

@@ -76,6 +76,7 @@ exports.cases = [
   },
   // the definition comes before the element, or it upgrades it
   { page: 'custom-async.html', due: ['parse script async', 'parse x-box#box plain', 'exec script', 'r made'], races: ['made'] },
+  { page: 'custom-define.html', due: ['parse x-plain plain', 'parse x-heir plain', 'parse x-given plain'], races: [] },
   {
     page: 'custom-constructor.html',
     due: ['on code', 'fire promise reactions code-1', 'run code', 'w made', 'parse x-tab#tab plain'],

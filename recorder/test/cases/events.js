@@ -109,7 +109,12 @@ exports.cases = [
     races: [],
   },
   { page: 'storage-twice.html', due: ['run sets', 'fire window storage', 'w last', 'fire window storage', 'run the event before', 'w last'], races: [] },
-  { page: 'frame-empty.html', due: ['parse iframe#empty frame', 'eload iframe#empty', 'w loaded', 'exec script', 'run what the parser waited for', 'r loaded'], races: [] },
+  {
+    page: 'frame-empty.html',
+    due: ['parse iframe#empty frame', 'eload iframe#empty', 'w loaded', 'exec script', 'run what the parser waited for', 'r loaded',
+      'parse iframe#blank frame', 'eload iframe#blank', 'w loadedToo', 'exec script', 'run what the parser waited for', 'r loadedToo'],
+    races: [],
+  },
   {
     page: 'view-transition-order.html',
     due: ['tick', 'w state', 'run isReady', 'w state', 'run startViewTransition', 'run isDone', 'r state'],
@@ -127,6 +132,11 @@ exports.cases = [
   { page: 'fetch-aborted.html', due: ['timer', 'send', 'post', 'message', 'w state', 'r state', 'w seen'], never: ['reply'], races: [] },
 
   // ---- orders and accesses that are lost (docs/lost.md)
+  {
+    page: 'document-open.html',
+    due: ['load', 'timer', 'new img#dot image', 'inline document DOMContentLoaded', 'eload img#dot', 'w state', 'wfire load', 'w seen'],
+    races: ['load of window'],
+  },
   { page: 'media-load.html', due: ['fire audio#sound loadeddata', 'w state', 'load', 'r state'], races: ['state'] },
   { page: 'rel-later.html', due: ['timer', 'w state', 'fire link#sheet load', 'r state'], races: ['load of link#sheet', 'state'] },
   {

@@ -1,5 +1,6 @@
 import './other.mjs';
 export let value = 0;
+performance.mark('the module waits');
 await ready;
 value = 1;
 window.inModule = settled;
