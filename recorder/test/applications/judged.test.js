@@ -1,0 +1,71 @@
+'use strict';
+// Lists of recordings as lines, and the problems that are drawn of them. No application is started.
+
+const assert = require('node:assert');
+const fs = require('node:fs');
+const path = require('node:path');
+const { test } = require('node:test');
+const { temporaryFolder } = require('../cleanup.js');
+const { draw, faultsOf, judgementText } = require('./judged.js');
+const { linesOf, appendLine } = require('./lines.js');
+const { listOf, problemsOf } = require('./lists.js');
+const { documentOf, medianOf } = require('./tables.js');
+
+const REPORT = 'report 1\nactions 12\naccesses 30\npairs 3\nraces 2\ngroups 1\nend\n';
+const listed = (/** @type {string} */ name, /** @type {string} */ part, hasLine = true) => (
+  { name, look: 'other', part, words: `words of ${name}`, summary: `summary of ${name}`, hasLine, races: [{ race: 1 }] });
+const PROBLEMS = [listed('aa', 'other'), listed('bb', 'other', false), listed('cc', 'another input, not another order')];
+
+/** A folder as er_page leaves it. */
+function recorded() {
+  const folder = temporaryFolder('applications');
+  fs.mkdirSync(path.join(folder, 'x.races'));
+  fs.writeFileSync(path.join(folder, 'x.races', 'page.report'), REPORT);
+  return folder;
+}
+
+/** @returns {import('./types').DoneLine} */
+function lineOf() {
+  const list = listOf(recorded(), JSON.stringify({ problems: PROBLEMS }));
+  assert.ok(list);
+  const run = { status: 1, seconds: 2, errors: [], notRecorded: [], notDone: ['not done: step 1'], figures: list.figures };
+  return {
+    application: 'app', version: '1-1', login: 'form', began: '2026-01-01T00:00:00.000Z', seconds: 3,
+    machine: { chromium: 'Chromium 1', processors: 4, loads: [1, 2] },
+    runs: [run, run], loads: { without: [1, 2, 3], with: [2, null, 4] }, problems: problemsOf([list, list], null),
+  };
+}
+
+test('the figures and the lines of a list; none of a recording without one', () => {
+  const { runs: [{ figures }], problems } = lineOf();
+  assert.deepStrictEqual(figures, { actions: 12, accesses: 30, races: 2, groups: 1, lines: 2, sections: { other: 1, 'another input, not another order': 1 } });
+  assert.deepStrictEqual(problems.map(({ name, place, isAgain }) => [name, place, isAgain]), [['aa', 1, true], ['cc', 2, true]]);
+  assert.strictEqual(listOf(recorded(), ''), null);
+});
+
+test('a later line takes the place of an earlier one, and a cut one does not count', () => {
+  const file = path.join(temporaryFolder('lines'), 'lines');
+  appendLine(file, { application: 'b', version: '1', began: '', seconds: 1, failure: 'x' });
+  fs.appendFileSync(file, '{"application":"a"');
+  appendLine(file, { application: 'b', version: '1', began: '', seconds: 2, failure: 'y' });
+  assert.deepStrictEqual(linesOf(file).map(({ application, failure }) => [application, failure]), [['b', 'y']]);
+});
+
+test('acts against each other are not drawn, and what was judged stays', () => {
+  const none = { seed: 1, count: 9, problems: [] };
+  const drawn = draw([lineOf()], none);
+  assert.deepStrictEqual(drawn.problems.map(({ application, name }) => [application, name]), [['app', 'aa']]);
+  drawn.problems[0].judgement = 'impossible';
+  assert.deepStrictEqual(faultsOf(drawn), ['app, aa: why is not said', 'app, aa: which order is lost is not said']);
+  Object.assign(drawn.problems[0], { lost: 'an order', why: 'a reason' });
+  assert.deepStrictEqual(draw([lineOf()], drawn), drawn);
+  assert.match(judgementText([lineOf()], drawn), /\| cannot happen in a browser \| 1 of 1 \(100 %\) \|/);
+});
+
+test('the document has a row of each application', () => {
+  const text = documentOf([lineOf(), { application: 'other', version: '', began: '', seconds: 0, failure: 'not installed: x' }]);
+  assert.match(text, /\| app \| 1-1 \| form \| 2\.0, 2\.0 \| 1\.0 \| 12 \| 30 \| 2 \| 2 \|/);
+  assert.match(text, /^- other: not installed: x$/m);
+  assert.match(text, /^- app, recording 1: not done: step 1$/m);
+  assert.strictEqual(medianOf([null]), null);
+});

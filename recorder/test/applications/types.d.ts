@@ -1,0 +1,112 @@
+// What the applications' modules, their recordings and their tables share.
+
+import type { Place } from './place.js';
+
+/** What an application answers after its start. */
+export interface Started {
+  /** The address that is recorded. */
+  page: string;
+  /** Further arguments of the recorder, as what a log-in needs. */
+  given?: string[];
+}
+
+/** A module of packages/. */
+export interface Application {
+  /** The package that is evaluated. Its name is the application's. */
+  package: string;
+  /** What else is installed; nothing that apt only recommends is. */
+  packages: string[];
+  /** How its page is reached, if not by everybody. */
+  login?: 'form' | 'cookie' | 'credentials';
+  start(place: Place): Promise<Started>;
+  /** What a user does: arguments of er_page. */
+  flow: string[];
+}
+
+// ---- a line of applications.jsonl
+
+/** A recording by er_page: what it printed, and what its list has. */
+export interface Recorded {
+  status: number | null;
+  seconds: number;
+  /** Why there is no list. */
+  failure?: string;
+  errors: string[];
+  notRecorded: string[];
+  notDone: string[];
+  figures?: Figures;
+}
+
+export interface Figures {
+  actions: number;
+  accesses: number;
+  races: number;
+  groups: number;
+  lines: number;
+  /** The lines of each section of the list. */
+  sections: { [part: string]: number };
+}
+
+/** A line of the first list. */
+export interface Problem {
+  name: string;
+  look: string;
+  part: string;
+  /** Its place among the lines, from 1. */
+  place: number;
+  race: number;
+  summary: string;
+  words: string;
+  isAgain: boolean;
+  replay?: string;
+}
+
+export interface Loads {
+  without: (number | null)[];
+  with: (number | null)[];
+}
+
+export interface DoneLine {
+  application: string;
+  version: string;
+  login: string;
+  began: string;
+  seconds: number;
+  machine: { chromium: string; processors: number; loads: number[] };
+  failure?: undefined;
+  runs: Recorded[];
+  loads: Loads;
+  problems: Problem[];
+}
+
+export interface FailedLine {
+  application: string;
+  version: string;
+  began: string;
+  seconds: number;
+  failure: string;
+}
+
+export type Line = DoneLine | FailedLine;
+
+// ---- judgements.json
+
+export interface Judged {
+  application: string;
+  name: string;
+  look: string;
+  part: string;
+  place: number;
+  summary: string;
+  words: string;
+  judgement: '' | 'harmful' | 'harmless' | 'impossible';
+  /** What the recording lacks, of an impossible one. */
+  lost: string;
+  why: string;
+}
+
+export interface Judgements {
+  seed: number;
+  count: number;
+  problems: Judged[];
+}
