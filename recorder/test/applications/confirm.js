@@ -39,7 +39,8 @@ async function confirm(name) {
   const usual = await seenIn(bug, false);
   const other = await seenIn(bug, true);
   const isConfirmed = bug.isHarmed(other) && !bug.isHarmed(usual);
-  console.log(withoutCommands(`${name}: ${isConfirmed ? 'confirmed' : 'not confirmed'}: usual order ${JSON.stringify(usual)}; other order ${JSON.stringify(other)}`));
+  const verdict = isConfirmed ? 'confirmed' : 'not confirmed';
+  console.log(withoutCommands(`${name}: ${verdict}: usual order ${JSON.stringify(usual)}; other order ${JSON.stringify(other)}`));
   if (isConfirmed) console.log(`  ${bug.loses}`);
   return isConfirmed;
 }

@@ -2,6 +2,7 @@
 // A page of an application in a browser without the recorder: acts of a user, and requests that are held back as a slow server would.
 
 const { Chromium } = require('../../../browser/chromium.js');
+const { chordOf } = require('../../../browser/input/keyboard.js');
 const { findTarget } = require('../../../browser/input/targets.js');
 const { Tab } = require('../../../browser/tab.js');
 const { User } = require('../../../browser/user.js');
@@ -143,6 +144,13 @@ class PlainPage {
     const found = /** @type {any} */ (await this.user.call(findTarget, selector));
     if (!found) throw new Error(`${selector} is not there`);
     await this.user.click(found);
+  }
+
+  /** @param {string} name of a key */
+  async press(name) {
+    const chord = chordOf(name);
+    if (!chord) throw new Error(`no key: ${name}`);
+    await this.user.press(chord);
   }
 
   /** @param {string} text */
