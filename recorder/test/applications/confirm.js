@@ -3,15 +3,11 @@
 // confirm.js [NAME..]: bugs of the applications, in a browser without the recorder: what a user sees in the usual order, and in the other one. The bugs
 // are the modules of confirm/. Ends with 1 if one is not confirmed.
 
-const fs = require('node:fs');
-const path = require('node:path');
 const { withoutCommands } = require('../../common/shown.js');
 const { PlainPage } = require('./confirm/plain-page.js');
+const { bugNames, bugOf } = require('./confirmed.js');
 const { APPLICATIONS } = require('./list.js');
 const { Place } = require('./place.js');
-
-const FOLDER = path.join(__dirname, 'confirm');
-const NAMES = fs.readdirSync(FOLDER).map((file) => path.basename(file, '.js')).filter((name) => name !== 'plain-page');
 
 /**
  * What a user sees in one of the orders, in an application that is new.
@@ -34,8 +30,7 @@ async function seenIn(bug, isOther) {
 
 /** @param {string} name */
 async function confirm(name) {
-  /** @type {import('./types').Confirmed} */
-  const bug = require(path.join(FOLDER, `${name}.js`));
+  const bug = bugOf(name);
   const usual = await seenIn(bug, false);
   const other = await seenIn(bug, true);
   const isConfirmed = bug.isHarmed(other) && !bug.isHarmed(usual);
@@ -48,7 +43,7 @@ async function confirm(name) {
 /** @param {string[]} names */
 async function main(names) {
   let isAll = true;
-  for (const name of names.length ? names : NAMES) isAll = await confirm(name) && isAll;
+  for (const name of names.length ? names : bugNames()) isAll = await confirm(name) && isAll;
   process.exitCode = isAll ? 0 : 1;
 }
 

@@ -6,6 +6,7 @@ const fs = require('node:fs');
 const path = require('node:path');
 const { LOOKS } = require('../../list/patterns/table.js');
 const { tableOf, told } = require('../corpus/tables.js');
+const { bugTable } = require('./confirmed.js');
 const { judgementText } = require('./judged.js');
 
 /**
@@ -96,6 +97,8 @@ function documentOf(lines) {
     tableOf(HEAD, done.map(rowOf)),
     '## Problems, judged by hand',
     judgementText(done, JSON.parse(fs.readFileSync(JUDGEMENTS, 'utf8'))),
+    '## Bugs, confirmed in a browser without the recorder',
+    bugTable(done),
     '## What the recordings reported',
     done.flatMap(troublesOf).join('\n') || 'Nothing.',
     '## Not recorded',

@@ -119,6 +119,8 @@ export interface Confirmed {
   application: string;
   /** What a user loses. */
   loses: string;
+  /** The sentence of its line in the list. */
+  line: RegExp;
   /** Does what the user does; with `isOther`, something slow comes in the other order. Answers what is to be seen at the end. */
   run(page: PlainPage, isOther: boolean): Promise<Seen>;
   isHarmed(seen: Seen): boolean;

@@ -5,6 +5,7 @@
 module.exports = {
   application: 'dokuwiki',
   loses: 'Letters that a user types after a slow script has loaded go to the start of the page, in the middle of a word.',
+  line: /^A focus at textarea#wiki__text is lost/,
   async run(page, isOther) {
     if (isOther) page.hold(/lib\/exe\/js\.php/);
     await page.go();

@@ -5,6 +5,7 @@
 module.exports = {
   application: 'dokuwiki',
   loses: 'A text that was typed while a slow script loaded is lost without the warning that it is not saved, when the user goes to another page.',
+  line: /^A change at textarea#wiki__text is lost/,
   async run(page, isOther) {
     if (isOther) page.hold(/lib\/exe\/js\.php/);
     await page.go();

@@ -5,6 +5,7 @@
 module.exports = {
   application: 'jupyter-notebook',
   loses: 'A click at Run before the kernel is there does nothing: the cell shows no result, no mark and no message, also later.',
+  line: /^`this\.kernel` may not be defined/,
   async run(page, isOther) {
     if (isOther) page.hold(/\/api\/sessions/);
     await page.load();

@@ -133,6 +133,14 @@ class PlainPage {
     await sleep(SETTLED);
   }
 
+  /**
+   * Waits until a request or a dialog came.
+   * @param {RegExp} pattern
+   */
+  async requestedOrAsked(pattern) {
+    await waitFor(`${pattern}, or a dialog`, async () => this.dialogs.length > 0 || this.requests.some((one) => pattern.test(one)));
+  }
+
   /** @param {string} expression */
   see(expression) {
     return this.tab.evaluate(expression);
