@@ -17,8 +17,9 @@ const TYPES = /** @type {{[end: string]: string}} */ ({ '.js': 'text/javascript'
 function environmentOf(request, url, script) {
   const headers = Object.entries(request.headers).map(([name, value]) => [`HTTP_${name.toUpperCase().replace(/-/g, '_')}`, String(value)]);
   return {
-    PATH: process.env.PATH, GATEWAY_INTERFACE: 'CGI/1.1', SERVER_PROTOCOL: 'HTTP/1.1', SERVER_NAME: url.hostname, SERVER_PORT: url.port, REMOTE_ADDR: '127.0.0.1',
-    REQUEST_METHOD: request.method, SCRIPT_NAME: script, PATH_INFO: url.pathname.slice(script.length), QUERY_STRING: url.search.slice(1), REQUEST_URI: request.url,
+    PATH: process.env.PATH, GATEWAY_INTERFACE: 'CGI/1.1', SERVER_PROTOCOL: 'HTTP/1.1', SERVER_NAME: url.hostname, SERVER_PORT: url.port,
+    REMOTE_ADDR: '127.0.0.1', REQUEST_METHOD: request.method, SCRIPT_NAME: script, PATH_INFO: url.pathname.slice(script.length),
+    QUERY_STRING: url.search.slice(1), REQUEST_URI: request.url,
     CONTENT_TYPE: request.headers['content-type'] || '', CONTENT_LENGTH: request.headers['content-length'] || '', ...Object.fromEntries(headers),
   };
 }

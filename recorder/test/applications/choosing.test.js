@@ -7,6 +7,7 @@ const path = require('node:path');
 const { test } = require('node:test');
 const { parsePackages } = require('../corpus/packages.js');
 const { isCandidate } = require('./candidates.js');
+const { bugNames, bugOf } = require('./confirmed.js');
 const { APPLICATIONS } = require('./list.js');
 const { leftOut } = require('./tables.js');
 
@@ -35,4 +36,9 @@ test('at least fifteen applications, and three of them after log-ins', () => {
   const all = Object.values(APPLICATIONS);
   assert.ok(all.length >= 15);
   assert.ok(all.filter(({ login }) => login).length >= 3);
+});
+
+test('each confirmed bug is of an application, and says what a user loses', () => {
+  assert.ok(bugNames().length >= 5);
+  for (const bug of bugNames().map(bugOf)) assert.ok(APPLICATIONS[bug.application] && bug.loses && bug.line);
 });

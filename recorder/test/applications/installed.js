@@ -23,7 +23,8 @@ async function versionsOf(names) {
  */
 async function install(names) {
   const words = ['install', '-y', '-q', '--no-install-recommends', '-o', 'DPkg::Lock::Timeout=600', ...names];
-  const { status, stderr } = await run('apt-get', words, { longest: LONGEST_INSTALL, env: { ...process.env, DEBIAN_FRONTEND: 'noninteractive', RUNLEVEL: '1' } });
+  const env = { ...process.env, DEBIAN_FRONTEND: 'noninteractive', RUNLEVEL: '1' };
+  const { status, stderr } = await run('apt-get', words, { longest: LONGEST_INSTALL, env });
   if (status !== 0) throw new Error(`apt-get: status ${status}: ${stderr.trim().split('\n').slice(-1)[0]}`);
 }
 

@@ -34,7 +34,8 @@ function draw(lines, { seed, count, problems: old }) {
   const all = lines.flatMap(({ application, problems }) => problems.filter(({ part }) => part !== APART).map((one) => ({ application, ...one })));
   const drawn = all.sort((a, b) => (rankOf(seed, a) < rankOf(seed, b) ? -1 : 1)).slice(0, count);
   const problems = drawn.map(({ application, name, look, part, place, summary, words }) => {
-    const { judgement = '', lost = '', why = '' } = old.find((one) => one.application === application && one.name === name) || /** @type {Partial<Judged>} */ ({});
+    const known = old.find((one) => one.application === application && one.name === name);
+    const { judgement = '', lost = '', why = '' } = known || /** @type {Partial<Judged>} */ ({});
     return { application, name, look, part, place, summary, words, judgement, lost, why };
   });
   return { seed, count, problems };
@@ -71,7 +72,8 @@ function rowsOf(judged) {
 
 /** @param {Judged} one */
 function itemOf({ application, look, place, summary, judgement, lost, why }) {
-  return `- ${application}, place ${place}, \`${look}\`: ${told(summary)}. **${WORDS[/** @type {'harmful'} */ (judgement)]}**: ${told([why, lost].filter(Boolean).join(' Lost order: '), LONGEST_WHY)}`;
+  const because = told([why, lost].filter(Boolean).join(' Lost order: '), LONGEST_WHY);
+  return `- ${application}, place ${place}, \`${look}\`: ${told(summary)}. **${WORDS[/** @type {'harmful'} */ (judgement)]}**: ${because}`;
 }
 
 /**
@@ -87,7 +89,9 @@ function judgementText(lines, { seed, problems }) {
   const listed = lines.flatMap(({ problems: own }) => own).filter(({ part }) => part !== APART).length;
   return [
     `${problems.length} problems are drawn by the seed ${seed} from ${listed} lines that are not two acts of a user; ${judged.length} are judged.`,
-    tableOf(['Of the judged problems', 'Share'], rowsOf(judged)), tableOf(['Section', 'Harmful', 'Harmless', 'Cannot happen'], bySection), judged.map(itemOf).join('\n'),
+    tableOf(['Of the judged problems', 'Share'], rowsOf(judged)),
+    tableOf(['Section', 'Harmful', 'Harmless', 'Cannot happen'], bySection),
+    judged.map(itemOf).join('\n'),
   ].join('\n\n');
 }
 

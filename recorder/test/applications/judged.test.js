@@ -30,7 +30,8 @@ function lineOf() {
   assert.ok(list);
   const run = { status: 1, seconds: 2, errors: [], notRecorded: [], notDone: ['not done: step 1'], figures: list.figures };
   return {
-    application: 'app', version: '1-1', login: 'form', began: '2026-01-01T00:00:00.000Z', seconds: 3, machine: { chromium: 'Chromium 1', processors: 4, loads: [1, 2] },
+    application: 'app', version: '1-1', login: 'form', began: '2026-01-01T00:00:00.000Z', seconds: 3,
+    machine: { chromium: 'Chromium 1', processors: 4, loads: [1, 2] },
     runs: [run, run], loads: { without: [1, 2, 3], with: [2, null, 4] }, problems: problemsOf([list, list], null),
   };
 }

@@ -7,7 +7,8 @@ const path = require('node:path');
 /**
  * @typedef {import('./types').Figures} Figures
  * @typedef {import('./types').Problem} Problem
- * @typedef {{name: string, look: string, part: string, words: string, summary: string, hasLine: boolean, races: {race: number}[], replay?: {verdict: string, effect?: string}}} Listed
+ * @typedef {{name: string, look: string, part: string, words: string, summary: string, hasLine: boolean, races: {race: number}[],
+ *   replay?: {verdict: string, effect?: string}}} Listed
  * @typedef {{figures: Figures, lines: Listed[], names: Set<string>}} List
  */
 

@@ -16,7 +16,8 @@ async function servePhp(place, folder, { router, settings = {}, env = {} } = {})
   const port = await freePort();
   const own = { 'session.save_path': place.newFolder('sessions'), 'sys_temp_dir': place.newFolder('uploads'), 'display_errors': '0', ...settings };
   const words = Object.entries(own).flatMap(([name, value]) => ['-d', `${name}=${value}`]);
-  place.serve('php', [...words, '-S', `127.0.0.1:${port}`, '-t', folder, ...router ? [router] : []], { cwd: folder, env: { PHP_CLI_SERVER_WORKERS: WORKERS, ...env } });
+  words.push('-S', `127.0.0.1:${port}`, '-t', folder, ...router ? [router] : []);
+  place.serve('php', words, { cwd: folder, env: { PHP_CLI_SERVER_WORKERS: WORKERS, ...env } });
   const address = `http://127.0.0.1:${port}`;
   await place.ready(`${address}/`);
   return address;

@@ -12,7 +12,11 @@ const { Session, hiddenFields } = require('./session.js');
 
 /** A shell that starts another process and writes both numbers. */
 const SERVER = 'sleep 600 & echo "$$ $!" > numbers.new && mv numbers.new numbers && wait';
-const isAlive = (/** @type {number} */ pid) => /^State:\s+[^ZX]/m.test(fs.existsSync(`/proc/${pid}/status`) ? fs.readFileSync(`/proc/${pid}/status`, 'utf8') : '');
+/** @param {number} pid */
+function isAlive(pid) {
+  const file = `/proc/${pid}/status`;
+  return fs.existsSync(file) && /^State:\s+[^ZX]/m.test(fs.readFileSync(file, 'utf8'));
+}
 
 test('a place ends its servers with their own processes, and removes its folder', async () => {
   const place = new Place('place-test');

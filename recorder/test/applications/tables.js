@@ -6,6 +6,7 @@ const fs = require('node:fs');
 const path = require('node:path');
 const { LOOKS } = require('../../list/patterns/table.js');
 const { tableOf, told } = require('../corpus/tables.js');
+const { bugTable } = require('./confirmed.js');
 const { judgementText } = require('./judged.js');
 
 /**
@@ -15,7 +16,11 @@ const { judgementText } = require('./judged.js');
  */
 
 const SECTIONS = [...new Set(Object.values(LOOKS).map(({ part }) => part))];
-const HEAD = ['Application', 'Version', 'Log-in', 'Load without, with (s)', 'Times', 'Actions', 'Accesses', 'Races', 'Lines', 'By section', 'Again', 'Status', '`er_page` (s)'];
+const HEAD = ['Application', 'Version', 'Log-in', 'Load without, with (s)', 'Times', 'Actions', 'Accesses', 'Races', 'Lines', 'By section', 'Again', 'Status',
+  '`er_page` (s)'];
+const ABOUT = `Each is recorded twice by \`er_page\`, on a slow network, while a user does what its module in \`recorder/test/applications/packages/\` says.
+Counts are those of the first recording. Times of loads are medians on a quick network. Status: 0 no race, 1 a race, 4 no race in a recording that was cut,
+6 a step was not done.`;
 const JUDGEMENTS = path.join(__dirname, 'judgements.json');
 const LEFT_OUT = path.join(__dirname, 'left-out.json');
 
@@ -41,16 +46,19 @@ const inSections = (sections) => SECTIONS.map((part) => sections[part] || 0).joi
 function rowOf(line) {
   const { application, version, login, runs, problems } = line;
   const [{ figures }] = runs;
-  const counts = figures ? [...['actions', 'accesses', 'races', 'lines'].map((name) => whole(figures[/** @type {'races'} */ (name)])), inSections(figures.sections)] : ['', '', '', '', ''];
+  const numbers = figures ? [figures.actions, figures.accesses, figures.races, figures.lines].map(whole) : ['', '', '', ''];
+  const counts = [...numbers, figures ? inSections(figures.sections) : ''];
   return [application, told(version), login, ...timesOf(line), ...counts, `${problems.filter(({ isAgain }) => isAgain).length} of ${problems.length}`,
     runs.map(({ status }) => status).join(', '), runs.map(({ seconds }) => seconds.toFixed(0)).join(', ')];
 }
 
 /** @param {DoneLine} line */
 function troublesOf({ application, runs }) {
-  return runs.flatMap(({ failure, notDone, notRecorded, errors }, k) => [
-    ...failure ? [`no list: ${failure}`] : [], ...notDone, ...notRecorded.map((one) => `not recorded: ${one}`), ...errors.map((one) => `error: ${one}`),
-  ].map((text) => `- ${application}, recording ${k + 1}: ${told(text)}`));
+  return runs.flatMap(({ failure, notDone, notRecorded, errors }, k) => {
+    const lines = [...notDone, ...notRecorded.map((one) => `not recorded: ${one}`), ...errors.map((one) => `error: ${one}`)];
+    const texts = failure ? [`no list: ${failure}`, ...lines] : lines;
+    return texts.map((text) => `- ${application}, recording ${k + 1}: ${told(text)}`);
+  });
 }
 
 /** @returns {{package: string, reason: string}[]} the candidates that are no applications, or that did not start */
@@ -63,25 +71,38 @@ function reasons() {
   return [...new Set(all.map(({ reason }) => reason))].map((reason) => `- ${reason}: ${names(reason)}`);
 }
 
+/**
+ * The machine of the recordings.
+ * @param {DoneLine[]} done
+ */
+function machineOf(done) {
+  if (!done.length) return '';
+  const loads = done.flatMap(({ machine }) => machine.loads);
+  const [{ machine: { chromium, processors } }] = done;
+  return `, with ${chromium} on ${processors} processors at a load of ${Math.min(...loads).toFixed(1)} to ${Math.max(...loads).toFixed(1)}`;
+}
+
 /** @param {Line[]} lines */
 function documentOf(lines) {
   const done = /** @type {DoneLine[]} */ (lines.filter(({ failure }) => failure === undefined));
   const failed = /** @type {FailedLine[]} */ (lines.filter(({ failure }) => failure !== undefined));
   const commit = execFileSync('git', ['rev-parse', '--short=12', 'HEAD'], { cwd: __dirname, encoding: 'utf8' }).trim();
-  const loads = done.flatMap(({ machine }) => machine.loads);
   const day = done.map(({ began }) => began.slice(0, 10)).sort().pop() || '';
-  const machine = done.length ? `, with ${done[0].machine.chromium} on ${done[0].machine.processors} processors at a load of ${Math.min(...loads).toFixed(1)} to ${Math.max(...loads).toFixed(1)}` : '';
   const not = [...failed.map(({ application, failure }) => `- ${application}: ${told(failure)}`), ...reasons()];
   return [
     `Written by recorder/test/applications.js at commit ${commit} on ${day}.`,
     '# Web applications',
-    `${done.length} applications of Debian's packages, chosen by the rule of \`recorder/test/applications/README.md\`${machine}. Each is recorded twice by \`er_page\`, `
-      + 'on a slow network, while a user does what is in `recorder/test/applications/packages/`. Counts are those of the first recording. Times are the median of loads on a quick network.',
+    `${done.length} applications of Debian's packages, chosen by the rule of \`recorder/test/applications/README.md\`${machineOf(done)}.`,
+    `${ABOUT} Sections, in this order: ${SECTIONS.join('; ')}.`,
     tableOf(HEAD, done.map(rowOf)),
-    `Sections, in this order: ${SECTIONS.join('; ')}. Status: ${'0 no race, 1 a race, 4 no race found in a recording that was cut, 6 a step was not done'}.`,
-    '## Problems, judged by hand', judgementText(done, JSON.parse(fs.readFileSync(JUDGEMENTS, 'utf8'))),
-    '## What the recordings reported', done.flatMap(troublesOf).join('\n') || 'Nothing.',
-    '## Not recorded', not.join('\n') || 'None.',
+    '## Problems, judged by hand',
+    judgementText(done, JSON.parse(fs.readFileSync(JUDGEMENTS, 'utf8'))),
+    '## Bugs, confirmed in a browser without the recorder',
+    bugTable(done),
+    '## What the recordings reported',
+    done.flatMap(troublesOf).join('\n') || 'Nothing.',
+    '## Not recorded',
+    not.join('\n') || 'None.',
   ].join('\n\n').concat('\n');
 }
 

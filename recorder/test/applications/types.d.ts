@@ -1,6 +1,7 @@
 // What the applications' modules, their recordings and their tables share.
 
 import type { Place } from './place.js';
+import type { PlainPage } from './confirm/plain-page.js';
 
 /** What an application answers after its start. */
 export interface Started {
@@ -110,3 +111,19 @@ export interface Judgements {
   count: number;
   problems: Judged[];
 }
+
+// ---- confirm/
+
+/** A bug that a list shows, as a user meets it in a browser without the recorder. */
+export interface Confirmed {
+  application: string;
+  /** What a user loses. */
+  loses: string;
+  /** The sentence of its line in the list. */
+  line: RegExp;
+  /** Does what the user does; with `isOther`, something slow comes in the other order. Answers what is to be seen at the end. */
+  run(page: PlainPage, isOther: boolean): Promise<Seen>;
+  isHarmed(seen: Seen): boolean;
+}
+
+export type Seen = { [what: string]: string };

@@ -23,5 +23,6 @@ module.exports = {
     await session.post('/adminer.php', Object.fromEntries(Object.entries(fields).map(([name, value]) => [`auth[${name}]`, value])));
     return { page: `${address}${page}`, given: ['--storage-state', place.write('state.json', session.state())] };
   },
-  flow: ['--do', 'type:"input[name=\'fields[2][field]\']":x', '--do', 'click:"input[name=\'add[3]\']"', '--do', 'type:"input[name=\'Comment\']":goods', '--clicks', '2'],
+  flow: ['--do', 'type:"input[name=\'fields[2][field]\']":x', '--do', 'click:"input[name=\'add[3]\']"', '--do', 'type:"input[name=\'Comment\']":goods',
+    '--clicks', '2'],
 };

@@ -2,8 +2,15 @@
 // DokuWiki: a wiki without a database. The user searches, with suggestions, and edits a page.
 
 const { servePhp } = require('../php.js');
+const { Session } = require('../session.js');
 
-const CONFIGURATION = "<?php\n$conf['title'] = 'A wiki';\n$conf['license'] = 'cc-by-sa';\n$conf['useacl'] = 0;\n$conf['savedir'] = '../data';\n";
+const CONFIGURATION = `<?php
+$conf['title'] = 'A wiki';
+$conf['license'] = 'cc-by-sa';
+$conf['useacl'] = 0;
+$conf['usedraft'] = 0;
+$conf['savedir'] = '../data';
+`;
 
 /** @type {import('../types').Application} */
 module.exports = {
@@ -17,7 +24,11 @@ module.exports = {
     // The package's own says where configurations are: here in the folder.
     place.write('dokuwiki/inc/preload.php', `<?php define('DOKU_CONF', '${place.path('conf')}/');\n`);
     place.write('data/pages/start.txt', '====== Start ======\n\nA page with a [[link]].\n\n===== Part =====\n\nText.\n');
-    return { page: `${await servePhp(place, wiki)}/doku.php?id=start&do=edit` };
+    const session = new Session(await servePhp(place, wiki));
+    // All recordings are of one session: another one gets a page that is locked.
+    await session.request('/doku.php');
+    return { page: `${session.origin}/doku.php?id=start&do=edit`, given: ['--storage-state', place.write('state.json', session.state())] };
   },
-  flow: ['--do', 'type:#qsearch__in:sta', '--do', 'wait:800', '--do', 'type:#wiki__text:== A new part ==', '--do', 'click:#tool__bar button', '--do', 'type:#edit__summary:a part', '--clicks', '2'],
+  flow: ['--do', 'type:#qsearch__in:sta', '--do', 'wait:800', '--do', 'type:#wiki__text:== A new part ==', '--do', 'click:#tool__bar button',
+    '--do', 'type:#edit__summary:a part', '--clicks', '2'],
 };

@@ -16,7 +16,8 @@ module.exports = {
   async start(place) {
     const port = await freePort();
     place.write('notebooks/a.ipynb', { cells: [CELL, { ...CELL, source: ['1 + 1'] }], metadata: { kernelspec: KERNEL }, nbformat: 4, nbformat_minor: 4 });
-    const words = ['--no-browser', '--ip=127.0.0.1', `--port=${port}`, '--port-retries=0', `--notebook-dir=${place.path('notebooks')}`, `--NotebookApp.token=${TOKEN}`, '--allow-root'];
+    const words = ['--no-browser', '--ip=127.0.0.1', `--port=${port}`, '--port-retries=0', '--allow-root', `--notebook-dir=${place.path('notebooks')}`,
+      `--NotebookApp.token=${TOKEN}`];
     place.serve('/usr/bin/jupyter-notebook', words, { env: { PATH: '/usr/bin:/bin', JUPYTER_RUNTIME_DIR: place.newFolder('runtime') } });
     const address = `http://127.0.0.1:${port}`;
     await place.ready(`${address}/login`);
@@ -24,5 +25,6 @@ module.exports = {
     await session.request(`/tree?token=${TOKEN}`);
     return { page: `${address}/notebooks/a.ipynb`, given: ['--storage-state', place.write('state.json', session.state())] };
   },
-  flow: ['--do', 'wait:2000', '--do', 'click:.code_cell .CodeMirror', '--do', 'click:#run_int button', '--do', 'wait:1500', '--do', 'click:#insert_above_below button'],
+  flow: ['--do', 'wait:2000', '--do', 'click:.code_cell .CodeMirror', '--do', 'click:#run_int button', '--do', 'wait:1500',
+    '--do', 'click:#insert_above_below button'],
 };

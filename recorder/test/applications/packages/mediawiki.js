@@ -14,12 +14,12 @@ module.exports = {
   packages: ['php-cli', 'php-sqlite3', 'php-mbstring', 'php-xml', 'php-intl'],
   async start(place) {
     await place.copy('/var/lib/mediawiki/extensions', 'extensions');
-    const words = ['--dbtype', 'sqlite', '--dbpath', place.newFolder('data'), '--confpath', place.newFolder('conf'), '--server', 'http://127.0.0.1', '--scriptpath', '',
-      '--pass', PASSWORD, 'A wiki', 'Admin'];
+    const words = ['--dbtype', 'sqlite', '--dbpath', place.newFolder('data'), '--confpath', place.newFolder('conf'), '--server', 'http://127.0.0.1',
+      '--scriptpath', '', '--pass', PASSWORD, 'A wiki', 'Admin'];
     await place.run('php', [`${SHARE}/maintenance/install.php`, ...words], { env: { MW_CONFIG_FILE: place.path('conf/none.php') } });
     const settings = fs.readFileSync(place.path('conf/LocalSettings.php'), 'utf8');
-    const file = place.write('conf/Own.php', `${settings}\n$wgServer = 'http://' . ($_SERVER['HTTP_HOST'] ?? '127.0.0.1');\n$wgCacheDirectory = '${place.newFolder('cache')}';\n`);
-    const env = { MW_CONFIG_FILE: file };
+    const own = `$wgServer = 'http://' . ($_SERVER['HTTP_HOST'] ?? '127.0.0.1');\n$wgCacheDirectory = '${place.newFolder('cache')}';\n`;
+    const env = { MW_CONFIG_FILE: place.write('conf/Own.php', `${settings}\n${own}`) };
     for (const title of TITLES) place.write(`text/${title}`, `A page about ${title}.`);
     await place.run('php', [`${SHARE}/maintenance/importTextFiles.php`, ...TITLES.map((title) => place.path('text', title))], { env });
     return { page: `${await servePhp(place, SHARE, { env })}/index.php?title=Main_Page` };

@@ -5,6 +5,16 @@ const { freePort } = require('../place.js');
 
 const CHANGES = 130;
 
+/**
+ * A change as Mercurial imports it.
+ * @param {number} k
+ */
+function changeOf(k) {
+  const head = `# HG changeset patch\n# User User <user@example.org>\n# Date ${k} 0\nchange ${k}\n\ndiff --git a/list.txt b/list.txt\n`;
+  if (!k) return `${head}new file mode 100644\n--- /dev/null\n+++ b/list.txt\n@@ -0,0 +1,1 @@\n+0\n`;
+  return `${head}--- a/list.txt\n+++ b/list.txt\n@@ -1,1 +1,1 @@\n-${k - 1}\n+${k}\n`;
+}
+
 /** @type {import('../types').Application} */
 module.exports = {
   package: 'mercurial',
@@ -14,9 +24,7 @@ module.exports = {
     const env = { HGRCPATH: place.write('hgrc', '[ui]\nusername = User <user@example.org>\n') };
     const hg = (/** @type {string[]} */ ...words) => place.run('/usr/bin/hg', words, { cwd: tree, env });
     await hg('init');
-    const steps = Array.from({ length: CHANGES }, (_, k) => `# HG changeset patch\n# User User <user@example.org>\n# Date ${k} 0\nchange ${k}\n\n`
-      + `diff --git a/list.txt b/list.txt\n${k ? '' : 'new file mode 100644\n'}--- ${k ? 'a/list.txt' : '/dev/null'}\n+++ b/list.txt\n@@ -${k ? '1,1' : '0,0'} +1,1 @@\n${k ? `-${k - 1}\n` : ''}+${k}\n`);
-    await hg('import', '-q', place.write('all.patch', steps.join('')));
+    await hg('import', '-q', place.write('all.patch', Array.from({ length: CHANGES }, (_, k) => changeOf(k)).join('')));
     const port = await freePort();
     place.serve('/usr/bin/hg', ['serve', '--address', '127.0.0.1', '--port', String(port), '--name', 'tree'], { cwd: tree, env });
     const address = `http://127.0.0.1:${port}`;

@@ -19,7 +19,8 @@ module.exports = {
   login: 'form',
   async start(place) {
     const { socket, run } = await startMariadb(place, NAMES);
-    await run("CREATE TABLE shop.items (id INT PRIMARY KEY AUTO_INCREMENT, name VARCHAR(40)); INSERT INTO shop.items (name) VALUES ('tea'), ('salt'), ('rice')");
+    await run('CREATE TABLE shop.items (id INT PRIMARY KEY AUTO_INCREMENT, name VARCHAR(40))');
+    await run("INSERT INTO shop.items (name) VALUES ('tea'), ('salt'), ('rice')");
     const folder = await place.copy('/usr/share/phpmyadmin', 'phpmyadmin');
     const own = place.write('config.inc.php', SETTINGS(socket));
     await place.run('sed', ['-i', `s#CONFIG_DIR . 'config.inc.php'\\|'/etc/phpmyadmin/config.inc.php'#'${own}'#`, `${folder}/libraries/vendor_config.php`]);

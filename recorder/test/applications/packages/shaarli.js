@@ -1,11 +1,13 @@
 'use strict';
-// Shaarli: bookmarks in a file, after a log-in by a form. The user writes a new bookmark.
+// Shaarli: bookmarks in a file, after a log-in by a form. The user changes a bookmark and wants to delete it.
 
 const { servePhp } = require('../php.js');
 const { Session } = require('../session.js');
 
 const LOGIN = { login: 'reader', password: 'shaarli-pass-2026' };
-const INSTALL = { setlogin: LOGIN.login, setpassword: LOGIN.password, continent: 'Europe', city: 'Berlin', title: 'Bookmarks', language: 'auto', Save: 'Install' };
+const INSTALL = {
+  setlogin: LOGIN.login, setpassword: LOGIN.password, continent: 'Europe', city: 'Berlin', title: 'Bookmarks', language: 'auto', Save: 'Install',
+};
 /** Debian's package leads to its own folders. */
 const ROUTER = (/** @type {string} */ folder) => `<?php
 $path = parse_url($_SERVER['REQUEST_URI'], PHP_URL_PATH);
@@ -27,7 +29,8 @@ module.exports = {
     const session = new Session(address);
     await session.send('/install', INSTALL);
     await session.send('/login', { ...LOGIN, longlastingsession: 'on' });
-    return { page: `${address}/admin/shaare?post=`, given: ['--storage-state', place.write('state.json', session.state())] };
+    return { page: `${address}/admin/shaare/1`, given: ['--storage-state', place.write('state.json', session.state())] };
   },
-  flow: ['--do', 'type:#lf_title:A title', '--do', 'type:#lf_tags:first', '--do', 'type:#lf_description:Words about it', '--clicks', '2'],
+  flow: ['--do', 'type:#lf_title: of mine', '--do', 'type:#lf_tags:first', '--do', 'type:#lf_description:Words about it',
+    '--do', 'click:.confirm-delete'],
 };

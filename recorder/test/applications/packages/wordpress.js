@@ -33,10 +33,12 @@ module.exports = {
     place.write('wordpress/wp-config.php', SETTINGS(place.folder));
     const address = await servePhp(place, folder);
     const session = new Session(address);
-    const fields = { weblog_title: 'Notes', user_name: LOGIN.log, admin_password: LOGIN.pwd, admin_password2: LOGIN.pwd, pw_weak: 'on', admin_email: 'author@example.org' };
-    await session.post('/wp-admin/install.php?step=2', { ...fields, blog_public: '0', language: '' });
+    const passwords = { admin_password: LOGIN.pwd, admin_password2: LOGIN.pwd, pw_weak: 'on' };
+    const fields = { weblog_title: 'Notes', user_name: LOGIN.log, admin_email: 'author@example.org', blog_public: '0', language: '', ...passwords };
+    await session.post('/wp-admin/install.php?step=2', fields);
     await session.send('/wp-login.php', { ...LOGIN, testcookie: '1', 'wp-submit': 'Log In' });
     return { page: `${address}/wp-admin/post-new.php`, given: ['--storage-state', place.write('state.json', session.state())] };
   },
-  flow: ['--do', 'wait:1500', '--do', 'click:"[aria-label=Close]"', '--do', 'type:.editor-post-title__input:A title', '--do', 'key:Enter', '--do', 'wait:1000', '--clicks', '2'],
+  flow: ['--do', 'wait:1500', '--do', 'click:"[aria-label=Close]"', '--do', 'type:.editor-post-title__input:A title', '--do', 'key:Enter',
+    '--do', 'wait:1000', '--clicks', '2'],
 };
