@@ -221,6 +221,7 @@ Environment:
   ER_TRACES         folder for the recordings; without it, nothing is recorded
   ER_OPTIONS        options of er_record: --depth, --libraries, --keep, --time
   ER_TEST           name that is stored with each load
+  ER_HOLD           file of er_suite --replay-with: what a run holds back
   CHROMIUM          the browser (/usr/bin/chromium)
 
 Examples:
@@ -242,18 +243,28 @@ ${LISTING}
 ${OUTPUTS}
 ${OUTPUTS_OF_LOADS}
 
+Replay in the other order:
+  --replay-with COMMAND
+                    run the suite again with COMMAND, with what brings the first access of
+                    a race held back, and print whether the suite fails; once more with
+                    nothing held back
+  --replay PROBLEM  for this problem: its number in the list, or its stable name; can be
+                    repeated (the first 5 problems)
+  --time SECONDS    stop each run of COMMAND after SECONDS (600)
+
 Examples:
   er_suite traces --known races.known --sarif races.sarif
   er_suite traces-1 traces-2 --junit races.xml --html races
+  er_suite traces --replay-with "npm test -- checkout.spec.js" --replay 1
 
 Exit status:
   0    no race, or only known ones and acts of a user against each other
   1    a race
   2    wrong arguments, or a bad file of known races
   3    the analyzer refused a trace: a bug of the recorder
-  4    no page load is in any FOLDER
+  4    no page load is in any FOLDER, or COMMAND loads none in er_browser
   5    a file could not be written
-  10   no analyzer
+  10   no analyzer; with --replay-with, also if it is not built
   70   an internal error
   130  stopped by Ctrl-C
 
