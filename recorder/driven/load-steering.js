@@ -71,7 +71,7 @@ class LoadSteering extends RunSteering {
   }
 
   /**
-   * A script that tells the page's recorder what to hold back.
+   * A script by which the page's recorder gets what to hold back.
    * @param {string} address
    * @param {string} html
    * @param {Insertion[]} before what else is put there

@@ -1,6 +1,8 @@
 'use strict';
 // What the commands print with --help. The documents have the same options (test/options.test.js). tools/manual.py makes the manual pages of these texts.
 
+const { ER_BROWSER } = require('./help-browser.js');
+
 const USER_AND_NETWORK = `User and network:
   --do ACTION       act as a user after load, in the order given: "click:SELECTOR",
                     "hover:SELECTOR", "type:SELECTOR:TEXT", "select:SELECTOR:OPTION",
@@ -210,27 +212,7 @@ Exit status:
 
 Documentation: docs/replay.md`,
 
-  er_browser: `usage: er_browser [ARGUMENT..]
-   or: ER_TRACES=FOLDER er_browser [ARGUMENT..]
-
-Becomes Chromium with these arguments, for a test suite that drives a browser, and records
-each page load of each tab into FOLDER. Then er_suite FOLDER lists their races. --help and
---version are those of Chromium.
-
-Environment:
-  ER_TRACES         folder for the recordings; without it, nothing is recorded
-  ER_OPTIONS        options of er_record: --depth, --libraries, --keep, --time
-  ER_TEST           name that is stored with each load
-  ER_HOLD           file of er_suite --replay-with: what a run holds back
-  CHROMIUM          the browser (/usr/bin/chromium)
-
-Examples:
-  ER_TRACES=$PWD/traces CHROME_BIN=/path/to/er_browser npx karma start
-
-Exit status:
-  that of Chromium
-
-Documentation: docs/suites.md`,
+  er_browser: ER_BROWSER,
 
   er_suite: `usage: er_suite FOLDER.. [options]
    or: er_suite --help | --version

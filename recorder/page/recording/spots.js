@@ -1,4 +1,4 @@
-// Whether the code that runs is the code whose request a hold keeps back.
+// Whether the code that runs is the code whose request is held back.
 
 import { sliceOf } from '../core/strings.js';
 import { Number } from '../core/taken.js';
