@@ -24,8 +24,8 @@ const { besides } = require('./view.js');
  * @typedef {{file: string, run: import('./list/loads-run.js').LoadRun, load: Load}} Judged
  */
 /**
- * Where loads are listed: `folder` gets index.html without --html.
- * @typedef {{command: 'er_suite'|'er_page', folder: string, page: string}} Place
+ * Where loads are listed: `folder` gets index.html without --html. `replay` runs problems of the list again, and returns a status.
+ * @typedef {{command: 'er_suite'|'er_page', folder: string, page: string, replay?: (listing: LoadsListing, judged: Judged[]) => Promise<number>}} Place
  */
 
 /** So many traces are analyzed at once, and are in memory. */
@@ -108,12 +108,13 @@ function writeIndex(listing, judged, folder, html) {
  * @param {ListOptions} options
  * @param {Place} place
  */
-function listLoads(judged, failed, known, options, { folder, page }) {
+async function listLoads(judged, failed, known, options, { folder, page, replay }) {
   const files = judged.map(({ file }) => file);
   const loads = judged.map(({ load }) => load);
   const views = files.map((file) => path.relative(folder, besides(file, '.html')));
   const listing = new LoadsListing(judged.map(({ run }) => run), known, options, views);
   const status = failed || (listing.failing().length ? STATUS.race : STATUS.ok);
+  const replayed = replay ? await replay(listing, judged) : STATUS.ok;
   printErrors(loads);
   tellLines(listing, options);
   writeOutputs(listing, options, { page, status, files, folder: null, loads });
@@ -122,7 +123,7 @@ function listLoads(judged, failed, known, options, { folder, page }) {
   const printLine = options.isJson ? printError : print;
   printLine(`${page}: ${judged.length} page loads, ${options.html ? index : 'index.html'}`);
   printLine(`${totalsOf(listing)}; the views are named in ${index}`);
-  return status;
+  return replayed || status;
 }
 
 /**

@@ -10,15 +10,27 @@ const { stoppable } = require('./common/stoppable.js');
 const { waitForWriters, tracesIn } = require('./driven/trace-folder.js');
 const { Known } = require('./list/known.js');
 const { reportLoads } = require('./loads.js');
-const { endAsking, programState } = require('./races/program.js');
+const { answersAtOnce, endAsking, programState } = require('./races/program.js');
 const { parseCommand, UsageFault } = require('./recording/options.js');
+const { SuiteReplays } = require('./suite-replays.js');
 
 /** @typedef {import('./recording/options.js').CommandOptions} CommandOptions */
+/** @typedef {import('./list/loads-listing.js').LoadsListing} LoadsListing */
+/** @typedef {import('./loads.js').Judged} Judged */
 
 /** What a recorder has not written after so many milliseconds does not come. */
 const LONGEST_WAIT = 60000;
 /** Lines of a recorder's log that say nothing to a reader. */
 const QUIET_LINE = /^er_browser: (?:recording|\d+ page loads recorded)$|^ +at /;
+
+/** @type {SuiteReplays|null} those that are under way */
+let replays = null;
+
+/** The first signal ends the replays, and what they have found is printed. */
+function stop() {
+  if (replays && !replays.isStopped) replays.stop();
+  else endAsking(STATUS.stopped);
+}
 
 /**
  * Prints what recorders have written to their logs, except how much they have recorded.
@@ -55,7 +67,19 @@ async function judgeFolders(folders, options) {
     return STATUS.noPage;
   }
   traces.forEach((some, k) => { if (!some.length) printError(`er_suite: no page load was recorded in ${folders[k]}`); });
-  return reportLoads(files, known, options, { command: 'er_suite', folder: folders[0], page });
+  const [folder] = folders;
+  const replay = (/** @type {LoadsListing} */ listing, /** @type {Judged[]} */ judged) => {
+    replays = new SuiteReplays(listing, judged, options, folder);
+    return replays.run();
+  };
+  return reportLoads(files, known, options, { command: 'er_suite', folder, page, ...options.replayWith ? { replay } : {} });
+}
+
+/** Whether races can be replayed: what is held back for one is found with several questions to the analyzer. */
+function canReplay() {
+  if (answersAtOnce()) return true;
+  printError('er_suite: nothing done: --replay-with needs the built analyzer: run ./er_cli --build (about 25 minutes on four processors)');
+  return false;
 }
 
 /** @param {string[]} args */
@@ -66,8 +90,8 @@ async function main(args) {
   const folders = [...new Map(positionals.map((folder) => [path.resolve(folder), folder])).values()];
   const wrong = folders.find((folder) => !fs.statSync(folder, { throwIfNoEntry: false })?.isDirectory());
   if (wrong !== undefined) throw new UsageFault(`there is no folder ${wrong}`);
-  if (programState() === 'missing') return STATUS.noProgram;
-  return stoppable(() => endAsking(STATUS.stopped), () => judgeFolders(folders, options));
+  if (programState() === 'missing' || (options.replayWith && !canReplay())) return STATUS.noProgram;
+  return stoppable(stop, () => judgeFolders(folders, options));
 }
 
 runCommand('er_suite', main);

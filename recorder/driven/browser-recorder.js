@@ -2,13 +2,16 @@
 // Records each page load of each tab of a browser that another program drives.
 
 const complaints = require('./complaints.js');
+const { addressKey } = require('./hold-plan.js');
 const { Load } = require('./load.js');
+const { LoadSteering } = require('./load-steering.js');
 const { SharedSources } = require('./load-sources.js');
 const { DrivenTab } = require('./driven-tab.js');
 const { OpenedWindow } = require('./opened-window.js');
 const { browserFacts } = require('../recording/session.js');
 const { ownNames, pageScript } = require('../recording/page-script.js');
 const { allowLocalNetwork } = require('../browser/local-network.js');
+const { HoldScripts } = require('../browser/responses/hold-scripts.js');
 const { withoutCredentials } = require('../common/address.js');
 const { Paused } = require('./paused.js');
 const { sleep } = require('../common/time.js');
@@ -39,12 +42,16 @@ class BrowserRecorder {
    * @param {import('./trace-folder.js').TraceFolder} folder
    * @param {import('./load.js').Options & {depth: 'globals'|'objects', keepsAll: boolean}} options as parseOptions gives them
    * @param {(text: string) => void} complain
+   * @param {import('./hold-plan.js').Plan|null} plan what this run of the suite holds back
    */
-  constructor(browser, folder, options, complain = complaints.complain) {
+  constructor(browser, folder, options, complain = complaints.complain, plan = null) {
     this.browser = browser;
     this.complain = complain;
     this.folder = folder;
     this.options = options;
+    this.plan = plan;
+    /** @type {Map<string, number>} how many loads each address had */
+    this.counts = new Map();
     this.ownNames = ownNames();
     this.shared = new SharedSources(options.depth, options.keepsAll);
     this.source = this.sourceWith(null);
@@ -126,7 +133,9 @@ class BrowserRecorder {
     this.paused.note(/** @type {import('./paused.js').PausedEvent} */ (event), sessionId);
     const tab = sessionId ? this.sessions.get(sessionId) : this.tabs.get(event.frameId) || await this.tabAt(event.frameId);
     const isResponse = event.responseStatusCode !== undefined || event.responseErrorReason !== undefined;
-    if (!isResponse) await this.passRequest(event, tab);
+    if (isResponse) await tab?.steering()?.holdMet(/** @type {import('../browser/responses/paused.js').Paused} */ (event));
+    if (!isResponse && sessionId) await this.passOwnRequest(event, tab);
+    else if (!isResponse) await this.passRequest(event, tab);
     else await this.passResponse(event, tab, !sessionId);
   }
 
@@ -154,6 +163,18 @@ class BrowserRecorder {
   }
 
   /**
+   * The request of a page that can hold its response back, or for what its parser waits for.
+   * @param {any} event `Fetch.requestPaused`
+   * @param {DrivenTab|undefined} tab
+   */
+  async passOwnRequest(event, tab) {
+    const steering = tab?.steering() || null;
+    if (await new HoldScripts(this.paused, steering).passRequest(event)) return;
+    steering?.meets(event);
+    await this.paused.letPass(event);
+  }
+
+  /**
    * @param {any} event `Fetch.requestPaused`, which a driver may have answered in any way
    * @param {DrivenTab|undefined} tab
    * @param {boolean} isOfBrowser whether it was paused in the browser's own session
@@ -168,6 +189,7 @@ class BrowserRecorder {
     }
     if (isOfBrowser) tab.marked = event.request.url;
     if (isDocument && event.frameId === tab.targetId) await allowLocalNetwork(tab.tab, event.request.url);
+    else if (load.steering) this.paused.before.set(event.requestId, async () => load.steering?.locate());
     await load.responses.passResponse(event);
   }
 
@@ -181,11 +203,26 @@ class BrowserRecorder {
     const address = withoutCredentials(given);
     if (!this.hasFacts) this.askFacts(tab);
     const number = ++this.lastNumber;
-    const { folder, options, shared, paused: channel } = this;
-    const facts = { number, address, tab: tab.targetId, opener: tab.openerId, test: folder.test, file: folder.fileFor(number, address) };
-    const load = new Load({ ...facts, opened: this.openedIn(tab, address), options, shared, channel });
+    const nth = this.countLoad(address);
+    const { folder, options, shared, paused: channel, plan } = this;
+    const facts = { number, nth, address, tab: tab.targetId, opener: tab.openerId, test: folder.test, file: folder.fileFor(number, address) };
+    const opened = this.openedIn(tab, address);
+    const isHeld = plan?.load?.nth === nth && addressKey(plan.load.address) === addressKey(address);
+    const steer = (/** @type {LoadOfPage} */ load) => (plan && isHeld ? new LoadSteering(plan, load, opened, { ownNames: this.ownNames, tab: tab.tab }) : null);
+    const load = new Load({ ...facts, opened, options, shared, channel, isAsked: !!plan, steer });
     this.loads.add(load);
     return load;
+  }
+
+  /**
+   * Which load of a page this is, in this browser.
+   * @param {string} address
+   */
+  countLoad(address) {
+    const key = addressKey(address);
+    const nth = (this.counts.get(key) || 0) + 1;
+    this.counts.set(key, nth);
+    return nth;
   }
 
   /**

@@ -13,6 +13,8 @@ const { within } = require('../common/time.js');
 
 /** Pages and scripts are instrumented when their responses come: what the driver answers itself is a response too. */
 const PATTERNS = ['Document', 'Script'].map((resourceType) => ({ urlPattern: '*', requestStage: 'Response', resourceType }));
+/** In a run that holds something back: any response can be that, and a request at which the parser waits. */
+const ALL = ['Request', 'Response'].map((requestStage) => ({ urlPattern: '*', requestStage }));
 /** Pages of the browser itself, and empty ones, are not loads. */
 const IS_NO_LOAD = /^(about|chrome|chrome-error|chrome-extension|devtools|view-source):|^data:,$/;
 /** A tab takes what the recorder sends at once, unless it has started to load by then; milliseconds that a document waits for that. */
@@ -87,7 +89,7 @@ class DrivenTab {
   async answerResponses() {
     const { sessionId } = await this.browser.send('Target.attachToTarget', { targetId: this.targetId, flatten: true });
     this.recorder.sessions.set(sessionId, this);
-    await this.browser.send('Fetch.enable', { patterns: PATTERNS }, sessionId);
+    await this.browser.send('Fetch.enable', { patterns: this.recorder.plan?.load ? ALL : PATTERNS }, sessionId);
   }
 
   /**
@@ -165,6 +167,11 @@ class DrivenTab {
   }
 
   // ---- responses
+
+  /** What the page holds back, or the page that comes next. */
+  steering() {
+    return this.coming?.steering || this.current?.steering || null;
+  }
 
   /** @param {Pick<DocumentEvent, 'frameId'|'request'>} event */
   hasMarked({ frameId, request }) {

@@ -3,6 +3,7 @@
 // those of the browser, as a script in its memory is that of an earlier load.
 
 const { COMMON_NAMES } = require('../instrument/ahead.js');
+const { EditedText } = require('../instrument/edits.js');
 const { Sources } = require('../texts/sources.js');
 
 /** What all loads of a browser share. */
@@ -44,28 +45,21 @@ class LoadSources extends Sources {
   /**
    * A script in the browser's memory comes without a response.
    * @param {string} address
-   * @param {number} line
-   * @param {number} column
    */
-  placeInCopy(address, line, column) {
-    this.find(address);
-    return super.placeInCopy(address, line, column);
+  copyAt(address) {
+    const known = this.shared.byAddress.get(address);
+    if (known && !this.byAddress.has(address)) this.byAddress.set(address, known);
+    return super.copyAt(address);
   }
 
   /**
+   * Takes as a page's copy the one that it has with these insertions, until it has its own.
    * @param {string} address
-   * @param {number} line
-   * @param {number} column
+   * @param {import('../browser/responses/paused.js').Insertion[]} insertions
    */
-  textAndOffset(address, line, column) {
-    this.find(address);
-    return super.textAndOffset(address, line, column);
-  }
-
-  /** @param {string} address */
-  find(address) {
-    const known = this.shared.byAddress.get(address);
-    if (known && !this.byAddress.has(address)) this.byAddress.set(address, known);
+  tryInsertions(address, insertions) {
+    const source = this.byAddress.get(address);
+    if (source) this.copies.set(source, new EditedText(source.text, [...insertions, ...source.edits || []], 'page'));
   }
 }
 

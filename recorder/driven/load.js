@@ -8,6 +8,7 @@ const { errorText } = require('../recording/error-text.js');
 const { writeFiles } = require('../recording/files.js');
 const { lossesOf } = require('../texts/losses.js');
 const { Intake } = require('../trace/intake.js');
+const { askedOf } = require('./asked.js');
 const { LoadSources } = require('./load-sources.js');
 
 const LONGEST_RESPONSE = 60000;
@@ -32,13 +33,17 @@ const MOST_ERRORS = 100;
  * @property {string} file
  * @property {TestFacts} test
  * @property {import('./opened-window.js').OpenedWindow|null} opened
+ * @property {number} nth which load of its address it is, in its browser
+ * @property {boolean} isAsked whether another run of the suite needs what its code requested
+ * @property {((load: Load) => import('./load-steering.js').LoadSteering|null)} steer what it holds back
  */
 
 class Load {
   /** @param {LoadFacts} facts */
-  constructor({ channel, shared, options, opened, number, tab, opener, address, file, test }) {
+  constructor({ channel, shared, options, opened, number, nth, tab, opener, address, file, test, isAsked, steer }) {
     this.options = options;
     this.number = number;
+    this.nth = nth;
     this.tab = tab;
     this.opener = opener;
     this.address = address;
@@ -47,7 +52,9 @@ class Load {
     this.given = address;
     this.sources = new LoadSources(shared);
     this.intake = new Intake({ countSites: () => this.sources.sites.length });
-    this.responses = new Responses(channel, { sources: this.sources, folder: null, slow: 0, longest: LONGEST_RESPONSE, steering: opened });
+    this.isAsked = isAsked;
+    this.steering = steer(this);
+    this.responses = new Responses(channel, { sources: this.sources, folder: null, slow: 0, longest: LONGEST_RESPONSE, steering: this.steering || opened });
     /** @type {string[]} */
     this.errors = [];
     this.begun = new Date();
@@ -71,6 +78,7 @@ class Load {
     this.intake.take(payload);
     this.isNew = true;
     this.lastTaken = Date.now();
+    this.steering?.look();
   }
 
   /** @param {import('./driven-tab.js').ExceptionDetails} details */
@@ -107,13 +115,17 @@ class Load {
     this.isOver = true;
     this.why = why;
     this.ended = new Date();
+    this.steering?.end();
   }
 
   /** What OUT.names.json has of it. */
   facts() {
-    const { number, tab, opener, address, test, why, errors, intake } = this;
+    const { number, nth, tab, opener, address, test, why, errors, intake } = this;
     const times = { begun: this.begun.toISOString(), ...(this.ended ? { ended: this.ended.toISOString() } : {}) };
-    return { number, address, test, tab, ...(opener ? { opener } : {}), ...times, isOver: this.isOver, why, actions: intake.actions, errors, lost: this.losses() };
+    const held = this.steering ? { held: this.steering.facts() } : {};
+    const asked = this.isAsked ? { asked: askedOf(this) } : {};
+    const facts = { number, nth, address, test, tab, ...(opener ? { opener } : {}), ...times, isOver: this.isOver, why, actions: intake.actions, errors, lost: this.losses() };
+    return { ...facts, ...held, ...asked };
   }
 
   losses() {

@@ -9,6 +9,7 @@ const { parseOptions, UsageFault } = require('../recording/options.js');
 const { BrowserRecorder } = require('./browser-recorder.js');
 const { complain, faultInWords } = require('./complaints.js');
 const { findEndpoint } = require('./endpoint.js');
+const { readPlan } = require('./hold-plan.js');
 const { ProfileLock } = require('./profile-lock.js');
 const { TraceFolder } = require('./trace-folder.js');
 
@@ -59,7 +60,7 @@ async function main([browserPid, driverPid, port, profile, ready, log, ...pages]
     const endpoint = await findEndpoint({ port: Number(port), profile, pid: Number(browserPid) });
     lock.take();
     const browser = await AttachedChromium.connect(endpoint);
-    const recorder = new BrowserRecorder(browser, folder, options);
+    const recorder = new BrowserRecorder(browser, folder, options, complain, process.env.ER_HOLD ? readPlan(process.env.ER_HOLD) : null);
     await recorder.start();
     tellReady();
     await recorder.open(pages);

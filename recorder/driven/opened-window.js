@@ -9,6 +9,12 @@ const { HOLD_NAME } = require('../browser/content-policy.js');
 const BEGIN = /^\uFEFF?(?:\s|<!--[^]*?-->)*(?:<!doctype[^>]*>)?(?:\s|<!--[^]*?-->)*(?:<html(?:\s[^>]*)?>)?(?:\s|<!--[^]*?-->)*(?:<head(?:\s[^>]*)?>)?/i;
 const START = 'typeof __er === "object" ? __er.removeHold(document.currentScript) : document.currentScript.remove();';
 
+/**
+ * The offset in a page at which a script can be put before all others.
+ * @param {string} html
+ */
+const startOf = (html) => (BEGIN.exec(html)?.[0] || '').length;
+
 class OpenedWindow {
   /**
    * @param {string} address of the page
@@ -31,10 +37,10 @@ class OpenedWindow {
    */
   insertions(address, html) {
     if (address !== this.address) return [];
-    const start = (BEGIN.exec(html)?.[0] || '').length;
+    const start = startOf(html);
     const code = `${START}\n${this.source.replace(/<(?=\/script|!--|script)/gi, '\\x3c')}`;
     return [{ start, end: start, insert: `<script data-er-hold nonce="${HOLD_NAME}">${code}</script>` }];
   }
 }
 
-module.exports = { OpenedWindow };
+module.exports = { OpenedWindow, startOf };

@@ -15,6 +15,11 @@ class Paused extends Tab {
      * @type {Map<string, string|undefined>}
      */
     this.sessions = new Map();
+    /**
+     * What is done before a response of this number is answered.
+     * @type {Map<string, () => Promise<void>>}
+     */
+    this.before = new Map();
   }
 
   /**
@@ -30,10 +35,17 @@ class Paused extends Tab {
    * @param {{[name: string]: any}} params as the protocol has them
    * @param {number} [limit]
    */
-  send(method, params = {}, limit) {
+  async send(method, params = {}, limit) {
+    if (method === 'Fetch.fulfillRequest') await this.before.get(params.requestId)?.();
     const sessionId = this.sessions.get(params.requestId);
-    if (method !== 'Fetch.getResponseBody') this.sessions.delete(params.requestId);
+    if (method !== 'Fetch.getResponseBody') this.forget(params.requestId);
     return this.browser.send(method, params, sessionId, limit);
+  }
+
+  /** @param {string} requestId */
+  forget(requestId) {
+    this.sessions.delete(requestId);
+    this.before.delete(requestId);
   }
 
   /**

@@ -62,8 +62,44 @@ class EditedText {
    * @param {number} column
    */
   originalOffsetAt(line, column) {
+    return this.originalOffset(this.linesOfChanged().offsetOf(line, column));
+  }
+
+  /**
+   * The offsets in the changed text that stand for an original offset, as the first and the last one.
+   * @param {number} original
+   * @returns {[first: number, last: number]}
+   */
+  changedOffsets(original) {
+    const before = (/** @type {number} */ limit) => {
+      let [low, high] = [0, this.text.length + 1];
+      while (low < high) {
+        const middle = (low + high) >> 1;
+        if (this.originalOffset(middle) < limit) low = middle + 1;
+        else high = middle;
+      }
+      return low;
+    };
+    const first = before(original);
+    return [first, Math.max(first, before(original + 1) - 1)];
+  }
+
+  /**
+   * Where the browser reports an original place in the changed text: its line, and the first and the last column.
+   * @param {number} line
+   * @param {number} column
+   */
+  changedPlaces(line, column) {
+    this.originalLines = this.originalLines || new Lines(this.original);
+    const [first, last] = this.changedOffsets(this.originalLines.offsetOf(line, column));
+    const lines = this.linesOfChanged();
+    const [from, to] = [lines.placeOf(first), lines.placeOf(last)];
+    return { line: from.line, from: from.column, to: to.line === from.line ? to.column : Infinity };
+  }
+
+  linesOfChanged() {
     this.changedLines = this.changedLines || new Lines(this.text, this.kind === 'script' ? LINE_END_OF_SCRIPT : LINE_END);
-    return this.originalOffset(this.changedLines.offsetOf(line, column));
+    return this.changedLines;
   }
 
   /**

@@ -37,3 +37,12 @@ test('a page, in which a separator ends no line', () => {
   const page = '<p>\u2028</p>\n<script>b</script>';
   assert.deepStrictEqual(new EditedText(page, [], 'page').originalPlace(2, 9), { line: 2, column: 9 });
 });
+
+test('where an original place is in the changed text: in what is inserted there too', () => {
+  const edited = new EditedText('a;\nb(c);d', [{ start: 3, end: 3, insert: 'mark(' }, { start: 7, end: 7, insert: ')' }, { start: 8, end: 9, insert: 'dd' }]);
+  assert.strictEqual(edited.text, 'a;\nmark(b(c));dd');
+  for (const [column, from, to] of [[1, 1, 6], [2, 7, 7], [5, 10, 11], [6, 12, 12]]) {
+    assert.deepStrictEqual(edited.changedPlaces(2, column), { line: 2, from, to }, String(column));
+    for (let k = from; k <= to; k++) assert.deepStrictEqual(edited.originalPlace(2, k), { line: 2, column }, String(k));
+  }
+});

@@ -1,6 +1,8 @@
 'use strict';
 // What the commands print with --help. The documents have the same options (test/options.test.js). tools/manual.py makes the manual pages of these texts.
 
+const { ER_BROWSER } = require('./help-browser.js');
+
 const USER_AND_NETWORK = `User and network:
   --do ACTION       act as a user after load, in the order given: "click:SELECTOR",
                     "hover:SELECTOR", "type:SELECTOR:TEXT", "select:SELECTOR:OPTION",
@@ -210,26 +212,7 @@ Exit status:
 
 Documentation: docs/replay.md`,
 
-  er_browser: `usage: er_browser [ARGUMENT..]
-   or: ER_TRACES=FOLDER er_browser [ARGUMENT..]
-
-Becomes Chromium with these arguments, for a test suite that drives a browser, and records
-each page load of each tab into FOLDER. Then er_suite FOLDER lists their races. --help and
---version are those of Chromium.
-
-Environment:
-  ER_TRACES         folder for the recordings; without it, nothing is recorded
-  ER_OPTIONS        options of er_record: --depth, --libraries, --keep, --time
-  ER_TEST           name that is stored with each load
-  CHROMIUM          the browser (/usr/bin/chromium)
-
-Examples:
-  ER_TRACES=$PWD/traces CHROME_BIN=/path/to/er_browser npx karma start
-
-Exit status:
-  that of Chromium
-
-Documentation: docs/suites.md`,
+  er_browser: ER_BROWSER,
 
   er_suite: `usage: er_suite FOLDER.. [options]
    or: er_suite --help | --version
@@ -242,18 +225,28 @@ ${LISTING}
 ${OUTPUTS}
 ${OUTPUTS_OF_LOADS}
 
+Replay in the other order:
+  --replay-with COMMAND
+                    run the suite again with COMMAND, with what brings the first access of
+                    a race held back, and print whether the suite fails; once more with
+                    nothing held back
+  --replay PROBLEM  for this problem: its number in the list, or its stable name; can be
+                    repeated (the first 5 problems)
+  --time SECONDS    stop each run of COMMAND after SECONDS (600)
+
 Examples:
   er_suite traces --known races.known --sarif races.sarif
   er_suite traces-1 traces-2 --junit races.xml --html races
+  er_suite traces --replay-with "npm test -- checkout.spec.js" --replay 1
 
 Exit status:
   0    no race, or only known ones and acts of a user against each other
   1    a race
   2    wrong arguments, or a bad file of known races
   3    the analyzer refused a trace: a bug of the recorder
-  4    no page load is in any FOLDER
+  4    no page load is in any FOLDER, or COMMAND loads none in er_browser
   5    a file could not be written
-  10   no analyzer
+  10   no analyzer; with --replay-with, also if it is not built
   70   an internal error
   130  stopped by Ctrl-C
 

@@ -33,6 +33,25 @@ function fileName(name, value) {
 }
 
 /**
+ * @param {string} name
+ * @param {string} value
+ */
+function suiteCommand(name, value) {
+  if (!value.trim()) throw new UsageFault(`${name} takes a command`);
+  return value;
+}
+
+/**
+ * A problem of a list: its place in it, from 1, or its stable name.
+ * @param {string} name
+ * @param {string} value
+ */
+function problemName(name, value) {
+  if (!/^[1-9]\d{0,5}$|^[0-9a-f]{12}$/.test(value)) throw new UsageFault(`${name} takes the number of a problem, or its name of 12 hexadecimal digits: ${value}`);
+  return value;
+}
+
+/**
  * A regular expression, or null for none.
  * @param {string} name
  * @param {string} value
@@ -146,5 +165,6 @@ function userAgent(name, value) {
 }
 
 module.exports = {
-  wholeNumber, fileName, pattern, colors, depth, endpoint, header, credentials, webAddress, cookie, viewport, userAgent,
+  wholeNumber, fileName, pattern, colors, depth, endpoint, header, credentials, webAddress, cookie, viewport, userAgent, suiteCommand,
+  problemName,
 };

@@ -76,6 +76,15 @@ export interface Hold {
   address?: string;
   source?: string;
   event?: { type: string, nth: number, tag?: string, id?: string, source?: string };
+  /** In place of `place` and `way`: where they are in the browser's copy. */
+  spots?: (Spot | null)[];
+}
+
+/** Where a place of the source is in the browser's copy: `address:line:`, and the columns from which it stands. */
+export interface Spot {
+  line: string;
+  from: number;
+  to: number;
 }
 
 /** A hold, and how far it is. */

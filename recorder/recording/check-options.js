@@ -14,6 +14,7 @@ function checkOptions(options) {
   const isActing = options.actions.length > 0 || options.clicks > 0 || options.isRaw;
   if (attach && isActing) throw new UsageFault('--attach cannot be combined with --do, --clicks or --raw: the driver acts');
   if (writesKnown && !known) throw new UsageFault('--write-known requires --known FILE');
+  if ((options.wanted.length || options.suiteTime) && !options.replayWith) throw new UsageFault('--replay and --time require --replay-with COMMAND');
   checkMany(options);
   checkFlow(options);
   if (runs > 1 && isReplayed) throw new UsageFault('--replay cannot be combined with --runs');

@@ -11,7 +11,8 @@ const { keepSecretsOf } = require('../options/secrets-of.js');
 const { parseStep } = require('../options/step.js');
 const { readStorageState } = require('../options/storage-state.js');
 const {
-  wholeNumber, fileName, pattern, colors, depth, endpoint, header, credentials, webAddress, cookie, viewport, userAgent,
+  wholeNumber, fileName, pattern, colors, depth, endpoint, header, credentials, webAddress, cookie, viewport, userAgent, suiteCommand,
+  problemName,
 } = require('../options/values.js');
 const { NEWEST_VERSION } = require('../trace/spelling.js');
 const { checkOptions } = require('./check-options.js');
@@ -79,6 +80,9 @@ const { checkOptions } = require('./check-options.js');
  * @property {number} most
  * @property {number} atOnce so many runs of the page at once, or 0 for as many as there is room for
  * @property {boolean} mayChange whether requests may be sent again that change something on a server
+ * @property {string} replayWith the command of a test suite that is run again, or ''
+ * @property {number} suiteTime it is stopped after so many seconds, or 0 for the usual limit
+ * @property {string[]} wanted the problems for which it is run, by their places in the list or their names; none for the first ones
  */
 
 /** @typedef {RecordingOptions & ListOptions & ReplayOptions} CommandOptions */
@@ -94,7 +98,8 @@ function defaults() {
     headers: [], credentials: null, ignoresCertificateErrors: false, cookies: [], storageState: null, userDataDir: null, viewport: null, userAgent: null,
     isHeaded: false, isRaw: false, chaos: null, depth: 'objects', libraries: LIBRARIES, keepsAll: false, attach: null, isLive: false, runs: 1, known: null, writesKnown: false,
     countsActs: false, isJson: false, sarif: null, color: 'auto', junit: null, html: null, list: null, sitemap: null, jobs: 0, isFresh: false, isReplayed: false,
-    races: [], most: 20, atOnce: 0, mayChange: false,
+    races: [], most: 20, atOnce: 0, mayChange: false, replayWith: '', suiteTime: 0,
+    wanted: [],
   };
 }
 
@@ -179,6 +184,12 @@ const REPLAY = {
   'at-once': { take: (options, value, name) => { options.atOnce = wholeNumber(name, value); } },
   ...AGAIN,
 };
+/** @type {Table} what runs the suite of page loads again */
+const WITH_SUITE = {
+  'replay-with': { take: (options, value, name) => { options.replayWith = suiteCommand(name, value); } },
+  replay: { take: (options, value, name) => { options.wanted.push(problemName(name, value)); } },
+  time: { take: (options, value, name) => { options.suiteTime = wholeNumber(name, value, 1); } },
+};
 /** @type {Table[string]} */
 const HEADED = { isFlag: true, take: (options) => { options.isHeaded = true; } };
 /** @type {Table} */
@@ -194,7 +205,7 @@ const TABLES = {
     ...RECORDING, ...REPLAY, ...LISTING, ...MANY, headed: HEADED, runs: { take: (options, value, name) => { options.runs = wholeNumber(name, value, 1, MOST_RUNS); } },
   },
   er_replay: { ...AGAIN, ...SERVER, time: RECORDING.time, redact: RECORDING.redact, viewport: RECORDING.viewport, 'user-agent': RECORDING['user-agent'] },
-  er_suite: { ...LISTING, ...OF_LOADS },
+  er_suite: { ...LISTING, ...OF_LOADS, ...WITH_SUITE },
 };
 /** @type {Table} `step` is one of a flow, as a recording saves it */
 const ANY = { ...TABLES.er_page, ...TABLES.er_record, step: { take: (options, value, name) => { options.actions.push(readStep(name, value)); } } };

@@ -5,10 +5,13 @@ const fs = require('node:fs');
 const http = require('node:http');
 const path = require('node:path');
 const { Folder, ORIGIN } = require('../browser/folder.js');
+const { sleep } = require('../common/time.js');
 const { listen } = require('./server.js');
 
 const TOP = path.join(__dirname, '..', '..');
 const PAGES = path.join(__dirname, 'pages', 'suite');
+/** Milliseconds that slow.json takes: much longer than what the page does meanwhile. */
+const SLOW = 2000;
 const shop = new Folder(path.join(TOP, 'examples'));
 /** @param {http.IncomingMessage} request */
 const hasCookie = ({ headers }) => /\bsession=ok\b/.test(headers.cookie || '');
@@ -23,6 +26,7 @@ function answer(request) {
   if (pathname.startsWith('/shop/')) return shop.answer(`${ORIGIN}${request.url}`);
   if (pathname === '/login' && request.method === 'POST') return { status: 303, type: 'text/plain', body: '', location: '/account', cookie: 'session=ok; HttpOnly; Path=/' };
   if (pathname === '/account' && !hasCookie(request)) return { status: 303, type: 'text/plain', body: '', location: '/login' };
+  if (pathname === '/slow.json') return { status: 200, type: 'application/json', body: '{}' };
   if (pathname === '/orders.json') return hasCookie(request) ? { status: 200, type: 'application/json', body: '{"orders": 3}' } : { status: 403, type: 'text/plain', body: 'no' };
   const file = path.join(PAGES, path.extname(pathname) ? pathname : `${pathname}.html`);
   if (!fs.existsSync(file)) return { status: 404, type: 'text/plain', body: 'not found\n' };
@@ -31,8 +35,9 @@ function answer(request) {
 
 /** @returns {Promise<{origin: string, close: () => void}>} */
 async function serveSuite(port = 0) {
-  const server = http.createServer((request, response) => {
+  const server = http.createServer(async (request, response) => {
     request.resume();
+    if (request.url === '/slow.json') await sleep(SLOW);
     const { status, type, body, location, cookie } = answer(request);
     response.writeHead(status, { 'content-type': type, ...(location ? { location } : {}), ...(cookie ? { 'set-cookie': cookie } : {}) }).end(body);
   });

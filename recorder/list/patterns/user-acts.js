@@ -67,4 +67,4 @@ class UserActs {
   }
 }
 
-module.exports = { UserActs };
+module.exports = { UserActs, USER_EVENTS };

@@ -106,4 +106,4 @@ function wayOf(calls) {
   return withoutLastBlanks(text);
 }
 
-export { fileOnStack, ownPlace, placeOnStack, callsOfPage, wayOf };
+export { fileOnStack, ownPlace, placeOfCall, placeOnStack, callsOfPage, wayOf };

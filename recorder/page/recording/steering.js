@@ -5,7 +5,8 @@ import { replaceMethod } from '../core/replacing.js';
 import { settings } from '../core/settings.js';
 import { sliceOf, withoutFragment } from '../core/strings.js';
 import { String, WeakSet, apply } from '../core/taken.js';
-import { callsOfPage, ownPlace, placeOnStack, wayOf } from '../log/stack.js';
+import { callsOfPage, ownPlace } from '../log/stack.js';
+import { testOfCode } from './spots.js';
 
 class Steering {
   /**
@@ -19,9 +20,7 @@ class Steering {
     this.isActive = holds !== null;
     /** @type {import('../types').Held[]} */
     this.holds = [];
-    each(holds || [], (hold) => {
-      if (hold) this.holds[this.holds.length] = { ...hold, asked: 0, isLet: false, waiting: [], timer: null, target: null, met: 0 };
-    });
+    this.expect(holds || []);
     this.turns = turns && { ...turns, taken: 0 };
     /**
      * Events that were held back and that the recorder dispatches now.
@@ -50,15 +49,26 @@ class Steering {
   // ---- what is held back
 
   /**
+   * Holds things back from now on. A hold that is known gets the places of its code, if that is instrumented only now.
+   * @param {(import('../types').Hold|null)[]} holds
+   */
+  expect(holds, isOfPage = false) {
+    each(holds, (hold) => {
+      const known = hold && findItem(this.holds, ({ id }) => id === hold.id);
+      if (known && !isOfPage) known.spots = hold.spots;
+      if (known) return;
+      if (hold) this.holds[this.holds.length] = { ...hold, asked: 0, isLet: false, waiting: [], timer: null, target: null, met: 0 };
+    });
+  }
+
+  /**
    * The hold of what the running code requests now, or undefined.
    * @param {string} word
    */
   asks(word) {
     const mayBe = keep(this.holds, (hold) => hold.word === word && !hold.isLet);
     if (!mayBe.length) return undefined;
-    const way = wayOf(callsOfPage());
-    const place = placeOnStack();
-    const here = keep(mayBe, (hold) => (hold.way ? hold.way === way : (hold.place || '') === place));
+    const here = keep(mayBe, testOfCode());
     each(here, (hold) => hold.asked++);
     return findItem(here, (hold) => hold.asked === hold.nth);
   }
@@ -97,9 +107,7 @@ class Steering {
     const { turns } = this;
     if (!turns || turns.word !== word || ownPlace(callsOfPage()) !== turns.place) return run;
     return (...args) => {
-      if (turns.taken >= turns.count) return;
-      turns.taken++;
-      apply(run, undefined, args);
+      if (turns.taken++ < turns.count) apply(run, undefined, args);
     };
   }
 
@@ -144,7 +152,7 @@ class Steering {
    */
   holdLoad(page) {
     const address = withoutFragment(String(page.document.URL));
-    const hold = findItem(this.holds, (one) => one.word === 'load' && one.address === address && !one.isLet);
+    const hold = findItem(this.holds, (one) => one.word === 'load' && one.address === address && !one.isLet && !one.image);
     if (!hold) return;
     hold.image = new page.window.Image();
     hold.image.src = hold.source || '';
