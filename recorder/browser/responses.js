@@ -8,6 +8,7 @@ const { Copies, countFault } = require('./responses/copies.js');
 const { FolderAnswers } = require('./responses/folder-answers.js');
 const { HeldFiles, HeldRequests } = require('./responses/held-requests.js');
 const { HoldScripts } = require('./responses/hold-scripts.js');
+const { AnswerAgain, KeepAnswers } = require('./responses/keep-answers.js');
 const { NetworkLog } = require('./responses/network-log.js');
 const { OwnOrigin } = require('./responses/own-origin.js');
 const { PageSteps } = require('./responses/page-steps.js');
@@ -22,19 +23,33 @@ const { SlowNetwork } = require('./responses/slow-network.js');
 
 const STAGES = [{ urlPattern: '*', requestStage: 'Request' }, { urlPattern: '*', requestStage: 'Response' }];
 
+/**
+ * Without `sources` pages and scripts pass as they are. A file that takes longer than `longest` milliseconds does not come.
+ * @typedef {object} ResponsesOptions
+ * @property {import('./responses/paused.js').Texts|null} sources
+ * @property {import('./folder.js').Folder|null} folder
+ * @property {number} slow
+ * @property {number} [salt] with another one, `slow` delays others
+ * @property {number|null} [chaos] the seed of delays of all
+ * @property {number} longest
+ * @property {import('./responses/paused.js').Holds|null} [steering] holds some of them back
+ * @property {((event: Paused) => unknown)|null} [leaves] called with the request for another page in the place of this one, which else is not followed
+ * @property {(address: string) => Promise<void>} [beforePage] called with the page's address before the tab gets it
+ * @property {import('./responses/kept-answers.js').KeptAnswers|null} [kept] gets what comes
+ * @property {import('./responses/kept-answers.js').AnswersOfRun|null} [answers] given to the requests that a recorded run made too
+ * @property {boolean} [isGuarded] whether requests that may change something on a server are not sent
+ * @property {[name: string, value: string][]} [headers] for the page's own origin
+ * @property {import('../common/address.js').Credentials|null} [credentials] for it, too; if these are null the page gets the refusal of a server that wants
+ *   a user's name, and if they are undefined the browser asks its driver
+ */
+
 class Responses {
   /**
    * @param {import('./tab.js').Tab} tab
-   * @param {{sources: import('./responses/paused.js').Texts|null, folder: import('./folder.js').Folder|null, slow: number, salt?: number, chaos?: number|null, longest: number,
-   *   steering?: import('./responses/paused.js').Holds|null, leaves?: ((event: Paused) => unknown)|null, beforePage?: (address: string) => Promise<void>,
-   *   isGuarded?: boolean, headers?: [name: string, value: string][], credentials?: import('../common/address.js').Credentials|null}} options
-   *   Without `sources` pages and scripts pass as they are. A file that takes longer than `longest` milliseconds does not come.
-   *   `steering` holds some of them back; with another `salt`, `slow` delays others, and `chaos` is the seed of delays of all. `leaves` is called with the request for
-   *   another page in the place of this one, which else is not followed, and `beforePage` with the page's address before the tab gets it. If it
-   *   `isGuarded`, requests that may change something on a server are not sent. The page's own origin gets `headers` and
-   *   `credentials`; if these are null the page gets the refusal of a server that wants a user's name, and if they are undefined the browser asks its driver.
+   * @param {ResponsesOptions} options
    */
-  constructor(tab, { sources, folder, slow, salt = 0, chaos = null, longest, steering = null, leaves = null, beforePage = async () => {}, isGuarded = false, headers = [], credentials }) {
+  constructor(tab, options) {
+    const { sources, folder, slow, longest, steering = null, leaves = null, beforePage = async () => {}, kept = null, headers = [], credentials } = options;
     this.tab = tab;
     this.sources = sources;
     this.folder = folder;
@@ -45,22 +60,30 @@ class Responses {
     this.steps = new PageSteps(tab, leaves);
     this.own = new OwnOrigin(tab, this.steps, { headers, credentials: credentials || null });
     this.guard = new ChangesGuard(tab, folder);
-    this.copies = new Copies(tab, { sources, holds: steering, longest, beforePage });
-    this.files = folder && new FolderAnswers(folder, this.steps, this.copies);
-    /**
-     * In their order: the first one that answers ends the way of an event.
-     * @type {Interceptor[]}
-     */
-    this.chain = [
+    this.keep = kept && new KeepAnswers(tab, kept);
+    this.copies = new Copies(tab, { sources, holds: steering, longest, beforePage, keep: this.keep });
+    this.files = folder && new FolderAnswers(folder, this.steps, this.copies, options);
+    this.chain = this.chainOf(options);
+  }
+
+  /**
+   * In their order: the first one that answers ends the way of an event.
+   * @param {ResponsesOptions} options
+   * @returns {Interceptor[]}
+   */
+  chainOf({ folder, slow, salt = 0, chaos = null, steering = null, answers = null, isGuarded = false }) {
+    return [
       this.steps,
       this.own,
-      new HoldScripts(tab, steering),
+      new HoldScripts(this.tab, steering),
       ...(isGuarded ? [this.guard] : []),
       ...(steering ? [new HeldRequests(steering)] : []),
       ...(slow > 0 ? [new SlowNetwork(slow, salt)] : []),
       ...(chaos !== null ? [new ChaosNetwork(chaos)] : []),
       ...(steering && folder ? [new HeldFiles(steering, folder)] : []),
+      ...(answers ? [new AnswerAgain(answers, this.copies, steering, folder)] : []),
       ...(this.files ? [this.files] : []),
+      ...(this.keep ? [this.keep] : []),
       this.copies,
     ];
   }

@@ -4,6 +4,7 @@
 
 const { BrowserFault } = require('../browser/protocol.js');
 const { Responses } = require('../browser/responses.js');
+const { KeptAnswers } = require('../browser/responses/kept-answers.js');
 const { readMapOf } = require('../browser/local-server.js');
 const { isOfThisMachine } = require('../browser/changing.js');
 const { shown } = require('../common/shown.js');
@@ -32,6 +33,7 @@ const { ofRecording, ownNames, pageScript } = require('./page-script.js');
  * @property {boolean} [stamps] whether the begins of actions are in the browser's own timeline (page/recording/stamps.js)
  * @property {boolean} [standsStill] whether the page stands still at the end
  * @property {{word: string, place: string, count: number}|null} [turns] of what keeps a page going that never rests: it goes on for as many
+ * @property {KeptAnswers|null} [received] what the recorded run received: this one gets it again
  * @property {boolean} [isGuarded] whether requests are refused that may change something on a server
  * @property {(recorder: any) => Promise<void>} [whenOver] called with the recorder when the recording is over
  */
@@ -102,6 +104,8 @@ class Session {
     this.ownNames = ownNames();
     /** Of a run that is compared: what the page has asked for that comes by itself. */
     this.awaited = options.whenOver ? new Awaited(this.intake) : null;
+    /** Of a recorded run that is compared with others: what it receives. */
+    this.kept = options.whenOver && !options.sources ? new KeptAnswers() : null;
     this.address = '';
     this.folder = /** @type {Folder|null} */ (null);
     this.browser = /** @type {Protocol|null} */ (null);
@@ -193,7 +197,10 @@ class Session {
     const sources = options.isRaw ? null : this.sources;
     const longest = time * 1000 + GRACE;
     const credentials = isDriven ? undefined : options.credentials; // a driver answers the servers itself
-    this.responses = new Responses(tab, { leaves, beforePage, sources, folder, slow, salt, chaos, longest, steering: this.steering || pauses, isGuarded, headers, credentials });
+    const memory = { kept: this.kept, answers: options.received?.forRun() };
+    this.responses = new Responses(tab, {
+      leaves, beforePage, sources, folder, slow, salt, chaos, longest, steering: this.steering || pauses, ...memory, isGuarded, headers, credentials,
+    });
     await this.responses.start();
     await tab.closeOpenedWindows(() => { this.windows++; });
     if (options.isRaw) return;

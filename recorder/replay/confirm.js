@@ -1,10 +1,10 @@
 'use strict';
 // What differs when a race comes in the other order, confirmed by two further runs: does a second run in this order show it too, and does it come from the
-// delay? Several races share these runs if their differences cannot be confused; else each has its own.
+// delay? Several races share these runs if their differences cannot be confused, or if they turn together; else each has its own.
 
 const { allOf } = require('../common/at-once.js');
 const { splitBy, sorted } = require('./found/differences.js');
-const { isApartFrom } = require('./independent.js');
+const { canShareWith } = require('./independent.js');
 const { judgeReversal } = require('./reversal.js');
 const { isStop } = require('./runs.js');
 
@@ -128,12 +128,12 @@ class Confirm {
   // ---- their runs
 
   /**
-   * The runs of several claims: shared ones for those that are apart, and for each claim that these do not answer, its own.
+   * The runs of several claims: shared ones for those that can share them, and for each claim that these do not answer, its own.
    * @param {Claim[]} claims
    * @returns {Promise<Confirmed[]>}
    */
   async confirmGroup(claims) {
-    const shared = await this.apart(claims);
+    const shared = await this.sharing(claims);
     if (shared.length < 2) return allOf(claims.map((claim) => this.confirmAlone(claim)), isStop);
     const late = shared.filter(({ orderHold }) => orderHold);
     const [again, delayed] = await allOf([this.againOf(shared), late.length > 1 ? this.lateOf(late) : new Map()], isStop);
@@ -144,11 +144,11 @@ class Confirm {
    * The claims that can share a run, the first ones first.
    * @param {Claim[]} claims
    */
-  async apart(claims) {
+  async sharing(claims) {
     /** @type {Claim[]} */
     const shared = [];
     for (const claim of claims) {
-      if (await isApartFrom(claim, shared, this.recorded)) shared.push(claim);
+      if (await canShareWith(claim, shared, this.recorded)) shared.push(claim);
     }
     return shared;
   }

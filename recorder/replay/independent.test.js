@@ -3,7 +3,7 @@
 
 const assert = require('node:assert');
 const { test } = require('node:test');
-const { isApartFrom } = require('./independent.js');
+const { canShareWith } = require('./independent.js');
 
 /** @typedef {import('./independent.js').Claim} Claim */
 
@@ -25,26 +25,36 @@ function claim(actions, subject, more = {}) {
 }
 
 /** @param {[action: number, cause: number][]} waits the actions that wait for a cause */
-const orderOf = (waits = []) => ({
+const orderOf = (waits = [], /** @type {'turned'|'kept'} */ order = 'kept') => ({
+  orders: { orderIn: () => order },
   waitsFor: async (/** @type {number} */ action, /** @type {{action: number}} */ cause) => waits.some(([one, other]) => one === action && other === cause.action),
   hasToReverse: async () => false,
 });
 
 test('races of different things share a run', async () => {
-  assert.ok(await isApartFrom(claim([1, 2], 'tea'), [claim([3, 4], 'milk')], orderOf()));
-  assert.ok(await isApartFrom(claim([1, 2], 'tea'), [], orderOf()));
+  assert.ok(await canShareWith(claim([1, 2], 'tea'), [claim([3, 4], 'milk')], orderOf()));
+  assert.ok(await canShareWith(claim([1, 2], 'tea'), [], orderOf()));
 });
 
 test('races do not share a run if their differences could be confused, whatever the numbers in them', async () => {
-  assert.ok(!await isApartFrom(claim([1, 2], 'tea 1'), [claim([3, 4], 'tea 2')], orderOf()));
+  assert.ok(!await canShareWith(claim([1, 2], 'tea 1'), [claim([3, 4], 'tea 2')], orderOf()));
 });
 
 test('races do not share a run if one keeps the other from coming, in either direction', async () => {
-  assert.ok(!await isApartFrom(claim([1, 2], 'tea'), [claim([3, 4], 'milk')], orderOf([[2, 3]])));
-  assert.ok(!await isApartFrom(claim([1, 2], 'tea'), [claim([3, 4], 'milk')], orderOf([[4, 1]])));
+  assert.ok(!await canShareWith(claim([1, 2], 'tea'), [claim([3, 4], 'milk')], orderOf([[2, 3]])));
+  assert.ok(!await canShareWith(claim([1, 2], 'tea'), [claim([3, 4], 'milk')], orderOf([[4, 1]])));
+});
+
+test('races that wait for one response share a run if each came in the other order with the other one', async () => {
+  const response = { means: 'response', words: 'the response of shop.js is put off', nth: 1 };
+  const [one, other] = [claim([1, 2], 'tea', response), claim([1, 4], 'tea', response)];
+  assert.ok(await canShareWith(one, [other], orderOf([], 'turned')));
+  assert.ok(!await canShareWith(one, [other], orderOf([], 'kept')));
+  assert.ok(!await canShareWith(one, [claim([1, 4], 'tea', { ...response, nth: 2 })], orderOf([], 'turned')));
+  assert.ok(!await canShareWith(claim([1, 2], 'tea'), [claim([1, 4], 'tea')], orderOf([], 'turned')));
 });
 
 test('races do not share a run if one thing is held back for both, or an act of the user', async () => {
-  assert.ok(!await isApartFrom(claim([1, 2], 'tea'), [claim([1, 4], 'milk')], orderOf()));
-  assert.ok(!await isApartFrom(claim([1, 2], 'tea', { means: 'act' }), [], orderOf()));
+  assert.ok(!await canShareWith(claim([1, 2], 'tea'), [claim([1, 4], 'milk')], orderOf()));
+  assert.ok(!await canShareWith(claim([1, 2], 'tea', { means: 'act' }), [], orderOf()));
 });

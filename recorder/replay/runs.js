@@ -85,6 +85,8 @@ class Runs {
     /** What keeps a page going that never rests: other runs end after as many of these turns. */
     this.turns = recorder.isRestless ? mostFrequent(recorder.intake.entries) : null;
     this.isStopped = false;
+    /** What the runs get from memory. After a request that may change something, a server may answer otherwise. */
+    this.received = changing(recorder.responses?.asked || []).length ? null : recorder.kept;
   }
 
   /** Stops the runs that are under way. */
@@ -132,7 +134,7 @@ class Runs {
   optionsOf(steering) {
     const { browser, sources, options: { fixed } } = this.recorder;
     const time = this.options.time + Math.ceil(this.longest / 1000);
-    const own = { actions: this.acts, clicks: 0, time, browser: /** @type {import('../browser/chromium.js').Chromium|null} */ (browser), sources, fixed, steering, turns: this.turns, isGuarded: !this.options.mayChange };
+    const own = { actions: this.acts, clicks: 0, time, browser: /** @type {import('../browser/chromium.js').Chromium|null} */ (browser), sources, received: this.received, fixed, steering, turns: this.turns, isGuarded: !this.options.mayChange };
     return withEnd({ ...this.options, ...own });
   }
 

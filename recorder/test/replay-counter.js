@@ -6,6 +6,7 @@ const fs = require('node:fs');
 const { Chromium } = require('../browser/chromium.js');
 const { Responses } = require('../browser/responses.js');
 const { FolderAnswers } = require('../browser/responses/folder-answers.js');
+const { AnswersOfRun } = require('../browser/responses/kept-answers.js');
 const { isResponse } = require('../browser/responses/paused.js');
 const program = require('../races/program.js');
 const { Acts } = require('../recording/acts.js');
@@ -117,10 +118,14 @@ wrap(Responses.prototype, 'letPass', (native) => function letPass(event) {
   if (before.time && !isResponse(event) && /^https?:/.test(event.request.url) && !this.folder?.has(event.request.url)) counts.network++;
   return native.call(this, event);
 });
-wrap(FolderAnswers.prototype, 'passRequest', (native) => async function passRequest(event) {
-  const isAnswered = await native.call(this, event);
-  if (isAnswered && before.time) counts.folder++;
-  return isAnswered;
+wrap(FolderAnswers.prototype, 'read', (native) => function read(event) {
+  if (before.time) counts.folder++;
+  return native.call(this, event);
+});
+wrap(AnswersOfRun.prototype, 'take', (native) => function take(event) {
+  const answer = native.call(this, event);
+  if (answer) counts.memory++;
+  return answer;
 });
 wrap(program, 'runProgram', (native) => function runProgram(...args) {
   if (before.time) counts.queries++;

@@ -1,8 +1,9 @@
 #!/usr/bin/env node
 'use strict';
-// replay-counts.js [--most N] [--in FOLDER] [--as NAME] [--into FILE] OUT [PAGE..]: what the replays of pages cost, in counts that the load of the machine
-// changes little: runs, requests, processor time, waits. PAGE is a package of packaged.json, or a file; FOLDER has the packages' files if these are not
-// installed. Each page's counts and verdicts are in the folder OUT; without a page the table is of what is there. --into writes it as the section NAME.
+// replay-counts.js [--most N] [--in FOLDER] [--as NAME] [--note TEXT] [--into FILE] OUT [PAGE..]: what the replays of pages cost, in counts that the load of
+// the machine changes little: runs, requests, processor time, waits. PAGE is a package of packaged.json, or a file; FOLDER has the packages' files if these
+// are not installed. Each page's counts and verdicts are in the folder OUT; without a page the table is of what is there. --into writes it as the section
+// NAME, with TEXT, such as the load of the machine.
 
 const fs = require('node:fs');
 const path = require('node:path');
@@ -91,7 +92,7 @@ function textOf(all) {
 async function main(words) {
   const left = [...words];
   const take = (/** @type {string} */ name) => (left.includes(name) ? left.splice(left.indexOf(name), 2)[1] : null);
-  const [most, inside, into, heading] = [take('--most') || '5', take('--in') || '/', take('--into'), take('--as') || 'Replays'];
+  const [most, inside, into, heading, note] = [take('--most') || '5', take('--in') || '/', take('--into'), take('--as') || 'Replays', take('--note') || ''];
   const [given = '.', ...pages] = left;
   const out = path.resolve(given);
   for (const name of pages) await measure(pageOf(name), { out, most, inside });
@@ -99,7 +100,7 @@ async function main(words) {
   if (!all.length) return;
   const text = textOf(/** @type {Measured[]} */ (all));
   console.log(text);
-  if (into) writeSection(into, heading, text, 'What replays cost');
+  if (into) writeSection(into, heading, `${note}\n\n${text}`, 'What replays cost');
 }
 
 main(process.argv.slice(2));

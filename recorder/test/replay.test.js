@@ -76,12 +76,14 @@ const OF_SERVER = [
   { page: 'race-timeout-image.html', location: 'load of img#dot', isLong: true, said: /^turned: differs: lost event in the (recorded|other) order: the load of img#dot/ },
 ];
 
-test('pages of a web server', { timeout: LONGEST }, async () => {
+test('pages of a web server, which gets each request once', { timeout: LONGEST }, async () => {
   const server = await serveFolder(PAGES);
   try {
     await Promise.all(OF_SERVER.filter(isChosen).map(async ({ page, location, said }) => {
       assert.match((await replayPage(browser, server.addressOf(`http://localhost/${page}`), [], location, folder)).said, said);
     }));
+    const requests = server.requests.filter((one) => one !== '/favicon.ico');
+    assert.deepStrictEqual(requests, [...new Set(requests)]);
   } finally {
     server.close();
   }

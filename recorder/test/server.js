@@ -20,13 +20,17 @@ async function listen(server, port = 0) {
 /**
  * Serves a folder, or the part of it whose paths begin with `prefix`, until `close`.
  * @param {string} root
- * @returns {Promise<{addressOf: (address: string) => string, close: () => void}>} `addressOf` turns an address of `Folder` into the server's
+ * @returns {Promise<{addressOf: (address: string) => string, requests: string[], close: () => void}>} `addressOf` turns an address of `Folder` into the
+ *   server's; `requests` are the paths that were requested
  */
 async function serveFolder(root, prefix = '/') {
   const folder = new Folder(root);
   /** @param {string} address @returns {{status: number, type: string, body: string|Buffer, location?: string}} */
   const answer = (address) => (new URL(address).pathname.startsWith(prefix) ? folder.answer(address) : NOT_FOUND);
+  /** @type {string[]} */
+  const requests = [];
   const server = http.createServer((request, response) => {
+    requests.push(request.url || '');
     const { status, type, body, location } = answer(ORIGIN + request.url);
     response.writeHead(status, { 'content-type': type, ...(location ? { location: location.replace(ORIGIN, '') } : {}) }).end(body);
   });
@@ -35,7 +39,7 @@ async function serveFolder(root, prefix = '/') {
     server.closeAllConnections();
     server.close();
   };
-  return { addressOf: (address) => address.replace(ORIGIN, origin), close };
+  return { addressOf: (address) => address.replace(ORIGIN, origin), requests, close };
 }
 
 module.exports = { listen, serveFolder };

@@ -27,11 +27,13 @@ const hasBody = (status) => status !== undefined && status >= 200 && status < 30
 class Copies {
   /**
    * @param {import('../tab.js').Tab} tab
-   * @param {{sources: Texts|null, holds: Holds|null, longest: number, beforePage: (address: string) => Promise<void>}} options without
-   *   `sources` all passes as it is; a file that takes longer than `longest` milliseconds does not come
+   * @param {{sources: Texts|null, holds: Holds|null, longest: number, beforePage: (address: string) => Promise<void>,
+   *   keep?: {takeText: (event: Paused, bytes: Buffer) => void}|null}} options without `sources` all passes as it is; a file that takes longer than `longest`
+   *   milliseconds does not come; `keep` gets the bytes of each text
    */
-  constructor(tab, { sources, holds, longest, beforePage }) {
+  constructor(tab, { sources, holds, longest, beforePage, keep = null }) {
     this.tab = tab;
+    this.keep = keep;
     this.sources = sources;
     this.holds = holds;
     this.longest = longest;
@@ -47,12 +49,41 @@ class Copies {
   /** @param {Paused} event */
   async passResponse(event) {
     const type = valueOf(event.responseHeaders, 'content-type');
-    if (!this.sources || !hasBody(event.responseStatusCode) || !this.isText(event, type)) return false;
+    if (!this.isMarked(event, event.responseStatusCode, type)) return false;
+    await this.beginPage(event);
+    const { body, base64Encoded } = await this.tab.send('Fetch.getResponseBody', { requestId: event.requestId }, this.longest);
+    const bytes = Buffer.from(body, base64Encoded ? 'base64' : 'utf8');
+    this.keep?.takeText(event, bytes);
+    await this.fulfill(event, Number(event.responseStatusCode), event.responseHeaders || [], type, bytes);
+    return true;
+  }
+
+  /**
+   * Answers a request of a replay as a server has answered it.
+   * @param {Paused} event
+   * @param {number} status
+   * @param {Header[]} headers
+   * @param {string} type
+   * @param {Buffer} bytes
+   */
+  async answer(event, status, headers, type, bytes) {
+    if (this.isMarked(event, status, type)) await this.beginPage(event);
+    await this.fulfill(event, status, headers, type, bytes);
+  }
+
+  /**
+   * @param {Paused} event
+   * @param {number|undefined} status
+   * @param {string} type
+   */
+  isMarked(event, status, type) {
+    return this.sources !== null && hasBody(status) && this.isText(event, type);
+  }
+
+  /** @param {Paused} event the page, or what comes before it */
+  async beginPage(event) {
     if (!this.hasPageBegun) await this.beforePage(event.request.url);
     this.hasPageBegun = true;
-    const { body, base64Encoded } = await this.tab.send('Fetch.getResponseBody', { requestId: event.requestId }, this.longest);
-    await this.fulfill(event, Number(event.responseStatusCode), event.responseHeaders || [], type, Buffer.from(body, base64Encoded ? 'base64' : 'utf8'));
-    return true;
   }
 
   /**
@@ -87,7 +118,7 @@ class Copies {
     await this.tab.send('Fetch.fulfillRequest', {
       requestId: event.requestId,
       responseCode: status,
-      responseHeaders: [...answer.headers.filter(({ name }) => !DROPPED_HEADERS.test(name)), { name: 'content-type', value: answer.type }],
+      responseHeaders: [...answer.headers.filter(({ name }) => !DROPPED_HEADERS.test(name)), ...(answer.type ? [{ name: 'content-type', value: answer.type }] : [])],
       body: answer.body.toString('base64'),
     });
   }
