@@ -21,7 +21,7 @@ function fillStorage(origins) {
 /**
  * @param {import('../browser/tab.js').Tab} tab
  * @param {string} address of the page
- * @param {import('./options.js').RecordingOptions} options
+ * @param {Partial<import('./options.js').RecordingOptions>} options
  */
 async function signIn(tab, address, { cookies = [], storageState, userAgent, viewport }) {
   const own = cookies.map(([name, value]) => ({ name, value, url: address }));

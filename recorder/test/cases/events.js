@@ -152,7 +152,7 @@ exports.cases = [
     never: ['r count', 'r count of input#button'],
     races: [],
   },
-  { page: 'written-late.html', due: ['timer', 'new script plain', 'r late', 'close', 'fire document DOMContentLoaded'], never: ['w late'], races: ['content of html'] },
+  { page: 'written-late.html', due: ['timer', 'new script plain', 'r late', 'fire document DOMContentLoaded', 'close'], never: ['w late'], races: ['content of html'] },
 
   // ---- timeouts
   {

@@ -3,6 +3,7 @@
 
 const { Chromium } = require('../../../browser/chromium.js');
 const { chordOf } = require('../../../browser/input/keyboard.js');
+const { cssWhere } = require('../../../browser/input/selectors.js');
 const { findTarget } = require('../../../browser/input/targets.js');
 const { Tab } = require('../../../browser/tab.js');
 const { User } = require('../../../browser/user.js');
@@ -43,9 +44,9 @@ class PlainPage {
     this.held = null;
     /** @type {Paused[]} */
     this.waiting = [];
-    /** Addresses of requests, with what they send. @type {string[]} */
+    /** @type {string[]} addresses of requests, with what they send */
     this.requests = [];
-    /** The types of the dialogs that came. @type {string[]} */
+    /** @type {string[]} the types of the dialogs that came */
     this.dialogs = [];
     /** @type {Promise<unknown>} */
     this.atLoad = Promise.resolve();
@@ -149,7 +150,7 @@ class PlainPage {
   /** @param {string} selector */
   async click(selector) {
     await this.until(`document.querySelector(${JSON.stringify(selector)})`);
-    const found = /** @type {any} */ (await this.user.call(findTarget, selector));
+    const found = /** @type {any} */ (await this.user.call(findTarget, cssWhere(selector)));
     if (!found) throw new Error(`${selector} is not there`);
     await this.user.click(found);
   }
