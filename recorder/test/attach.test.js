@@ -124,7 +124,7 @@ test('another page in its place, a second recorder, a driver that loads nothing,
   const left = await attach(port, 'left');
   const second = await attach(port, 'second');
   assert.strictEqual(await second.recorder.ended, 5, second.recorder.said);
-  assert.match(second.recorder.said, /another recorder holds the first tab/);
+  assert.match(second.recorder.said, /another recorder records the first tab/);
   await load(tab, address);
   await load(tab, `${address}?again`);
   assert.strictEqual(await left.recorder.ended, 0, left.recorder.said);

@@ -83,7 +83,7 @@ test('two recorders on one browser: the second one says so, and the first one re
   const [port] = fs.readFileSync(path.join(folder, 'both', 'DevToolsActivePort'), 'utf8').split('\n');
   const attached = await run(path.join(TOP, 'er_record'), ['--attach', `127.0.0.1:${port}`, path.join(folder, 'third.trace')], { longest: LONGEST });
   assert.strictEqual(attached.status, 5, attached.stderr);
-  assert.match(attached.stderr, /another recorder holds the first tab/);
+  assert.match(attached.stderr, /another recorder records the first tab/);
   await end(browser);
   assert.ok(await waitForWriters(traces, LONGEST));
   assert.ok(fs.readFileSync(tracesIn(traces)[0], 'utf8').endsWith('\nend\n'));
