@@ -8,6 +8,7 @@ const { LOOKS } = require('../../list/patterns/table.js');
 const { tableOf, told } = require('../corpus/tables.js');
 const { bugTable } = require('./confirmed.js');
 const { judgementText } = require('./judged.js');
+const { APPLICATIONS } = require('./list.js');
 
 /**
  * @typedef {import('./types').DoneLine} DoneLine
@@ -72,6 +73,15 @@ function reasons() {
 }
 
 /**
+ * A line for the applications that start, and have not been recorded.
+ * @param {Line[]} lines
+ */
+function notYet(lines) {
+  const names = Object.keys(APPLICATIONS).filter((name) => !lines.some(({ application }) => application === name));
+  return names.length ? [`- starts, and is not recorded yet: ${names.join(', ')}`] : [];
+}
+
+/**
  * The machine of the recordings.
  * @param {DoneLine[]} done
  */
@@ -88,7 +98,7 @@ function documentOf(lines) {
   const failed = /** @type {FailedLine[]} */ (lines.filter(({ failure }) => failure !== undefined));
   const commit = execFileSync('git', ['rev-parse', '--short=12', 'HEAD'], { cwd: __dirname, encoding: 'utf8' }).trim();
   const day = done.map(({ began }) => began.slice(0, 10)).sort().pop() || '';
-  const not = [...failed.map(({ application, failure }) => `- ${application}: ${told(failure)}`), ...reasons()];
+  const not = [...failed.map(({ application, failure }) => `- ${application}: ${told(failure)}`), ...notYet(lines), ...reasons()];
   return [
     `Written by recorder/test/applications.js at commit ${commit} on ${day}.`,
     '# Web applications',
