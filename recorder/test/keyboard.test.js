@@ -4,6 +4,7 @@
 const assert = require('node:assert');
 const { after, before, test } = require('node:test');
 const { Chromium } = require('../browser/chromium.js');
+const { cssWhere } = require('../browser/input/selectors.js');
 const { Tab } = require('../browser/tab.js');
 const { User } = require('../browser/user.js');
 
@@ -37,7 +38,7 @@ async function open() {
  * @param {string} target
  * @param {string} [text]
  */
-const act = (kind, target, text = '') => user.act({ kind, target, text, isEarly: false, said: `${kind}:${target}` });
+const act = (kind, target, text = '') => user.act({ kind, target, text, isEarly: false, said: `${kind}:${target}`, ...(kind === 'key' ? {} : { where: cssWhere(target) }) });
 /** @param {string} id */
 const valueOf = (id) => tab.evaluate(`${id}.value`);
 
