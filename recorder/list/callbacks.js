@@ -3,6 +3,7 @@
 
 const { FIRST_FOREIGN_TIMEOUT } = require('../common/numbers.js');
 const { shown } = require('../common/shown.js');
+const { UNSEEN } = require('../races/words.js');
 
 /** @typedef {import('./types').Place} Place */
 /** @typedef {import('../races/actions.js').Action} Action */
@@ -89,6 +90,7 @@ class Callbacks {
   handler(action) {
     const facts = this.names.handlers[action.words[3]] || {};
     if (facts.type === 'reply of fetch') return this.reply(action.dispatch?.words[2] || '');
+    if (facts.type === UNSEEN) return UNSEEN;
     if (facts.type === 'await') return this.asked('code after await', 'waiting', { ...facts, function: '' });
     if (facts.type === 'job') return this.asked('promise reaction', 'set', facts);
     const place = facts.place || this.names.elements[facts.target ?? '']?.place;

@@ -8,6 +8,9 @@ const { ThingWords } = require('./thing-words.js');
 /** @typedef {import('./types').Place} Place */
 /** @typedef {import('./actions.js').Action} Action */
 
+/** The type of a handler that stands for code which nothing recorded has called (page/tasks/jobs.js); its words too. */
+const UNSEEN = 'code whose caller is not seen';
+
 /**
  * What is before the name of the function, and after it.
  * @type {{[why: string]: [string, string]}}
@@ -122,6 +125,7 @@ class Words extends ThingWords {
     const name = this.named(facts);
     if (facts.isEmpty) return facts.type || ''; // it only orders another handler
     if (facts.type === 'reply of fetch') return this.reply(action.dispatch?.words[2] || '');
+    if (facts.type === UNSEEN) return UNSEEN;
     if (facts.type === 'await') return `the code behind the await${this.at(facts.place)}`;
     if (facts.type === 'job') return `the promise reaction${name}${this.at(facts.place)}`;
     const place = facts.place || this.names.elements[facts.target ?? '']?.place;
@@ -256,4 +260,4 @@ function ordinal(index) {
   return number + ending;
 }
 
-module.exports = { Words };
+module.exports = { Words, UNSEEN };

@@ -200,7 +200,7 @@ class Jobs {
   /** Code runs that nothing recorded has called, as the constructor of a custom element for the parser: it is an event of its own, in no order. */
   beginUnseen() {
     const dispatch = this.page.dispatches.beginPlain(this.place, `code-${this.recording.next('lone job')}`);
-    this.beginHandler(dispatch, this.page.joins.registerIn(null, { type: 'code' }), { v: null, moment: null });
+    this.beginHandler(dispatch, this.page.joins.registerIn(null, { type: 'code whose caller is not seen' }), { v: null, moment: null });
   }
 
   // ---- await

@@ -79,7 +79,7 @@ exports.cases = [
   { page: 'custom-define.html', due: ['parse x-plain plain', 'parse x-heir plain', 'parse x-given plain'], races: [] },
   {
     page: 'custom-constructor.html',
-    due: ['on code', 'fire promise reactions code-1', 'run code', 'w made', 'parse x-tab#tab plain'],
+    due: ['on code whose caller is not seen', 'fire promise reactions code-1', 'run code whose caller is not seen', 'w made', 'parse x-tab#tab plain'],
     races: [],
   },
 
