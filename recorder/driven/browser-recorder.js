@@ -82,7 +82,7 @@ class BrowserRecorder {
     browser.on('Target.attachedToTarget', (params) => this.meet(params));
     browser.on('Target.detachedFromTarget', ({ sessionId }) => this.part(sessionId));
     browser.on('Fetch.requestPaused', (event, sessionId) => this.pass(event, sessionId).catch(() => this.paused.letPass(event)));
-    for (const method of ['Page.frameNavigated', 'Runtime.executionContextsCleared', 'Runtime.executionContextCreated', 'Runtime.bindingCalled',
+    for (const method of ['Page.frameNavigated', 'Page.documentOpened', 'Runtime.executionContextsCleared', 'Runtime.executionContextCreated', 'Runtime.bindingCalled',
       'Runtime.exceptionThrown', 'Inspector.targetCrashed']) {
       browser.on(method, (params, sessionId) => this.sessions.get(sessionId)?.take(method, params));
     }

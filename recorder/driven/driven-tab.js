@@ -17,6 +17,8 @@ const PATTERNS = ['Document', 'Script'].map((resourceType) => ({ urlPattern: '*'
 const ALL = ['Request', 'Response'].map((requestStage) => ({ urlPattern: '*', requestStage }));
 /** Pages of the browser itself, and empty ones, are not loads. */
 const IS_NO_LOAD = /^(about|chrome|chrome-error|chrome-extension|devtools|view-source):|^data:,$/;
+/** An empty page that is written gets its code without a response, so nothing instruments it. */
+const WRITTEN = 'not recorded: pages that a program writes into an empty page, as setContent does: load them from an address, or answer one (route.fulfill)';
 /** A tab takes what the recorder sends at once, unless it has started to load by then; milliseconds that a document waits for that. */
 const LONGEST_SETTING = 1000;
 const LONGEST_SETTING_OF_OPENED = 100;
@@ -113,6 +115,7 @@ class DrivenTab {
   take(method, params) {
     switch (method) {
       case 'Page.frameNavigated': if (!params.frame.parentId) this.show(params.frame); break;
+      case 'Page.documentOpened': if (!params.frame.parentId && !this.current) this.recorder.complain(WRITTEN); break;
       case 'Runtime.executionContextsCleared': this.forgetContexts(); break;
       case 'Runtime.executionContextCreated': this.noteContext(params.context); break;
       case 'Runtime.bindingCalled': if (params.name === this.recorder.ownNames.binding) this.takeLines(params); break;

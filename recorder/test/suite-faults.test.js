@@ -9,6 +9,7 @@ const { after, before, test } = require('node:test');
 const { sleep } = require('../common/time.js');
 const { waitForWriters, tracesIn } = require('../driven/trace-folder.js');
 const { run, start, temporaryFolder } = require('./cleanup.js');
+const { Driver } = require('./drivers/protocol_driver.js');
 const { serveSuite } = require('./suite-server.js');
 
 const TOP = path.join(__dirname, '..', '..');
@@ -87,4 +88,22 @@ test('two recorders on one browser: the second one says so, and the first one re
   await end(browser);
   assert.ok(await waitForWriters(traces, LONGEST));
   assert.ok(fs.readFileSync(tracesIn(traces)[0], 'utf8').endsWith('\nend\n'));
+});
+
+test('a page that the driver writes into an empty one: a line says that it is not recorded', LIMIT, async () => {
+  const traces = path.join(folder, 'written');
+  Object.assign(process.env, { ER_TRACES: traces, TMPDIR: folder });
+  const driver = await Driver.launch(BROWSER);
+  process.on('exit', () => driver.killNow());
+  try {
+    const tab = await driver.newTab();
+    assert.strictEqual(await tab.value("document.open(); document.write('<p>text<script>var seen = 1;</script>'); document.close(); seen"), 1);
+    await until(() => /not recorded: pages that a program writes into an empty page/.test(logOf(traces)));
+    await tab.load(`${server.origin}/shop/index.html`);
+  } finally {
+    delete process.env.ER_TRACES;
+    await driver.close();
+  }
+  assert.ok(await waitForWriters(traces, LONGEST));
+  assert.strictEqual(tracesIn(traces).length, 1);
 });
