@@ -42,6 +42,13 @@ test('a lost act comes with what its user sees', () => {
   assert.strictEqual(of({ ...LOST, recorded: 'not run', other: 'the click handler onBuy' }), 'in the other order the click at button#buy finds the click handler onBuy, and nothing else differs');
 });
 
+test('of several lost events the sentence has that of the race', () => {
+  const down = difference('event', 'the mousedown at button#buy: the mousedown handler onDown', 'the mousedown handler onDown', 'not run', true);
+  assert.strictEqual(sentenceOf({ verdict: 'turned', differences: [down, LOST] }, down, 'slot 12 click/5'),
+    'in the other order the click at button#buy does not find the click handler onBuy, and nothing else differs');
+  assert.match(sentenceOf({ verdict: 'turned', differences: [down, LOST] }, down, 'slot 12 load/5'), /^in the other order the mousedown at button#buy does not find/);
+});
+
 test('what has no visible difference, or was not turned', () => {
   const seen = [difference('text', 'slow', 'none', 'slow')];
   assert.strictEqual(told({ differences: [] }), 'no visible difference');
