@@ -14,8 +14,8 @@ const cut = (text) => (text.length > LONGEST ? `${text.slice(0, LONGEST)}..` : t
 const quoted = (text) => `"${cut(text)}"`;
 /** @param {Difference} one whether only the other order has it */
 const isNew = ({ recorded }) => recorded === NONE;
-/** @param {string} address */
-const fileOf = (address) => address.replace(/^https?:\/\/\S*\/(?=[^/]+$)/, '');
+/** @param {string} request `METHOD ADDRESS` */
+const fileOf = (request) => request.replace(/^GET /, '').replace(/https?:\/\/\S*\/(?=[^/]+$)/, '');
 
 /**
  * A value in the other order, and the recorded one.

@@ -24,7 +24,8 @@ test('an effect of each kind is a short sentence', () => {
   assert.strictEqual(of(difference('field', 'value of input#field', 'books tea', 'books ea', true)), 'in the other order the value of input#field is "books ea" instead of "books tea"');
   assert.strictEqual(of(difference('storage', 'localStorage.volume', '3', 'none')), 'in the other order localStorage.volume is not set');
   assert.strictEqual(of(difference('hash', 'hash', '#a', '#b')), 'in the other order the hash of the address is "#b" instead of "#a"');
-  assert.strictEqual(of(difference('request', 'http://localhost/a/cart.json', 'made', 'not made')), 'in the other order cart.json is not requested');
+  assert.strictEqual(of(difference('request', 'GET http://localhost/a/cart.json', 'made', 'not made')), 'in the other order cart.json is not requested');
+  assert.strictEqual(of(difference('request', 'POST http://shop.invalid/save', 'not made', 'made')), 'in the other order POST save is requested');
   assert.strictEqual(of(difference('picture', 'the picture', 'as recorded', '79 of 784300 points differ')), 'in the other order the picture of the page differs');
 });
 
