@@ -27,6 +27,10 @@ class AtOnce {
     }
   }
 
+  isFull() {
+    return this.count >= this.most;
+  }
+
   /** Gives the room of a finished piece of work to the next one. */
   passOn() {
     if (!this.waiting.length) {

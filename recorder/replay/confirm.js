@@ -24,7 +24,7 @@ const { isStop } = require('./runs.js');
 
 /** How many races share a run. */
 const MOST_SHARED = 6;
-/** Milliseconds that a race waits for others: a slow one holds none of them up. */
+/** Milliseconds that a race waits for others while there is room for its runs, or as long as a run takes: a slow race holds none of them up. */
 const LONGEST_WAIT = 4000;
 
 class Confirm {
@@ -65,6 +65,16 @@ class Confirm {
     if (this.expected <= 0 || this.waiting.length >= MOST_SHARED) this.startWaiting();
   }
 
+  /** Limits how long claims wait. While there is no room for a run, waiting costs nothing. */
+  limitWaiting() {
+    if (this.timer) return;
+    this.timer = setTimeout(() => {
+      this.timer = undefined;
+      if (this.runs.slots.isFull()) this.limitWaiting();
+      else this.startWaiting();
+    }, Math.max(LONGEST_WAIT, this.runs.longestRun));
+  }
+
   startWaiting() {
     clearTimeout(this.timer);
     this.timer = undefined;
@@ -88,7 +98,7 @@ class Confirm {
     const claim = { one, number, differences: found.differences, orderHold: await this.orderHoldFor(one) };
     /** @type {Promise<Confirmed>} */
     const confirmed = new Promise((resolve) => { this.waiting.push({ claim, settle: resolve }); });
-    this.timer = this.timer || setTimeout(() => this.startWaiting(), LONGEST_WAIT);
+    this.limitWaiting();
     arrived();
     const { again, late } = await confirmed;
     return seeDelay(seeTwice(found, again), late);

@@ -82,6 +82,8 @@ class Runs {
     this.counts = new Map();
     /** How many runs are over. */
     this.done = 0;
+    /** How many milliseconds the longest of them took. */
+    this.longestRun = 0;
     /** What keeps a page going that never rests: other runs end after as many of these turns. */
     this.turns = recorder.isRestless ? mostFrequent(recorder.intake.entries) : null;
     this.isStopped = false;
@@ -116,11 +118,13 @@ class Runs {
     const recorder = new Recorder(this.recorder.given, this.optionsOf(steering));
     this.stopIfAsked();
     this.current.add(recorder);
+    const start = Date.now();
     try {
       await recorder.record();
     } finally {
       this.current.delete(recorder);
       this.done++;
+      this.longestRun = Math.max(this.longestRun, Date.now() - start);
     }
     this.stopIfAsked();
     await recorder.readMaps();

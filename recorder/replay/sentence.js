@@ -14,8 +14,8 @@ const cut = (text) => (text.length > LONGEST ? `${text.slice(0, LONGEST)}..` : t
 const quoted = (text) => `"${cut(text)}"`;
 /** @param {Difference} one whether only the other order has it */
 const isNew = ({ recorded }) => recorded === NONE;
-/** @param {string} address */
-const fileOf = (address) => address.replace(/^https?:\/\/\S*\/(?=[^/]+$)/, '');
+/** @param {string} request `METHOD ADDRESS` */
+const fileOf = (request) => request.replace(/^GET /, '').replace(/https?:\/\/\S*\/(?=[^/]+$)/, '');
 
 /**
  * A value in the other order, and the recorded one.
@@ -95,13 +95,26 @@ function ofNone({ byDelay = [], unsteady = [] }) {
 }
 
 /**
+ * Of several events that find no handler, that of the race itself.
+ * @param {Difference[]} differences
+ * @param {Difference} worst
+ * @param {string} location
+ */
+function ownOf(differences, worst, location) {
+  const [, type] = /^slot \d+ ([^/\s]+)/.exec(location) || [];
+  const own = differences.find(({ kind, isOfUser, subject }) => kind === worst.kind && isOfUser === worst.isOfUser && subject.startsWith(`the ${type} `));
+  return (worst.kind === 'event' && own) || worst;
+}
+
+/**
  * @param {Result} result
  * @param {Difference|undefined} worst the worst difference, if there is one
+ * @param {string} location of the race
  */
-function sentenceOf(result, worst) {
+function sentenceOf(result, worst, location = '') {
   const { verdict, why = '', differences = [], astray = [] } = result;
   if (verdict !== 'turned') return `could not be turned: ${why.length > LONGEST_WHY ? `${why.slice(0, LONGEST_WHY)}..` : why}`;
-  const found = worst ? ofDifferences(differences, worst) : ofNone(result);
+  const found = worst ? ofDifferences(differences, ownOf(differences, worst, location)) : ofNone(result);
   const others = astray.length ? `; race${astray.length > 1 ? 's' : ''} ${astray.join(', ')} came in another order too` : '';
   return found + others;
 }

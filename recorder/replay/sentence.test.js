@@ -24,7 +24,8 @@ test('an effect of each kind is a short sentence', () => {
   assert.strictEqual(of(difference('field', 'value of input#field', 'books tea', 'books ea', true)), 'in the other order the value of input#field is "books ea" instead of "books tea"');
   assert.strictEqual(of(difference('storage', 'localStorage.volume', '3', 'none')), 'in the other order localStorage.volume is not set');
   assert.strictEqual(of(difference('hash', 'hash', '#a', '#b')), 'in the other order the hash of the address is "#b" instead of "#a"');
-  assert.strictEqual(of(difference('request', 'http://localhost/a/cart.json', 'made', 'not made')), 'in the other order cart.json is not requested');
+  assert.strictEqual(of(difference('request', 'GET http://localhost/a/cart.json', 'made', 'not made')), 'in the other order cart.json is not requested');
+  assert.strictEqual(of(difference('request', 'POST http://shop.invalid/save', 'not made', 'made')), 'in the other order POST save is requested');
   assert.strictEqual(of(difference('picture', 'the picture', 'as recorded', '79 of 784300 points differ')), 'in the other order the picture of the page differs');
 });
 
@@ -40,6 +41,13 @@ test('a lost act comes with what its user sees', () => {
   assert.strictEqual(of(LOST, difference('picture', 'the picture', 'as recorded', '1'), difference('text', 'bought', 'bought', 'none')),
     'in the other order the click at button#buy does not find the click handler onBuy, and the text "bought" is missing');
   assert.strictEqual(of({ ...LOST, recorded: 'not run', other: 'the click handler onBuy' }), 'in the other order the click at button#buy finds the click handler onBuy, and nothing else differs');
+});
+
+test('of several lost events the sentence has that of the race', () => {
+  const down = difference('event', 'the mousedown at button#buy: the mousedown handler onDown', 'the mousedown handler onDown', 'not run', true);
+  assert.strictEqual(sentenceOf({ verdict: 'turned', differences: [down, LOST] }, down, 'slot 12 click/5'),
+    'in the other order the click at button#buy does not find the click handler onBuy, and nothing else differs');
+  assert.match(sentenceOf({ verdict: 'turned', differences: [down, LOST] }, down, 'slot 12 load/5'), /^in the other order the mousedown at button#buy does not find/);
 });
 
 test('what has no visible difference, or was not turned', () => {

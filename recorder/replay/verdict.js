@@ -139,7 +139,7 @@ function plain(result, race, number) {
   const { verdict, why, means, note, isListed, isSteady, isSeenTwice, astray, differences, beside, unsteady, byDelay, group, order, chance, comparedAt, trace } = result;
   const worst = worstOf(result);
   return {
-    race: number, lines: race.lines, location: race.location, verdict, effect: worst ? worst.name : undefined, words: verdictInWords(result), sentence: sentenceOf(result, worst?.difference), why,
+    race: number, lines: race.lines, location: race.location, verdict, effect: worst ? worst.name : undefined, words: verdictInWords(result), sentence: sentenceOf(result, worst?.difference, race.location), why,
     means, note,
     isListed, isSteady, isSeenTwice, astray, differences, beside, unsteady, byDelay, group, order, chance, comparedAt, trace,
   };
