@@ -81,5 +81,5 @@ test('keys with others that are held', { timeout: 60000 }, async () => {
   await act('key', 'F12');
   const outcome = await act('key', 'Hom');
   assert.strictEqual(await tab.evaluate('seen.at(-1)'), 'F12 123 false false');
-  assert.deepStrictEqual(outcome, { isDone: false, reason: 'key' });
+  assert.deepStrictEqual(outcome, { isDone: false, why: 'there is no such key' });
 });
