@@ -1,12 +1,12 @@
-//! The program: standard input, standard output and the words of the command, and what
-//! `run` makes of them.
+//! The program: standard input, standard output and the arguments, and what `run` makes of them.
 #![tactic(auto)]
 
 ghost use Rattle.std.specs.Prelude.{◌≡◌, drop, map, string_bytes, IfErr, IfOk};
 ghost use Rattle.std.specs.Process.{exit_status};
 ghost use Rattle.std.specs.Vec.Iter.{into_iter_items};
 ghost use Rattle.er_run.specs.Status.{line_of, status_of};
-ghost use Rattle.er_cli.specs.Ended.{EndsWith, LacksWords, line_printed, outside};
+ghost use Rattle.er_run.specs.Promise.{streams};
+ghost use Rattle.er_cli.specs.Ended.{EndsWith, LacksWords, line_printed};
 
 mod printed;
 
@@ -22,7 +22,7 @@ use std::io;
 use std::process::ExitCode;
 use std::thread::Threads;
 
-/// The status where the system did not hand over the words. No outcome has it.
+/// The status if the system did not pass the arguments. No outcome has it.
 const NO_WORDS: u8 = 7;
 
 fn main(rt: HostRuntime) -> ExitCode {
@@ -38,7 +38,7 @@ struct Ending {
     line: Option<Printed>,
 }
 
-/// Does what the words of the system ask for over these two ends, and shows how that ended.
+/// Does what the system's arguments request with these two streams, and shows how that ended.
 fn start<R: Threads + Sync + Eprint, S: Source, K: Sink>(
     rt: &R,
     alloc: Global,
@@ -47,8 +47,8 @@ fn start<R: Threads + Sync + Eprint, S: Source, K: Sink>(
     sink: &mut K,
 ) -> Ending
     ensures ran { IfOk args (λ all. EndsWith (map string_bytes (drop 1 (into_iter_items all)))
-        (outside (S.left source.old) (K.got sink.old) (S.faults source.old) (K.faults sink.old))
-        (outside (S.left source.new) (K.got sink.new) (S.faults source.new) (K.faults sink.new))
+        (streams (S.left source.old) (K.got sink.old) (S.faults source.old) (K.faults sink.old))
+        (streams (S.left source.new) (K.got sink.new) (S.faults source.new) (K.faults sink.new))
         (line_printed result.line) (exit_status result.code)) }
     ensures no_words { IfErr args
         (λ _. LacksWords (line_printed result.line) (exit_status result.code)) }
@@ -60,7 +60,7 @@ fn start<R: Threads + Sync + Eprint, S: Source, K: Sink>(
     }
 }
 
-/// Does what the words behind the program's own name ask for.
+/// Does what the arguments after the program's own name request.
 fn begin<R: Threads + Sync + Eprint, S: Source, K: Sink>(
     rt: &R,
     alloc: Global,
@@ -69,25 +69,25 @@ fn begin<R: Threads + Sync + Eprint, S: Source, K: Sink>(
     sink: &mut K,
 ) -> Ending
     ensures { EndsWith (map string_bytes (drop 1 (into_iter_items args)))
-        (outside (S.left source.old) (K.got sink.old) (S.faults source.old) (K.faults sink.old))
-        (outside (S.left source.new) (K.got sink.new) (S.faults source.new) (K.faults sink.new))
+        (streams (S.left source.old) (K.got sink.old) (S.faults source.old) (K.faults sink.old))
+        (streams (S.left source.new) (K.got sink.new) (S.faults source.new) (K.faults sink.new))
         (line_printed result.line) (exit_status result.code) }
 {
     let Ok(words) = words_of(alloc, args) else {
         return finish(rt, Outcome::NoMemory);
     };
-    judge(rt, alloc, words.as_slice(), source, sink)
+    serve(rt, alloc, words.as_slice(), source, sink)
 }
 
-/// The words behind the program's own name.
+/// The arguments after the program's own name.
 fn words_of(alloc: Global, args: Args) -> Result<Vec<String>, AllocError>
     ensures { IfOk result (λ words. words.items ≡ drop 1 (into_iter_items args)) }
 {
     args.skip(1).collect(alloc)
 }
 
-/// Does what these words ask for.
-fn judge<R: Threads + Sync + Eprint, S: Source, K: Sink>(
+/// Does what these arguments request.
+fn serve<R: Threads + Sync + Eprint, S: Source, K: Sink>(
     rt: &R,
     alloc: Global,
     words: &[String],
@@ -95,21 +95,18 @@ fn judge<R: Threads + Sync + Eprint, S: Source, K: Sink>(
     sink: &mut K,
 ) -> Ending
     ensures { EndsWith (map string_bytes words.now)
-        (outside (S.left source.old) (K.got sink.old) (S.faults source.old) (K.faults sink.old))
-        (outside (S.left source.new) (K.got sink.new) (S.faults source.new) (K.faults sink.new))
+        (streams (S.left source.old) (K.got sink.old) (S.faults source.old) (K.faults sink.old))
+        (streams (S.left source.new) (K.got sink.new) (S.faults source.new) (K.faults sink.new))
         (line_printed result.line) (exit_status result.code) }
 {
-    let host = Host {
-        rt,
-        alloc,
-        gate: &FreeGate,
-    };
+    let gate = FreeGate { rt };
+    let host = Host { rt: &gate, alloc };
     let mut meters = Meters::new();
     let outcome = run(&host, words, source, sink, &mut meters);
     finish(rt, outcome)
 }
 
-/// Prints the line of the outcome, where it has one, and answers it with the status.
+/// Prints the line of the outcome, if it has one, and returns it with the status.
 fn finish(rt: &impl Eprint, outcome: Outcome) -> Ending
     ensures status { exit_status result.code ≡ status_of outcome }
     ensures line { line_printed result.line ≡ line_of outcome }
@@ -124,7 +121,7 @@ fn finish(rt: &impl Eprint, outcome: Outcome) -> Ending
     }
 }
 
-/// Shows that the system did not hand over the words.
+/// Shows that the system did not pass the arguments.
 fn refuse(rt: &impl Eprint, error: io::Error) -> Ending
     ensures { LacksWords (line_printed result.line) (exit_status result.code) }
 {

@@ -187,7 +187,7 @@ fn versions(rt: HostRuntime) {
 }
 
 /// Bytes, and how many of them stand behind the record that is read at their front.
-static FRONTS: [(&str, Option<usize>); 20] = [
+static FRONTS: [(&str, Option<usize>); 36] = [
     ("parse 0 1 plain\nrest", Some(4)),
     ("parse 4294967295 10 plain\n", Some(0)),
     ("set 7 4294967295\n", Some(0)),
@@ -196,6 +196,20 @@ static FRONTS: [(&str, Option<usize>); 20] = [
         "w slot 12 onclick\nr var 0 a name of enough bytes",
         Some(30),
     ),
+    ("r slot 9 click\nw var 0 a name of enough bytes", Some(30)),
+    (
+        "w var 4294967295 x\nr elem 3 a name of enough bytes",
+        Some(31),
+    ),
+    ("r var 0 count\nw elem 3 a name of enough bytes", Some(31)),
+    ("w elem 10 buy\nr slot 4 a name of enough bytes", Some(31)),
+    ("r elem 0 buy\nw slot 4 a name of enough bytes", Some(31)),
+    ("tick 7\nrest", Some(4)),
+    ("tick 4294967295\n", Some(0)),
+    ("close 0\nclose 1\n", Some(8)),
+    ("close 4294967295\n", Some(0)),
+    ("r var 0 a%20b\nr var 0 a name of enough bytes", None),
+    ("r var 00 x\nr var 0 a name of enough bytes", None),
     ("parse 0 1 plain", None),
     ("parse 0 1 plainer\n", None),
     ("parse 0 1 plain \n", None),
@@ -210,6 +224,11 @@ static FRONTS: [(&str, Option<usize>); 20] = [
     ("set 7 1 \n", None),
     ("timer 10000000000\n", None),
     ("timer 1", None),
+    ("tick 01\n", None),
+    ("tick 7 \n", None),
+    ("close  7\n", None),
+    ("closer 7\n", None),
+    ("close 7", None),
     ("", None),
 ];
 

@@ -164,3 +164,7 @@ failed_no_usage asked faults.NoMemory result old new came = λ is. cc
 pub failed_no_read_fault : (asked : Command) (fault : FeedFault) (result : Outcome) (old new : Option (List ℕ)) → FailedAs asked fault result old new → result ≢ ReadFault
 failed_no_read_fault asked (faults.Refused n c) result old new came = refused_no_read_fault n c (refusal_for asked n c) result old new came
 failed_no_read_fault asked faults.NoMemory result old new came = λ is. cc
+
+-- if an allocation failed, this is the outcome
+pub failed_no_memory : (asked : Command) (fault : FeedFault) (result : Outcome) (old new : Option (List ℕ)) → fault ≡ faults.NoMemory → FailedAs asked fault result old new → result ≡ NoMemory
+failed_no_memory asked fault result old new is came = subst (λ (e : FeedFault). FailedAs asked e result old new) is came

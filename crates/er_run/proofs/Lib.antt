@@ -20,3 +20,4 @@ pub mod RunLemmas
 pub mod ReadingLemmas
 pub mod VersionLemmas
 pub mod RaceLaws
+pub mod CauseNumbers

@@ -397,7 +397,7 @@ refused_record f asked first left n c r = record {
   refused = r.refused.refused.0 asked;
 }
 
-pub as_refused : (f : Format) (asked : Command) (bytes : List ℕ) (line : LineRefusal) (fault : InputFault) (n : ℕ) (c : Cause) → fault ≡ input_faults.Refused line.line line.cause → fault ≡ input_faults.Refused n c → FirstIllegal f asked bytes line.line line.cause → FirstIllegal f asked bytes n c
+pub as_refused : (f : Format) (asked : Command) (bytes : List ℕ) (line : LineRefusal) (fault : FeedFault) (n : ℕ) (c : Cause) → fault ≡ faults.Refused line.line line.cause → fault ≡ faults.Refused n c → FirstIllegal f asked bytes line.line line.cause → FirstIllegal f asked bytes n c
 as_refused f asked bytes line fault n c is other first =
     let at : line.line ≡ n = cc in
     let why : line.cause ≡ c = cc in

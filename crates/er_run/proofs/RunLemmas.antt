@@ -1,28 +1,37 @@
 -- From the words to the command that they ask for.
-use Rattle.std.proofs.Common.{◌≡◌, refl, ◌⊎◌, inl, inr, ◌<◌, ◌≤◌, ℕ, List, Option, Some, None, Result, Ok, Err, subst, ap, ◌∙◌, arith}
+use Rattle.std.proofs.Common.{◌≡◌, ◌≢◌, refl, sym, ◌⊎◌, inl, inr, ◌<◌, ◌≤◌, ℕ, List, Option, Some, None, Result, Ok, Err, subst, ap, ◌∙◌, arith}
 use Rattle.er_gen.specs.Generated.{most_rounds}
 use Rattle.er_words.specs.declared.commands.Asked.{Asked}
 use Rattle.er_words.specs.declared.commands.Command.{Command}
 use Rattle.er_words.specs.declared.commands.Command.TheVariants.{Check, Gen, Schedule, Explain}
 use Rattle.er_words.specs.declared.commands.WordsFault.{WordsFault}
-use Rattle.er_words.specs.declared.commands.WordsFault.TheVariants.{NoMemory}
+use Rattle.er_words.specs.declared.commands.WordsFault.TheVariants as words_faults
 use Rattle.er_words.specs.Words.{Asks, Has, HasShards, IsNumberGiven, IsRaceGiven}
 use Rattle.er_trace.specs.Limits.{most_shards}
-use Rattle.er_lines.specs.Format.{Format}
+use Rattle.er_lines.specs.Format.{Format, IsFormat}
 use Rattle.er_io.specs.Ends.{Gives, Rose}
 use Rattle.er_run.specs.Accepted.{IsAskable}
 use Rattle.er_run.specs.declared.outcome.Outcome.{Outcome}
-use Rattle.er_run.specs.Promise.{IsInput, IsDecided, Holds, NoReadFailed}
+use Rattle.er_run.specs.declared.outcome.Outcome.TheVariants as outcomes
+use Rattle.er_run.specs.declared.outcome.Outcome.TheVariants.{Clean, Races, Refused, Usage, ReadFault, WriteFault}
+use Rattle.er_run.specs.declared.meters.Meters.{Meters}
+use Rattle.er_trace.specs.declared.fault.FeedFault.{FeedFault}
+use Rattle.er_trace.specs.declared.fault.FeedFault.TheVariants as faults
+use Rattle.er_text.specs.declared.causes.Cause.{Cause}
+use Rattle.er_run.specs.Accepted.{IsRefusal}
+use Rattle.er_run.specs.Reading.{IsRefusedInput}
+use Rattle.er_run.specs.Promise.{Compares, Counts, Streams, IsAnswer, IsGiven, IsInput, IsDecided, IsPartGiven, IsRun, Served, Holds, NoReadFailed, Tests}
+use Rattle.er_run.proofs.CompleteLemmas.{complete, refused_decided}
 
 -- the command that was read is the one that is asked
-pub same_command : (read : Result Asked WordsFault) (found : Asked) (c : Command) (asked : Asked) → read ≡ Ok found → found.command ≡ c → (read ≡ Ok asked) ⊎ (read ≡ Err NoMemory) → asked.command ≡ c
+pub same_command : (read : Result Asked WordsFault) (found : Asked) (c : Command) (asked : Asked) → read ≡ Ok found → found.command ≡ c → (read ≡ Ok asked) ⊎ (read ≡ Err words_faults.NoMemory) → asked.command ≡ c
 same_command read found c asked is at exact = elim exact [ inl same ↦ (let one : asked ≡ found = cc in ap (λ (a : Asked). a.command) one ∙ at) | inr none ↦ absurd (cc) ]
 
-pub same_asked : (read : Result Asked WordsFault) (found asked : Asked) → read ≡ Ok found → (read ≡ Ok asked) ⊎ (read ≡ Err NoMemory) → asked ≡ found
+pub same_asked : (read : Result Asked WordsFault) (found asked : Asked) → read ≡ Ok found → (read ≡ Ok asked) ⊎ (read ≡ Err words_faults.NoMemory) → asked ≡ found
 same_asked read found asked is exact = elim exact [ inl same ↦ cc | inr none ↦ absurd (cc) ]
 
 -- where a command is asked, the words are no wrong usage
-pub no_usage : (read : Result Asked WordsFault) (fault : WordsFault) (asked : Asked) → read ≡ Err fault → (read ≡ Ok asked) ⊎ (read ≡ Err NoMemory) → fault ≡ NoMemory
+pub no_usage : (read : Result Asked WordsFault) (fault : WordsFault) (asked : Asked) → read ≡ Err fault → (read ≡ Ok asked) ⊎ (read ≡ Err words_faults.NoMemory) → fault ≡ words_faults.NoMemory
 no_usage read fault asked is exact = elim exact [ inl same ↦ absurd (cc) | inr none ↦ cc ]
 
 number_given : (number : Option (List ℕ)) (n : ℕ) → Has IsNumberGiven number n → (1 ≤ n) × (n ≤ most_rounds)
@@ -79,6 +88,82 @@ no_rise (Check json input) old new reads without = without
 no_rise (Gen n) old new reads without = absurd (reads n refl)
 no_rise (Schedule k) old new reads without = without
 no_rise (Explain i j) old new reads without = without
+
+-- the count of a stream of which no call failed
+pub no_failure : (failure outcome : Outcome) (old new : ℕ) → outcome ≢ failure → new ≡ old → Counts failure outcome old new
+no_failure failure outcome old new other same = record { rose = λ is. absurd (other is); once = λ is. absurd (other is); stands = λ _. same; count = omega (arith, same) }
+
+-- with an answer neither count rose
+pub no_faults : (outcome : Outcome) (reads_old reads_new writes_old writes_new : ℕ) → Counts ReadFault outcome reads_old reads_new → Counts WriteFault outcome writes_old writes_new → IsAnswer outcome
+    → (reads_new ≡ reads_old) × (writes_new ≡ writes_old)
+no_faults Clean reads_old reads_new writes_old writes_new reads writes answer = (reads.stands (λ e. cc), writes.stands (λ e. cc))
+no_faults Races reads_old reads_new writes_old writes_new reads writes answer = (reads.stands (λ e. cc), writes.stands (λ e. cc))
+no_faults (Refused n c) reads_old reads_new writes_old writes_new reads writes answer = (reads.stands (λ e. cc), writes.stands (λ e. cc))
+no_faults Usage reads_old reads_new writes_old writes_new reads writes answer = absurd answer
+no_faults ReadFault reads_old reads_new writes_old writes_new reads writes answer = absurd answer
+no_faults WriteFault reads_old reads_new writes_old writes_new reads writes answer = absurd answer
+no_faults outcomes.NoMemory reads_old reads_new writes_old writes_new reads writes answer = absurd answer
+
+-- a command whose input has a refused line, or for which an allocation failed
+pub served_fault : (f : Format) → IsFormat f → (asked : Command) (old new : Streams) (from to : Meters) (fault : FeedFault) (outcome : Outcome)
+    → ((n : ℕ) → asked ≡ Gen n → ⊥)
+    → ((n : ℕ) (c : Cause) → fault ≡ faults.Refused n c → IsRefusedInput f asked old.left new.left n c)
+    → (fault ≡ faults.NoMemory → outcome ≡ outcomes.NoMemory)
+    → ((bytes : List ℕ) → IsRefusal f asked bytes fault → IsAnswer outcome → IsGiven f asked bytes outcome old.got new.got)
+    → ((bytes : List ℕ) → IsRefusal f asked bytes fault → Compares f asked bytes outcome from.compares to.compares × Tests f asked bytes outcome from.tests to.tests)
+    → ((bytes : List ℕ) → IsRefusal f asked bytes fault → outcome ≡ WriteFault → IsPartGiven f asked bytes old.got new.got)
+    → (outcome ≡ WriteFault → Rose old.failed_writes new.failed_writes) → outcome ≢ Usage → outcome ≢ ReadFault
+    → Served f asked old new from to outcome
+served_fault f good asked old new from to (faults.Refused n c) outcome reads refused none answered counted cut_short wrote no_usage no_read =
+    let r = refused n c refl in
+    record {
+      answered = λ answer.
+          let given = answered r.taken r.refused answer in
+          record {
+            input = r.taken;
+            taken = read_input f asked _ _ _ _ reads r.gave (refused_decided f good asked r.taken _ _ _ outcome given.due r.decided r.refused given.answers);
+            given = given;
+            compared = (counted r.taken r.refused).0;
+            tested = (counted r.taken r.refused).1;
+          };
+      cut_short = λ is.
+          let given = cut_short r.taken r.refused is in
+          record { input = r.taken; given = given; taken = read_input f asked _ _ _ _ reads r.gave (refused_decided f good asked r.taken _ _ _ given.outcome given.due r.decided r.refused given.answers) };
+      complete = λ no_failed_read no_failed_write bytes held.
+          complete f asked bytes r.taken _ _ _ outcome (sym (holds_all asked _ bytes reads held) ∙ r.gave)
+          (λ due is. refused_decided f good asked r.taken _ _ _ outcome due r.decided r.refused is) (answered r.taken r.refused) (λ w. no_failed_write (wrote w)) no_usage no_read;
+    }
+served_fault f good asked old new from to faults.NoMemory outcome reads refused none answered counted cut_short wrote no_usage no_read =
+    let is = none refl in
+    record {
+      answered = λ answer. absurd (subst IsAnswer is answer);
+      cut_short = λ w. absurd (cc);
+      complete = λ no_failed_read no_failed_write bytes held. inl is;
+    }
+
+-- a run that did nothing
+
+pub usage_run : (words : List (List ℕ)) (old : Streams) (from : Meters) → ((asked : Asked) → Asks words asked → ⊥) → IsRun words old old from from Usage
+usage_run words old from none = record {
+  usage = λ _. none;
+  refused = λ _. inl refl;
+  served = λ asked asks. absurd (none asked asks);
+  reads = no_failure ReadFault Usage old.failed_reads old.failed_reads (λ e. cc) refl;
+  writes = no_failure WriteFault Usage old.failed_writes old.failed_writes (λ e. cc) refl;
+  no_fault = λ answer. absurd answer;
+  rise = (omega arith, omega arith);
+}
+
+pub no_memory_run : (words : List (List ℕ)) (old : Streams) (from : Meters) → IsRun words old old from from outcomes.NoMemory
+no_memory_run words old from = record {
+  usage = λ e. absurd (cc);
+  refused = λ _. inr refl;
+  served = λ asked asks. record { answered = λ answer. absurd answer; cut_short = λ e. absurd (cc); complete = λ no_read no_write bytes held. inl refl };
+  reads = no_failure ReadFault outcomes.NoMemory old.failed_reads old.failed_reads (λ e. cc) refl;
+  writes = no_failure WriteFault outcomes.NoMemory old.failed_writes old.failed_writes (λ e. cc) refl;
+  no_fault = λ answer. absurd answer;
+  rise = (omega arith, omega arith);
+}
 
 -- ends that never fail
 

@@ -10,7 +10,7 @@ use Rattle.er_run.specs.declared.outcome.Outcome.TheVariants.{Clean, Races, Writ
 use Rattle.er_words.specs.declared.commands.Command.{Command}
 use Rattle.er_run.specs.Answer.{outcome_for, outcome_of}
 use Rattle.er_run.specs.Races.{races}
-use Rattle.er_run.specs.Promise.{CountsWrites}
+use Rattle.er_run.specs.Promise.{Counts}
 use Rattle.er_run.specs.Accepted.{AreListed, EndsAs, ReportsOf}
 use Rattle.er_run.proofs.AnswerLemmas.{ends_so}
 use Rattle.er_run.proofs.JudgedLemmas.{as_many_found}
@@ -35,15 +35,15 @@ outcome_some v h found k l least within = outcome_found v h found l ∙ some_out
 
 -- what came of a text that was put
 pub record Ends (old new : ℕ) (result : Outcome) : Type 0 where
-  pub faults : CountsWrites result old new
+  pub faults : Counts WriteFault result old new
   pub no_memory : result ≢ NoMemory
 
 -- where the write failed
-failed_write : (result : Outcome) (old new : ℕ) → result ≡ WriteFault → Rose old new → new ≡ one_more old → old ≤ new → CountsWrites result old new
+failed_write : (result : Outcome) (old new : ℕ) → result ≡ WriteFault → Rose old new → new ≡ one_more old → old ≤ new → Counts WriteFault result old new
 failed_write result old new is cause raised count = record { rose = λ _. cause; once = λ _. raised; stands = λ other. absurd (other is); count = count }
 
 -- and where none did
-no_failed_write : (result : Outcome) (old new : ℕ) → result ≢ WriteFault → new ≡ old → old ≤ new → CountsWrites result old new
+no_failed_write : (result : Outcome) (old new : ℕ) → result ≢ WriteFault → new ≡ old → old ≤ new → Counts WriteFault result old new
 no_failed_write result old new other stands count = record { rose = λ is. absurd (other is); once = λ is. absurd (other is); stands = λ _. stands; count = count }
 
 -- a report

@@ -7,6 +7,7 @@ use Rattle.er_trace.specs.declared.version.Version.{Version}
 use Rattle.er_trace.specs.Trace.{most_lines}
 use Rattle.er_trace.specs.declared.fault.FeedFault.{FeedFault}
 use Rattle.er_trace.specs.declared.fault.FeedFault.TheVariants as faults
+use Rattle.er_run.specs.declared.meters.Meters.{Meters}
 use Rattle.er_run.specs.declared.outcome.Outcome.{Outcome}
 use Rattle.er_run.specs.declared.outcome.Outcome.TheVariants.{Clean, Races, Refused, WriteFault, NoMemory}
 use Rattle.er_run.specs.declared.session.Session.{Session}
@@ -119,6 +120,12 @@ IsComparedFor asked session old new = (h : List Record) → IsSessionOf session 
 abbrev pub IsTestedFor : Command → Session → ℕ → ℕ → Type 0
 IsTestedFor asked session old new = (h : List Record) → IsSessionOf session h
     → (old ≤ new) × (new ≤ old + 4 * tested_for asked session.graph.version h)
+
+-- it was judged by what is asked, with the comparisons and the tests that this needs
+pub record IsJudgedFor (asked : Command) (from to : Meters) (judged : Judged) : Type 0 where
+  pub is : IsJudgement judged
+  pub compared : IsComparedFor asked judged.session from.compares to.compares
+  pub tested : IsTestedFor asked judged.session from.tests to.tests
 
 -- the line behind these records, newest first, is refused for this cause; or memory ran out
 abbrev pub IsEndFault : Option Cause → List Record → FeedFault → Type 0

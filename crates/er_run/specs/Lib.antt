@@ -9,3 +9,4 @@ pub mod Session
 pub mod Status
 pub mod Laws
 pub mod Meters
+pub mod Causes

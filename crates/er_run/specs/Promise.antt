@@ -13,7 +13,11 @@ use Rattle.er_words.specs.declared.commands.Command.{Command}
 use Rattle.er_words.specs.declared.commands.Command.TheVariants.{Check, Gen, Explain}
 use Rattle.er_text.specs.declared.causes.Cause.{Cause}
 use Rattle.er_text.specs.declared.causes.Cause.TheVariants.{NoEnd}
-use Rattle.er_run.specs.Answer.{IsLegalTrace, FirstIllegal, Answers}
+use Rattle.er_words.specs.declared.commands.Asked.{Asked}
+use Rattle.er_words.specs.Words.{Asks}
+use Rattle.er_run.specs.declared.meters.Meters.{Meters}
+use Rattle.er_run.specs.Meters.{Rise}
+use Rattle.er_run.specs.Answer.{IsLegalTrace, FirstIllegal, Answers, format_of}
 use Rattle.er_run.specs.Races.{candidates, classes, groups}
 
 -- an outcome that bytes can answer
@@ -55,12 +59,12 @@ IsSilent ReadFault = Unit {0}
 IsSilent NoMemory = Unit {0}
 IsSilent _ = ⊥
 
--- How a call with this outcome leaves the count of a sink's faults: one more where a write failed,
--- and as it was with any other outcome.
-pub record CountsWrites (outcome : Outcome) (old new : ℕ) : Type 0 where
-  pub rose : outcome ≡ WriteFault → Rose old new
-  pub once : outcome ≡ WriteFault → new ≡ one_more old
-  pub stands : outcome ≢ WriteFault → new ≡ old
+-- How a call with this outcome leaves the error count of a stream: one more if the outcome is this
+-- failure, and as it was with any other outcome.
+pub record Counts (failure outcome : Outcome) (old new : ℕ) : Type 0 where
+  pub rose : outcome ≡ failure → Rose old new
+  pub once : outcome ≡ failure → new ≡ one_more old
+  pub stands : outcome ≢ failure → new ≡ old
   pub count : old ≤ new
 
 -- the text that is due for the answer of the bytes came to what was got
@@ -70,7 +74,7 @@ pub record IsGiven (f : Format) (asked : Command) (bytes : List ℕ) (outcome : 
   pub answers : Answers f asked bytes outcome due
   pub gave : Gets got_old due got_new
 
--- a proper front of that text came
+-- a proper prefix of that text came
 pub record IsPartGiven (f : Format) (asked : Command) (bytes : List ℕ)
     (got_old got_new : Option (List ℕ)) : Type 0 where
   pub outcome : Outcome
@@ -117,31 +121,35 @@ IsInput f (Gen n) bytes left_old left_new outcome =
 IsInput f asked bytes left_old left_new outcome =
     Gives left_old bytes left_new × IsDecided f asked bytes left_new outcome
 
--- what is seen of a call: what is left of the source, what the sink got, and how many comparisons
--- and tests were made
-pub record Seen : Type 0 where
+-- what a caller sees of the two streams: what is left of the source, what the sink got, and how
+-- many reads and writes have failed
+pub record Streams : Type 0 where
   pub left : Option (List ℕ)
   pub got : Option (List ℕ)
-  pub compared : ℕ
-  pub tested : ℕ
+  pub failed_reads : ℕ
+  pub failed_writes : ℕ
 
-abbrev pub seen : Option (List ℕ) → Option (List ℕ) → ℕ → ℕ → Seen
-seen left got compared tested =
-    record { left = left; got = got; compared = compared; tested = tested }
+abbrev pub streams : Option (List ℕ) → Option (List ℕ) → ℕ → ℕ → Streams
+streams left got failed_reads failed_writes = record {
+  left = left;
+  got = got;
+  failed_reads = failed_reads;
+  failed_writes = failed_writes;
+}
 
 -- The input of the command answers this outcome, exactly the text that is due came to the sink, and
 -- the comparisons and the tests that it needs were made.
-pub record IsAnswered (f : Format) (asked : Command) (old new : Seen)
+pub record IsAnswered (f : Format) (asked : Command) (old new : Streams) (from to : Meters)
     (outcome : Outcome) : Type 0 where
   pub input : List ℕ
   pub taken : IsInput f asked input old.left new.left outcome
   pub given : IsGiven f asked input outcome old.got new.got
-  pub compared : Compares f asked input outcome old.compared new.compared
-  pub tested : Tests f asked input outcome old.tested new.tested
+  pub compared : Compares f asked input outcome from.compares to.compares
+  pub tested : Tests f asked input outcome from.tests to.tests
 
--- The input of the command answers some outcome, and a proper front of the text that is
+-- The input of the command answers some outcome, and a proper prefix of the text that is
 -- due came to the sink.
-pub record IsCutShort (f : Format) (asked : Command) (old new : Seen) : Type 0 where
+pub record IsCutShort (f : Format) (asked : Command) (old new : Streams) : Type 0 where
   pub input : List ℕ
   pub given : IsPartGiven f asked input old.got new.got
   pub taken : IsInput f asked input old.left new.left given.outcome
@@ -155,3 +163,36 @@ Holds _ left bytes = left ≡ Some bytes
 abbrev pub NoReadFailed : Command → ℕ → ℕ → Type 0
 NoReadFailed (Gen n) old new = Unit {0}
 NoReadFailed _ old new = Rose old new → ⊥
+
+-- What holds of a call that a command asked for and that ended with this outcome, if lines are read
+-- in this format.
+pub record Served (f : Format) (asked : Command) (old new : Streams) (from to : Meters)
+    (outcome : Outcome) : Type 0 where
+  -- the input answers an outcome that is an answer, and the text that is due was written
+  pub answered : IsAnswer outcome → IsAnswered f asked old new from to outcome
+  -- if a write failed, a proper prefix of the text that is due was written
+  pub cut_short : outcome ≡ WriteFault → IsCutShort f asked old new
+  -- if no call of a stream failed, the outcome is the answer of all that the command has to
+  -- analyze, or an allocation failed
+  pub complete : NoReadFailed asked old.failed_reads new.failed_reads
+      → ¬ Rose old.failed_writes new.failed_writes
+      → (bytes : List ℕ) → Holds asked old.left bytes
+      → (outcome ≡ NoMemory) ⊎ ((due : List ℕ) × Answers f asked bytes outcome due)
+
+-- What holds of a run with these arguments that ended with this outcome. Its counters are `from`
+-- before it and `to` after it.
+pub record IsRun (words : List (List ℕ)) (old new : Streams) (from to : Meters)
+    (outcome : Outcome) : Type 0 where
+  -- arguments that are a command are no wrong usage; others give that, or an allocation failed
+  pub usage : outcome ≡ Usage → (asked : Asked) → ¬ Asks words asked
+  pub refused : ((asked : Asked) → ¬ Asks words asked) → (outcome ≡ Usage) ⊎ (outcome ≡ NoMemory)
+  pub served : (asked : Asked) → Asks words asked
+      → Served (format_of asked.command) asked.command old new from to outcome
+  -- one read or write failed if the outcome is its failure, and else none
+  pub reads : Counts ReadFault outcome old.failed_reads new.failed_reads
+  pub writes : Counts WriteFault outcome old.failed_writes new.failed_writes
+  -- no answer comes after a failed call
+  pub no_fault : IsAnswer outcome → (new.failed_reads ≡ old.failed_reads)
+      × (new.failed_writes ≡ old.failed_writes)
+  -- no comparison and no test is forgotten, whatever the outcome
+  pub rise : Rise from to

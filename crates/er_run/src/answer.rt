@@ -1,8 +1,9 @@
-//! The answer of an input, with the text that is due for it.
+//! Writes the text for an input that was judged, and returns the outcome.
 
-ghost use Rattle.std.specs.Prelude.{◌≡◌, ◌≢◌, ◌≤◌, ℕ, List, IfOk};
-ghost use Rattle.er_run.specs.Promise.{IsAnswer, IsGiven, IsPartGiven, Compares, CountsWrites, Tests};
-ghost use Rattle.er_run.specs.Accepted.{IsComparedFor, IsTestedFor, IsJudgement, IsVerdict};
+ghost use Rattle.std.specs.Prelude.{◌≡◌, ◌≢◌, ◌≤◌, ℕ, List, Err, IfOk};
+ghost use Rattle.er_run.specs.declared.meters.Meters.{Meters};
+ghost use Rattle.er_run.specs.Promise.{IsAnswer, IsGiven, IsPartGiven, Compares, Counts, Tests};
+ghost use Rattle.er_run.specs.Accepted.{IsJudgedFor, IsJudgement, IsVerdict};
 
 use crate::findings::Judged;
 use crate::outcome::Outcome;
@@ -12,8 +13,7 @@ use er_lines::format::Lines;
 use er_trace::fault::FeedFault;
 use er_words::Command;
 
-/// Writes the text that is due to the command for what its input came to, and answers how
-/// the run ends.
+/// Writes the command's text for the input that was judged, and returns the outcome.
 pub(crate) fn answer<L: Lines, K: Sink>(
     asked: Command,
     verdict: Result<Judged, FeedFault>,
@@ -22,19 +22,18 @@ pub(crate) fn answer<L: Lines, K: Sink>(
     requires { IfOk verdict IsJudgement }
     ensures answered { (bytes : List ℕ) → IsVerdict L.format asked bytes verdict → IsAnswer result
         → IsGiven L.format asked bytes result (K.got sink.old) (K.got sink.new) }
-    ensures compared { (bytes : List ℕ) (old new : ℕ) → IsVerdict L.format asked bytes verdict
-        → IfOk verdict (λ judged. IsComparedFor asked judged.session old new)
-        → Compares L.format asked bytes result old new }
-    ensures tested { (bytes : List ℕ) (old new : ℕ) → IsVerdict L.format asked bytes verdict
-        → IfOk verdict (λ judged. IsTestedFor asked judged.session old new)
-        → Tests L.format asked bytes result old new }
+    ensures counted { (bytes : List ℕ) (from to : Meters) → IsVerdict L.format asked bytes verdict
+        → IfOk verdict (IsJudgedFor asked from to)
+        → Compares L.format asked bytes result from.compares to.compares
+        × Tests L.format asked bytes result from.tests to.tests }
     ensures cut_short { (bytes : List ℕ) → IsVerdict L.format asked bytes verdict
         → result ≡ Outcome.WriteFault
         → IsPartGiven L.format asked bytes (K.got sink.old) (K.got sink.new) }
+    ensures no_memory { verdict ≡ Err FeedFault.NoMemory → result ≡ Outcome.NoMemory }
     ensures kept { result ≡ Outcome.NoMemory → sink.new ≡ sink.old }
     ensures no_usage { result ≢ Outcome.Usage }
     ensures no_read_fault { result ≢ Outcome.ReadFault }
-    ensures faults { CountsWrites result (K.faults sink.old) (K.faults sink.new) }
+    ensures writes { Counts Outcome.WriteFault result (K.faults sink.old) (K.faults sink.new) }
 {
     match verdict {
         Ok(judged) => tell(&judged, sink),

@@ -1,4 +1,4 @@
-//! The end of a trace: its limits, and what is asked for of its records.
+//! The end of a trace: its limits, and what the command requests of its records.
 
 ghost use Rattle.std.specs.Prelude.{◌≡◌, ◌<◌, ◌≤◌, ◌^◌, List, OnOk, IfOk, IfErr, length};
 ghost use Rattle.er_trace.specs.declared.record.Record.{Record};
@@ -25,14 +25,13 @@ use er_text::Cause;
 use er_trace::fault::FeedFault;
 use er_words::Command;
 use std::alloc::Global;
-use std::thread::Threads;
 
 /// The most candidate pairs of a trace.
 const MOST_PAIRS: u64 = 16_777_216;
 
-/// Finds what is asked for, unless there is a cause against the `end` line behind the records.
-pub(crate) fn found_within<R: Threads + Sync, G: Gate + Sync>(
-    work: &Work<'_, R, G>,
+/// Finds what the command requests, unless the `end` line after the records is refused.
+pub(crate) fn found_within<R: Gate + Sync>(
+    work: &Work<'_, R>,
     command: Command,
     session: &Session,
     meters: &mut Meters,
@@ -81,8 +80,8 @@ fn for_text(json: bool, listing: Listing) -> Found
 }
 
 /// Lists the races and groups them, unless they or the pairs or the classes are over their limit.
-fn listing_within<R: Threads + Sync, G: Gate + Sync>(
-    work: &Work<'_, R, G>,
+fn listing_within<R: Gate + Sync>(
+    work: &Work<'_, R>,
     session: &Session,
     meters: &mut Meters,
 ) -> Result<Listing, FeedFault>
@@ -110,8 +109,8 @@ fn listing_within<R: Threads + Sync, G: Gate + Sync>(
 
 /// The two orders for the race of this number, unless there is none, or the races or the pairs are
 /// over their limit.
-fn orders_within<R: Threads + Sync, G: Gate + Sync>(
-    work: &Work<'_, R, G>,
+fn orders_within<R: Gate + Sync>(
+    work: &Work<'_, R>,
     session: &Session,
     race: u32,
     compares: &mut Meter,
@@ -190,8 +189,8 @@ fn steps_within(alloc: Global, session: &Session, from: u32, to: u32) -> Result<
 }
 
 /// Lists the races, unless the pairs or the races are over their limit.
-fn races_within<R: Threads + Sync, G: Gate + Sync>(
-    work: &Work<'_, R, G>,
+fn races_within<R: Gate + Sync>(
+    work: &Work<'_, R>,
     session: &Session,
     compares: &mut Meter,
 ) -> Result<Vec<Race>, FeedFault>
@@ -223,8 +222,8 @@ fn races_within<R: Threads + Sync, G: Gate + Sync>(
 }
 
 /// Groups the races, unless the classes are over their limit.
-fn groups_within<R: Threads + Sync, G: Gate + Sync>(
-    work: &Work<'_, R, G>,
+fn groups_within<R: Gate + Sync>(
+    work: &Work<'_, R>,
     session: &Session,
     races: &[Race],
     tests: &mut Meter,

@@ -1,4 +1,4 @@
-//! What was found of a trace, as it was asked for.
+//! What was found of a trace, for the command.
 
 use crate::session::Session;
 use er_cover::Groups;

@@ -1,4 +1,4 @@
-//! Reads a trace chunk by chunk, and judges each record as its line ends.
+//! Reads a trace chunk by chunk. The session takes the records of each line that ends.
 
 ghost use Rattle.std.specs.Prelude.{◌≡◌, ℕ, ◌+◌, ◌<◌, List, ◌++◌, reverse, Option, Ok, Err, Some, None, IfOk, OnOk, IfErr};
 ghost use Rattle.er_lines.specs.Lines.{IsTraceOf};
@@ -25,9 +25,8 @@ const CHUNK: usize = 4096;
 pub(crate) enum InputFault {
     /// A read failed.
     Failed,
-    /// A record is refused.
-    Refused { line: u32, cause: Cause },
-    NoMemory,
+    /// A record is refused, or an allocation failed.
+    Fault(FeedFault),
 }
 
 /// A line that is no line of a trace, and why.
@@ -37,24 +36,24 @@ pub(crate) struct LineRefusal {
     pub(crate) cause: Cause,
 }
 
-/// How the reading stands after a chunk.
+/// Whether reading goes on after a chunk.
 #[derive(Clone, Copy)]
 enum Step {
     GoesOn,
-    /// The `end` line was read and nothing behind it, or a line is refused.
+    /// The `end` line was read and nothing after it, or a line is refused.
     Ended(Option<LineRefusal>),
 }
 
-/// Reads the trace that the source gives, to its `end` line or to the first line that is
-/// illegal. Answers what the records come to, and the line behind them that is no line of
-/// a trace, where one is.
+/// Reads the trace of the source, to its `end` line or to the first illegal line. Returns the
+/// session of the records, and the line after them if it is no line of a trace.
 pub(crate) fn read<L: Lines, S: Source>(
     alloc: Global,
     source: &mut S,
 ) -> Result<(Session, Option<LineRefusal>), InputFault>
     ensures read { IfOk result (λ read.
         IsRead L.format (S.left source.old) (S.left source.new) read.0 read.1) }
-    ensures refused { (n : ℕ) (c : Cause) → result ≡ Err (InputFault.Refused n c)
+    ensures refused { (n : ℕ) (c : Cause)
+        → result ≡ Err (InputFault.Fault (FeedFault.Refused n c))
         → IsReadTo L.format (S.left source.old) (S.left source.new) n c }
     ensures reads { CountsReads result (S.faults source.old) (S.faults source.new) }
 {
@@ -68,7 +67,7 @@ pub(crate) fn read<L: Lines, S: Source>(
             Ok(Step::GoesOn) => {}
             Ok(Step::Ended(refused)) => {
                 let Ok(made) = or_empty(alloc, session) else {
-                    return Err(InputFault::NoMemory);
+                    return Err(InputFault::Fault(FeedFault::NoMemory));
                 };
                 return Ok((made, refused));
             }
@@ -78,8 +77,8 @@ pub(crate) fn read<L: Lines, S: Source>(
     unreachable!()
 }
 
-/// Reads the next chunk and judges the records of the lines that end in it. What the list
-/// holds goes.
+/// Reads the next chunk. The session takes the records of the lines that end in it. The list is
+/// cleared first.
 fn read_chunk<L: Lines, S: Source>(
     alloc: Global,
     source: &mut S,
@@ -102,7 +101,8 @@ fn read_chunk<L: Lines, S: Source>(
         → (bytes : List ℕ) (records : List Record)
         → IsAt L.format feed.old.mark feed.old.line.items feed.old.fault session.old bytes records
         → Ends L.format (S.left source.old) (S.left source.new) session.new refused bytes }
-    ensures refused { (n : ℕ) (c : Cause) → result ≡ Err (InputFault.Refused n c)
+    ensures refused { (n : ℕ) (c : Cause)
+        → result ≡ Err (InputFault.Fault (FeedFault.Refused n c))
         → (bytes : List ℕ) (records : List Record)
         → IsAt L.format feed.old.mark feed.old.line.items feed.old.fault session.old bytes records
         → IsRefusedBehind L.format (S.left source.old) (S.left source.new) n c bytes }
@@ -115,11 +115,10 @@ fn read_chunk<L: Lines, S: Source>(
     if n == 0 {
         return Ok(Step::Ended(line_at_end(feed)));
     }
-    match take_chunk(alloc, feed, session, came, &buffer[..n]) {
+    match feed_chunk(alloc, feed, session, came, &buffer[..n]) {
         Ok(None) => Ok(step_of(feed)),
         Ok(Some(refusal)) => Ok(Step::Ended(Some(refusal))),
-        Err(FeedFault::Refused { line, cause }) => Err(InputFault::Refused { line, cause }),
-        Err(FeedFault::NoMemory) => Err(InputFault::NoMemory),
+        Err(fault) => Err(InputFault::Fault(fault)),
     }
 }
 
@@ -157,9 +156,9 @@ fn line_at_end<L: Lines>(feed: &LineFeed<L>) -> Option<LineRefusal>
     }
 }
 
-/// Feeds a chunk and judges the records of the lines that end in it, which take the place of what
-/// the list holds. Answers the line that is refused, where one is.
-fn take_chunk<L: Lines>(
+/// Feeds a chunk. The records of the lines that end in it replace those of the list, and the
+/// session takes them. Returns the line that is refused, if there is one.
+fn feed_chunk<L: Lines>(
     alloc: Global,
     feed: &mut LineFeed<L>,
     session: &mut Option<Session>,
@@ -179,13 +178,13 @@ fn take_chunk<L: Lines>(
     came.clear();
     match feed.feed(chunk, came) {
         Ok(()) => {
-            if let Err(fault) = judge_all(alloc, session, feed.version(), came.as_slice()) {
+            if let Err(fault) = take_records(alloc, session, feed.version(), came.as_slice()) {
                 return Err(fault);
             }
             Ok(None)
         }
         Err(FeedFault::Refused { line, cause }) => {
-            if let Err(fault) = judge_all(alloc, session, feed.version(), came.as_slice()) {
+            if let Err(fault) = take_records(alloc, session, feed.version(), came.as_slice()) {
                 return Err(fault);
             }
             Ok(Some(LineRefusal { line, cause }))
@@ -196,7 +195,7 @@ fn take_chunk<L: Lines>(
 
 /// Takes the records one after the other, to the first that is refused, in the version that the
 /// first line gave. Before that line there are none.
-fn judge_all(
+fn take_records(
     alloc: Global,
     session: &mut Option<Session>,
     given: Option<Version>,

@@ -1,6 +1,7 @@
 //! Laws of the definitions that the contracts cite. Each is a function that does nothing, whose
 //! contract is the law.
 
+ghost use Rattle.er_run.specs.Causes.{AreNumbered};
 ghost use Rattle.er_run.specs.Laws.{CutTrace, EachRaceNamesACover, EveryAnswer, KeptInOrder, LongerInput, OneAnswer, OrdersKeepRules, RacesInOrder};
 
 /// No byte string has two outcomes, and no two texts are due for it.
@@ -19,17 +20,17 @@ pub fn longer_input()
 {}
 
 /// To each command, the bytes of a legal trace that lack some of the last are refused for `no-end`,
-/// at the line behind their last LF.
+/// at the line after their last LF.
 pub fn cut_trace()
     ensures { CutTrace }
 {}
 
-/// The kept accesses stand in the order of their lines, each once.
+/// The distinct accesses are in the order of their lines, each once.
 pub fn kept_in_order()
     ensures { KeptInOrder }
 {}
 
-/// The races stand in the order of their two lines, each once.
+/// The races are in the order of their two lines, each once.
 pub fn races_in_order()
     ensures { RacesInOrder }
 {}
@@ -39,8 +40,13 @@ pub fn each_race_names_a_cover()
     ensures { EachRaceNamesACover }
 {}
 
-/// No edge leads back in either order of the actions of a race: the rules keep both, and each shows
-/// the two side by side.
+/// No edge leads back in either order of the actions of a race: both orders keep all rules, and in
+/// each the two actions are neighbors.
 pub fn orders_keep_rules()
     ensures { OrdersKeepRules }
+{}
+
+/// The causes of refusals are numbered from 1 to 19, each with a number of its own.
+pub fn causes_are_numbered()
+    ensures { AreNumbered }
 {}

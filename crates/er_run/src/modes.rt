@@ -1,20 +1,17 @@
-//! What a mode judges: the trace that is read, or a generated one.
+//! Serves a command: judges the trace that is read, or a generated one, and answers it.
 
-ghost use Rattle.std.specs.Prelude.{◌≡◌, ◌≢◌, ◌⊎◌, ℕ, ◌≤◌, List, Some};
-ghost use Rattle.er_io.specs.Ends.{Rose, one_more};
-ghost use Rattle.er_trace.specs.Trace.{text};
-ghost use Rattle.er_trace.specs.declared.version.Version.TheVariants.{One};
-ghost use Rattle.er_gen.specs.Generated.{generated, most_rounds};
+ghost use Rattle.std.specs.Prelude.{◌≡◌, ◌≢◌, ℕ, ◌≤◌, List, Option};
+ghost use Rattle.er_gen.specs.Generated.{most_rounds};
 ghost use Rattle.er_trace.specs.Limits.{most_shards};
 ghost use Rattle.er_lines.specs.Text.{text as text_lines};
-ghost use Rattle.er_run.specs.Answer.{Answers, format_of, lines_asked};
-ghost use Rattle.er_run.specs.Promise.{IsAnswer, IsAnswered, IsCutShort, IsGiven, IsPartGiven, IsSilent, Compares, CountsWrites, Tests, seen};
+ghost use Rattle.er_run.specs.Answer.{format_of, lines_asked};
+ghost use Rattle.er_run.specs.Promise.{Counts, IsSilent, Served, streams};
 ghost use Rattle.er_run.specs.Accepted.{IsAskable};
 ghost use Rattle.er_run.specs.Meters.{HaveRoom, Rise};
 
-use crate::accept::{accept_generated, accept_input};
 use crate::answer::answer;
 use crate::input::InputFault;
+use crate::judge::{judge_generated, judge_input};
 use crate::meters::Meters;
 use crate::outcome::Outcome;
 use er_io::{Sink, Source};
@@ -22,14 +19,11 @@ use er_jsonl::JsonLines;
 use er_lines::format::Lines;
 use er_lines::text::TextLines;
 use er_shard::{Gate, Work};
-use er_trace::fault::FeedFault;
 use er_words::{Command, Input};
-use std::thread::Threads;
 
-/// Judges the trace that the source gives, in lines as the command has them, and writes
-/// what is asked for.
-pub(crate) fn judge_input<R: Threads + Sync, S: Source, K: Sink, G: Gate + Sync>(
-    work: &Work<'_, R, G>,
+/// Serves a command that reads, whose lines are as the command has them.
+pub(crate) fn serve_input<R: Gate + Sync, S: Source, K: Sink>(
+    work: &Work<'_, R>,
     command: Command,
     source: &mut S,
     sink: &mut K,
@@ -38,34 +32,19 @@ pub(crate) fn judge_input<R: Threads + Sync, S: Source, K: Sink, G: Gate + Sync>
     requires asked { IsAskable work.now.shards command }
     requires reads { (n : ℕ) → command ≢ Command.Gen n }
     requires room { HaveRoom meters.old }
-    ensures answered { IsAnswer result
-        → IsAnswered (format_of command) command
-        (seen (S.left source.old) (K.got sink.old) meters.old.compares meters.old.tests)
-        (seen (S.left source.new) (K.got sink.new) meters.new.compares meters.new.tests) result }
+    ensures served { Served (format_of command) command
+        (streams (S.left source.old) (K.got sink.old) (S.faults source.old) (K.faults sink.old))
+        (streams (S.left source.new) (K.got sink.new) (S.faults source.new) (K.faults sink.new))
+        meters.old meters.new result }
     ensures no_usage { result ≢ Outcome.Usage }
-    ensures read_fault { result ≡ Outcome.ReadFault
-        → Rose (S.faults source.old) (S.faults source.new) }
-    ensures once { result ≡ Outcome.ReadFault
-        → S.faults source.new ≡ one_more (S.faults source.old) }
-    ensures read_stands { result ≢ Outcome.ReadFault
-        → S.faults source.new ≡ S.faults source.old }
-    ensures cut_short { result ≡ Outcome.WriteFault
-        → IsCutShort (format_of command) command
-        (seen (S.left source.old) (K.got sink.old) meters.old.compares meters.old.tests)
-        (seen (S.left source.new) (K.got sink.new) meters.new.compares meters.new.tests) }
+    ensures reads { Counts Outcome.ReadFault result (S.faults source.old) (S.faults source.new) }
+    ensures writes { Counts Outcome.WriteFault result (K.faults sink.old) (K.faults sink.new) }
     ensures unwritten { IsSilent result → sink.new ≡ sink.old }
-    ensures complete { ¬ Rose (S.faults source.old) (S.faults source.new)
-        → ¬ Rose (K.faults sink.old) (K.faults sink.new)
-        → (bytes : List ℕ) → S.left source.old ≡ Some bytes
-        → (result ≡ Outcome.NoMemory)
-        ⊎ ((due : List ℕ) × Answers (format_of command) command bytes result due) }
-    ensures reads { S.faults source.old ≤ S.faults source.new }
-    ensures faults { CountsWrites result (K.faults sink.old) (K.faults sink.new) }
     ensures rise { Rise meters.old meters.new }
 {
     match input_of(command) {
-        Input::Text => judge_lines::<TextLines, R, S, K, G>(work, command, source, sink, meters),
-        Input::Json => judge_lines::<JsonLines, R, S, K, G>(work, command, source, sink, meters),
+        Input::Text => serve_lines::<TextLines, R, S, K>(work, command, source, sink, meters),
+        Input::Json => serve_lines::<JsonLines, R, S, K>(work, command, source, sink, meters),
     }
 }
 
@@ -79,9 +58,9 @@ fn input_of(command: Command) -> Input
     }
 }
 
-/// Judges the trace that the source gives, in lines that are read so, and writes what is asked for.
-fn judge_lines<L: Lines, R: Threads + Sync, S: Source, K: Sink, G: Gate + Sync>(
-    work: &Work<'_, R, G>,
+/// Serves a command that reads, whose lines are read in this format.
+fn serve_lines<L: Lines, R: Gate + Sync, S: Source, K: Sink>(
+    work: &Work<'_, R>,
     command: Command,
     source: &mut S,
     sink: &mut K,
@@ -90,44 +69,26 @@ fn judge_lines<L: Lines, R: Threads + Sync, S: Source, K: Sink, G: Gate + Sync>(
     requires asked { IsAskable work.now.shards command }
     requires reads { (n : ℕ) → command ≢ Command.Gen n }
     requires room { HaveRoom meters.old }
-    ensures answered { IsAnswer result
-        → IsAnswered L.format command
-        (seen (S.left source.old) (K.got sink.old) meters.old.compares meters.old.tests)
-        (seen (S.left source.new) (K.got sink.new) meters.new.compares meters.new.tests) result }
+    ensures served { Served L.format command
+        (streams (S.left source.old) (K.got sink.old) (S.faults source.old) (K.faults sink.old))
+        (streams (S.left source.new) (K.got sink.new) (S.faults source.new) (K.faults sink.new))
+        meters.old meters.new result }
     ensures no_usage { result ≢ Outcome.Usage }
-    ensures read_fault { result ≡ Outcome.ReadFault
-        → Rose (S.faults source.old) (S.faults source.new) }
-    ensures once { result ≡ Outcome.ReadFault
-        → S.faults source.new ≡ one_more (S.faults source.old) }
-    ensures read_stands { result ≢ Outcome.ReadFault
-        → S.faults source.new ≡ S.faults source.old }
-    ensures cut_short { result ≡ Outcome.WriteFault
-        → IsCutShort L.format command
-        (seen (S.left source.old) (K.got sink.old) meters.old.compares meters.old.tests)
-        (seen (S.left source.new) (K.got sink.new) meters.new.compares meters.new.tests) }
+    ensures reads { Counts Outcome.ReadFault result (S.faults source.old) (S.faults source.new) }
+    ensures writes { Counts Outcome.WriteFault result (K.faults sink.old) (K.faults sink.new) }
     ensures unwritten { IsSilent result → sink.new ≡ sink.old }
-    ensures complete { ¬ Rose (S.faults source.old) (S.faults source.new)
-        → ¬ Rose (K.faults sink.old) (K.faults sink.new)
-        → (bytes : List ℕ) → S.left source.old ≡ Some bytes
-        → (result ≡ Outcome.NoMemory)
-        ⊎ ((due : List ℕ) × Answers L.format command bytes result due) }
-    ensures reads { S.faults source.old ≤ S.faults source.new }
-    ensures faults { CountsWrites result (K.faults sink.old) (K.faults sink.new) }
     ensures rise { Rise meters.old meters.new }
 {
-    match accept_input::<L, R, S, G>(work, command, source, meters) {
+    match judge_input::<L, R, S>(work, command, source, meters) {
         Ok(judged) => answer::<L, K>(command, Ok(judged), sink),
-        Err(InputFault::Refused { line, cause }) => {
-            answer::<L, K>(command, Err(FeedFault::Refused { line, cause }), sink)
-        }
+        Err(InputFault::Fault(fault)) => answer::<L, K>(command, Err(fault), sink),
         Err(InputFault::Failed) => Outcome::ReadFault,
-        Err(InputFault::NoMemory) => Outcome::NoMemory,
     }
 }
 
-/// Judges the generated trace of so many rounds.
-pub(crate) fn judge_generated<R: Threads + Sync, K: Sink, G: Gate + Sync>(
-    work: &Work<'_, R, G>,
+/// Serves the command of a generated trace of so many rounds, whatever is left of a source.
+pub(crate) fn serve_generated<R: Gate + Sync, K: Sink>(
+    work: &Work<'_, R>,
     number: u32,
     sink: &mut K,
     meters: &mut Meters,
@@ -136,23 +97,18 @@ pub(crate) fn judge_generated<R: Threads + Sync, K: Sink, G: Gate + Sync>(
     requires least { 1 ≤ number }
     requires most { number ≤ most_rounds }
     requires room { HaveRoom meters.old }
-    ensures answered { IsAnswer result
-        → IsGiven text_lines (Command.Gen number) (text One (generated number)) result
-        (K.got sink.old) (K.got sink.new) }
-    ensures compared { Compares text_lines (Command.Gen number) (text One (generated number)) result
-        meters.old.compares meters.new.compares }
-    ensures tested { Tests text_lines (Command.Gen number) (text One (generated number)) result
-        meters.old.tests meters.new.tests }
+    ensures served { (left : Option (List ℕ)) (failed_reads : ℕ)
+        → Served text_lines (Command.Gen number)
+        (streams left (K.got sink.old) failed_reads (K.faults sink.old))
+        (streams left (K.got sink.new) failed_reads (K.faults sink.new))
+        meters.old meters.new result }
     ensures no_usage { result ≢ Outcome.Usage }
     ensures no_read_fault { result ≢ Outcome.ReadFault }
-    ensures cut_short { result ≡ Outcome.WriteFault
-        → IsPartGiven text_lines (Command.Gen number) (text One (generated number))
-        (K.got sink.old) (K.got sink.new) }
+    ensures writes { Counts Outcome.WriteFault result (K.faults sink.old) (K.faults sink.new) }
     ensures kept { result ≡ Outcome.NoMemory → sink.new ≡ sink.old }
-    ensures faults { CountsWrites result (K.faults sink.old) (K.faults sink.new) }
     ensures rise { Rise meters.old meters.new }
 {
     let command = Command::Gen { number };
-    let verdict = accept_generated(work, command, number, meters);
+    let verdict = judge_generated(work, command, number, meters);
     answer::<TextLines, K>(command, verdict, sink)
 }

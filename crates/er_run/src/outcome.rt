@@ -1,4 +1,4 @@
-//! What `run` answers.
+//! What `run` returns.
 
 use er_text::Cause;
 
@@ -9,7 +9,7 @@ pub enum Outcome {
     Clean,
     /// The trace is legal, and has races.
     Races,
-    /// The words of the command are not accepted.
+    /// The arguments are not accepted.
     Usage,
     /// The first illegal line, and its first cause.
     Refused { line: u32, cause: Cause },
@@ -17,7 +17,7 @@ pub enum Outcome {
     ReadFault,
     /// A write failed.
     WriteFault,
-    /// Memory ran out.
+    /// An allocation failed.
     NoMemory,
 }
 
@@ -40,7 +40,7 @@ impl Outcome {
         }
     }
 
-    /// The line on standard error, where the outcome has one.
+    /// The line on standard error, if the outcome has one.
     pub fn line(&self) -> Option<&'static str>
         ensures { option_map (λ text. text.now) result ≡ line_of self.now }
     {

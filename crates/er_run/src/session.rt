@@ -36,9 +36,9 @@ impl Drop for Session {
     }
 }
 
-/// What the records of a generated trace come to, in version 1, or the first that is refused. Each
-/// is judged before the next is made.
-pub(crate) fn judge(alloc: Global, generator: &mut Generator) -> Result<Session, FeedFault>
+/// Takes the records of a generated trace, in version 1, to the first that is refused. Each is
+/// taken before the next is made.
+pub(crate) fn take_trace(alloc: Global, generator: &mut Generator) -> Result<Session, FeedFault>
     requires room { length generator.old ≤ most_lines }
     requires of_version { list_all (has_record Version.One) generator.old ≡ true }
     ensures stands { IfOk result (λ session. IsSessionOf session (reverse generator.old)) }
@@ -67,7 +67,7 @@ impl Session {
         })
     }
 
-    /// The number of the line behind those of its records.
+    /// The number of the line after those of its records.
     pub(crate) fn next_line(&self) -> u32
         requires { self.now.records ≤ most_lines }
         ensures { result ≡ self.now.records + 2 }
@@ -76,7 +76,7 @@ impl Session {
     }
 
     /// Takes the records one after the other, to the first that is refused. They are of its
-    /// version. After an error it stands for no list.
+    /// version. After an error it represents no list.
     pub(crate) fn take_all(&mut self, records: &[Record]) -> Result<(), FeedFault>
         requires some { IsSession self.old }
         requires room { self.old.records + length records.now ≤ most_lines }
@@ -98,7 +98,7 @@ impl Session {
     }
 
     /// Takes the records that the generator gives, one after the other, to the first that is
-    /// refused. They are of its version. After an error it stands for no list.
+    /// refused. They are of its version. After an error it represents no list.
     fn take_generated(&mut self, generator: &mut Generator) -> Result<(), FeedFault>
         requires some { IsSession self.old }
         requires room { self.old.records + length generator.old ≤ most_lines }
@@ -138,8 +138,8 @@ impl Session {
         self.take(&rec)
     }
 
-    /// Takes the next record, or answers why it is not accepted. The limit on accesses is asked
-    /// last. After an error it stands for no list: the graph may have taken the record.
+    /// Takes the next record, or returns why it is not accepted. The limit on accesses is checked
+    /// last. After an error it represents no list: the graph can have taken the record.
     pub(crate) fn take(&mut self, rec: &Record) -> Result<(), FeedFault>
         requires some { IsSession self.old }
         requires room { self.old.records < most_lines }
@@ -161,7 +161,7 @@ impl Session {
         Ok(())
     }
 
-    /// Takes an access, which stands in this line, as `take` does.
+    /// Takes the access of this line, as `take` does.
     fn take_access(&mut self, line: u32, mode: Mode, loc: &Loc) -> Result<(), FeedFault>
         requires some { IsSession self.old }
         requires room { self.old.records < most_lines }
@@ -202,7 +202,7 @@ pub(crate) fn begin(
     Ok(())
 }
 
-/// The session; where none was made, one of no records.
+/// The session; if none was made, one of no records.
 pub(crate) fn or_empty(alloc: Global, session: Option<Session>) -> Result<Session, NoMemory>
     ensures stands { IfOk result (λ made. (h : List Record) → HasTaken session h
         → IsSessionOf made h) }

@@ -1,4 +1,4 @@
-//! A run over ends that never fail.
+//! A run with streams that never fail.
 
 ghost use Rattle.std.specs.Prelude.{◌≡◌, ◌⊎◌, ℕ, List, Some, map, string_bytes};
 ghost use Rattle.er_words.specs.Words.{Asks};
@@ -11,12 +11,11 @@ use crate::{Host, Meters, run};
 use er_io_system::{SureSink, SureSource};
 use er_shard::Gate;
 use er_words::Asked;
-use std::thread::Threads;
 
-/// `run` over ends whose calls never fail: what the command has to judge is answered,
-/// unless memory runs out.
-pub fn run_surely<R: Threads + Sync, G: Gate + Sync>(
-    host: &Host<'_, R, G>,
+/// `run` with streams whose calls never fail: what the command has to analyze is answered, unless
+/// an allocation fails.
+pub fn run_surely<R: Gate + Sync>(
+    host: &Host<'_, R>,
     words: &[String],
     source: &mut SureSource,
     sink: &mut SureSink,

@@ -1,12 +1,12 @@
-//! The text that is due: that of what was found of a legal trace, or a refusal, as the
-//! command asks for it.
+//! Writes the text that is due: of what was found of a legal trace, or a refusal, in the command's
+//! format.
 
 ghost use Rattle.std.specs.Prelude.{◌≡◌, ◌≢◌, ◌≤◌, List};
 ghost use Rattle.er_io.specs.Ends.{Puts};
 ghost use Rattle.er_trace.specs.declared.record.Record.{Record};
 ghost use Rattle.er_trace.specs.declared.version.Version.{Version};
 ghost use Rattle.er_run.specs.Answer.{outcome_of, outcome_for};
-ghost use Rattle.er_run.specs.Promise.{CountsWrites};
+ghost use Rattle.er_run.specs.Promise.{Counts};
 ghost use Rattle.er_run.specs.Report.{report, json_report, summary, schedule, is_json, text_for, refusal_for};
 ghost use Rattle.er_run.specs.Session.{IsSessionOf};
 ghost use Rattle.er_run.specs.Accepted.{EndsAs, IsFound, IsJudged, IsJudgement, IsListed, IsOrdered, AreOrdersOf};
@@ -34,13 +34,13 @@ pub(crate) fn tell<K: Sink>(judged: &Judged, sink: &mut K) -> Outcome
         (text_for judged.now.session.graph.version asked h) result
         (K.got sink.old) (K.got sink.new) }
     ensures no_memory { result ≢ Outcome.NoMemory }
-    ensures faults { CountsWrites result (K.faults sink.old) (K.faults sink.new) }
+    ensures faults { Counts Outcome.WriteFault result (K.faults sink.old) (K.faults sink.new) }
 {
     let written = put_found(judged, sink);
     ends_as(outcome_found(&judged.found), written)
 }
 
-/// How a run ends that tells what was found.
+/// The outcome of a run that writes what was found.
 fn outcome_found(found: &Found) -> Outcome
     ensures { (asked : Command) (v : Version) (h : List Record) → IsFound asked v found.now h
         → result ≡ outcome_for asked v h }
@@ -76,7 +76,7 @@ fn put_found<K: Sink>(judged: &Judged, sink: &mut K) -> Result<(), WriteFault>
     }
 }
 
-/// How a run ends that wrote the text of this outcome, or failed to.
+/// The outcome of a run that wrote the text of this outcome, or failed to.
 fn ends_as(due: Outcome, written: Result<(), WriteFault>) -> Outcome
     ensures { EndsAs due written result }
 {
@@ -86,7 +86,7 @@ fn ends_as(due: Outcome, written: Result<(), WriteFault>) -> Outcome
     }
 }
 
-/// How a run ends on a trace with these races.
+/// The outcome of a trace with these races.
 fn outcome_of(races: &[Race]) -> Outcome
     ensures { result ≡ outcome_of races.now }
 {
@@ -164,11 +164,11 @@ fn put_orders<K: Sink>(
     write_schedules(sink, &session.kept, races, race, orders)
 }
 
-/// Writes the refusal where the fault is one.
+/// Writes the refusal, if the fault is one.
 pub(crate) fn tell_fault<K: Sink>(asked: Command, fault: FeedFault, sink: &mut K) -> Outcome
     ensures failed { FailedAs asked fault result (K.got sink.old) (K.got sink.new) }
     ensures kept { result ≡ Outcome.NoMemory → sink.new ≡ sink.old }
-    ensures faults { CountsWrites result (K.faults sink.old) (K.faults sink.new) }
+    ensures faults { Counts Outcome.WriteFault result (K.faults sink.old) (K.faults sink.new) }
 {
     match fault {
         FeedFault::Refused { line, cause } => refuse(asked, line, cause, sink),
@@ -176,12 +176,12 @@ pub(crate) fn tell_fault<K: Sink>(asked: Command, fault: FeedFault, sink: &mut K
     }
 }
 
-/// Writes a refusal as the command asks for it.
+/// Writes a refusal in the command's format.
 fn refuse<K: Sink>(asked: Command, line: u32, cause: Cause, sink: &mut K) -> Outcome
     ensures refused { RefusedAs line cause (refusal_for asked line cause) result
         (K.got sink.old) (K.got sink.new) }
     ensures no_memory { result ≢ Outcome.NoMemory }
-    ensures faults { CountsWrites result (K.faults sink.old) (K.faults sink.new) }
+    ensures faults { Counts Outcome.WriteFault result (K.faults sink.old) (K.faults sink.new) }
 {
     let written = put_refusal(asked, line, cause, sink);
     ends_as(Outcome::Refused { line, cause }, written)
@@ -203,7 +203,7 @@ fn put_refusal<K: Sink>(
     }
 }
 
-/// Whether it is asked for a line of JSON.
+/// Whether the command requests a line of JSON.
 fn is_json(asked: Command) -> bool
     ensures { result ≡ is_json asked }
 {

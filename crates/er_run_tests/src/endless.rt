@@ -89,11 +89,8 @@ fn status_between(
     source: &mut Endless,
     sink: &mut MemorySink,
 ) -> u8 {
-    let host = Host {
-        rt,
-        alloc,
-        gate: &FreeGate,
-    };
+    let gate = FreeGate { rt };
+    let host = Host { rt: &gate, alloc };
     let outcome = run(&host, &[], source, sink, &mut Meters::new());
     outcome.status()
 }

@@ -28,7 +28,7 @@ fn failing(
         failing_write,
         ..call_of_load()
     };
-    load_through(rt, alloc, &call, &FreeGate)
+    load_through(&FreeGate { rt }, alloc, &call)
 }
 
 /// Whether this came of a call.

@@ -82,12 +82,11 @@ impl Kept {
     }
 
     /// The group that each race names, found by two shards.
-    fn names<R: Threads + Sync, G: Gate + Sync>(
+    fn names<R: Gate + Sync>(
         &self,
         rt: &R,
         alloc: Global,
         clocks: &Clocks,
-        gate: &G,
     ) -> Result<Vec<u32>, CoverFault> {
         if self.table.pairs() > 16_777_216 || clocks.len() <= self.action {
             return Err(CoverFault::NoMemory);
@@ -104,7 +103,6 @@ impl Kept {
             rt,
             alloc,
             shards: 2,
-            gate,
         };
         match group_shards(&work, &races, &self.table, clocks, &mut tests) {
             Ok(groups) => names_of(alloc, &groups, races.len() as u32),
@@ -162,8 +160,8 @@ fn two_shards(
     let mut kept = Kept::new(alloc);
     take_all(graph, &mut kept, alloc)?;
     for held in [0, 1] {
-        let gate = Holding::new(held);
-        let names = kept.names(rt, alloc, graph.clocks(), &gate);
+        let gate = Holding::new(rt, held);
+        let names = kept.names(&gate, alloc, graph.clocks());
         assert!(rt; is_due(names), "{held}");
         assert!(rt; gate.saw_both(), "{held}");
     }

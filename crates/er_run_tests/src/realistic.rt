@@ -4,7 +4,6 @@ use crate::row::{Counts, Row};
 use crate::through::{Call, Done, call_of, through_gate};
 use er_shard::{FreeGate, Gate};
 use std::alloc::{AllocError, Global};
-use std::thread::Threads;
 
 pub(crate) const TRACE: &str =
     "webtrace 1\nparse 0 1 plain\nparse 0 2 sync\nexec 2\nw var 0 app\nparse 0 3 defer\nparse 0 4 async\nparse 0 5 frame 1\nparse 0 6 frame 2\nparse 1 7 plain\nexec 4\nr var 0 app\nw var 0 count\nparse 2 8 inline\nexec 8\nw var 2 ready\nparse 0 9 plain\nw elem 0 buy\nexec 3\nr elem 0 buy\non 1\nw slot 9 click\nsend 1\non 2\nevery 1 50\ndcl 1 0\nclose 1\ndcl 2 1\nclose 2\nload 3 1\nclose 3\neload 4 5\nclose 4\ndcl 5 2\nclose 5\nload 6 2\nclose 6\neload 7 6\nclose 7\ntick 1\nr var 0 count\nreply 8 1\nrun 8 0 2\nw var 0 count\nclose 8\nload 9 0\nclose 9\nfire 10 9 click\nr slot 9 click\nrun 10 0 1\nr var 0 count\nclose 10\ntick 1\nr var 0 count\nend\n";
@@ -30,14 +29,13 @@ pub(crate) fn call_of_load() -> Call<'static, 'static> {
 }
 
 /// What comes of a call over the load, asked against its report.
-pub(crate) fn load_through<R: Threads + Sync, G: Gate + Sync>(
+pub(crate) fn load_through<R: Gate + Sync>(
     rt: &R,
     alloc: Global,
     call: &Call<'_, '_>,
-    gate: &G,
 ) -> Result<Done, AllocError> {
     let due = LOAD.report(alloc)?;
-    through_gate(rt, alloc, call, &due, gate)
+    through_gate(rt, alloc, call, &due)
 }
 
 /// Whether the whole report came, by one comparison a pair.
@@ -56,7 +54,7 @@ fn however_it_is_cut(rt: HostRuntime) {
             chunk,
             ..call_of_load()
         };
-        let done = load_through(&rt, rt.alloc(), &call, &FreeGate);
+        let done = load_through(&FreeGate { rt: &rt }, rt.alloc(), &call);
         assert!(rt; is_right(done), "{chunk}");
     }
 }

@@ -64,18 +64,22 @@ impl Refusal {
 }
 
 impl Asked {
-    /// What comes of the command between sound ends.
+    /// The call of the command, with streams that never fail.
+    pub(crate) fn call(&self) -> Call<'static, 'static> {
+        Call {
+            words: self.words,
+            input: self.input,
+            ..SOUND
+        }
+    }
+
+    /// What comes of that call.
     pub(crate) fn answer(
         &self,
         rt: &(impl Threads + Sync),
         alloc: Global,
     ) -> Result<Done, AllocError> {
-        let call = Call {
-            words: self.words,
-            input: self.input,
-            ..SOUND
-        };
-        through(rt, alloc, &call, self.written)
+        through(rt, alloc, &self.call(), self.written)
     }
 
     /// Whether this is due.

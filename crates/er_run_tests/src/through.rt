@@ -130,26 +130,25 @@ pub(crate) fn through<R: Threads + Sync>(
     call: &Call<'_, '_>,
     due: &str,
 ) -> Result<Done, AllocError> {
-    through_gate(rt, alloc, call, due, &FreeGate)
+    through_gate(&FreeGate { rt }, alloc, call, due)
 }
 
-pub(crate) fn through_gate<R: Threads + Sync, G: Gate + Sync>(
+pub(crate) fn through_gate<R: Gate + Sync>(
     rt: &R,
     alloc: Global,
     call: &Call<'_, '_>,
     due: &str,
-    gate: &G,
 ) -> Result<Done, AllocError> {
     let words = words_of(alloc, call.words)?;
     let mut source = source_of(alloc, call)?;
     let mut sink = sink_of(alloc, call)?;
-    let host = Host { rt, alloc, gate };
+    let host = Host { rt, alloc };
     Ok(between(&host, &words, &mut source, &mut sink, due))
 }
 
 /// The call itself.
-fn between<R: Threads + Sync, G: Gate + Sync>(
-    host: &Host<'_, R, G>,
+fn between<R: Gate + Sync>(
+    host: &Host<'_, R>,
     words: &[String],
     source: &mut MemorySource,
     sink: &mut MemorySink,

@@ -17,14 +17,14 @@ use er_access::Table;
 use er_clocks::{Clocks, Meter};
 use er_cover::{Classes, CoverFault, Groups, gather, make_classes, name_part};
 use er_races::Race;
-use std::thread::{Threads, join};
+use std::thread::join;
 
 /// Groups the races of a table, as `group` of er_cover does, where the shards of the work
 /// name the covers.
 ///
-/// Each shard passes the gate before its first comparison.
-pub fn group_shards<R: Threads + Sync, G: Gate + Sync>(
-    work: &Work<'_, R, G>,
+/// Each shard calls the gate before its first comparison.
+pub fn group_shards<R: Gate + Sync>(
+    work: &Work<'_, R>,
     races: &[Race],
     table: &Table,
     clocks: &Clocks,
@@ -61,10 +61,10 @@ pub fn group_shards<R: Threads + Sync, G: Gate + Sync>(
 }
 
 #[cycle(names)]
-/// What the classes of the shards from `from` on and below `to` name: one alone, or two halves,
+/// What the classes of the shards from `from` on and below `to` name: one shard, or two halves,
 /// each in a thread.
-fn name_between<R: Threads + Sync, G: Gate + Sync>(
-    work: &Work<'_, R, G>,
+fn name_between<R: Gate + Sync>(
+    work: &Work<'_, R>,
     classes: &Classes,
     clocks: &Clocks,
     from: u32,
@@ -83,7 +83,7 @@ fn name_between<R: Threads + Sync, G: Gate + Sync>(
         return name_one(work, classes, clocks, from);
     }
     let middle = from + (to - from) / 2;
-    let (rt, alloc, shards, gate) = (work.rt, work.alloc, work.shards, work.gate);
+    let (rt, alloc, shards) = (work.rt, work.alloc, work.shards);
     let (left, right) = join(
         rt,
         || -> Names
@@ -95,12 +95,7 @@ fn name_between<R: Threads + Sync, G: Gate + Sync>(
             ensures { IsNamed shards from middle (joins clocks.entry.now) classes.entry.now
                 result.names result.meter }
         {
-            let half = Work {
-                rt,
-                alloc,
-                shards,
-                gate,
-            };
+            let half = Work { rt, alloc, shards };
             name_between(&half, classes, clocks, from, middle)
         },
         || -> Names
@@ -112,32 +107,22 @@ fn name_between<R: Threads + Sync, G: Gate + Sync>(
             ensures { IsNamed shards middle to (joins clocks.entry.now) classes.entry.now
                 result.names result.meter }
         {
-            let half = Work {
-                rt,
-                alloc,
-                shards,
-                gate,
-            };
+            let half = Work { rt, alloc, shards };
             name_between(&half, classes, clocks, middle, to)
         },
     );
     together(left, right)
 }
 
-/// What the classes of one shard name, once it has passed the gate.
-fn name_one<R, G: Gate>(
-    work: &Work<'_, R, G>,
-    classes: &Classes,
-    clocks: &Clocks,
-    shard: u32,
-) -> Names
+/// What the classes of one shard name, after it called the gate.
+fn name_one<R: Gate>(work: &Work<'_, R>, classes: &Classes, clocks: &Clocks, shard: u32) -> Names
     requires within { shard < work.now.shards }
     requires over { IsOver (joins clocks.now) classes.now }
     requires known { All (IsKnown (length clocks.now)) classes.now.by_race }
     ensures { IsNamed work.now.shards shard (shard + 1) (joins clocks.now) classes.now
         result.names result.meter }
 {
-    work.gate.enter(shard);
+    work.rt.enter(shard);
     let count = classes.count();
     let from = begin(count, work.shards, shard);
     let to = begin(count, work.shards, shard + 1);

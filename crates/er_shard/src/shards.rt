@@ -12,15 +12,15 @@ use crate::{Gate, Work};
 use er_access::Table;
 use er_clocks::{Meter, Paths};
 use er_races::{ListFault, Race, list_part};
-use std::thread::{Threads, join};
+use std::thread::join;
 
 /// Lists the races in the order of their accesses, as `list` of er_races does, by all
 /// shards of the work.
 ///
-/// A shard works on the locations k with `k % shards == shard`, in a thread where one can be made,
-/// and passes the gate before its first comparison.
-pub fn list_shards<R: Threads + Sync, P: Paths + Sync, G: Gate + Sync>(
-    work: &Work<'_, R, G>,
+/// A shard works on the locations k with `k % shards == shard`, in a thread if one can be made, and
+/// calls the gate before its first comparison.
+pub fn list_shards<R: Gate + Sync, P: Paths + Sync>(
+    work: &Work<'_, R>,
     table: &Table,
     paths: &P,
     meter: &mut Meter,
@@ -50,9 +50,9 @@ pub fn list_shards<R: Threads + Sync, P: Paths + Sync, G: Gate + Sync>(
 }
 
 #[cycle(halves)]
-/// What the shards from `from` on and below `to` find: one alone, or two halves, each in a thread.
-fn list_between<R: Threads + Sync, P: Paths + Sync, G: Gate + Sync>(
-    work: &Work<'_, R, G>,
+/// What the shards from `from` on and below `to` find: one shard, or two halves, each in a thread.
+fn list_between<R: Gate + Sync, P: Paths + Sync>(
+    work: &Work<'_, R>,
     table: &Table,
     paths: &P,
     from: u32,
@@ -69,7 +69,7 @@ fn list_between<R: Threads + Sync, P: Paths + Sync, G: Gate + Sync>(
         return list_one(work, table, paths, from);
     }
     let middle = from + (to - from) / 2;
-    let (rt, alloc, shards, gate) = (work.rt, work.alloc, work.shards, work.gate);
+    let (rt, alloc, shards) = (work.rt, work.alloc, work.shards);
     let (left, right) = join(
         rt,
         || -> Part
@@ -79,12 +79,7 @@ fn list_between<R: Threads + Sync, P: Paths + Sync, G: Gate + Sync>(
             ensures { IsPart shards from middle (P.joins paths.entry.now) table.entry.now
                 result.races result.meter }
         {
-            let half = Work {
-                rt,
-                alloc,
-                shards,
-                gate,
-            };
+            let half = Work { rt, alloc, shards };
             list_between(&half, table, paths, from, middle)
         },
         || -> Part
@@ -94,32 +89,22 @@ fn list_between<R: Threads + Sync, P: Paths + Sync, G: Gate + Sync>(
             ensures { IsPart shards middle to (P.joins paths.entry.now) table.entry.now
                 result.races result.meter }
         {
-            let half = Work {
-                rt,
-                alloc,
-                shards,
-                gate,
-            };
+            let half = Work { rt, alloc, shards };
             list_between(&half, table, paths, middle, to)
         },
     );
     together(left, right)
 }
 
-/// What one shard finds, once it has passed the gate.
-fn list_one<R, P: Paths, G: Gate>(
-    work: &Work<'_, R, G>,
-    table: &Table,
-    paths: &P,
-    shard: u32,
-) -> Part
+/// What one shard finds, after it called the gate.
+fn list_one<R: Gate, P: Paths>(work: &Work<'_, R>, table: &Table, paths: &P, shard: u32) -> Part
     requires within { shard < work.now.shards }
     requires few { length (candidates_of table.now) ≤ most_pairs }
     requires known { All (λ x. x.action < P.actions paths.now) table.now }
     ensures { IsPart work.now.shards shard (shard + 1) (P.joins paths.now) table.now
         result.races result.meter }
 {
-    work.gate.enter(shard);
+    work.rt.enter(shard);
     let mut meter = Meter::new();
     let races = list_part(work.alloc, table, work.shards, shard, paths, &mut meter);
     Part { races, meter }

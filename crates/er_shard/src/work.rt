@@ -2,22 +2,20 @@
 
 use std::alloc::Global;
 
-/// What makes the threads, where memory comes from, how many shards there are, and the gate that
-/// each passes before its first comparison.
-pub struct Work<'a, R, G> {
+/// What makes the threads and is called by each shard before its first comparison, what allocates,
+/// and how many shards there are.
+pub struct Work<'a, R> {
     pub rt: &'a R,
     pub alloc: Global,
     pub shards: u32,
-    pub gate: &'a G,
 }
 
-impl<R, G> Drop for Work<'_, R, G> {
+impl<R> Drop for Work<'_, R> {
     fn drop(self) {
         let Work {
             rt: _,
             alloc: _,
             shards: _,
-            gate: _,
         } = self;
     }
 }

@@ -1,4 +1,4 @@
-//! What an input comes to, at its end: the trace that was read, or a generated one.
+//! Judges an input, a trace that is read or a generated one: it is accepted, or a line is refused.
 
 ghost use Rattle.std.specs.Prelude.{◌≡◌, ◌≢◌, ℕ, ◌≤◌, List, Option, Some, None, Err, reverse, IfOk, IfErr, IsErrOf};
 ghost use Rattle.er_text.specs.declared.causes.Cause.{Cause};
@@ -12,13 +12,13 @@ ghost use Rattle.er_run.specs.Answer.{FirstIllegal};
 ghost use Rattle.er_run.specs.Legal.{end_cause_for};
 ghost use Rattle.er_run.specs.Meters.{HaveRoom, Rise};
 ghost use Rattle.er_run.specs.Reading.{IsRead, IsReading, IsAcceptedInput, IsRefusedInput, CountsReads};
-ghost use Rattle.er_run.specs.Accepted.{IsAskable, IsComparedFor, IsTestedFor, IsJudged, IsJudgement, IsEndFault, IsReportable, IsVerdict};
+ghost use Rattle.er_run.specs.Accepted.{IsAskable, IsJudged, IsJudgedFor, IsEndFault, IsReportable, IsVerdict};
 
 use crate::end::found_within;
 use crate::findings::Judged;
 use crate::input::{InputFault, LineRefusal, read};
 use crate::meters::Meters;
-use crate::session::{Session, judge};
+use crate::session::{Session, take_trace};
 use er_gen::Generator;
 use er_io::{Failed, Source};
 use er_lines::format::Lines;
@@ -26,11 +26,10 @@ use er_shard::{Gate, Work};
 use er_text::Cause;
 use er_trace::fault::FeedFault;
 use er_words::Command;
-use std::thread::Threads;
 
-/// What the trace comes to that the source gives. No more is read of it than decides.
-pub(crate) fn accept_input<L: Lines, R: Threads + Sync, S: Source, G: Gate + Sync>(
-    work: &Work<'_, R, G>,
+/// Judges the trace of the source. No chunk is read after the one that decides.
+pub(crate) fn judge_input<L: Lines, R: Gate + Sync, S: Source>(
+    work: &Work<'_, R>,
     command: Command,
     source: &mut S,
     meters: &mut Meters,
@@ -39,30 +38,28 @@ pub(crate) fn accept_input<L: Lines, R: Threads + Sync, S: Source, G: Gate + Syn
     requires room { HaveRoom meters.old }
     ensures accepted { IfOk result (λ judged.
         IsAcceptedInput L.format command (S.left source.old) (S.left source.new) judged) }
-    ensures refused { (n : ℕ) (c : Cause) → result ≡ Err (InputFault.Refused n c)
+    ensures refused { (n : ℕ) (c : Cause)
+        → result ≡ Err (InputFault.Fault (FeedFault.Refused n c))
         → IsRefusedInput L.format command (S.left source.old) (S.left source.new) n c }
-    ensures judged { IfOk result IsJudgement }
-    ensures compared { IfOk result (λ judged.
-        IsComparedFor command judged.session meters.old.compares meters.new.compares) }
-    ensures tested { IfOk result (λ judged.
-        IsTestedFor command judged.session meters.old.tests meters.new.tests) }
+    ensures judged { IfOk result (IsJudgedFor command meters.old meters.new) }
     ensures reads { CountsReads result (S.faults source.old) (S.faults source.new) }
     ensures rise { Rise meters.old meters.new }
 {
     match read::<L, S>(work.alloc, source) {
         Ok((session, refused)) => match refused {
-            None => accept_end::<L, R, S, G>(work, command, source, session, meters),
-            Some(refusal) => Err(first_refusal::<L, R, G>(
-                work, command, &session, refusal, meters,
-            )),
+            None => judge_ended::<L, R, S>(work, command, source, session, meters),
+            Some(refusal) => {
+                let fault = first_refusal::<L, R>(work, command, &session, refusal, meters);
+                Err(InputFault::Fault(fault))
+            }
         },
         Err(fault) => Err(fault),
     }
 }
 
-/// Judges the `end` line, and sees whether a byte stands behind it.
-fn accept_end<L: Lines, R: Threads + Sync, S: Source, G: Gate + Sync>(
-    work: &Work<'_, R, G>,
+/// Judges a trace whose `end` line was read: the line, and whether a byte follows it.
+fn judge_ended<L: Lines, R: Gate + Sync, S: Source>(
+    work: &Work<'_, R>,
     command: Command,
     source: &mut S,
     session: Session,
@@ -74,85 +71,70 @@ fn accept_end<L: Lines, R: Threads + Sync, S: Source, G: Gate + Sync>(
     ensures accepted { IfOk result (λ judged. (first : Option (List ℕ))
         → IsRead L.format first (S.left source.old) session None
         → IsAcceptedInput L.format command first (S.left source.new) judged) }
-    ensures refused { (n : ℕ) (c : Cause) → result ≡ Err (InputFault.Refused n c)
+    ensures refused { (n : ℕ) (c : Cause)
+        → result ≡ Err (InputFault.Fault (FeedFault.Refused n c))
         → (first : Option (List ℕ)) → IsRead L.format first (S.left source.old) session None
         → IsRefusedInput L.format command first (S.left source.new) n c }
-    ensures judged { IfOk result IsJudgement }
-    ensures compared { IfOk result (λ judged.
-        IsComparedFor command judged.session meters.old.compares meters.new.compares) }
-    ensures tested { IfOk result (λ judged.
-        IsTestedFor command judged.session meters.old.tests meters.new.tests) }
+    ensures judged { IfOk result (IsJudgedFor command meters.old meters.new) }
     ensures reads { CountsReads result (S.faults source.old) (S.faults source.new) }
     ensures rise { Rise meters.old meters.new }
 {
     let after_end = session.next_line() + 1;
     let judged = match judge_end(work, command, session, meters) {
         Ok(judged) => judged,
-        Err(fault) => return Err(of_end(fault)),
+        Err(fault) => return Err(InputFault::Fault(fault)),
     };
     let mut byte = [0u8; 1];
     match source.read(&mut byte) {
         Ok(0) => Ok(judged),
-        Ok(_) => Err(InputFault::Refused {
+        Ok(_) => Err(InputFault::Fault(FeedFault::Refused {
             line: after_end,
             cause: Cause::AfterEnd,
-        }),
+        })),
         Err(Failed) => Err(InputFault::Failed),
     }
 }
 
-/// The refusal of the line that is none; or that of the `end` line before it, where that
-/// one has a cause.
-fn first_refusal<L: Lines, R: Threads + Sync, G: Gate + Sync>(
-    work: &Work<'_, R, G>,
+/// Returns the refusal of the `end` line, if it has a cause, and else that of the line after it,
+/// which is no line of a trace.
+fn first_refusal<L: Lines, R: Gate + Sync>(
+    work: &Work<'_, R>,
     command: Command,
     session: &Session,
     refusal: LineRefusal,
     meters: &mut Meters,
-) -> InputFault
+) -> FeedFault
     requires asked { IsAskable work.now.shards command }
     requires some { IsReportable session.now }
     requires room { HaveRoom meters.old }
-    ensures refused { (n : ℕ) (c : Cause) → result ≡ InputFault.Refused n c
+    ensures refused { (n : ℕ) (c : Cause) → result ≡ FeedFault.Refused n c
         → (bytes : List ℕ) (records : List Record)
         → IsSessionOf session.now (reverse records)
         → IsReading L.format session.now.graph.version bytes records (Some refusal)
         → FirstIllegal L.format command bytes n c }
-    ensures no_failure { result ≢ InputFault.Failed }
     ensures rise { Rise meters.old meters.new }
 {
     if refusal.line <= session.next_line() {
         return of_line(refusal);
     }
     if let Err(fault) = found_within(work, command, session, meters) {
-        return of_end(fault);
+        return fault;
     }
     of_line(refusal)
 }
 
-fn of_line(refusal: LineRefusal) -> InputFault
-    ensures { result ≡ InputFault.Refused refusal.line refusal.cause }
+fn of_line(refusal: LineRefusal) -> FeedFault
+    ensures { result ≡ FeedFault.Refused refusal.line refusal.cause }
 {
-    InputFault::Refused {
+    FeedFault::Refused {
         line: refusal.line,
         cause: refusal.cause,
     }
 }
 
-fn of_end(fault: FeedFault) -> InputFault
-    ensures refused { (n : ℕ) (c : Cause) → result ≡ InputFault.Refused n c
-        → fault ≡ FeedFault.Refused n c }
-    ensures no_failure { result ≢ InputFault.Failed }
-{
-    match fault {
-        FeedFault::Refused { line, cause } => InputFault::Refused { line, cause },
-        FeedFault::NoMemory => InputFault::NoMemory,
-    }
-}
-
-/// What a generated trace comes to, of so many rounds.
-pub(crate) fn accept_generated<R: Threads + Sync, G: Gate + Sync>(
-    work: &Work<'_, R, G>,
+/// Judges the generated trace of so many rounds.
+pub(crate) fn judge_generated<R: Gate + Sync>(
+    work: &Work<'_, R>,
     command: Command,
     number: u32,
     meters: &mut Meters,
@@ -162,23 +144,19 @@ pub(crate) fn accept_generated<R: Threads + Sync, G: Gate + Sync>(
     requires most { number ≤ most_rounds }
     requires room { HaveRoom meters.old }
     ensures verdict { IsVerdict text_lines command (text One (generated number)) result }
-    ensures judged { IfOk result IsJudgement }
-    ensures compared { IfOk result (λ judged.
-        IsComparedFor command judged.session meters.old.compares meters.new.compares) }
-    ensures tested { IfOk result (λ judged.
-        IsTestedFor command judged.session meters.old.tests meters.new.tests) }
+    ensures judged { IfOk result (IsJudgedFor command meters.old meters.new) }
     ensures rise { Rise meters.old meters.new }
 {
     let mut generator = Generator::new(work.alloc, number);
-    match judge(work.alloc, &mut generator) {
+    match take_trace(work.alloc, &mut generator) {
         Ok(session) => judge_end(work, command, session, meters),
         Err(fault) => Err(fault),
     }
 }
 
-/// Judges the `end` line behind the records for which the session stands.
-fn judge_end<R: Threads + Sync, G: Gate + Sync>(
-    work: &Work<'_, R, G>,
+/// Judges the `end` line after the records of the session.
+fn judge_end<R: Gate + Sync>(
+    work: &Work<'_, R>,
     command: Command,
     session: Session,
     meters: &mut Meters,
@@ -191,11 +169,7 @@ fn judge_end<R: Threads + Sync, G: Gate + Sync>(
     ensures refused { IfErr result (λ fault. (h : List Record) → IsSessionOf session h
         → IsEndFault (end_cause_for command session.graph.version h) h fault) }
     ensures version { IfOk result (λ judged. judged.session.graph.version ≡ session.graph.version) }
-    ensures judged { IfOk result IsJudgement }
-    ensures compared { IfOk result (λ judged.
-        IsComparedFor command judged.session meters.old.compares meters.new.compares) }
-    ensures tested { IfOk result (λ judged.
-        IsTestedFor command judged.session meters.old.tests meters.new.tests) }
+    ensures judged { IfOk result (IsJudgedFor command meters.old meters.new) }
     ensures rise { Rise meters.old meters.new }
 {
     match found_within(work, command, &session, meters) {

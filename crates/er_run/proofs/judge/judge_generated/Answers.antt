@@ -9,13 +9,13 @@ use Rattle.er_run.proofs.AcceptLemmas.{refusal_judged}
 use Rattle.er_run.proofs.GeneratedLemmas.{few_generated, generated_read}
 use Rattle.er_run.proofs.ReadingLemmas.{reportable, verdict_by}
 use Rattle.er_run.proofs.VersionLemmas.{generated_of_version}
-use Rattle.er_run.proofs.accept.accept_generated.Goals as goal
+use Rattle.er_run.proofs.judge.judge_generated.Goals as goal
 
-pub judge-requires-clause-room : goal.judge-requires-clause-room
-judge-requires-clause-room g c = rw c.new-generator.ensures (few_generated c.args.number c.requires.most)
+pub take_trace-requires-clause-room : goal.take_trace-requires-clause-room
+take_trace-requires-clause-room g c = rw c.new-generator.ensures (few_generated c.args.number c.requires.most)
 
-pub judge-requires-clause-of_version : goal.judge-requires-clause-of_version
-judge-requires-clause-of_version g c = rw c.new-generator.ensures (generated_of_version c.args.number c.requires.most)
+pub take_trace-requires-clause-of_version : goal.take_trace-requires-clause-of_version
+take_trace-requires-clause-of_version g c = rw c.new-generator.ensures (generated_of_version c.args.number c.requires.most)
 
 pub returns-in-Ok-clause-verdict : goal.returns-in-Ok-clause-verdict
 returns-in-Ok-clause-verdict g c =

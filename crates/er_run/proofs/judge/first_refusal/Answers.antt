@@ -5,7 +5,7 @@ use Rattle.er_run.specs.Legal.{end_cause_for}
 use Rattle.er_run.specs.Accepted.{IsEndFault}
 use Rattle.er_run.proofs.AcceptLemmas.{refused_line, refused_end}
 use Rattle.er_run.proofs.ReadingLemmas.{as_refused}
-use Rattle.er_run.proofs.accept.first_refusal.Goals as goal
+use Rattle.er_run.proofs.judge.first_refusal.Goals as goal
 
 pub returns-then-refusal-next_line-clause-refused : goal.returns-then-refusal-next_line-clause-refused
 returns-then-refusal-next_line-clause-refused g c = λ n cause is bytes records stands reading.
@@ -16,7 +16,7 @@ returns-then-refusal-next_line-clause-refused g c = λ n cause is bytes records 
 
 pub returns-in-Err-clause-refused : goal.returns-in-Err-clause-refused
 returns-in-Err-clause-refused g c = λ n cause is bytes records stands reading.
-    let fault : c.in-Err.fault ≡ faults.Refused n cause = c.of_end.ensures.refused n cause is in
+    let fault : c.in-Err.fault ≡ faults.Refused n cause = is in
     let limit = subst (IsEndFault (end_cause_for c.args.command c.args.session.now.graph.version (reverse records)) (reverse records)) fault (c.in-Err.ensures.refused (reverse records) stands) in
     let count = stands.count in
     let past = c.if-refusal-next_line.false in

@@ -1,5 +1,5 @@
 use Rattle.std.proofs.Common.{[]}
-use Rattle.er_run.proofs.session.judge.Goals as goal
+use Rattle.er_run.proofs.session.take_trace.Goals as goal
 
 pub returns-in-Ok-take_generated-clause-stands : goal.returns-in-Ok-take_generated-clause-stands
 returns-in-Ok-take_generated-clause-stands c = c.in-Ok-take_generated.ensures.taken [] c.in-Ok.ensures.stands

@@ -6,11 +6,11 @@ use Rattle.er_run.specs.Legal.{end_cause_for}
 use Rattle.er_run.specs.Accepted.{IsEndFault}
 use Rattle.er_run.specs.Reading.{IsRefusedInput}
 use Rattle.er_run.proofs.ReadingLemmas.{accepted_input, few_taken, reads_stand, refused_limit, refused_more, some_taken}
-use Rattle.er_run.proofs.accept.accept_end.Goals as goal
+use Rattle.er_run.proofs.judge.judge_ended.Goals as goal
 
 pub returns-in-Err-clause-refused : goal.returns-in-Err-clause-refused
 returns-in-Err-clause-refused g c = λ n cause is first r.
-    let same : c.in-Err.fault ≡ faults.Refused n cause = c.of_end.ensures.refused n cause (cc) in
+    let same : c.in-Err.fault ≡ faults.Refused n cause = cc in
     refused_limit g.L.Lines.format c.args.command first (g.S.Source.left c.args.source.now) c.args.session n cause r (subst (IsEndFault (end_cause_for c.args.command c.args.session.graph.version (reverse r.ends.records)) (reverse r.ends.records)) same (c.in-Err.ensures.refused (reverse r.ends.records) r.ends.stands))
 
 pub returns-in-Ok-eq0-clause-accepted : goal.returns-in-Ok-eq0-clause-accepted
@@ -29,7 +29,7 @@ returns-in-Ok-read-clause-refused g c = λ n cause is first r.
     c.in-Ok-read.ensures.given some (few_taken c.in-Ok-read.field-0 c.read.new.buf c.in-Ok-read.ensures.placed (omega arith)) (omega (arith, line, c.next_line-after_end.ensures, count, length-reverse r.ends.records)))
 
 pub returns-in-Err-clause-reads : goal.returns-in-Err-clause-reads
-returns-in-Err-clause-reads g c = reads_stand _ _ _ (λ e. c.of_end.ensures.no_failure (cc)) refl
+returns-in-Err-clause-reads g c = reads_stand _ _ _ (λ e. cc) refl
 
 pub returns-in-Ok-eq0-clause-reads : goal.returns-in-Ok-eq0-clause-reads
 returns-in-Ok-eq0-clause-reads g c = reads_stand _ _ _ (λ e. cc) c.in-Ok-eq0.ensures.stands

@@ -1,7 +1,7 @@
 use Rattle.std.proofs.Common.{◌++◌, reverse, arith}
 use Rattle.std.proofs.lemmas.Result.{IfErr-weaker, IfOk-weaker}
 use Rattle.er_run.proofs.SessionLemmas.{taken_by, of_its_version, still_in, refused_in, no_memory_in, nothing_taken}
-use Rattle.er_run.proofs.input.judge_all.Goals as goal
+use Rattle.er_run.proofs.input.take_records.Goals as goal
 
 pub take_all-requires-clause-some : goal.take_all-requires-clause-some
 take_all-requires-clause-some c = record {

@@ -1,6 +1,0 @@
-use Rattle.er_run.proofs.accept.judge_end.Goals as goal
-
-pub returns-in-Ok-clause-judged : goal.returns-in-Ok-clause-judged
-returns-in-Ok-clause-judged g c =
-    let some = c.requires.some in
-    record { asked = c.args.command; list = some.list; is_judged = c.in-Ok.ensures.found some.list some.stands }
