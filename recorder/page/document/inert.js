@@ -1,4 +1,4 @@
-// Whether an element is inert: nobody finds it, with keys either. Its attribute or one around it says so, or a modal dialog that it is not in.
+// Whether an element is inert: nobody finds it, with keys either. It or an element around it has the attribute, or a modal dialog is open that it is not in.
 
 import { findItem } from '../core/lists.js';
 import { apply } from '../core/taken.js';

@@ -65,7 +65,7 @@ class Places {
   }
 
   /**
-   * Whether an element was there when another one came: it stands before that one in a page that the parser makes, or code put it there before, or with it.
+   * Whether an element was there when another one came: it is before that one in a page that the parser makes, or code put it there before, or with it.
    * @param {Element} over
    * @param {Element} element
    */
@@ -179,7 +179,7 @@ class Places {
   // ---- out of view
 
   /**
-   * Whether something that fills the window and does not scroll lies over an element wherever a user scrolls: what stands in nothing that has a layer of
+   * Whether something that fills the window and does not scroll lies over an element wherever a user scrolls: what is in nothing that has a layer of
    * its own is painted below each positioned element.
    * @param {Element} element
    */
@@ -187,7 +187,7 @@ class Places {
     if (this.curtain === undefined) this.curtain = this.findCurtain();
     const { curtain, natives } = this;
     if (!curtain || !this.wasThereBefore(curtain, element) || apply(natives.contains, curtain, [element])) return false;
-    return !this.standsInLayer(element);
+    return !this.isInLayer(element);
   }
 
   /** @returns {Element|null} */
@@ -200,14 +200,14 @@ class Places {
     if (!this.fillsWindow(apply(natives.getBoundingClientRect, curtain, []))) return null;
     if (findItem(SPOTS, (spot) => !apply(natives.contains, /** @type {Element} */ (curtain), [at(spot)]))) return null;
     const parent = parentOf(natives, curtain);
-    return parent && this.standsInLayer(parent) ? null : curtain;
+    return parent && this.isInLayer(parent) ? null : curtain;
   }
 
   /**
    * Whether an element, or one around it except the root, has a layer of its own.
    * @param {Element} element
    */
-  standsInLayer(element) {
+  isInLayer(element) {
     const { natives, page: { document } } = this;
     for (let one = /** @type {Element|null} */ (element); one && one.nodeType === 1 && one !== document.documentElement; one = parentOf(natives, one)) {
       if (this.hasLayer(one)) return true;
