@@ -13,6 +13,7 @@ const { LoadsListing } = require('./list/loads-listing.js');
 const { loadsPage } = require('./list/loads-page.js');
 const { LoadRuns } = require('./list/loads-run.js');
 const { writeOutputs, tellLines, totalsOf } = require('./list/outputs.js');
+const { atSignalsMercy, phase } = require('./phase.js');
 const { askAhead } = require('./races/program.js');
 const { besides } = require('./view.js');
 
@@ -134,10 +135,10 @@ async function listLoads(judged, failed, known, options, { folder, page, replay 
  * @param {Place} place
  */
 async function reportLoads(files, known, options, place) {
-  const { judged, failed } = await judgeLoads(files, place.command, known, options);
+  const { judged, failed } = await phase('analyzing the page loads and writing their views', () => judgeLoads(files, place.command, known, options));
   if (!judged.length) return failed;
   if (failed) printError(`${place.command}: ${files.length - judged.length} of ${files.length} page loads could not be analyzed`);
-  return listLoads(judged, failed, known, options, place);
+  return phase('listing the races', () => atSignalsMercy(() => listLoads(judged, failed, known, options, place)));
 }
 
 module.exports = { reportLoads, judgeLoads };

@@ -33,6 +33,28 @@ const isDirective = (statement, kind) => statement.type === 'ExpressionStatement
   && (kind === 'address' ? statement.directive === 'use strict' : statement.directive !== undefined);
 
 /**
+ * Whether a statement of a module runs nothing: an import, names to export, a function.
+ * @param {Statement} statement
+ */
+function runsNothing(statement) {
+  if (/^(?:ImportDeclaration|ExportAllDeclaration|FunctionDeclaration)$/.test(statement.type)) return true;
+  if (statement.type !== 'ExportNamedDeclaration' && statement.type !== 'ExportDefaultDeclaration') return false;
+  return !statement.declaration || statement.declaration.type === 'FunctionDeclaration';
+}
+
+/**
+ * The imports and exports at the start of a module, up to the last one before code runs. Without marks before them, a module that a page loads as a script
+ * fails with the browser's own words.
+ * @param {Statement[]} body
+ */
+function leadingImports(body) {
+  const first = body.findIndex((statement) => !runsNothing(statement));
+  const leading = first < 0 ? body : body.slice(0, first);
+  const last = leading.map(({ type }) => type !== 'FunctionDeclaration').lastIndexOf(true);
+  return leading.slice(0, last + 1);
+}
+
+/**
  * Where the run's first call can be: after the directives, which count only at the start.
  * @param {Program} program
  * @param {string} code
@@ -41,7 +63,9 @@ const isDirective = (statement, kind) => statement.type === 'ExpressionStatement
 function startOfRun({ body }, code, kind) {
   const first = body.findIndex((statement) => !isDirective(statement, kind));
   const directives = first < 0 ? body : body.slice(0, first);
-  if (directives.length) return directives[directives.length - 1].end;
+  const imports = kind === 'module' ? leadingImports(body.slice(directives.length)) : [];
+  const before = [...directives, ...imports];
+  if (before.length) return before[before.length - 1].end;
   if (body.length) return body[0].start;
   return code.startsWith('#!') || code.includes('<!--') ? code.length : 0;
 }

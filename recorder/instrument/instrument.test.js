@@ -85,6 +85,14 @@ test('a module: its own variables, and those of the window', () => {
   assert.match(text, /__er\.um\(2000000,"x"/);
 });
 
+test('a module that a page loads as a script fails at its own first import or export', () => {
+  for (const code of ['function f() { return 1 }\nexport { f };', 'import { a } from "./a.mjs";\nlet b = a;', '"use strict";\nexport default function () { return 1 }\nlet b = 1;']) {
+    const { text } = marked(code, 'module');
+    assert.ok(text.search(/^(?:import|export)/m) < text.indexOf('import.meta'), text);
+    assert.throws(() => new Function(text), { message: code.includes('import {') ? /import statement/ : /Unexpected token 'export'/ });
+  }
+});
+
 test('marks at objects and closures stand around what they tell of', () => {
   const marks = (/** @type {string} */ code) => {
     const { edits = [] } = instrument(code, { kind: 'script', depth: 'objects', builtins: BUILTINS, site: () => 0 });

@@ -27,18 +27,6 @@ function frameOf(window) {
 }
 
 /**
- * The document that a window shows, or null if that is of another origin.
- * @param {import('./types').PageWindow} window
- */
-function documentOf(window) {
-  try {
-    return window.document;
-  } catch { // another origin
-    return null;
-  }
-}
-
-/**
  * @param {import('./types').PageWindow} window
  * @param {import('./types').Recording} recording
  * @param {boolean} mayPass whether it can be the empty page that a frame shows before that of its `src`
@@ -55,4 +43,4 @@ function numberOfFrame(window, recording, mayPass) {
   return parent.sources.numberOfInner(frame, isPassing);
 }
 
-export { recordingOfParent, documentOf, numberOfFrame };
+export { recordingOfParent, numberOfFrame };

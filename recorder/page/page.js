@@ -44,7 +44,8 @@ import { Observers } from './tasks/observers.js';
 import { Promises } from './tasks/promises.js';
 import { Requests } from './tasks/requests.js';
 import { Timers } from './tasks/timers.js';
-import { documentOf, numberOfFrame } from './frames.js';
+import { documentOf } from './core/things.js';
+import { numberOfFrame } from './frames.js';
 
 class Page {
   /**

@@ -15,11 +15,11 @@ const LONGEST_RUN = 90000;
 const folder = temporaryFolder('flow');
 const SECRET = 'hunter22-secret';
 
-/** Sends the server each event that a user makes, with its target, and with the value of a field. */
-const TELLS = `<script>for (const type of ['click', 'dblclick', 'auxclick', 'mouseover', 'keydown', 'keyup', 'change', 'wheel', 'input'])
+/** Reports each event that a user makes to the server, with its target, and with the value of a field. */
+const REPORTS = `<script>for (const type of ['click', 'dblclick', 'auxclick', 'mouseover', 'keydown', 'keyup', 'change', 'wheel', 'input'])
   addEventListener(type, (event) => { const { target, key = '', ctrlKey } = event; fetch('/seen?' + encodeURIComponent([type, event.composedPath()[0].id, event.isTrusted,
     key && (ctrlKey ? 'Control+' : '') + key, target.files?.length ? target.files[0].name : target.value].join(' '))); }, { capture: true, passive: true });</script>`;
-const CONTROLS = `<!doctype html><title>c</title>${TELLS}<button id="save"><span id="inner">Save  all</span></button> <button id="other" aria-label="Save">x</button>
+const CONTROLS = `<!doctype html><title>c</title>${REPORTS}<button id="save"><span id="inner">Save  all</span></button> <button id="other" aria-label="Save">x</button>
   <input id="q" value="old"> <label>Colour <select id="list"><option>red</option><option value="g">green</option><option disabled>none</option><option>blue</option></select></label>
   <select id="many" multiple size="3"><option>one</option><option>two</option></select> <input type="file" id="file"> <input type="range" id="range" max="9">
   <div id="host"></div> <iframe id="frame" srcdoc="<button id=inside onclick='parent.fetch(&quot;/seen?inside&quot;)'>In</button>" style="width: 100px; height: 40px"></iframe>

@@ -17,6 +17,8 @@ const MODIFIERS = new Map([
   ['Shift', { bit: 8, key: { key: 'Shift', code: 'ShiftLeft', keyCode: 16, location: 1 } }],
 ]);
 
+const ALT_AND_SHIFT = 9;
+
 /**
  * Keys without a character of their own, and those whose character is no name.
  * @type {[name: string, keyCode: number, text?: string][]}
@@ -118,7 +120,10 @@ function eventsOf({ key, modifiers }) {
   const isText = key.text !== undefined && !modifiers.some((name) => name !== 'Shift');
   const down = held.map((one, k) => ({ type: 'rawKeyDown', ...fields(one.key, held.slice(0, k + 1).reduce((all, { bit }) => all | bit, 0)) }));
   const up = held.map((one, k) => ({ type: 'keyUp', ...fields(one.key, held.slice(0, k).reduce((all, { bit }) => all | bit, 0)) })).reverse();
-  return [...down, { type: isText ? 'keyDown' : 'rawKeyDown', ...fields(key, bits), text: isText ? key.text : undefined }, { type: 'keyUp', ...fields(key, bits) }, ...up];
+  // Alt and a character can be the access key of an element, which the browser takes from the character
+  const access = key.text !== undefined && modifiers.includes('Alt') && bits === (bits & ALT_AND_SHIFT)
+    ? [{ type: 'char', ...fields(key, bits), text: key.text, unmodifiedText: key.text, isSystemKey: true }] : [];
+  return [...down, { type: isText ? 'keyDown' : 'rawKeyDown', ...fields(key, bits), text: isText ? key.text : undefined }, ...access, { type: 'keyUp', ...fields(key, bits) }, ...up];
 }
 
 /**

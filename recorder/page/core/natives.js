@@ -37,6 +37,8 @@ function takeNatives(window) {
     compareDocumentPosition: Node.prototype.compareDocumentPosition,
     parentNode: getterOf(Node.prototype, 'parentNode'),
     isConnected: getterOf(Node.prototype, 'isConnected'),
+    contentWindow: getterOf(window.HTMLIFrameElement.prototype, 'contentWindow'),
+    source: getterOf(window.MessageEvent.prototype, 'source'),
     firstChild: getterOf(Node.prototype, 'firstChild'),
     data: { get: getterOf(CharacterData.prototype, 'data'), set: setterOf(CharacterData.prototype, 'data') },
     MutationObserver: window.MutationObserver,

@@ -34,4 +34,16 @@ function isPlainObject(given) {
   return !findItem(Object.keys(found), (name) => !('value' in found[name]));
 }
 
-export { HTML_NAMESPACE, isElement, isThing, isMedia, isPlainObject };
+/**
+ * The document that a window shows, or null if that is of another origin.
+ * @param {import('../types').PageWindow} window
+ */
+function documentOf(window) {
+  try {
+    return window.document;
+  } catch { // another origin
+    return null;
+  }
+}
+
+export { HTML_NAMESPACE, isElement, isThing, isMedia, isPlainObject, documentOf };

@@ -2,23 +2,31 @@
 
 import { findItem } from '../core/lists.js';
 import { fits } from '../core/strings.js';
-import { apply } from '../core/taken.js';
+import { WeakMap, apply } from '../core/taken.js';
 import { HTML_NAMESPACE } from '../core/things.js';
 
 /** What a user aims at: only of these it is asked whether a pointer finds them. */
 const AIMED_AT = 'a[href],button,input,select,textarea,summary,label,[onclick],[onmousedown],[role],[tabindex]';
 const PARTS_OF_AIM = `:is(${AIMED_AT}) *`;
-/** All questions about places together take at most this many milliseconds. */
+/** All questions about places together take at most this many milliseconds, except the first ones: a busy machine has time for these too. */
 const LONGEST_LOOK = 200;
+const FREE_QUESTIONS = 50;
 /** `nodeType` of a shadow root. */
 const FRAGMENT = 11;
-/** `compareDocumentPosition`: the other one comes after. */
-const FOLLOWS = 4;
 /**
  * Where a pointer is tried inside a box.
  * @type {[number, number][]}
  */
 const SPOTS = [[0.5, 0.5], [0.1, 0.1], [0.9, 0.1], [0.1, 0.9], [0.9, 0.9]];
+
+/**
+ * Styles without which an element has no layer of its own.
+ * @type {[name: string, value: string][]}
+ */
+const NO_LAYER = [['position', 'static'], ['zIndex', 'auto'], ['opacity', '1'], ['transform', 'none'], ['translate', 'none'], ['rotate', 'none'], ['scale', 'none'],
+  ['filter', 'none'], ['backdropFilter', 'none'], ['perspective', 'none'], ['clipPath', 'none'], ['maskImage', 'none'], ['webkitMaskImage', 'none'],
+  ['mixBlendMode', 'normal'], ['isolation', 'auto'], ['contain', 'none'], ['containerType', 'normal'], ['contentVisibility', 'visible'], ['willChange', 'auto'],
+  ['offsetPath', 'none'], ['viewTransitionName', 'none']];
 
 class Places {
   /** @param {import('../types').Page} page */
@@ -26,11 +34,49 @@ class Places {
     this.page = page;
     this.natives = page.natives;
     this.lookTime = 0;
+    this.questions = 0;
+    /**
+     * By element: when it came. What code puts into the page between two looks comes at once.
+     * @type {WeakMap<Element, number>}
+     */
+    this.times = new WeakMap();
+    this.time = 0;
+    /**
+     * What fills the window, asked once a look: undefined before.
+     * @type {Element|null|undefined}
+     */
+    this.curtain = undefined;
+  }
+
+  /** A look begins. */
+  begin() {
+    this.time++;
+    this.curtain = undefined;
+  }
+
+  /**
+   * @param {Element} element
+   * @param {boolean} isMade whether code has put it there
+   */
+  noteAdded(element, isMade) {
+    if (!isMade) this.time++;
+    this.times.set(element, this.time);
+    if (!isMade) this.time++;
+  }
+
+  /**
+   * Whether an element was there when another one came: it is before that one in a page that the parser makes, or code put it there before, or with it.
+   * @param {Element} over
+   * @param {Element} element
+   */
+  wasThereBefore(over, element) {
+    const [first, second] = [this.times.get(over), this.times.get(element)];
+    return first !== undefined && second !== undefined && first <= second;
   }
 
   /** Whether the questions have taken too long for a further one. */
   isExhausted() {
-    return this.lookTime > LONGEST_LOOK;
+    return this.lookTime > LONGEST_LOOK && this.questions > FREE_QUESTIONS;
   }
 
   /** @param {Element} element */
@@ -45,6 +91,7 @@ class Places {
   isForPointer(element) {
     const { natives } = this;
     const began = natives.now();
+    this.questions++;
     const isFound = natives.getComputedStyle(element).pointerEvents !== 'none' && this.hasPlace(element);
     this.lookTime += natives.now() - began;
     return isFound;
@@ -59,7 +106,7 @@ class Places {
     if (!(box.width > 0 && box.height > 0)) return style.overflow === 'visible' && apply(natives.firstChild, element, []) !== null;
     if (style.overflow === 'visible' && element.firstElementChild) return true; // what is in it can be shown elsewhere
     if (box.right + window.scrollX <= 0 || box.bottom + window.scrollY <= 0) return false;
-    return !this.isClipped(element, box) && !this.isUnderOther(element, box);
+    return !this.isClipped(element, box) && !this.isUnderOther(element, box) && !this.isUnderCurtain(element);
   }
 
   /**
@@ -81,7 +128,7 @@ class Places {
   }
 
   /**
-   * Whether another element, that stands before it in the page, lies over all of a box.
+   * Whether another element, that was there before it, lies over all of a box.
    * @param {Element} element
    * @param {DOMRect} box
    */
@@ -92,7 +139,7 @@ class Places {
     const first = at(SPOTS[0]);
     if (!first || apply(natives.contains, element, [first]) || apply(natives.contains, first, [element])) return false;
     const over = this.outermostOver(first, element);
-    if (!(apply(natives.compareDocumentPosition, over, [element]) & FOLLOWS)) return false;
+    if (!this.wasThereBefore(over, element) || !this.wasThereBefore(first, element)) return false;
     return this.liesOver(over, box) && !findItem(SPOTS, (spot) => !apply(natives.contains, over, [at(spot)]));
   }
 
@@ -107,16 +154,82 @@ class Places {
   }
 
   /**
-   * What is fixed lies over it only as long as nobody scrolls, but where it fills the window.
+   * What is fixed lies over it only as long as nobody scrolls, except if it fills the window.
    * @param {Element} over
    * @param {DOMRect} box
    */
   liesOver(over, box) {
-    const { natives, page: { window } } = this;
+    const { natives } = this;
     const { left, top, right, bottom } = apply(natives.getBoundingClientRect, over, []);
     if (left > box.left || top > box.top || right < box.right || bottom < box.bottom) return false;
     if (natives.getComputedStyle(over).position !== 'fixed') return true;
-    return left <= 0 && top <= 0 && right >= window.innerWidth && bottom >= window.innerHeight;
+    return this.fillsWindow({ left, top, right, bottom });
+  }
+
+  /**
+   * Whether a box fills the window, except its scroll bars.
+   * @param {{left: number, top: number, right: number, bottom: number}} box
+   */
+  fillsWindow({ left, top, right, bottom }) {
+    const { documentElement, body, compatMode } = this.page.document;
+    const { clientWidth, clientHeight } = compatMode === 'CSS1Compat' || !body ? documentElement : body;
+    return left <= 0 && top <= 0 && right >= clientWidth && bottom >= clientHeight;
+  }
+
+  // ---- out of view
+
+  /**
+   * Whether something that fills the window and does not scroll lies over an element wherever a user scrolls: what is in nothing that has a layer of
+   * its own is painted below each positioned element.
+   * @param {Element} element
+   */
+  isUnderCurtain(element) {
+    if (this.curtain === undefined) this.curtain = this.findCurtain();
+    const { curtain, natives } = this;
+    if (!curtain || !this.wasThereBefore(curtain, element) || apply(natives.contains, curtain, [element])) return false;
+    return !this.isInLayer(element);
+  }
+
+  /** @returns {Element|null} */
+  findCurtain() {
+    const { natives, page: { window, document } } = this;
+    const at = (/** @type {number[]} */ { 0: x, 1: y }) => apply(natives.elementFromPoint, document, [x * window.innerWidth, y * window.innerHeight]);
+    let curtain = at(SPOTS[0]);
+    while (curtain && curtain.nodeType === 1 && natives.getComputedStyle(curtain).position !== 'fixed') curtain = parentOf(natives, curtain);
+    if (!curtain || curtain.nodeType !== 1 || !(Number(natives.getComputedStyle(curtain).zIndex) >= 0 || natives.getComputedStyle(curtain).zIndex === 'auto')) return null;
+    if (!this.fillsWindow(apply(natives.getBoundingClientRect, curtain, []))) return null;
+    if (findItem(SPOTS, (spot) => !apply(natives.contains, /** @type {Element} */ (curtain), [at(spot)]))) return null;
+    const parent = parentOf(natives, curtain);
+    return parent && this.isInLayer(parent) ? null : curtain;
+  }
+
+  /**
+   * Whether an element, or one around it except the root, has a layer of its own.
+   * @param {Element} element
+   */
+  isInLayer(element) {
+    const { natives, page: { document } } = this;
+    for (let one = /** @type {Element|null} */ (element); one && one.nodeType === 1 && one !== document.documentElement; one = parentOf(natives, one)) {
+      if (this.hasLayer(one)) return true;
+    }
+    return false;
+  }
+
+  /**
+   * Whether an element can be painted above others that come later in the page. In doubt it can.
+   * @param {Element} element
+   */
+  hasLayer(element) {
+    const style = /** @type {{[name: string]: any}} */ (this.natives.getComputedStyle(element)); // some have no type yet
+    return !!findItem(NO_LAYER, ({ 0: name, 1: value }) => style[name] !== undefined && style[name] !== value) || this.isOnTop(element);
+  }
+
+  /**
+   * Whether an element is above all others: a popover, a dialog, what fills the screen.
+   * @param {Element} element
+   */
+  isOnTop(element) {
+    return apply(this.natives.matches, element, [':is(dialog, [popover], :fullscreen)']);
   }
 }
 

@@ -7,11 +7,11 @@ import { each, findItem, keep, keysOf } from '../core/lists.js';
 import { fits } from '../core/strings.js';
 import { Map, Set, WeakSet, apply } from '../core/taken.js';
 import { isElement } from '../core/things.js';
+import { Inert } from './inert.js';
 import { Places, parentOf } from './places.js';
 
 /** Nobody acts at these, or they are there without a box of their own. */
 const HAS_NO_BOX = /^(?:area|base|br|col|colgroup|head|html|link|meta|noscript|optgroup|option|param|script|source|style|template|title|track|wbr)$/;
-const IS_INERT = ':is([inert], [inert] *)';
 const BY_POINTER = /^(?:mouse|pointer|touch|drag|(?:click|dblclick|auxclick|wheel|drop)$)/;
 const BY_KEYS = new Set(['keydown', 'keypress', 'keyup', 'beforeinput', 'textInput', 'input', 'change', 'focus', 'focusin', 'blur', 'focusout',
   'contextmenu']); // which has a key of its own
@@ -58,8 +58,7 @@ class Reach {
     this.unfolding = [];
     this.unfolded = new WeakSet();
     this.timeInAll = 0;
-    /** @type {boolean|null} */
-    this.isInert = null;
+    this.inert = new Inert(page);
     this.places = new Places(page);
   }
 
@@ -72,6 +71,7 @@ class Reach {
    */
   noteAdded(element, maker) {
     if (fits(HAS_NO_BOX, element.localName)) return;
+    this.places.noteAdded(element, maker === 'script');
     if (!this.came.has(element)) {
       this.came.add(element);
       this.fresh[this.fresh.length] = { element, isMade: maker === 'script' };
@@ -95,7 +95,8 @@ class Reach {
     const { natives } = this;
     if (!natives.checkVisibility || this.recording.isOver || !(this.waiting.size || this.fresh.length)) return;
     const began = natives.now();
-    this.isInert = null;
+    this.inert.begin();
+    this.places.begin();
     this.unfolding = moment && this.waiting.size ? this.findUnfolding() : [];
     const { waiting } = this;
     each(keysOf(waiting), (element) => this.lookAgain(element, /** @type {State} */ (waiting.get(element)), moment));
@@ -224,15 +225,8 @@ class Reach {
   /** @param {Element} element */
   levelOf(element) {
     const { natives } = this;
-    if (!apply(natives.checkVisibility, element, [ASKS_VISIBILITY]) || (this.hasInert() && apply(natives.matches, element, [IS_INERT]))) return HIDDEN;
+    if (!apply(natives.checkVisibility, element, [ASKS_VISIBILITY]) || this.inert.has(element)) return HIDDEN;
     return this.places.isExhausted() || !this.places.isAimedAt(element) || this.places.isForPointer(element) ? IN_REACH : FOR_KEYS;
-  }
-
-  /** Asked once a look. */
-  hasInert() {
-    const root = this.page.document.documentElement;
-    if (this.isInert === null) this.isInert = !!root && (apply(this.natives.hasAttribute, root, ['inert']) || apply(this.natives.querySelectorAll, root, ['[inert]']).length > 0);
-    return this.isInert;
   }
 
   // ---- acts

@@ -1,10 +1,10 @@
 // Messages: `postMessage` of windows, of ports and of broadcast channels. Each message has a plain element, at which its listeners are handlers: in
 // version 2 its sender makes it, so that the message comes after its sender and no rule joins it with another one.
 
-import { each, keep, takeFirst } from '../core/lists.js';
+import { each, findItem, keep, takeFirst } from '../core/lists.js';
 import { putConstructor, replaceConstructor, replaceMethod } from '../core/replacing.js';
-import { Object, apply, isArray } from '../core/taken.js';
-import { isPlainObject } from '../core/things.js';
+import { Object, WeakMap, apply, isArray } from '../core/taken.js';
+import { documentOf, isPlainObject } from '../core/things.js';
 
 const tagOf = Object.prototype.toString;
 
@@ -16,6 +16,11 @@ class Messages {
   constructor(page) {
     this.page = page;
     this.recording = page.recording;
+    /**
+     * The last message of each frame that is not recorded.
+     * @type {WeakMap<Element, import('./queued.js').Cause>}
+     */
+    this.foreign = new WeakMap();
   }
 
   start() {
@@ -103,7 +108,8 @@ class Messages {
    */
   begin(dispatch) {
     const { event, target } = dispatch;
-    const waiting = event.type === 'message' && this.recording.steering.isTrusted(event) && this.recording.posted.get(target);
+    const isMessage = event.type === 'message' && this.recording.steering.isTrusted(event);
+    const waiting = isMessage && !this.isForeign(event) && this.recording.posted.get(target);
     const posted = waiting && takeFirst(waiting);
     if (!posted) return false;
     const { message, standIn, sender, ports } = posted;
@@ -114,6 +120,44 @@ class Messages {
     dispatch.why = 'the start of the port';
     this.page.joins.tellOf(dispatch); // at once, so that the lookup of handlers comes after it too
     return true;
+  }
+
+  // ---- of frames that are not recorded
+
+  /**
+   * The window that has posted a message; a port and a worker have none.
+   * @param {Event} event
+   * @returns {Window|null}
+   */
+  sourceOf(event) {
+    return /** @type {Window|null} */ (apply(this.page.natives.source, /** @type {MessageEvent} */ (event), []));
+  }
+
+  /**
+   * Whether a page of another origin has posted a message, whose call is not seen.
+   * @param {Event} event
+   */
+  isForeign(event) {
+    const source = this.sourceOf(event);
+    return !!source && documentOf(/** @type {PageWindow} */ (source)) === null;
+  }
+
+  /**
+   * A message of a frame that is not recorded comes after the frame was made, and after the one before.
+   * @param {Event} event
+   * @param {import('../types').Target} target
+   * @returns {import('./queued.js').Cause|undefined}
+   */
+  causeOf(event, target) {
+    const { page } = this;
+    if (event.type !== 'message' || /** @type {unknown} */ (target) !== page.window || !this.isForeign(event)) return undefined;
+    const source = this.sourceOf(event);
+    const frames = /** @type {HTMLIFrameElement[]} */ (/** @type {unknown} */ (apply(page.natives.querySelectorAll, page.document.documentElement, ['iframe'])));
+    const frame = findItem(frames, (one) => apply(page.natives.contentWindow, one, []) === source);
+    if (!frame) return undefined;
+    const cause = { moment: null, standIn: page.elements.standIn(frame, 'a message of it'), before: this.foreign.get(frame) };
+    this.foreign.set(frame, cause);
+    return cause;
   }
 
   /**

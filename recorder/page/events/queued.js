@@ -137,7 +137,7 @@ class Queued {
   take(event, target) {
     if (FIRST_OF_MOTION.has(event.type)) return this.page.motions.causeOf(/** @type {import('./motions.js').MotionEvent} */ (event), target);
     if (isMedia(target)) return this.page.media.causeOf(event, target);
-    return this.takeNoted(event, target) || this.rejectionOf(event);
+    return this.takeNoted(event, target) || this.rejectionOf(event) || this.page.messages.causeOf(event, target);
   }
 
   /**

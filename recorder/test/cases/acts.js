@@ -125,4 +125,23 @@ exports.cases = [
     races: ['click of button#go', 'toggle of details#more'],
   },
   { page: 'show-by-label.html', words: ['--do', 'wait:100', '--do', 'click:#label'], due: ['run clicked'], never: ['fire input#box showing'], races: ['click of input#box'] },
+  // ---- acts at what others cover first
+  // the parser makes the cover after it, or code makes it later: a user can be faster
+  ...['cover-parsed-later.html', 'cover-by-code-later.html', 'cover-partly.html', 'cover-passes.html', 'cover-not-modal.html', 'cover-modal-later.html'].map((page) => ({
+    page, words: ['--do', 'wait:200', '--do', 'click:#go'], due: ['w settings', 'run clicked'], never: ['fire button#go showing'], races: ['click of button#go'],
+  })),
+  // covered again later: it comes after the code that uncovered it first
+  { page: 'cover-again.html', words: ['--do', 'wait:200', '--do', 'click:#go'], due: ['fire button#go showing', 'run clicked'], races: ['click of button#go'] },
+  // code makes it under a cover that is there, or comes with it
+  ...['cover-rendered.html', 'cover-with-it.html', 'cover-out-of-view.html', 'cover-modal.html', 'cover-rendered-keys.html'].map((page) => ({
+    page, words: ['--do', 'wait:200', '--do', 'click:#go'], due: ['w settings', 'fire button#go showing', 'run clicked', 'r settings'], races: [],
+  })),
+  { page: 'cover-modal.html', words: ['--do', 'wait:200', '--do', 'press:#go:a'], due: ['w settings', 'fire button#go showing', 'run pressed'], races: [] },
+  // what is above the cover, and what is reached in another way: an access key, the keys, a label
+  { page: 'cover-rendered.html', words: ['--do', 'wait:200', '--do', 'click:#moved'], due: ['run clicked'], never: ['fire button#moved showing'], races: ['click of button#moved'] },
+  { page: 'cover-out-of-view.html', words: ['--do', 'wait:200', '--do', 'click:#layer'], due: ['run clicked'], never: ['fire button#layer showing'], races: ['click of button#layer'] },
+  ...['key:Alt+g', 'press:#go:Enter'].map((act) => ({
+    page: 'cover-rendered-keys.html', words: ['--do', 'wait:200', '--do', act], due: ['run clicked'], never: ['fire button#go showing'], races: ['click of button#go'],
+  })),
+  { page: 'cover-rendered-keys.html', words: ['--do', 'wait:200', '--do', 'press:#box:Space'], due: ['run clicked'], never: ['fire input#box showing'], races: ['click of input#box'] },
 ];

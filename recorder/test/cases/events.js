@@ -292,4 +292,8 @@ exports.cases = [
     races: [],
   },
   { page: 'focus-late.html', due: ['timer', 'w focus of window'], never: ['wfire focus'], races: [] },
+  // messages of a frame that is not recorded come after what made the frame
+  { page: 'message-sandboxed.html', due: ['run starts', 'on heard', 'fire iframe message', 'run heard', 'fire iframe message', 'run heard'], races: [] },
+  { page: 'message-sandboxed-early.html', due: ['timer', 'on heard', 'fire iframe message', 'run heard'], races: ['message of window'] },
+  { page: 'message-own-and-sandboxed.html', due: ['fire iframe message', 'run heard', 'timer', 'post', 'message', 'run heard'], races: [] },
 ];
