@@ -62,19 +62,19 @@ function findAgain({ name, problem }, { ofRaces }) {
 
 /**
  * Records the page until all races are found again, or as often as is tried. All recordings are in one browser.
- * @param {string} given
+ * @param {string} address
  * @param {CommandOptions} options
- * @param {string} traceFile
+ * @param {string} traceFile of the new recording
  * @param {Wanted[]} wanted
  * @param {Recorder[]} recorders gets each recorder, whose browser stays
  * @returns {Promise<{status: number, again?: {view: View, recorder: Recorder, found: Found[], recordings: number}}>}
  */
-async function recordAgain(given, options, traceFile, wanted, recorders) {
+async function recordAgain(address, options, traceFile, wanted, recorders) {
   for (let k = 1; ; k++) {
     const browser = recorders[0]?.runningBrowser();
-    const recorder = new Recorder(given, withEnd({ ...options, keepsBrowser: true, ...browser ? { browser } : {}, fixed: chance(options) }));
+    const recorder = new Recorder(address, withEnd({ ...options, keepsBrowser: true, ...browser ? { browser } : {}, fixed: chance(options) }));
     recorders.push(recorder);
-    const { failed, incomplete } = await recordInto(given, traceFile, options, recorder);
+    const { failed, incomplete } = await recordInto(address, traceFile, options, recorder);
     if (failed) return { status: failed };
     const { status, view } = await stoppable(() => process.exit(STATUS.stopped), async () => {
       writeWhole(besides(traceFile, '.report'), (await runProgram([], traceFile)).output);
@@ -89,7 +89,7 @@ async function recordAgain(given, options, traceFile, wanted, recorders) {
 /**
  * Prints which race of the new recording each is.
  * @param {{found: Found[], view: View, recordings: number}} again
- * @param {string} trace
+ * @param {string} trace the file of the earlier recording, as it was given
  */
 function printFound({ found, view, recordings }, trace) {
   for (const { number, name, at, words, ownOrder } of found) {

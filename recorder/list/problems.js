@@ -1,5 +1,5 @@
 'use strict';
-// Problems of one recording: the races that touch the same thing from the same two places are one. Each race is in exactly one problem.
+// Problems of one recording: the races of one key (`nameRace` in lasting.js: location and both places) are one. Each race is in exactly one problem.
 
 const { isOfTree } = require('../races/spelled-locations.js');
 const { LastingNames } = require('./lasting.js');

@@ -1,5 +1,6 @@
 'use strict';
-// What the commands print with --help. The documents have the same options (test/options.test.js). tools/manual.py makes the manual pages of these texts.
+// What the commands print with --help. The documents have the same options (test/options.test.js). tools/manual.py makes the manual pages of these texts:
+// an entry starts with two spaces, its further lines with three or more. The statuses are those of common/status.js.
 
 const { ER_BROWSER } = require('./help-browser.js');
 
@@ -120,7 +121,7 @@ Exit status:
   2    wrong arguments, or a bad file of known races; nothing is recorded
   3    the analyzer refused the trace: a bug of the recorder
   4    the page did not load, or no race was found but the recording is not
-       complete: its time was over before the page was quiet
+       complete: --time was over before the page was quiet
   5    the browser failed, or a file could not be written
   6    a step of --do or --flow could not be done; all files are written
   10   no analyzer; with --replay, also if each answer takes minutes
@@ -158,7 +159,7 @@ Examples:
 Exit status:
   0    the page is recorded
   2    wrong arguments; nothing is recorded
-  4    the page did not load, or its time was over before it was quiet
+  4    the page did not load, or --time was over before it was quiet
   5    the browser failed, or a file could not be written
   6    a step of --do or --flow could not be done; all files are written
   70   an internal error

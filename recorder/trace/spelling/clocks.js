@@ -1,5 +1,5 @@
 'use strict';
-// Which timeouts are compared with each other: only those of one window have an order by their delays.
+// Which timeouts are compared with each other: only those of one window have an order by their delays. The analyzer compares the delays (docs/rules.md, rule 19).
 
 const { BEGINS } = require('../intake.js');
 
