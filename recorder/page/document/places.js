@@ -2,7 +2,7 @@
 
 import { findItem } from '../core/lists.js';
 import { fits } from '../core/strings.js';
-import { WeakMap, apply } from '../core/taken.js';
+import { Number, WeakMap, apply } from '../core/taken.js';
 import { HTML_NAMESPACE } from '../core/things.js';
 
 /** What a user aims at: only of these it is asked whether a pointer finds them. */
@@ -70,7 +70,8 @@ class Places {
    * @param {Element} element
    */
   wasThereBefore(over, element) {
-    const [first, second] = [this.times.get(over), this.times.get(element)];
+    const first = this.times.get(over);
+    const second = this.times.get(element);
     return first !== undefined && second !== undefined && first <= second;
   }
 
