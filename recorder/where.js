@@ -54,6 +54,31 @@ function partsOf(text) {
  */
 const hasAll = (text, words) => words.every((word) => word.test(text));
 
+/**
+ * The start of a word in a text, or of a part of a name.
+ * @param {string} word
+ */
+function formOf(word) {
+  const escaped = word.replace(/[^\w]/g, '\\$&');
+  const inAnyCase = escaped.replace(/[a-z]/gi, (letter) => `[${letter.toLowerCase()}${letter.toUpperCase()}]`);
+  return new RegExp(`(?:^|[^a-zA-Z])${inAnyCase}|[a-z]${escaped[0].toUpperCase()}${escaped.slice(1)}`);
+}
+
+/**
+ * Prints a module that has the words, and returns whether it has them.
+ * @param {{file: string, text: string}} module
+ * @param {RegExp[]} wanted
+ */
+function printModule({ file, text }, wanted) {
+  const { about, definitions } = partsOf(text);
+  const found = definitions.filter(({ name, comment }) => hasAll(`${name} ${comment}`, wanted)).slice(0, MOST_DEFINITIONS);
+  const name = path.relative(__dirname, file);
+  if (!found.length && !hasAll(`${name} ${about}`, wanted)) return false;
+  print(`recorder/${name}: ${about}`);
+  for (const one of found) print(`  ${one.line}: ${one.name}${one.comment ? `: ${one.comment.replace(/@\w+.*/, '').trim().slice(0, MOST_LETTERS)}` : ''}`);
+  return true;
+}
+
 /** @param {string[]} words */
 function main(words) {
   if (!words.length) {
@@ -61,14 +86,13 @@ function main(words) {
     process.exitCode = 2;
     return;
   }
-  const wanted = words.map((word) => new RegExp(`(?:^|[^a-z])${word.replace(/[^\w$]/g, '\\$&')}|[a-z]${word[0].toUpperCase()}${word.slice(1)}`, 'i'));
-  for (const file of modulesIn(__dirname)) {
-    const { about, definitions } = partsOf(fs.readFileSync(file, 'utf8'));
-    const found = definitions.filter(({ name, comment }) => hasAll(`${name} ${comment}`, wanted)).slice(0, MOST_DEFINITIONS);
-    const name = path.relative(__dirname, file);
-    if (found.length || hasAll(`${name} ${about}`, wanted)) print(`recorder/${name}: ${about}`);
-    for (const one of found) print(`  ${one.line}: ${one.name}${one.comment ? `: ${one.comment.replace(/@\w+.*/, '').trim().slice(0, MOST_LETTERS)}` : ''}`);
-  }
+  const modules = modulesIn(__dirname).map((file) => ({ file, text: fs.readFileSync(file, 'utf8') }));
+  const wanted = words.map(formOf);
+  const count = modules.filter((one) => printModule(one, wanted)).length;
+  if (count) return;
+  const others = modules.filter(({ text }) => words.every((word) => text.includes(word)));
+  print(others.length ? 'Only the code of these modules has the words:' : 'nothing found');
+  others.forEach(({ file, text }) => print(`recorder/${path.relative(__dirname, file)}: ${partsOf(text).about}`));
 }
 
 if (require.main === module) main(process.argv.slice(2));

@@ -102,6 +102,8 @@ class Folder {
   }
 
   /**
+   * What the folder answers to a request (responses/folder-answers.js, local-server.js). Each fault is a 404, a Refusal with its reason. A page that is not
+   * there gets the file `fallback`.
    * @param {string} address
    * @param {{accept?: string}} request what the request accepts
    * @returns {Answer}

@@ -54,13 +54,15 @@ class DrivenTab {
      * @type {string[]}
      */
     this.early = [];
-    /** @type {Promise<void>} */
+    /** @type {Promise<void>} settles when the tab has taken what `setUp` sent, or has gone */
     this.scripted = Promise.resolve();
-    /** @type {Promise<void>} */
+    /** @type {Promise<void>} settles when the session for responses listens, or the tab has gone */
     this.ready = Promise.resolve();
     /** @type {Map<number, import('./load.js').Load>} by the number of its window's context */
     this.contexts = new Map();
+    /** Whether each new document gets the recorder's script. */
     this.hasScript = false;
+    /** Whether a document comes that may begin without the script: its copy brings it (`openedIn` in browser-recorder.js). */
     this.isLate = false;
     /** Whether it has shown a page. */
     this.hasShown = false;
@@ -95,8 +97,8 @@ class DrivenTab {
   }
 
   /**
-   * Waits until a document that comes can be recorded. Where it began before the tab took what it was sent, that is taken when the document is there: the
-   * script comes as a part of it, and no event reports that it was shown.
+   * Waits until a document that comes can be recorded, before its request goes on (`passRequest` in browser-recorder.js). If the tab takes too long, the
+   * document's copy brings the script, and `show` is called here, because no event reports the document.
    */
   async waitForSetting() {
     await this.ready;

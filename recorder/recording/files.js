@@ -37,7 +37,7 @@ function entriesOf(accesses, { sources }, { keepsAll, libraries }) {
 }
 
 /**
- * The trace of what was recorded so far, and its names. `accesses` and `large` know what was left out.
+ * The trace of what was recorded so far, and its names, also of a run that goes on (replay/read-run.js). `accesses` and `large` know what was left out.
  * @param {Recorded} recorded
  * @param {RecordingOptions} options
  */

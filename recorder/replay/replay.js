@@ -21,7 +21,7 @@ const { Runs, withEnd, isStop, runsAtOnce } = require('./runs.js');
 /** @typedef {import('./types').Reversal} Reversal */
 /** @typedef {import('./types').Reversed} Reversed */
 
-/** How many causes are tried for a race, one after the other, and how many runs with each. */
+/** How many causes of a race are tried, and how many tries it has in all; each try has up to MOST_RUNS runs (in-order.js). */
 const MOST_CAUSES = 2;
 const MOST_TRIES = 3;
 const SEED = 1;

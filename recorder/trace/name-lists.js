@@ -2,7 +2,7 @@
 // The lists of OUT.names.json, and which notes of the log declare what is in them.
 
 /**
- * The kinds of numbers, by the word of their name in the log.
+ * By the kind of a fact of the log (log/facts.js): its list in OUT.names.json, which names.js makes.
  * @type {Map<string, string>}
  */
 const LISTS = new Map(Object.entries({

@@ -44,7 +44,7 @@ class KeepAnswers {
   }
 
   /**
-   * The bytes of a page or a script, before it gets its marks.
+   * The bytes of a page or a script, before it gets its marks (`passResponse` in copies.js). `takeBody` then finds nothing that is awaited.
    * @param {Paused} event
    * @param {Buffer} body
    */

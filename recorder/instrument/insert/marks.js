@@ -1,5 +1,6 @@
 'use strict';
-// The walk that inserts marks at global variables (page/helpers/globals.js) and at those of a module. What is marked of members is in the subclasses.
+// The walk that inserts marks at global variables (page/helpers/globals.js) and at those of a module. What is marked of
+// members and closures is in the subclasses: closure-marks.js, member-marks.js, value-marks.js, window-marks.js.
 
 const { mayWait, isFunction } = require('../syntax/children.js');
 const { namesOfPattern } = require('../syntax/names.js');
