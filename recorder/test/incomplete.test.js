@@ -92,7 +92,7 @@ test('a user flow of the Recorder panel', LIMIT, async () => {
   const trace = path.join(folder, 'flow.trace');
   const { status, stderr } = await call('er_record', trace, '--flow', flow);
   assert.strictEqual(status, 6, stderr);
-  assert.match(stderr, /^er_record: not done: step 4 of flow\.json, click:"#none": no element matches the selector, after 5 s$/m);
+  assert.match(stderr, /^er_record: not done: step 4 of flow\.json, click aria\/x: no element matches the selector, after 5 s; the steps after it were not done$/m);
   assert.match(fs.readFileSync(trace, 'utf8'), /^(fire|inline) \d+ \d+ click$/m);
 });
 
