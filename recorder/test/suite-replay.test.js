@@ -84,8 +84,9 @@ test('Ctrl-C ends the suite and its browser, and the list is printed', LIMIT, as
   child.kill('SIGINT');
   assert.strictEqual(await child.ended, 130, child.said);
   assert.match(child.output, /2 problems/);
-  const rest = fs.readdirSync('/proc').filter((pid) => /^\d+$/.test(pid) && isOf(pid, `ER_TRACES=${path.join(traces, 'replays')}`));
-  assert.deepStrictEqual(rest, []);
+  const left = () => fs.readdirSync('/proc').filter((pid) => /^\d+$/.test(pid) && isOf(pid, `ER_TRACES=${path.join(traces, 'replays')}`));
+  for (let k = 0; k < 100 && left().length; k++) await sleep(100); // a browser of some processes that were told to end takes a moment
+  assert.deepStrictEqual(left(), []);
 });
 
 /** @param {string} pid @param {string} text of its environment */
