@@ -18,7 +18,7 @@ const SHARE = 10;
 const SHORTEST_PAUSE = 1000;
 const MOST_ERRORS = 100;
 
-/** @typedef {{pid: number, words: string, name?: string}} TestFacts the process that drives the browser, and the name of its test */
+/** @typedef {{pid: number, words: string, name?: string}} TestFacts the process that drives the browser, and the name of its test (`ER_TEST`, read in main.js) */
 /** @typedef {Parameters<typeof writeFiles>[1] & {time: number}} Options of the recording */
 
 /**

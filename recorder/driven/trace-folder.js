@@ -21,7 +21,7 @@ function slugOf(address) {
 
 class TraceFolder {
   /**
-   * @param {string} log the file for the recorder's messages: recordings have its name, then a number and the address
+   * @param {string} log the file for the recorder's messages, which `launch` names by date and process: recordings have its name, then a number and the address
    * @param {import('./load.js').TestFacts} test
    */
   constructor(log, test) {

@@ -3,7 +3,7 @@
 /** A place in a file: the file's number, the line and the column, both from 1. */
 export type Place = [file: number, line: number, column: number];
 
-/** A race of the report. `modes` has a letter for each access, `r` or `w`. */
+/** A race of the report. `lines` are lines of the trace, from 1. `modes` has a letter for each access, `r` or `w`. */
 export interface Race {
   actions: [first: number, second: number];
   lines: [first: number, second: number];

@@ -31,8 +31,8 @@ class Rest {
 
   /**
    * Returns whether the page was quiet, or as quiet as it gets, before the time of the recording was over.
-   * @param {number} [length]
-   * @param {number} [longestUnrest]
+   * @param {number} [length] milliseconds without an open request or a new action
+   * @param {number} [longestUnrest] milliseconds for which a page that is never quiet is waited for
    * @param {() => boolean} [isEnough] ends the waiting
    */
   async waitForQuiet(length = QUIET, longestUnrest = LONGEST_UNREST, isEnough = () => false) {

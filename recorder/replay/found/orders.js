@@ -64,6 +64,8 @@ class Orders {
   }
 
   /**
+   * What the two accesses are in any run, the first of the trace first: by the keys of the recorded run, or by looser ones (replay.js). `Keys.find` looks for
+   * them in another run.
    * @param {Race} race
    * @param {import('../../races/keys.js').Keys} keys
    * @returns {[first: import('../../races/types').AccessIdentity, second: import('../../races/types').AccessIdentity]}
