@@ -8,7 +8,8 @@
 const sleep = (time) => new Promise((resolve) => { setTimeout(resolve, time); });
 
 /**
- * The value of a promise, or `otherwise` if it takes longer than `time` milliseconds. The promise itself goes on. If it is rejected in time, so is the answer; a later rejection is ignored.
+ * The value of a promise, or `otherwise` if it takes longer than `time` milliseconds. The promise itself goes on. If it is rejected in time, so is the
+ * answer; a later rejection is ignored.
  * @template T
  * @template [U=undefined]
  * @param {Promise<T>} promise

@@ -85,7 +85,7 @@ test('Ctrl-C ends the suite and its browser, and the list is printed', LIMIT, as
   assert.strictEqual(await child.ended, 130, child.said);
   assert.match(child.output, /2 problems/);
   const left = () => fs.readdirSync('/proc').filter((pid) => /^\d+$/.test(pid) && isOf(pid, `ER_TRACES=${path.join(traces, 'replays')}`));
-  for (let k = 0; k < 100 && left().length; k++) await sleep(100); // a browser of some processes that were told to end takes a moment
+  for (let k = 0; k < 100 && left().length; k++) await sleep(100); // the processes of a browser end some time after the command
   assert.deepStrictEqual(left(), []);
 });
 
