@@ -179,7 +179,10 @@ class SuiteReplays {
     const [held] = loads.sort((a, b) => Number(b.facts.held?.isReached) - Number(a.facts.held?.isReached));
     const own = { folder: path.join('replays', folder), suiteStatus: ended.status };
     if (ended.isLate) return { ...own, verdict: 'not turned', why: `the suite took longer than ${this.time} s (--time)`, words: '' };
-    if (!held) return { ...own, verdict: 'not turned', why: `the suite did not load ${address} for the ${nth}. time`, words: '' };
+    if (!held) {
+      const why = nth === 1 ? `the suite did not load ${address}` : `the suite loaded ${address} fewer than ${nth} times`;
+      return { ...own, verdict: 'not turned', why, words: '' };
+    }
     return { ...own, ...await this.judge({ load, held, sides, race, cause }, ended, problem) };
   }
 
