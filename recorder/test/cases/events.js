@@ -67,7 +67,7 @@ exports.cases = [
   // ---- promises that are settled before a reaction is asked for
   {
     page: 'settled-before.html',
-    due: ['close', 'back', 'reply', 'w items', 'inline what settled the promise settled', 'timer', 'r ready', 'run what settled the promise', 'run uses', 'r items'],
+    due: ['reply', 'w items', 'inline what settled the promise settled', 'timer', 'r ready', 'run what settled the promise', 'run uses', 'r items'],
     besides: [['timer', 'w queue', 'w count', 'inline what settled the promise settled', 'on what settled the promise', 'timer', 'run what settled the promise',
       'run first', 'w count']],
     races: ['queue'],
