@@ -20,6 +20,7 @@ const { Recorder } = require('./recording/recorder.js');
 const { listPages } = require('./many-pages.js');
 const { listFlow } = require('./page-flow.js');
 const { recordInto } = require('./record.js');
+const { mayReplayByItself, whyNotByItself } = require('./replay-by-itself.js');
 const { canReplay, replayRaces } = require('./replay-command.js');
 const { withEnd, chance } = require('./replay/replay.js');
 const { askAhead, endAsking, programState } = require('./races/program.js');
@@ -27,7 +28,7 @@ const { writePage } = require('./view.js');
 
 /** @typedef {import('./recording/options.js').CommandOptions} CommandOptions */
 /** @typedef {import('./view.js').View} View */
-/** @typedef {{given: string, folder: string, options: CommandOptions}} Call */
+/** @typedef {{given: string, folder: string, options: CommandOptions, mayReplay: boolean}} Call `mayReplay`: the races can be run again after the recording */
 
 /**
  * The folder for a page: by its name, in the current one.
@@ -105,10 +106,10 @@ async function pageRaces(call) {
   const { given, folder, options } = call;
   const known = options.known ? Known.readFile(options.known, options.writesKnown) : null;
   prepareFolder(folder);
-  const first = new Recorder(given, options.isReplayed ? withEnd({ ...options, keepsBrowser: true, fixed: chance(options) }) : options);
+  const first = new Recorder(given, call.mayReplay ? withEnd({ ...options, keepsBrowser: true, fixed: chance(options) }) : options);
   try {
     const recorded = await recordRuns(call, first);
-    const judging = () => phase('analyzing the trace and writing the view', () => judgeRuns(recorded.files, known, options.isReplayed));
+    const judging = () => phase('analyzing the trace and writing the view', () => judgeRuns(recorded.files, known, call.mayReplay));
     const judged = await stoppable(() => endAsking(STATUS.stopped), judging); // a browser may still run
     const { runs } = judged;
     const failed = judged.failed || recorded.failed;
@@ -117,7 +118,7 @@ async function pageRaces(call) {
     const status = await listRuns(call, runs, known, first, recorded.incomplete);
     return failed || status;
   } finally {
-    if (options.isReplayed) await first.closeKeptBrowser();
+    if (call.mayReplay) await first.closeKeptBrowser();
   }
 }
 
@@ -129,6 +130,20 @@ async function pageRaces(call) {
 function statusOfList(isFailing, incomplete) {
   if (incomplete === STATUS.notDone || !isFailing) return incomplete;
   return STATUS.race;
+}
+
+/**
+ * Whether races are run again: those that are requested, else the new ones if no server notices.
+ * @param {Call} call
+ * @param {Listing} listing
+ * @param {Recorder} recorder
+ */
+function isToReplay({ options, mayReplay }, listing, recorder) {
+  if (!mayReplay || options.isReplayed) return options.isReplayed && listing.problems.length > 0;
+  if (!listing.told().length) return false;
+  const why = whyNotByItself(recorder);
+  if (why) printError(`er_page: ${why}`);
+  return !why;
 }
 
 /**
@@ -145,9 +160,9 @@ async function listRuns(call, runs, known, recorder, incomplete) {
   const status = statusOfList(listing.failing().length > 0, incomplete);
   const files = runs.map((run, k) => fileOfRun(folder, k));
   const [{ report, model, linked }] = runs;
-  const hasReplays = options.isReplayed && model.groups.length > 0;
+  const hasReplays = isToReplay(call, listing, recorder);
   const replayed = hasReplays ? await replayRaces(recorder, { ...options, name: 'er_page' }, files[0], { report, model, linked, listing }) : STATUS.ok;
-  if (options.isReplayed && !hasReplays) writePage(files[0], await linked);
+  if (call.mayReplay && !hasReplays) writePage(files[0], await linked);
   tellLines(listing, options, !incomplete);
   writeOutputs(listing, options, { page: redacted(given), status, files, folder: servedFolder(call) });
   const others = [...hasReplays ? ['page.replay.json'] : [], ...runs.length > 1 ? [`runs/2 to runs/${runs.length}`] : []];
@@ -168,7 +183,7 @@ async function main(args) {
   if (isOfMany) return listPages(options);
   const [given] = positionals;
   if (options.flowOfMany) return listFlow(given, options);
-  return pageRaces({ given, folder: folderFor(given), options });
+  return pageRaces({ given, folder: folderFor(given), options, mayReplay: options.isReplayed || mayReplayByItself(options) });
 }
 
 runCommand('er_page', main);

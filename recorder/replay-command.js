@@ -12,6 +12,7 @@ const { stoppable } = require('./common/stoppable.js');
 const { answersAtOnce, programState } = require('./races/program.js');
 const { RecordingFault } = require('./recording/recorder.js');
 const { Replay, isStop } = require('./replay/replay.js');
+const { MOST_BY_ITSELF } = require('./replay-by-itself.js');
 const { verdictInWords, verdictOf, worstOf, orderOfResults, groupInWords, plain, VERDICTS } = require('./replay/verdict.js');
 const { ReplayProgress } = require('./replay-progress.js');
 const { besides, writePage } = require('./view.js');
@@ -34,6 +35,8 @@ const { besides, writePage } = require('./view.js');
 
 const PREFIXES = /^(turned: differs|could not be turned|turned): /;
 
+/** How many races are replayed if nobody says so. */
+const MOST_IF_REQUESTED = 20;
 /** How many races go on at once for each run that does: some wait for others, with which they share runs. */
 const LANES = 2;
 
@@ -98,10 +101,12 @@ class ReplayCommand {
     printError(`${this.options.name}: ${text}`);
   }
 
-  /** The races that are requested: by their numbers, else the first of each line of the list. */
+  /** The races that are requested: by their numbers, else the first of each line of the list. By itself, known ones are not replayed. */
   numbers() {
-    const { races, most } = this.options;
-    const numbers = races.length ? races : [...this.listing.told().map(({ line }) => line), ...this.listing.knownLines()].map(raceOf);
+    const { races, isReplayed } = this.options;
+    const { most = isReplayed ? MOST_IF_REQUESTED : MOST_BY_ITSELF } = { most: this.options.most ?? undefined };
+    const told = this.listing.told().map(({ line }) => line);
+    const numbers = races.length ? races : [...told, ...isReplayed ? this.listing.knownLines() : []].map(raceOf);
     /** @param {number} number */
     const isThere = (number) => !!this.report.races[number - 1];
     const wrong = numbers.find((number) => !isThere(number));
@@ -152,7 +157,8 @@ class ReplayCommand {
     const numbers = this.numbers();
     const left = [...numbers];
     replay.runs.numbers = numbers;
-    printError(`Each of ${numbers.length} run again in the other order, ${inWords(replay.runs.slots.most)}:`);
+    const ofItself = this.options.isReplayed ? '' : ' (--no-replay leaves this out)';
+    printError(`Each of ${numbers.length} run again in the other order, ${inWords(replay.runs.slots.most)}${ofItself}:`);
     const progress = new ReplayProgress(replay.runs, numbers.length);
     const goOn = async () => {
       for (let number = left.shift(); number !== undefined; number = left.shift()) {

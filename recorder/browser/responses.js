@@ -114,6 +114,8 @@ class Responses {
 
   /** Each request as `METHOD ADDRESS`. */
   get asked() { return this.log.asked; }
+  /** Of a recorded run: the requests that a replay would send again, since it gets no answer from memory. */
+  get lacking() { return [...this.keep?.lacking.values() || []]; }
   /** The requests that were not sent. */
   get refused() { return this.guard.refused; }
   get hasPageBegun() { return this.copies.hasPageBegun; }

@@ -76,8 +76,9 @@ const { checkOptions } = require('./check-options.js');
  * How races are replayed.
  * @typedef {object} ReplayOptions
  * @property {boolean} isReplayed
+ * @property {boolean} isNeverReplayed whether er_page replays nothing, not even what no server notices
  * @property {number[]} races their numbers in the report, or none for the race of each line
- * @property {number} most
+ * @property {number|null} most so many races, or null for the usual number
  * @property {number} atOnce so many runs of the page at once, or 0 for as many as there is room for
  * @property {boolean} mayChange whether requests may be sent again that change something on a server
  * @property {string} replayWith the command of a test suite that is run again, or ''
@@ -98,7 +99,7 @@ function defaults() {
     headers: [], credentials: null, ignoresCertificateErrors: false, cookies: [], storageState: null, userDataDir: null, viewport: null, userAgent: null,
     isHeaded: false, isRaw: false, chaos: null, depth: 'objects', libraries: LIBRARIES, keepsAll: false, attach: null, isLive: false, runs: 1, known: null, writesKnown: false,
     countsActs: false, isJson: false, sarif: null, color: 'auto', junit: null, html: null, list: null, sitemap: null, jobs: 0, isFresh: false, isReplayed: false,
-    races: [], most: 20, atOnce: 0, mayChange: false, replayWith: '', suiteTime: 0,
+    isNeverReplayed: false, races: [], most: null, atOnce: 0, mayChange: false, replayWith: '', suiteTime: 0,
     wanted: [],
   };
 }
@@ -180,6 +181,7 @@ const AGAIN = {
 /** @type {Table} */
 const REPLAY = {
   replay: { isFlag: true, take: (options) => { options.isReplayed = true; } },
+  'no-replay': { isFlag: true, take: (options) => { options.isNeverReplayed = true; } },
   most: { take: (options, value, name) => { options.most = wholeNumber(name, value); } },
   'at-once': { take: (options, value, name) => { options.atOnce = wholeNumber(name, value); } },
   ...AGAIN,

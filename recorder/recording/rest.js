@@ -15,6 +15,8 @@ const QUIET_END = 1200;
 const LONGEST_UNREST_AT_END = 8000;
 /** The same for a page that must take as many turns as in another run. */
 const LONGEST_TURNS_AT_END = 16000;
+/** A page that does but one thing again and again is as quiet as it gets after so many milliseconds of it. */
+const STEADY = 2 * QUIET_END;
 const LONGEST_LOOK = 2000;
 /** The part of the time for which acts wait for a page that is not quiet: the rest is for the acts, and for what comes of them. */
 const PART_BEFORE_ACTS = 1 / 2;
@@ -98,9 +100,30 @@ class Rest {
 
   /** If the ends of runs are compared, a page that still does something is waited for longer. */
   waitForEnd() {
-    const { whenOver, turns } = this.session.options;
+    const { whenOver, turns, hasOnlyTurns } = this.session.options;
     if (!whenOver) return this.waitForQuiet();
-    return this.waitForQuiet(QUIET_END, turns ? LONGEST_TURNS_AT_END : LONGEST_UNREST_AT_END);
+    if (turns || !hasOnlyTurns) return this.waitForQuiet(QUIET_END, turns ? LONGEST_TURNS_AT_END : LONGEST_UNREST_AT_END);
+    return this.waitForSteadyEnd(hasOnlyTurns);
+  }
+
+  /**
+   * Waits until the page is quiet, or does but one thing again and again.
+   * @param {(entries: {text: string, place?: string}[], from: number) => boolean} hasOnlyTurns whether the log from an entry on has only turns of one thing
+   */
+  async waitForSteadyEnd(hasOnlyTurns) {
+    const { session: { intake } } = this;
+    /** @type {{time: number, from: number}[]} how much of the log there was at each look */
+    const looks = [];
+    let isSteady = false;
+    const isEnough = () => {
+      looks.push({ time: Date.now(), from: intake.log.length });
+      while (looks.length > 1 && looks[1].time <= Date.now() - STEADY) looks.shift();
+      isSteady = !this.session.openRequests() && looks[0].time <= Date.now() - STEADY && hasOnlyTurns(intake.log, looks[0].from);
+      return isSteady;
+    };
+    const isOver = await this.waitForQuiet(QUIET_END, LONGEST_UNREST_AT_END, isEnough);
+    if (isSteady) this.isRestless = true;
+    return isOver;
   }
 
   /**

@@ -32,6 +32,8 @@ const { ofRecording, ownNames, pageScript } = require('./page-script.js');
  * @property {import('../replay/steering.js').RunSteering|null} [steering] what is held back
  * @property {boolean} [stamps] whether the begins of actions are in the browser's own timeline (page/recording/stamps.js)
  * @property {boolean} [standsStill] whether the page stands still at the end
+ * @property {(entries: {text: string, place?: string}[], from: number) => boolean} [hasOnlyTurns] whether the log from an entry on has only what keeps a
+ *   page going that never rests
  * @property {{word: string, place: string, count: number}|null} [turns] of what keeps a page going that never rests: it goes on for as many
  * @property {KeptAnswers|null} [received] what the recorded run received: this one gets it again
  * @property {boolean} [isGuarded] whether requests are refused that may change something on a server

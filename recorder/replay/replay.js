@@ -1,6 +1,7 @@
 'use strict';
 // Runs a recorded page again so that the two accesses of a race come in the other order, and finds what differs then.
 
+const { randomInt } = require('node:crypto');
 const path = require('node:path');
 const { allOf } = require('../common/at-once.js');
 const { RecordingFault } = require('../recording/recorder.js');
@@ -24,13 +25,14 @@ const { Runs, withEnd, isStop, runsAtOnce } = require('./runs.js');
 /** How many causes of a race are tried, and how many tries it has in all; each try has up to MOST_RUNS runs (in-order.js). */
 const MOST_CAUSES = 2;
 const MOST_TRIES = 3;
-const SEED = 1;
+const LARGEST_SEED = 2 ** 32 - 1;
 
 /**
- * What `page/core/chance.js` gets so that each run has the same random numbers and clock.
+ * What `page/core/chance.js` gets so that each run of a recording has the same random numbers and clock. Another recording has other ones, as without the
+ * recorder: a page that makes the names of its data by chance may store them.
  * @param {{isLive: boolean}} options
  */
-const chance = (options) => (options.isLive ? null : { seed: SEED, date: Date.now() });
+const chance = (options) => (options.isLive ? null : { seed: randomInt(LARGEST_SEED), date: Date.now() });
 
 class Replay {
   /**

@@ -11,7 +11,7 @@ const { changing } = require('../browser/changing.js');
 const { Recorder, RecordingFault } = require('../recording/recorder.js');
 const { Due } = require('./due.js');
 const { takeEnd } = require('./found/end-state.js');
-const { mostFrequent } = require('./found/turns.js');
+const { hasOnlyTurns, mostFrequent } = require('./found/turns.js');
 const { readKeys } = require('./read-run.js');
 const { RunSteering } = require('./steering.js');
 
@@ -33,7 +33,7 @@ function withEnd(options) {
     recorder.end = end;
     recorder.endTime = Date.now();
   });
-  return { ...options, standsStill: true, whenOver };
+  return { ...options, standsStill: true, whenOver, hasOnlyTurns };
 }
 
 /** @param {unknown} error */

@@ -19,8 +19,10 @@ const folder = temporaryFolder('build-test');
  * @typedef {{name: string, isKnown: boolean, hasLine: boolean}} Problem of the one object for other tools
  * @typedef {{partialFingerprints: {[name: string]: string}, locations?: unknown[], relatedLocations?: unknown[]}} SarifResult
  */
+/** The list alone: er_page would replay its first races. */
+const ALONE = ['--no-replay'];
 /** @type {(name: string, ...words: string[]) => ReturnType<typeof run>} */
-const pageOf = (name, ...words) => run(path.join(TOP, 'er_page'), [path.join(PAGES, name), ...words], { cwd: folder, longest: LONGEST_RUN });
+const pageOf = (name, ...words) => run(path.join(TOP, 'er_page'), [path.join(PAGES, name), ...ALONE, ...words], { cwd: folder, longest: LONGEST_RUN });
 /** @param {string[]} words */
 const page = (...words) => pageOf('race-timeouts.html', ...words);
 /** @param {string} name */

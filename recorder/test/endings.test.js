@@ -211,7 +211,7 @@ test('a page without an end is recorded for as long as was said', { timeout: 150
 
 test('from a page to its races', { timeout: 150000 }, async () => {
   const own = temporary('page');
-  const { status, stdout, stderr } = await run('er_page', [path.join(TOP, 'examples/shop/index.html'), '--slow', '300', '--do', 'early click:#add'], own);
+  const { status, stdout, stderr } = await run('er_page', [path.join(TOP, 'examples/shop/index.html'), '--slow', '300', '--do', 'early click:#add', '--no-replay'], own);
   assert.strictEqual(status, 1, stderr);
   assert.match(stdout, /^ {4}[0-9a-f]{12} \(for races\.known\)/m);
   for (const ending of ['trace', 'names.json', 'report', 'html']) assert.ok(fs.existsSync(path.join(folder, 'shop.races', `page.${ending}`)), ending);

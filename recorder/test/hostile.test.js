@@ -46,7 +46,7 @@ const linesWithCommands = (text) => text.split('\n').filter((line) => /[\0-\u000
 
 test('a hostile page is recorded as any other, and gets and gives nothing', { timeout: 150000 }, async () => {
   const out = path.join(folder, 'page.races');
-  const { status, stdout, stderr } = await run(path.join(TOP, 'er_page'), [path.join(site, 'page.html'), '--keep'], { cwd: folder, longest: LONGEST_RUN });
+  const { status, stdout, stderr } = await run(path.join(TOP, 'er_page'), [path.join(site, 'page.html'), '--keep', '--no-replay'], { cwd: folder, longest: LONGEST_RUN });
   assert.ok(status === 0 || status === 1, `status ${status}: ${stdout}\n${stderr}`);
   assert.doesNotMatch(stdout + stderr, /OWNED|kept apart|root:x:0/);
   assert.deepStrictEqual(asked, [], 'requests to a server of another origin');

@@ -4,12 +4,15 @@
 const { sleep } = require('../../common/time.js');
 const { bytesOf, hasKeptAnswer, isKept, LARGEST_KEPT } = require('./kept-answers.js');
 const { valueOf } = require('./paused.js');
+const { requestText } = require('../changing.js');
 
 /**
  * @typedef {import('./paused.js').Paused} Paused
  * @typedef {import('./kept-answers.js').Answer} Answer
  * @typedef {{take: (answer: Answer) => void, start: number, answer: Omit<Answer, 'body'>|null}} Awaited a request whose answer is to be kept
  */
+
+const OF_SERVER = /^https?:/i;
 
 /** Takes note of the answers of servers. */
 class KeepAnswers {
@@ -22,15 +25,28 @@ class KeepAnswers {
     this.kept = kept;
     /** @type {Map<string, Awaited>} by the request's number in the network */
     this.awaited = new Map();
+    /** @type {Map<string, string>} the requests without an answer that is kept, in words, by that number */
+    this.lacking = new Map();
     tab.on('Network.loadingFinished', ({ requestId, encodedDataLength }) => this.takeBody(requestId, encodedDataLength));
     tab.on('Network.loadingFailed', ({ requestId }) => this.awaited.delete(requestId));
   }
 
   /** @param {Paused} event */
   passRequest(event) {
-    const { networkId } = event;
-    if (networkId && isKept(event)) this.awaited.set(networkId, { take: this.kept.expect(event), start: Date.now(), answer: null });
+    const { networkId, requestId, request } = event;
+    if (OF_SERVER.test(request.url)) this.lacking.set(networkId || requestId, requestText(request));
+    if (networkId && isKept(event)) this.awaited.set(networkId, { take: this.takerOf(networkId, this.kept.expect(event)), start: Date.now(), answer: null });
     return false;
+  }
+
+  /**
+   * @param {string} networkId
+   * @param {(answer: Answer) => boolean} keep
+   */
+  takerOf(networkId, keep) {
+    return (/** @type {Answer} */ answer) => {
+      if (keep(answer)) this.lacking.delete(networkId);
+    };
   }
 
   /** @param {Paused} event */

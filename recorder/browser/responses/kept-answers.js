@@ -16,7 +16,7 @@ const { withoutHash } = require('./paused.js');
 const MOST_KEPT_BYTES = 64 * 1024 * 1024;
 const LARGEST_KEPT = 8 * 1024 * 1024;
 /** Requests whose answers come whole, and are the same if they are requested in the same way. */
-const KEPT_TYPES = new Set(['Document', 'Script', 'Stylesheet', 'Image', 'Font', 'XHR', 'Fetch']);
+const KEPT_TYPES = new Set(['Document', 'Script', 'Stylesheet', 'Image', 'Font', 'XHR', 'Fetch', 'Manifest', 'Other']);
 /** An answer that does more than to bring its bytes, or of which a request got a part. */
 const OWN_EFFECT = /^(set-cookie|clear-site-data|refresh|content-range)$/i;
 
@@ -50,9 +50,9 @@ class KeptAnswers {
   }
 
   /**
-   * Keeps a place for the answer to a request, in the order of the requests. Returns a function that takes the answer.
+   * Keeps a place for the answer to a request, in the order of the requests. Returns a function that takes the answer, and returns whether it is kept.
    * @param {Paused} event
-   * @returns {(answer: Answer) => void}
+   * @returns {(answer: Answer) => boolean}
    */
   expect(event) {
     const key = keyOf(event);
@@ -61,9 +61,10 @@ class KeptAnswers {
     const index = all.push(null) - 1;
     return (answer) => {
       const same = all.find((one) => one?.body.equals(answer.body))?.body;
-      if (!same && (answer.body.length > LARGEST_KEPT || this.bytes + answer.body.length > MOST_KEPT_BYTES)) return;
+      if (!same && (answer.body.length > LARGEST_KEPT || this.bytes + answer.body.length > MOST_KEPT_BYTES)) return false;
       this.bytes += same ? 0 : answer.body.length;
       all[index] = { ...answer, body: same || answer.body };
+      return true;
     };
   }
 

@@ -1,6 +1,8 @@
 'use strict';
 // A page that never rests, as one with an interval: what keeps it going, and how often that came. Runs of it are compared after equally many turns.
 
+const { BEGINS, wordOf } = require('../../trace/intake.js');
+
 /** @typedef {{text: string, place?: string}} Entry an entry of the log */
 /** @typedef {{word: string, place: string}} Turn the word of the note that requests it, and the place of the code */
 
@@ -11,36 +13,43 @@ const STARTS = /^(timer|tick|anim) (\d+)/;
 const ASKED_BY = { timer: 'set', tick: 'every', anim: 'ask' };
 /** What came less often does not keep a page going. */
 const FEWEST = 5;
+/** So many turns are the end of a run. */
+const LAST = 10;
 
 /**
- * How often what code requests at each of its places came.
+ * The turns of a run in their order.
  * @param {Entry[]} entries
- * @returns {Map<string, number>} by the word of the note and the place, as `set address:line:column`
+ * @returns {string[]} the word of the note that requested each, and the place of the code, as `set address:line:column`
  */
 function turnsOf(entries) {
   const askers = new Map();
-  const counts = new Map();
+  /** @type {string[]} */
+  const turns = [];
   for (const { text, place } of entries) {
     const asked = ASKS.exec(text);
     if (asked && place) askers.set(`${asked[1]} ${asked[2]}`, `${asked[1]} ${place}`);
     const begun = STARTS.exec(text);
     const asker = begun && askers.get(`${ASKED_BY[begun[1]]} ${begun[2]}`);
-    if (asker) counts.set(asker, (counts.get(asker) || 0) + 1);
+    if (asker) turns.push(asker);
   }
-  return counts;
+  return turns;
 }
 
 /**
- * What came most often in a run, as that keeps a restless page going; null if nothing came often.
+ * What came most often at the end of a run, as that keeps a restless page going; null if nothing came often. What came more often before, as the lines of a
+ * list that are shown one by one, is over.
  * @param {Entry[]} entries
  * @returns {Turn & {count: number}|null}
  */
 function mostFrequent(entries) {
-  const [most] = [...turnsOf(entries)].filter(([, count]) => count >= FEWEST).sort(([, a], [, b]) => b - a);
+  const turns = turnsOf(entries);
+  const countIn = (/** @type {string[]} */ some, /** @type {string} */ asker) => some.filter((one) => one === asker).length;
+  const last = turns.slice(-LAST);
+  const [most] = [...new Set(last)].map((asker) => ({ asker, count: countIn(turns, asker), atEnd: countIn(last, asker) }))
+    .filter(({ count }) => count >= FEWEST).sort((a, b) => b.atEnd - a.atEnd || b.count - a.count);
   if (!most) return null;
-  const [asker, count] = most;
-  const [word] = asker.split(' ');
-  return { word, place: asker.slice(word.length + 1), count };
+  const [word] = most.asker.split(' ');
+  return { word, place: most.asker.slice(word.length + 1), count: most.count };
 }
 
 /**
@@ -48,6 +57,18 @@ function mostFrequent(entries) {
  * @param {Entry[]} entries
  * @param {Turn} turn
  */
-const countTurns = (entries, { word, place }) => turnsOf(entries).get(`${word} ${place}`) || 0;
+const countTurns = (entries, { word, place }) => turnsOf(entries).filter((asker) => asker === `${word} ${place}`).length;
 
-module.exports = { mostFrequent, countTurns };
+/**
+ * Whether a page did nothing from an entry of its log on but what keeps it going.
+ * @param {Entry[]} entries
+ * @param {number} from
+ */
+function hasOnlyTurns(entries, from) {
+  const most = mostFrequent(entries);
+  if (!most) return false;
+  const begun = entries.slice(from).filter(({ text }) => BEGINS.has(wordOf(text))).length;
+  return begun > 0 && begun === countTurns(entries, most) - countTurns(entries.slice(0, from), most);
+}
+
+module.exports = { mostFrequent, countTurns, hasOnlyTurns };
