@@ -206,6 +206,15 @@ class ReplayCommand {
   }
 
   /**
+   * The view's problems with their places in the list as it is after the replays.
+   * @param {Shown} model
+   */
+  inOrder(model) {
+    const places = new Map(this.listing.problems.map(({ name }, k) => [name, k]));
+    return model.problems.map((one) => ({ ...one, order: places.get(one.name) ?? one.order }));
+  }
+
+  /**
    * @param {Replay} replay
    * @param {ReturnType<typeof plain>[]} races
    * @param {Shown} model
@@ -219,7 +228,7 @@ class ReplayCommand {
       const shownRace = { ...race, differences: race.differences || [], trace: race.trace || '', picture: pictures[k], groupWords: groups[k] };
       return /** @type {import('./view/types').ShownReplay} */ (shownRace);
     });
-    writePage(this.traceFile, { ...model, replays, recordedPicture: replay.recorded.run.end.picture?.small || null });
+    writePage(this.traceFile, { ...model, problems: this.inOrder(model), replays, recordedPicture: replay.recorded.run.end.picture?.small || null });
   }
 }
 
