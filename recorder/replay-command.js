@@ -183,7 +183,7 @@ class ReplayCommand {
     this.results.sort(orderOfResults);
     const isInList = this.options.name === 'er_page' && !this.options.isJson; // the list comes next, and has each result
     this.lines().slice(isInList ? -1 : 0).forEach((line) => this.print(line));
-    const races = redactedObject(this.results.map(({ number, result }) => plain(result, this.report.races[number - 1], number)));
+    const races = redactedObject(this.results.map(({ number, result }) => plain(result, this.report.races[number - 1], number, (one) => this.listing.placeOfRace(0, one - 1))));
     this.listing.setVerdicts(0, races);
     this.write(replay, races, await this.linked);
   }
