@@ -1,5 +1,5 @@
 'use strict';
-// What tells an element without an id from others of its kind, for a reader of the list: the text after its tag in the page's source, or its classes.
+// What distinguishes an element without an id from others of its kind, for a reader of the list: the text after its tag in the page's source, or its classes.
 
 const { shown } = require('../common/shown.js');
 

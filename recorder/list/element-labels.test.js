@@ -1,5 +1,5 @@
 'use strict';
-// What tells elements without an id apart.
+// How elements without an id are distinguished.
 
 const assert = require('node:assert');
 const { test } = require('node:test');

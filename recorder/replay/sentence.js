@@ -119,7 +119,7 @@ function othersOf(astray, place, placeOf) {
   const places = [...new Set(astray.map(placeOf))].filter((one) => one !== place);
   if (!places.length || places.includes('')) return `race${astray.length > 1 ? 's' : ''} ${astray.join(', ')}`;
   const more = places.length - MOST_PLACES;
-  return `${places.length > 1 ? 'the races' : 'that'} at ${places.slice(0, MOST_PLACES).join(', ')}${more > 0 ? ` and ${more} more places` : ''}`;
+  return `${places.length > 1 ? 'the races' : 'that'} at ${places.slice(0, MOST_PLACES).join(', ')}${more > 0 ? ` and ${more} more place${more > 1 ? 's' : ''}` : ''}`;
 }
 
 /**
