@@ -35,6 +35,11 @@ class Shared {
      */
     this.posted = new WeakMap();
     /**
+     * The messages that have come, by their events.
+     * @type {WeakMap<Event, import('../types').PostedMessage>}
+     */
+    this.arrived = new WeakMap();
+    /**
      * By port: the other one of its channel, and where it was started.
      * @type {WeakMap<MessagePort, MessagePort>}
      */
@@ -46,6 +51,8 @@ class Shared {
      * @type {BroadcastChannel[]}
      */
     this.channels = [];
+    /** Whether there might be workers: they can post to each broadcast channel. */
+    this.hasWorkers = false;
   }
 }
 
