@@ -107,7 +107,7 @@ exports.cases = [
     page: 'message-unheard.html',
     version: 2,
     due: ['timer', 'w sent', 'fire ? message', 'run got', 'r told', 'r sent', 'fire ? message', 'run heard', 'r told', 'r sent'],
-    races: ['told'],
+    races: ['seen', 'told'],
   },
   { page: 'message-refused.html', due: ['timer', 'w sent', 'post', 'message', 'inline ? message', 'run got', 'r sent'] },
   {
