@@ -99,6 +99,12 @@ exports.cases = [
     races: ['last'],
   },
   {
+    page: 'when-defined.html',
+    due: ['reply', 'run reply of fetch', 'w config', 'w rest', 'inline what settled the promise settled', 'on what settled the promise', 'back', 'r config', 'w late',
+      'timer', 'inline promise reactions then', 'run what settled the promise', 'run uses', 'r config', 'r rest', 'r late'],
+    races: ['late'],
+  },
+  {
     page: 'message-unheard.html',
     due: ['timer', 'w sent', 'post', 'post', 'message', 'inline ? message', 'run got', 'r told', 'r sent', 'message', 'inline ? message', 'run heard', 'r told', 'r sent'],
     races: ['told'],
