@@ -33,10 +33,10 @@ class Messages {
     });
     this.replaceChannel(window);
     this.replaceBroadcasts(window);
-    each(['Worker', 'SharedWorker'], (name) => replaceConstructor(window, name, () => { messages.recording.hasWorkers = true; }));
+    each(['Worker', 'SharedWorker'], (name) => replaceConstructor(window, name, () => { messages.recording.hasOtherSenders = true; }));
     if (window.ServiceWorkerContainer) {
       replaceMethod(window.ServiceWorkerContainer.prototype, 'register', (native) => function register() {
-        messages.recording.hasWorkers = true;
+        messages.recording.hasOtherSenders = true;
         return apply(native, this, arguments);
       });
     }
@@ -167,14 +167,14 @@ class Messages {
   }
 
   /**
-   * A message comes. Those to one receiver come in the order of their posting; but a worker can post to a channel too, and its calls are not seen.
+   * A message comes. Those to one receiver come in the order of their posting; but others can post to a channel, and their calls are not seen.
    * @param {MessageEvent} event
    * @param {EventTarget} receiver
    */
   note(event, receiver) {
     const { recording } = this;
     if (recording.isOver || recording.arrived.has(event)) return;
-    if (recording.hasWorkers && hasItem(recording.channels, receiver)) return;
+    if (recording.hasOtherSenders && hasItem(recording.channels, receiver)) return;
     const waiting = recording.posted.get(receiver);
     const posted = waiting && takeFirst(waiting);
     if (!posted) return;

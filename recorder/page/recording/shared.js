@@ -1,5 +1,6 @@
 // What the documents of a recording share: what is known of their elements, messages and modules.
 
+import { settings } from '../core/settings.js';
 import { Set, WeakMap, WeakSet } from '../core/taken.js';
 
 class Shared {
@@ -51,8 +52,8 @@ class Shared {
      * @type {BroadcastChannel[]}
      */
     this.channels = [];
-    /** Whether there might be workers: they can post to each broadcast channel. */
-    this.hasWorkers = false;
+    /** Whether a worker or another tab might post to a broadcast channel. */
+    this.hasOtherSenders = settings.isDriven;
   }
 }
 
