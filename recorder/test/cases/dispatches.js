@@ -33,6 +33,12 @@ exports.cases = [
     races: ['click of div#outer'],
   },
   {
+    page: 'capture-at-target.html', // two of one phase have no order
+    words: CLICK,
+    due: ['on bubbles', 'on captures', 'on capturesToo', 'inline button click', 'run captures', 'w first', 'run capturesToo', 'w second', 'run bubbles', 'r first', 'r second'],
+    races: ['click of button', 'one'],
+  },
+  {
     page: 'once.html',
     words: CLICK,
     due: [
