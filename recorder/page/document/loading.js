@@ -240,14 +240,14 @@ class Loading {
   // ---- the end of a page
 
   /**
-   * The events of a page that is left come in one order: each comes after the one before.
+   * The events of a page that is left come in one order: each comes after the one before. A call that leaves it dispatches the first one itself.
    * @param {EventDispatch} dispatch
    */
   orderLeaving(dispatch) {
     const { event, target } = dispatch;
     const step = this.isOfDocument(event, target) ? positionOf(LEAVING, event.type) : -1;
     if (step < 0 || this.leaving.step > step || (event.type === 'visibilitychange' && this.leaving.step < positionOf(LEAVING, 'pagehide'))) return;
-    this.comeAfter(dispatch, this.leaving.ends, 'an event before');
+    if (step > 0) this.comeAfter(dispatch, this.leaving.ends, 'an event before');
     dispatch.whenClosed = () => {
       this.leaving = { step, ends: (dispatch.group || 0) < 0 ? this.leaving.ends : [this.recording.lastMoment()] };
     };

@@ -76,6 +76,7 @@ class Dispatches {
     page.tree.writeLate();
     this.readSlots(path.length ? path : [target], event.type);
     page.fields.writeInput(event, target);
+    page.fields.watchReset(dispatch);
     page.addresses.watch(dispatch, path);
     return dispatch;
   }
@@ -100,6 +101,7 @@ class Dispatches {
     }
     // no rule puts the registration at an object before its first event: the running code looks there
     if (!isOfTree(dispatch.target, this.page.window)) this.readSlots([dispatch.target], dispatch.event.type);
+    this.page.loading.orderLeaving(dispatch);
     this.writeInline(dispatch, 'a script dispatched an event at it');
     this.told.add(dispatch.event);
     return true;
