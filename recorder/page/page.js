@@ -35,6 +35,7 @@ import { OnHandlers } from './events/on-handlers.js';
 import { Queued } from './events/queued.js';
 import { Addresses } from './scripts/addresses.js';
 import { InOrder } from './scripts/in-order.js';
+import { InsertedModules } from './scripts/inserted-modules.js';
 import { Insertions } from './scripts/insertions.js';
 import { Modules } from './scripts/modules.js';
 import { Ready } from './scripts/ready.js';
@@ -108,6 +109,7 @@ class Page {
     this.reactions = new Reactions(this);
     this.scripts = new Scripts(this);
     this.modules = new Modules(this);
+    this.insertedModules = new InsertedModules(this);
     this.addresses = new Addresses(this);
   }
 

@@ -69,7 +69,7 @@ class Fields {
       },
       set(value) {
         fields.access('w', this, variable, () => apply(native.get, this, []));
-        if (variable === 'checked' && value) each(fields.forms.radiosBeside(this), (radio) => fields.access('w', radio, variable, () => fields.forms.valueOf(radio, variable)));
+        if (variable === 'checked' && value) each(fields.forms.radiosBeside(this), (radio) => fields.access('w', radio, variable, () => fields.forms.contentOf(radio, variable)));
         apply(native.set, this, [value]);
       },
     }));
@@ -80,7 +80,7 @@ class Fields {
     const fields = this;
     const { HTMLOptionElement, HTMLSelectElement } = this.page.window;
     const touch = (/** @type {string} */ mode, /** @type {Element|null} */ list) => {
-      if (list) fields.access(mode, list, 'value', () => fields.forms.valueOf(list, 'value'));
+      if (list) fields.access(mode, list, 'value', () => fields.forms.contentOf(list, 'value'));
     };
     replaceProperty(HTMLOptionElement.prototype, 'selected', (native) => ({
       get() {
@@ -118,7 +118,7 @@ class Fields {
   writeNow(field, variable) {
     const { recording, page } = this;
     if (!apply(page.natives.isConnected, field, [])) return;
-    recording.accessNow('w', this.location(field, variable), recording.contexts.length ? undefined : '', () => this.forms.valueOf(field, variable));
+    recording.accessNow('w', this.location(field, variable), recording.contexts.length ? undefined : '', () => this.forms.contentOf(field, variable));
   }
 
   /**

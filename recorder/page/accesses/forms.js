@@ -49,7 +49,7 @@ class Forms {
    * @param {Element} field
    * @param {string} variable
    */
-  valueOf(field, variable) {
+  contentOf(field, variable) {
     return apply(this.getters[field.localName][variable], field, []);
   }
 

@@ -84,6 +84,7 @@ class Calls {
     const calls = this;
     const around = isInsertion && fits(/^write(ln)?$/, name) ? (/** @type {() => any} */ call) => calls.aroundWrite(call) : (/** @type {() => any} */ call) => calls.around(call, isInsertion);
     replaceMethod(owner, name, (native) => function called(...words) {
+      if (isInsertion) each(words, (word) => calls.page.insertedModules.prepare(word));
       const result = around(() => apply(native, this, words));
       if (name === 'open' && isInsertion && this === calls.page.document) calls.page.capturing.captureAgain();
       return result;

@@ -40,6 +40,18 @@ exports.cases = [
     ],
   },
   {
+    page: 'module-inserted.html', // an inline one: what it imports is of its run
+    due: ['timer', 'w first', 'new script async', 'exec script', 'w other', 'r first', 'r other', 'r second', 'w seen'],
+    races: ['second'],
+  },
+  {
+    page: 'modules-in-order.html', // the third is not in the list
+    due: ['timer', 'new script async', 'new script async', 'exec script', 'w other', 'w told', 'on the end of a script', 'exec script', 'inline the end of a script behind',
+      'run the end of a script', 'back', 'r told', 'r free'],
+    besides: [['exec script', 'w free']],
+    races: ['free'],
+  },
+  {
     page: 'import-call.html',
     due: [
       'exec script', 'every 0', 'tick', 'w lazyRan',
