@@ -5,7 +5,7 @@ const { FIRST_FIELD, FIRST_MODULE } = require('../common/numbers.js');
 const { isOfTree } = require('../races/spelled-locations.js');
 const { Accesses, isNothing } = require('./patterns/accesses.js');
 const { UserActs } = require('./patterns/user-acts.js');
-const { lookOf } = require('./patterns/table.js');
+const { detailOf, lookOf } = require('./patterns/table.js');
 
 /**
  * @typedef {import('./patterns/table.js').Look} Look
@@ -77,7 +77,9 @@ class Looks {
     if (k < 0) return null;
     const event = this.words.action(race.actions[k]);
     const here = k === 0 ? 'here it came before the handler was set' : 'here the handler was there';
-    return lookOf(acts[k] ? 'late' : 'missed', `a handler that comes late: ${event} may find none; ${here}`);
+    const look = acts[k] ? 'late' : 'missed';
+    const type = race.location.split(' ')[2].replace(/\/\d+$/, '');
+    return lookOf(look, `a handler that comes late: ${event} may find none; ${here}`, detailOf(look, 'slot', type));
   }
 
   /**
@@ -150,10 +152,11 @@ class Looks {
     const value = accesses.values[read];
     if (accesses.isWrittenBefore(location, actions[k], read) || accesses.isOfCache(read, location)) return null;
     const what = location.startsWith('elem') ? 'a look-up before the element is there' : 'a use before the definition';
-    if (k === 1) return accesses.isEmpty(value, location) ? null : lookOf('undefined', `${what}: here it was there, and in the other order nothing is found`);
+    const detail = detailOf('undefined', location.split(' ')[0], '');
+    if (k === 1) return accesses.isEmpty(value, location) ? null : lookOf('undefined', `${what}: here it was there, and in the other order nothing is found`, detail);
     const isWrittenBetween = () => accesses.of(location).some(({ line, isWrite }) => isWrite && line > read && line < write);
     const hasFound = value === undefined ? isWrittenBetween() : !accesses.isEmpty(value, location);
-    return hasFound ? null : lookOf('undefined', `${what}: here nothing was found`);
+    return hasFound ? null : lookOf('undefined', `${what}: here nothing was found`, detail);
   }
 
   /** @param {Race} race */

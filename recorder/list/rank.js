@@ -2,7 +2,6 @@
 // The order of the list: by what a problem does to the user of the page. What a replay found comes first, then the pattern with its measured share of harm.
 
 /**
- * @typedef {import('./patterns/table.js').LookKey} LookKey
  * @typedef {import('./patterns/table.js').Look} Look
  * @typedef {import('./types').Verdict} Verdict
  */
@@ -12,10 +11,16 @@
  */
 
 /**
- * Of the problems that were drawn at random and judged by hand, how many do harm, and how many were judged (docs/measured/rank.md).
- * @type {Partial<Record<LookKey, [harmful: number, judged: number]>>}
+ * By a pattern and its detail, such as `late choosing`: how many problems do harm, and how many were judged.
+ * @typedef {{[kind: string]: [harmful: number, judged: number]}} Shares
  */
-const JUDGED = { field: [3, 3], act: [1, 6], late: [1, 26], other: [0, 14], same: [0, 1] };
+/**
+ * Of the problems of documentation pages and of web applications that were drawn at random and judged by hand (docs/measured/rank.md).
+ * @type {Shares}
+ */
+const JUDGED = {
+  late: [0, 37], 'late choosing': [3, 8], field: [3, 3], act: [1, 11], undefined: [0, 8], 'undefined element': [1, 1], replies: [0, 2], other: [0, 28], same: [0, 1],
+};
 /**
  * What is assumed of a section, as if two more of its problems had been judged: a pattern of which few or none were judged is near it.
  * @type {{[part: string]: number}}
@@ -39,15 +44,26 @@ const shareOf = ([harmful, judged], assumed) => (harmful + WEIGHT * assumed) / (
 
 
 /**
- * The chance of harm of a pattern.
- * @param {Pick<Look, 'look'|'part'>} look
+ * What the judged problems tell apart: a pattern, with its detail.
+ * @param {{look: string, detail?: string}} look
  */
-const chanceOf = ({ look, part }) => shareOf(JUDGED[look] || [0, 0], ASSUMED[part] ?? 0);
+const kindOf = ({ look, detail }) => (detail ? `${look} ${detail}` : look);
 
-/** @param {Look} look */
-function reasonOf({ look, name }) {
-  const [harmful, judged] = JUDGED[look] || [0, 0];
-  return judged ? `of ${judged} judged problems of the pattern "${name}" ${harmful} did harm` : `no problem of the pattern "${name}" was judged`;
+/**
+ * The chance of harm of a pattern.
+ * @param {Pick<Look, 'look'|'part'|'detail'>} look
+ * @param {Shares} judged
+ */
+const chanceOf = (look, judged) => shareOf(judged[kindOf(look)] || [0, 0], ASSUMED[look.part] ?? 0);
+
+/** @type {{[detail: string]: string}} */
+const OF_DETAIL = { '': '', choosing: ', of an event by which a user chooses,', element: ', of an element that is looked up,' };
+
+/** @param {Look} look @param {Shares} shares */
+function reasonOf(look, shares) {
+  const [harmful, judged] = shares[kindOf(look)] || [0, 0];
+  const pattern = `the pattern "${look.name}"${OF_DETAIL[look.detail]}`;
+  return judged ? `of ${judged} judged problems of ${pattern} ${harmful} did harm` : `no problem of ${pattern} was judged`;
 }
 
 /**
@@ -75,11 +91,12 @@ function levelOf(verdict) {
 /**
  * @param {Look} look
  * @param {Verdict} [verdict]
+ * @param {Shares} [judged]
  * @returns {Rank}
  */
-function rankOf(look, verdict) {
-  const found = verdict?.verdict === 'turned' ? levelOf(verdict) : { level: LEVELS.chance, reason: reasonOf(look) };
-  return { chance: chanceOf(look), ...found };
+function rankOf(look, verdict, judged = JUDGED) {
+  const found = verdict?.verdict === 'turned' ? levelOf(verdict) : { level: LEVELS.chance, reason: reasonOf(look, judged) };
+  return { chance: chanceOf(look, judged), ...found };
 }
 
 /** @param {Rank} a @param {Rank} b */
@@ -99,4 +116,4 @@ function sortByRank(list, factsOf) {
   return all.map(({ one }) => one);
 }
 
-module.exports = { rankOf, sortByRank, JUDGED };
+module.exports = { rankOf, kindOf, sortByRank, JUDGED };

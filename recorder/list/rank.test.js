@@ -2,10 +2,9 @@
 // The order of the list, by what problems do to the user of the page.
 
 const assert = require('node:assert');
-const fs = require('node:fs');
-const path = require('node:path');
 const { test } = require('node:test');
-const { LOOKS, RANKS, lookOf } = require('./patterns/table.js');
+const { judgedOf, listsOf, sharesOf } = require('../test/corpus/judged-lists.js');
+const { detailOf, lookOf } = require('./patterns/table.js');
 const { rankOf, sortByRank, JUDGED } = require('./rank.js');
 
 /**
@@ -43,13 +42,14 @@ test('a section is where its first problem is', () => {
 });
 
 test('the shares of harm are those of the judged problems', () => {
-  /** @type {{look: string, judgement: string}[]} */
-  const judged = JSON.parse(fs.readFileSync(path.join(__dirname, '..', 'test', 'corpus', 'judgements.json'), 'utf8')).problems;
-  const shares = RANKS.flatMap((key) => {
-    const own = judged.filter(({ look, judgement }) => judgement && look === LOOKS[key].name);
-    return own.length ? [[key, [own.filter(({ judgement }) => judgement === 'harmful').length, own.length]]] : [];
-  });
-  assert.deepStrictEqual(JUDGED, Object.fromEntries(shares));
+  assert.deepStrictEqual(JUDGED, sharesOf([...judgedOf('pages'), ...judgedOf('applications')], listsOf()));
+});
+
+test('an event by which a user chooses comes before one that comes again, and an element that is looked up before a variable', () => {
+  const late = (/** @type {string} */ event) => ({ name: event, look: lookOf('late', '', detailOf('late', 'slot', event)) });
+  assert.deepStrictEqual(namesOf([late('mousemove'), late('change'), late('keyup'), late('click')]), ['change', 'click', 'mousemove', 'keyup']);
+  const use = (/** @type {string} */ word) => ({ name: word, look: lookOf('undefined', '', detailOf('undefined', word, '')) });
+  assert.deepStrictEqual(namesOf([use('var'), use('elem')]), ['elem', 'var']);
 });
 
 test('each rank has its reason in words', () => {

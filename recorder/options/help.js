@@ -85,9 +85,11 @@ ${RECORDING}
 
 Replay in the other order:
   --replay          run the page again for the race of each line, with its two
-                    accesses in the other order, and print what differs
+                    accesses in the other order, and print what differs (the
+                    first 5 new ones, if no server gets a request again)
+  --no-replay       replay nothing
   --race K          replay race K of the report; can be repeated
-  --most N          replay at most N races (20)
+  --most N          replay at most N races (20 with --replay, else 5)
   --at-once N       run the page at most N times at once (the number of processors;
                     1 if a run may change something on a server)
   --yes             send requests again that may change something on a server
@@ -112,7 +114,7 @@ ${OUTPUTS_OF_LOADS}
 Examples:
   er_page https://example.org/
   er_page shop/index.html --slow 600 --do "early click:#add"
-  er_page shop/index.html --replay
+  er_page shop/index.html --replay --most 50
   er_page build/index.html --runs 3 --known races.known --sarif races.sarif
 
 Exit status:

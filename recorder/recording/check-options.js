@@ -17,8 +17,8 @@ function checkOptions(options) {
   if ((options.wanted.length || options.suiteTime) && !options.replayWith) throw new UsageFault('--replay and --time require --replay-with COMMAND');
   checkMany(options);
   checkFlow(options);
-  if (isReplayed && isNeverReplayed) throw new UsageFault('--no-replay cannot be combined with --replay or --race');
   if (runs > 1 && isReplayed) throw new UsageFault('--replay cannot be combined with --runs');
+  if (isReplayed && isNeverReplayed) throw new UsageFault('--no-replay cannot be combined with --replay or --race');
 }
 
 /** @param {CommandOptions} options */

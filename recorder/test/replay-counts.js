@@ -81,9 +81,11 @@ function waitsOf(all) {
 function textOf(all) {
   const runs = all.reduce((sum, { counts }) => sum + counts.runs, 0);
   const onFour = all.map(({ counts }) => processors(counts) / PROCESSORS);
+  const walls = all.map(({ counts }) => counts.wall);
   return [
     tableOf(HEAD, all.map(rowOf)),
-    `Runs: ${runs}. Processor seconds divided by four, median: ${one(median(onFour))}; most: ${one(Math.max(...onFour))}.`,
+    `Runs: ${runs}. Processor seconds divided by four, median: ${one(median(onFour))}; most: ${one(Math.max(...onFour))}. `
+      + `Time, median: ${one(median(walls))}; most: ${one(Math.max(...walls))}.`,
     waitsOf(all),
   ].join('\n\n');
 }

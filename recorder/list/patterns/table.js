@@ -27,9 +27,25 @@ const LOOKS = {
 
 /** @typedef {keyof typeof LOOKS} LookKey */
 /**
- * A pattern as it was found in a race: `seen` says in words what was seen, and `rank` is its index in the table.
- * @typedef {{look: LookKey, rank: number, name: string, part: string, seen: string}} Look
+ * A pattern as it was found in a race: `seen` says in words what was seen, and `rank` is its index in the table. `detail` tells races of a pattern apart that
+ * do harm more often than others (list/rank.js).
+ * @typedef {{look: LookKey, rank: number, name: string, part: string, seen: string, detail: Detail}} Look
  */
+/** @typedef {''|'choosing'|'element'} Detail an event by which a user chooses something is lost; an element is looked up */
+
+/** Events by which a user chooses, changes or submits something. Others, as of the mouse that moves, of a key or of a scroll, come again soon. */
+const CHOOSING = new Set(['click', 'dblclick', 'change', 'input', 'submit']);
+
+/**
+ * @param {LookKey} look
+ * @param {string} word the first word of the race's location
+ * @param {string} event of a handler, else ''
+ * @returns {Detail}
+ */
+function detailOf(look, word, event) {
+  if (look === 'late' && CHOOSING.has(event)) return 'choosing';
+  return look === 'undefined' && word === 'elem' ? 'element' : '';
+}
 
 const RANKS = /** @type {LookKey[]} */ (Object.keys(LOOKS));
 
@@ -38,12 +54,12 @@ const known = new Map();
 
 /**
  * A pattern with what was seen: one object for all races that have it.
- * @param {LookKey} look @returns {Look}
+ * @param {LookKey} look @param {Detail} detail @returns {Look}
  */
-function lookOf(look, seen = '') {
-  const key = `${look} ${seen}`;
+function lookOf(look, seen = '', detail = '') {
+  const key = `${look} ${detail} ${seen}`;
   let one = known.get(key);
-  if (!one) known.set(key, one = { look, rank: RANKS.indexOf(look), ...LOOKS[look], seen });
+  if (!one) known.set(key, one = { look, rank: RANKS.indexOf(look), ...LOOKS[look], seen, detail });
   return one;
 }
 
@@ -57,4 +73,4 @@ const isHarm = ({ part }) => part === LOSES || part === THROWS;
  */
 const isAlwaysTold = ({ look }) => look === 'field' || look === 'act' || look === 'undefined' || look === 'replies';
 
-module.exports = { LOOKS, RANKS, APART, lookOf, isHarm, isAlwaysTold };
+module.exports = { LOOKS, RANKS, APART, lookOf, detailOf, isHarm, isAlwaysTold };
