@@ -6,8 +6,8 @@ import { apply } from '../core/taken.js';
 import { isElement } from '../core/things.js';
 
 const LOADS_AT_ONCE = 'img, image, audio, video';
-/** Its fragment is of the document, so the images in it load. */
-const MAKES_FRAGMENT = 'createContextualFragment';
+/** `nodeType` of a fragment. */
+const FRAGMENT = 11;
 
 class Made {
   /** @param {import('../types').Page} page */
@@ -21,8 +21,7 @@ class Made {
     each(['Image', 'Audio'], (name) => replaceConstructor(window, name, (made) => this.note(made)));
     this.replaceMaker(window.Node.prototype, 'cloneNode');
     this.replaceMaker(window.Document.prototype, 'importNode');
-    this.replaceMaker(window.Range.prototype, 'cloneContents');
-    this.replaceMaker(window.Range.prototype, MAKES_FRAGMENT);
+    each(['cloneContents', 'createContextualFragment'], (name) => this.replaceMaker(window.Range.prototype, name));
     this.replaceText(window.Element.prototype);
   }
 
@@ -51,10 +50,10 @@ class Made {
         made.noteInside(this);
       },
     }));
-    replaceMethod(owner, 'insertAdjacentHTML', (native) => function insertAdjacentHTML() {
+    each(['insertAdjacentHTML', 'setHTMLUnsafe', 'setHTML'], (name) => replaceMethod(owner, name, (native) => function fill() {
       apply(native, this, arguments);
       made.noteInside(apply(made.page.natives.parentNode, this, []) || this);
-    });
+    }));
   }
 
   /** @param {Element} element */
@@ -71,7 +70,7 @@ class Made {
     if (this.recording.isOver || !this.recording.isRunning() || root.ownerDocument !== document) return;
     const isTree = isElement(root);
     if (isTree && apply(natives.matches, root, [LOADS_AT_ONCE])) this.note(root);
-    if (!root.firstChild || (!isTree && root.nodeType !== 11)) return;
+    if (!root.firstChild || (!isTree && root.nodeType !== FRAGMENT)) return;
     each(apply(isTree ? natives.querySelectorAll : natives.querySelectorAllOfFragment, root, [LOADS_AT_ONCE]), (element) => this.note(element));
   }
 

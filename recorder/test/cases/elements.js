@@ -81,6 +81,8 @@ exports.cases = [
     due: [
       'parse link image', 'eload link', 'run load', 'w styled', 'load', 'r styled',
     ],
+    besides: [['parse style image', 'eload style', 'run load', 'w inside', 'load', 'r inside']],
+    races: ['added'],
   },
   {
     page: 'inner-html.html',
