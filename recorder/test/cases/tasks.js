@@ -35,6 +35,12 @@ exports.cases = [
     races: ['pagehide of window', 'unload of window', 'visibilitychange of document'],
   },
   {
+    page: 'leaving-by-call.html', // the call asks first
+    due: ['timer', 'w asked', 'inline window beforeunload', 'run asks', 'r asked', 'w left', 'close', 'on an event before', 'back', 'w late', 'wfire pagehide', 'run an event before',
+      'run hides', 'r left', 'r late'],
+    races: ['late', 'pagehide of window'],
+  },
+  {
     page: 'text-timer.html',
     due: [
       'set 1', 'timer', 'w late',
