@@ -11,10 +11,12 @@ import { Imports } from './accesses/imports.js';
 import { Lookups } from './accesses/lookups.js';
 import { Unseen } from './accesses/unseen.js';
 import { Joins } from './recording/joins.js';
+import { Attributes } from './document/attributes.js';
 import { Controls } from './document/controls.js';
 import { Elements } from './document/elements.js';
 import { Kinds } from './document/kinds.js';
 import { Loading } from './document/loading.js';
+import { Made } from './document/made.js';
 import { Reach } from './document/reach.js';
 import { Reactions } from './document/reactions.js';
 import { Shadows } from './document/shadows.js';
@@ -33,6 +35,8 @@ import { OnHandlers } from './events/on-handlers.js';
 import { Queued } from './events/queued.js';
 import { Addresses } from './scripts/addresses.js';
 import { InOrder } from './scripts/in-order.js';
+import { InsertedModules } from './scripts/inserted-modules.js';
+import { Insertions } from './scripts/insertions.js';
 import { Modules } from './scripts/modules.js';
 import { Ready } from './scripts/ready.js';
 import { Scripts } from './scripts/scripts.js';
@@ -69,6 +73,7 @@ class Page {
     this.sources = new Sources(this);
     this.reach = new Reach(this);
     this.inOrder = new InOrder(this);
+    this.insertions = new Insertions(this);
     this.shadows = new Shadows(this);
     /** Whether it is the empty page in which a frame starts. */
     this.isFirstInFrame = number > 0 && this.document.URL === 'about:blank';
@@ -87,6 +92,8 @@ class Page {
     this.handlers = new Handlers(this);
     this.onHandlers = new OnHandlers(this);
     this.calls = new Calls(this);
+    this.attributes = new Attributes(this);
+    this.made = new Made(this);
     this.lookups = new Lookups(this);
     this.fields = new Fields(this);
     this.joins = new Joins(this);
@@ -102,6 +109,7 @@ class Page {
     this.reactions = new Reactions(this);
     this.scripts = new Scripts(this);
     this.modules = new Modules(this);
+    this.insertedModules = new InsertedModules(this);
     this.addresses = new Addresses(this);
   }
 
@@ -118,6 +126,7 @@ class Page {
     this.sources = new Sources(this);
     this.reach = new Reach(this);
     this.inOrder = new InOrder(this);
+    this.insertions = new Insertions(this);
     this.shadows = new Shadows(this);
   }
 
@@ -129,7 +138,7 @@ class Page {
     this.recording.elementNumbers.delete(this.window); // a frame's window stays the same object for its next page
     if (this.recording.objects) this.recording.objects.addWindow(this);
     this.beginDocument();
-    const parts = [this.chaos, this.handlers, this.onHandlers, this.capturing, this.calls, this.lookups, this.fields, this.causes, this.media, this.navigations, this.timers, this.callbacks,
+    const parts = [this.chaos, this.handlers, this.onHandlers, this.capturing, this.calls, this.attributes, this.made, this.lookups, this.fields, this.causes, this.media, this.navigations, this.timers, this.callbacks,
       this.jobs, this.promises, this.observers, this.requests, this.connections, this.messages, this.reactions, this.unseen];
     each(parts, (part) => part.start());
     this.replaceToString();

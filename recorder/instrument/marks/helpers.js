@@ -31,7 +31,7 @@ const ANSWERS = [
   'wh uh Uh wm um fo f fk z F',
   'y Y',
 ];
-const WITHOUT_ANSWER = 'r rh rm v V s sp E as scriptBegins scriptEnds moduleBegins moduleEnds handlerBegins handlerEnds addressBegins addressEnds';
+const WITHOUT_ANSWER = 'r rh rm v V s sp E as scriptBegins scriptEnds moduleBegins moduleEnds insertedModule handlerBegins handlerEnds addressBegins addressEnds';
 
 /**
  * @param {string} names

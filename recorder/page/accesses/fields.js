@@ -1,16 +1,18 @@
 // The values of form fields, cookies and storage: variables of objects of their own.
 
 import { each } from '../core/lists.js';
-import { replaceMethod, replaceProperty } from '../core/replacing.js';
+import { replaceGetter, replaceMethod, replaceProperty } from '../core/replacing.js';
 import { settings } from '../core/settings.js';
 import { sliceOf } from '../core/strings.js';
 import { Object, String, apply } from '../core/taken.js';
 import { spellName } from '../log/spelling.js';
+import { Forms } from './forms.js';
 
 /** The number of a field's object is this and the number of its element. */
 const { FIRST_FIELD } = settings.numbers;
 const FIELD_PROPERTIES = [
   ['HTMLInputElement', 'value', 'value'], ['HTMLInputElement', 'checked', 'checked'],
+  ['HTMLInputElement', 'valueAsNumber', 'value'], ['HTMLInputElement', 'valueAsDate', 'value'],
   ['HTMLTextAreaElement', 'value', 'value'],
   ['HTMLSelectElement', 'value', 'value'], ['HTMLSelectElement', 'selectedIndex', 'value'],
 ];
@@ -24,10 +26,12 @@ class Fields {
     this.page = page;
     this.recording = page.recording;
     this.getItem = page.window.Storage.prototype.getItem;
+    this.forms = new Forms(page);
   }
 
   start() {
     each(FIELD_PROPERTIES, ({ 0: owner, 1: name, 2: variable }) => this.replaceField(this.page.window[owner].prototype, name, variable));
+    this.replaceOptions();
     this.replaceCookie();
     each(Object.keys(STORAGE_CALLS), (name) => this.replaceStorage(name));
   }
@@ -65,9 +69,56 @@ class Fields {
       },
       set(value) {
         fields.access('w', this, variable, () => apply(native.get, this, []));
+        if (variable === 'checked' && value) each(fields.forms.radiosBeside(this), (radio) => fields.access('w', radio, variable, () => fields.forms.contentOf(radio, variable)));
         apply(native.set, this, [value]);
       },
     }));
+  }
+
+  /** What a list of options has as its value, by way of the options. */
+  replaceOptions() {
+    const fields = this;
+    const { HTMLOptionElement, HTMLSelectElement } = this.page.window;
+    const touch = (/** @type {string} */ mode, /** @type {Element|null} */ list) => {
+      if (list) fields.access(mode, list, 'value', () => fields.forms.contentOf(list, 'value'));
+    };
+    replaceProperty(HTMLOptionElement.prototype, 'selected', (native) => ({
+      get() {
+        touch('r', fields.forms.listOf(this));
+        return apply(native.get, this, []);
+      },
+      set(value) {
+        touch('w', fields.forms.listOf(this));
+        apply(native.set, this, [value]);
+      },
+    }));
+    replaceGetter(HTMLSelectElement.prototype, 'selectedOptions', (native) => function selectedOptions() {
+      touch('r', this);
+      return apply(native, this, []);
+    });
+  }
+
+  /**
+   * A form is reset once the handlers of the event are done, if none prevents it.
+   * @param {import('../types').NewDispatch} dispatch
+   */
+  watchReset(dispatch) {
+    const { event, target } = dispatch;
+    if (!event || !target || event.type !== 'reset' || !event.isTrusted || target.localName !== 'form') return;
+    dispatch.whenClosed = () => {
+      if (!event.defaultPrevented) each(this.forms.fieldsOf(target), ({ 0: field, 1: variable }) => this.writeNow(field, variable));
+    };
+  }
+
+  /**
+   * The browser has changed a field, in a call of the page's or by itself.
+   * @param {Element} field
+   * @param {string} variable
+   */
+  writeNow(field, variable) {
+    const { recording, page } = this;
+    if (!apply(page.natives.isConnected, field, [])) return;
+    recording.accessNow('w', this.location(field, variable), recording.contexts.length ? undefined : '', () => this.forms.contentOf(field, variable));
   }
 
   /**
@@ -79,6 +130,7 @@ class Fields {
     if (!event.isTrusted || event.type !== 'input' || target.nodeType !== 1) return;
     this.recording.accessNow('w', this.location(target, 'value'), '');
     if (target.type === 'checkbox' || target.type === 'radio') this.recording.accessNow('w', this.location(target, 'checked'), '');
+    each(this.forms.radiosBeside(target), (radio) => this.recording.accessNow('w', this.location(radio, 'checked'), ''));
   }
 
   replaceCookie() {

@@ -119,4 +119,4 @@ function taskPosterOfDocument(window) {
   };
 }
 
-export { takeNatives };
+export { getterOf, takeNatives };

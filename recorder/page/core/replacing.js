@@ -1,7 +1,7 @@
 // Functions, constructors and properties of the recorder in place of the browser's; the page finds their names and texts as before.
 
 import { each } from './lists.js';
-import { Object, Reflect, WeakMap } from './taken.js';
+import { Object, Reflect, WeakMap, apply } from './taken.js';
 
 /**
  * Puts a function in place of another one.
@@ -40,9 +40,13 @@ function showAs(replacement, native) {
 function replaceConstructor(window, name, note) {
   const Native = window[name];
   if (!Native) return;
-  /** @param {unknown[]} args */
+  /**
+   * @this {unknown}
+   * @param {unknown[]} args
+   */
   function Replacement(...args) {
-    const made = Reflect.construct(Native, args, new.target && new.target !== Replacement ? new.target : Native);
+    if (!new.target) return apply(Native, this, args); // it throws
+    const made = Reflect.construct(Native, args, new.target !== Replacement ? new.target : Native);
     note(made, args);
     return made;
   }
@@ -62,7 +66,8 @@ function putConstructor(window, name, Replacement) {
   Object.defineProperty(Replacement, 'name', { value: name, configurable: true });
   Object.defineProperty(Replacement, 'length', { value: Native.length, configurable: true });
   replacedFunctions.set(Replacement, Native);
-  Object.defineProperty(Native.prototype, 'constructor', { configurable: true, writable: true, value: Replacement });
+  const isOwn = Native.prototype.constructor === Native; // that of `Image` is the interface of its elements
+  if (isOwn) Object.defineProperty(Native.prototype, 'constructor', { configurable: true, writable: true, value: Replacement });
   Object.defineProperty(window, name, { configurable: true, writable: true, value: Replacement });
 }
 

@@ -45,9 +45,10 @@ class Kinds {
     switch (element.localName) {
       case 'img': return this.isLazy(element) ? 'plain' : 'image';
       case 'link': return fits(/\bstylesheet\b/i, this.attribute(element, 'rel') || '') ? 'image' : 'plain';
-      case 'input': return this.attribute(element, 'type') === 'image' ? 'image' : 'plain';
+      case 'input': return fits(/^image$/i, this.attribute(element, 'type') || '') ? 'image' : 'plain';
       case 'iframe': return this.isLazy(element) ? 'plain' : 'frame';
       case 'frame': return 'frame';
+      case 'style': return isStatic ? 'image' : 'plain';
       case 'object': return this.has(element, 'data') ? 'frame' : 'plain';
       case 'embed': return this.has(element, 'src') ? 'frame' : 'plain';
       default: return 'plain';

@@ -199,12 +199,24 @@ class Loading {
     const target = /** @type {Element} */ (dispatch.target);
     const { elements, sources, tree } = this.page;
     const later = sources.loads.get(target);
+    if (later?.isOver) return this.beginAgain(dispatch, later.number);
     if (!later && this.loaded.has(target)) return false;
     const number = later ? later.number : elements.declaredNumber(target);
-    if (later) sources.loads.delete(target);
+    if (later?.isFirst) later.isOver = true;
+    else if (later) sources.loads.delete(target);
     else this.loaded.add(target);
     this.recording.begin(`eload ${dispatch.number} ${number}`, 'begin');
     this.noteAwaited(dispatch, number, tree.isParsing() && tree.lastParsed === number && isEmptyFrame(target, elements));
+    return true;
+  }
+
+  /**
+   * A further load of an image, as a candidate of its `srcset`: no load was before its first source.
+   * @param {EventDispatch} dispatch
+   * @param {number} standIn
+   */
+  beginAgain(dispatch, standIn) {
+    this.recording.begin(`fire ${dispatch.number} ${standIn} ${dispatch.event.type}`, 'begin');
     return true;
   }
 
@@ -228,14 +240,14 @@ class Loading {
   // ---- the end of a page
 
   /**
-   * The events of a page that is left come in one order: each comes after the one before.
+   * The events of a page that is left come in one order: each comes after the one before. A call that leaves it dispatches the first one itself.
    * @param {EventDispatch} dispatch
    */
   orderLeaving(dispatch) {
     const { event, target } = dispatch;
     const step = this.isOfDocument(event, target) ? positionOf(LEAVING, event.type) : -1;
     if (step < 0 || this.leaving.step > step || (event.type === 'visibilitychange' && this.leaving.step < positionOf(LEAVING, 'pagehide'))) return;
-    this.comeAfter(dispatch, this.leaving.ends, 'an event before');
+    if (step > 0) this.comeAfter(dispatch, this.leaving.ends, 'an event before');
     dispatch.whenClosed = () => {
       this.leaving = { step, ends: (dispatch.group || 0) < 0 ? this.leaving.ends : [this.recording.lastMoment()] };
     };

@@ -5,10 +5,13 @@ import { WeakMap } from '../core/taken.js';
 
 /** Elements that can show a page of its own. */
 const SHOWS_PAGE = /^(i?frame|object|embed)$/;
+/** Elements that load something only if they are of a kind. */
+const BY_KIND = /^(link|input|image)$/;
 
 /**
- * An element that stands for another one in its next load: its number, and that of the page in it, if it is a frame and no page has it yet.
- * @typedef {{number: number, inner: number, isPassing?: boolean}} Load
+ * An element that stands for another one in its next load: its number, and that of the page in it, if it is a frame and no page has it yet. If the
+ * element had no source before, it stands for it in each further load, too.
+ * @typedef {{number: number, inner: number, isPassing?: boolean, isFirst?: boolean, isOver?: boolean}} Load
  */
 
 class Sources {
@@ -27,18 +30,44 @@ class Sources {
    */
   noteSource(element) {
     const { recording, elements } = this;
+    this.page.insertions.noteSource(element);
     if (!recording.isRunning() || !recording.declared.has(elements.number(element))) return;
     if (elements.makers.get(element) === recording.running) return;
     const isScript = element.localName === 'script';
-    if (isScript ? !this.mayStillRun(element) : element.localName === 'link' && this.page.kinds.of(element, false) === 'plain') return;
+    if (isScript ? !this.mayStillRun(element) : fits(BY_KIND, element.localName) && this.page.kinds.of(element, false) === 'plain') return;
     const isFrame = fits(SHOWS_PAGE, element.localName);
+    const isFirst = fits(/^(img|input)$/, element.localName) && !this.hasSource(element);
+    this.standIn(element, isScript ? 'async' : isFrame ? 'frame' : 'image', 'its source was set').isFirst = isFirst;
+  }
+
+  /**
+   * Whether an image can have been loaded.
+   * @param {Element} element
+   */
+  hasSource(element) {
+    const { elements } = this;
+    return elements.has(element, 'src') || elements.has(element, 'srcset') || element.parentElement?.localName === 'picture';
+  }
+
+  /**
+   * An element that stands for another one in its next load, and in its run if it is a script: it is made in the running action.
+   * @param {Element} element
+   * @param {'async'|'frame'|'image'} kind
+   * @param {string} why
+   * @returns {Load}
+   */
+  standIn(element, kind, why) {
+    const { recording, elements } = this;
     const number = recording.next('element');
-    const inner = isFrame ? recording.next('document') : 0;
-    const kind = isScript ? 'async' : isFrame ? `frame ${inner}` : 'image';
-    this.loads.set(element, { number, inner });
-    recording.log.name('element', number, { standsFor: elements.number(element), why: 'its source was set' });
-    if (isFrame) recording.log.name('document', inner, { frame: number });
-    this.declare(element, number, kind);
+    const inner = kind === 'frame' ? recording.next('document') : 0;
+    /** @type {Load} */
+    const load = { number, inner };
+    this.loads.set(element, load);
+    if (kind === 'async') elements.kinds.set(number, kind);
+    recording.log.name('element', number, { standsFor: elements.number(element), why });
+    if (inner) recording.log.name('document', inner, { frame: number });
+    this.declare(element, number, inner ? `frame ${inner}` : kind);
+    return load;
   }
 
   /**

@@ -231,8 +231,9 @@ class Tree {
       if (maker === 'parser') this.addParsed(node);
       else this.addMade(node);
       page.onHandlers.readAttributes(node);
-    } else if (elements.idOf(node)) {
-      recording.log.name('element', elements.number(node), { id: elements.idOf(node) });
+    } else {
+      if (elements.idOf(node)) recording.log.name('element', elements.number(node), { id: elements.idOf(node) });
+      if (maker === 'script') page.insertions.noteDeclared(node);
     }
     page.controls.noteAdded(node, maker);
     page.reach.noteAdded(node, maker);
@@ -288,7 +289,7 @@ class Tree {
     const kind = elements.declaration(element, isWritten && page.kinds.ofStaticScript(element) !== 'inline');
     const number = elements.number(element);
     elements.markDeclared(element, kind);
-    page.inOrder.note(element, number);
+    if (element.localName === 'script' && page.insertions.starts(element) && !page.calls.isWriting()) page.inOrder.note(element, number);
     const parent = element.parentNode;
     if (element.localName === 'source' && isMedia(parent)) page.media.noteLoading(parent);
     if (elements.joinsParsing(element, number, kind)) return;

@@ -3,9 +3,8 @@
 import { each } from '../core/lists.js';
 import { replaceMethod, replaceProperty } from '../core/replacing.js';
 import { settings } from '../core/settings.js';
-import { fits, lowerCase, sliceOf } from '../core/strings.js';
-import { Map, Set, String, apply } from '../core/taken.js';
-import { isMedia } from '../core/things.js';
+import { fits } from '../core/strings.js';
+import { Set, apply } from '../core/taken.js';
 
 /** @type {[string, string[]][]} */
 const INSERTIONS = [
@@ -28,13 +27,6 @@ const DISPATCHERS = [
   ['HTMLDialogElement', ['show', 'showModal', 'close']],
   ['AbortController', ['abort']],
 ];
-/** What an element loads. */
-const SOURCES = [['HTMLScriptElement', 'src'], ['HTMLImageElement', 'src'], ['HTMLIFrameElement', 'src'], ['HTMLIFrameElement', 'srcdoc'], ['HTMLFrameElement', 'src'],
-  ['HTMLObjectElement', 'data'], ['HTMLEmbedElement', 'src'], ['HTMLLinkElement', 'href']];
-/** By the element's name: the attribute. */
-const SOURCE_OF = new Map([['script', 'src'], ['img', 'src'], ['iframe', 'src'], ['frame', 'src'], ['object', 'data'], ['embed', 'src'], ['link', 'href']]);
-/** What a script with it would lack is its copy, which has another text: it is not set. */
-const INTEGRITY = 'integrity attributes that scripts set, dropped';
 /** Elements that are declared where a script inserts them, as their kind is not known before. */
 const DECLARED_AT_INSERTION = new Set(['script', 'iframe', 'frame', 'link', 'object', 'embed']);
 
@@ -59,8 +51,6 @@ class Calls {
     each(SETTERS, ({ 0: owner, 1: names }) => each(names, (name) => this.replaceSetter(window[owner].prototype, name)));
     this.replaceDispatching(window.EventTarget.prototype);
     this.replaceCreation(window.Document.prototype);
-    this.replaceSources();
-    this.replaceSetAttribute();
   }
 
   /**
@@ -94,6 +84,7 @@ class Calls {
     const calls = this;
     const around = isInsertion && fits(/^write(ln)?$/, name) ? (/** @type {() => any} */ call) => calls.aroundWrite(call) : (/** @type {() => any} */ call) => calls.around(call, isInsertion);
     replaceMethod(owner, name, (native) => function called(...words) {
+      if (isInsertion) each(words, (word) => calls.page.insertedModules.prepare(word));
       const result = around(() => apply(native, this, words));
       if (name === 'open' && isInsertion && this === calls.page.document) calls.page.capturing.captureAgain();
       return result;
@@ -154,44 +145,6 @@ class Calls {
       replaceMethod(owner, name, (native) => function create(...words) {
         return declare(apply(native, this, words));
       });
-    });
-  }
-
-  /** What an element loads is set by a script. */
-  replaceSources() {
-    const { page } = this;
-    const { window } = page;
-    each(SOURCES, ({ 0: owner, 1: name }) => {
-      replaceProperty(window[owner].prototype, name, (native) => ({
-        set(value) {
-          page.sources.noteSource(this);
-          apply(native.set, this, [value]);
-          page.sources.nameSource(this);
-        },
-      }));
-    });
-    replaceProperty(window.HTMLScriptElement.prototype, 'integrity', () => ({ set() { page.recording.log.miss(INTEGRITY); } }));
-  }
-
-  replaceSetAttribute() {
-    const { page } = this;
-    replaceMethod(page.window.Element.prototype, 'setAttribute', (native) => function setAttribute(name, value) {
-      const key = lowerCase(String(name));
-      const isSource = key === SOURCE_OF.get(this.localName);
-      if (isSource && !page.recording.isOver) page.sources.noteSource(this);
-      if (key === 'src' && isMedia(this)) page.media.noteLoading(this);
-      if (key === 'integrity' && this.localName === 'script') {
-        page.recording.log.miss(INTEGRITY);
-        return undefined;
-      }
-      const result = apply(native, this, arguments);
-      if (isSource && !page.recording.isOver) page.sources.nameSource(this);
-      if (page.onHandlers.isHandler(key) && !page.recording.isOver && page.recording.isRunning()) {
-        page.elements.declaredNumber(this);
-        page.recording.finishReturned();
-        page.onHandlers.registerAttribute(this, sliceOf(key, 2), String(value));
-      }
-      return result;
     });
   }
 }

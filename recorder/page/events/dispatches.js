@@ -2,7 +2,7 @@
 
 import { each, findItem, heightOfLast, joined, positionOf } from '../core/lists.js';
 import { settings } from '../core/settings.js';
-import { Map, WeakMap, WeakSet, apply } from '../core/taken.js';
+import { Map, Set, WeakMap, WeakSet, apply } from '../core/taken.js';
 import { spellName } from '../log/spelling.js';
 import { MOST_OPEN } from '../recording/recording.js';
 import { isOfTree } from './capturing.js';
@@ -31,6 +31,11 @@ class Dispatches {
      * @type {Map<number, import('../types').TraceEvent>}
      */
     this.registrars = new Map();
+    /**
+     * The handlers of the capture phase: at the target they run before the others.
+     * @type {Set<number>}
+     */
+    this.capturers = new Set();
     /**
      * Events that a call has dispatched and that have a record.
      * @type {WeakSet<Event>}
@@ -71,6 +76,7 @@ class Dispatches {
     page.tree.writeLate();
     this.readSlots(path.length ? path : [target], event.type);
     page.fields.writeInput(event, target);
+    page.fields.watchReset(dispatch);
     page.addresses.watch(dispatch, path);
     return dispatch;
   }
@@ -95,6 +101,7 @@ class Dispatches {
     }
     // no rule puts the registration at an object before its first event: the running code looks there
     if (!isOfTree(dispatch.target, this.page.window)) this.readSlots([dispatch.target], dispatch.event.type);
+    this.page.loading.orderLeaving(dispatch);
     this.writeInline(dispatch, 'a script dispatched an event at it');
     this.told.add(dispatch.event);
     return true;
@@ -207,7 +214,7 @@ class Dispatches {
     if (!dispatch) return this.unrecorded();
     this.page.joins.tellOf(dispatch);
     dispatch.active++;
-    const visit = `${event.type}:${event.eventPhase}:${this.page.elements.number(current)}`;
+    const visit = `${event.type}:${event.eventPhase}:${this.capturers.has(handler)}:${this.page.elements.number(current)}`;
     if (dispatch.visit !== visit) {
       dispatch.visit = visit;
       dispatch.group = (dispatch.group ?? -1) + 1;

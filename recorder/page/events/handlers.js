@@ -105,11 +105,10 @@ class Handlers {
   /**
    * @param {EventTarget} target
    * @param {string} type
-   * @param {boolean|AddEventListenerOptions|undefined} options
+   * @param {boolean} isCapture
    * @returns {Registered}
    */
-  registrations(target, type, options) {
-    const isCapture = typeof options === 'object' && options ? !!options.capture : !!options;
+  registrations(target, type, isCapture) {
     const key = `${type}|${isCapture}`;
     const byKey = this.listeners.get(target) || new Map();
     this.listeners.set(target, byKey);
@@ -125,10 +124,12 @@ class Handlers {
    * @param {AddEventListenerOptions|undefined} options
    */
   wrapListener(target, type, listener, options) {
-    const registered = this.registrations(target, type, options);
+    const isCapture = isCapturing(options);
+    const registered = this.registrations(target, type, isCapture);
     const known = registered.get(listener);
     if (known) return known.wrapped;
     const handler = this.register(target, type, typeof listener === 'function' ? listener : listener.handleEvent, true);
+    if (isCapture) this.page.dispatches.capturers.add(handler);
     const isOnce = typeof options === 'object' && options !== null && !!options.once;
     const wrapped = this.wrapFunction(handler, target, type, listener, isOnce ? registered : null);
     registered.set(listener, { handler, wrapped });
@@ -181,7 +182,7 @@ class Handlers {
    * @param {AddEventListenerOptions|undefined} options
    */
   unwrapListener(target, type, listener, options) {
-    const registered = this.registrations(target, type, options);
+    const registered = this.registrations(target, type, isCapturing(options));
     const found = registered.get(listener);
     if (!found) return listener;
     registered.delete(listener);
@@ -189,5 +190,8 @@ class Handlers {
     return found.wrapped;
   }
 }
+
+/** @param {boolean|AddEventListenerOptions|undefined} options */
+const isCapturing = (options) => (typeof options === 'object' && options ? !!options.capture : !!options);
 
 export { Handlers };

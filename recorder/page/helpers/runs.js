@@ -3,7 +3,7 @@
 import { MADE_OF_TEXT } from '../log/log.js';
 
 /** @param {import('../types').Page} page */
-function helpersOfScripts({ addresses, globals, modules, recording, scripts }) {
+function helpersOfScripts({ addresses, globals, insertedModules, modules, recording, scripts }) {
   return {
     /** @type {(element: HTMLScriptElement|null, site: number, functions: [string, number][], taken?: [string, boolean][]) => void} */
     scriptBegins: (element, site, functions, taken) => {
@@ -15,6 +15,8 @@ function helpersOfScripts({ addresses, globals, modules, recording, scripts }) {
     moduleBegins: (address, site, sources) => { modules.begins(address, site, sources); },
     /** @type {(address: string) => void} */
     moduleEnds: (address) => { modules.ends(address); },
+    /** @type {(number: number) => void} */
+    insertedModule: (number) => { insertedModules.begins(number); },
     addressBegins: () => { addresses.begins(); },
     addressEnds: () => { addresses.ends(); },
     /** @type {(specifier: unknown, site: number, base: string) => unknown} */

@@ -20,12 +20,12 @@ class InOrder {
   }
 
   /**
-   * Such a script is inserted. It runs after the one before, where that one is inserted before it in any run of the page.
+   * A script is inserted that has a source, or is a module. It runs after the one before, where that one is inserted before it in any run of the page.
    * @param {Element} element
    * @param {number} number
    */
   note(element, number) {
-    if (element.localName !== 'script' || /** @type {HTMLScriptElement} */ (element).async !== false || !this.page.elements.has(element, 'src')) return;
+    if (/** @type {HTMLScriptElement} */ (element).async !== false) return;
     const { recording, last } = this;
     const isAfter = last && (last.maker === recording.running || recording.isBeforeRunning(last.maker));
     this.last = { maker: recording.running, before: isAfter ? last : null, ends: [] };

@@ -48,17 +48,35 @@ class Modules {
    * @param {string[]} [sources] the modules that run before it, as it names them
    */
   begins(address, site, sources = []) {
+    if (this.recording.isOver) return;
+    const running = this.runNow(site);
+    const element = this.find(address, site);
+    if (element && !running.element) this.tellElement(element, running);
+    this.tellAsked(address, running);
+    this.page.joins.here(this.endsOf(sources, address), 'the end of an imported module');
+  }
+
+  /** @param {number} [site] */
+  runNow(site) {
     const { recording } = this;
-    if (recording.isOver) return;
     const run = recording.moduleRun;
     const isSameTurn = run && recording.isRunning() && recording.running === run.event;
     const waiting = !isSameTurn && !recording.contexts.length && recording.isCheckpoint && takeFirst(this.waiting);
     const running = waiting ? this.goesOnWith(waiting, site) : run && isSameTurn ? run : this.beginRun(site);
     if (!recording.contexts.length) recording.enter('callback');
-    const element = this.find(address, site);
-    if (element && !running.element) this.tellElement(element, running);
-    this.tellAsked(address, running);
-    this.page.joins.here(this.endsOf(sources, address), 'the end of an imported module');
+    return running;
+  }
+
+  /**
+   * The text of a module that a script has inserted begins. No mark is at its end.
+   * @param {HTMLScriptElement} script
+   */
+  beginsInserted(script) {
+    const { recording } = this;
+    if (recording.isOver) return;
+    const running = this.runNow();
+    if (!running.element) this.tellElement(script, running);
+    this.page.natives.queueMicrotask(() => { if (recording.moduleRun === running) this.close(); });
   }
 
   /**
@@ -76,7 +94,7 @@ class Modules {
     return ends;
   }
 
-  /** @param {number} site */
+  /** @param {number} [site] */
   beginRun(site) {
     const { recording } = this;
     recording.startTask();
@@ -103,7 +121,7 @@ class Modules {
   /**
    * What imports a module that has waited runs after the run in which that one began, and after the end of each.
    * @param {ModuleRun} run
-   * @param {number} site
+   * @param {number} [site]
    */
   goesOnWith(run, site) {
     const { recording } = this;
@@ -128,6 +146,7 @@ class Modules {
     if (isDeferred) scripts.noteDeferred(number);
     scripts.noteRun(element, number);
     if (isDeferred) this.page.loading.comeAfterParsing();
+    this.page.inOrder.begins(number);
     recording.log.line(`is ${run.number} ${number}`);
   }
 
@@ -179,6 +198,7 @@ class Modules {
 
   close() {
     const { recording } = this;
+    if (recording.moduleRun) this.page.inOrder.ends(recording.moduleRun.element);
     recording.moduleRun = null;
     if (recording.contexts.length) recording.leave();
   }

@@ -54,7 +54,7 @@ class Scripts {
     if (script && !element) this.showOwnText(script);
     recording.startTask();
     this.writeRun(script, script ? this.runnable(script) : page.tree.addHiddenScript(), site);
-    recording.enter('script');
+    recording.enter('script', functions);
     this.declareFunctions(functions);
   }
 
@@ -171,6 +171,7 @@ class Scripts {
     const why = isScript && !this.hasRun.has(number) ? this.whyTooLate(number, kind) : 'it had run, or was no script when it was made';
     if (!why) return number;
     const standIn = recording.next('element');
+    elements.kinds.set(standIn, 'async');
     recording.noteBeside(number, `new ${this.page.number} ${standIn} async`);
     recording.log.name('element', standIn, { standsFor: number, why });
     recording.log.miss('scripts that ran later than the format allows, recorded as async ones');
@@ -200,8 +201,9 @@ class Scripts {
    * @param {Element} element
    */
   isRunning(element) {
-    const kind = this.page.elements.kinds.get(this.page.elements.number(element));
-    return kind !== 'async' && this.last.element === element && this.last.event === this.recording.running;
+    const { elements, sources } = this.page;
+    const isAsync = elements.kinds.get(elements.number(element)) === 'async' || sources.loads.has(element);
+    return !isAsync && this.last.element === element && this.last.event === this.recording.running;
   }
 
   /**
@@ -220,6 +222,19 @@ class Scripts {
   }
 
   /**
+   * The same for a script that the browser could not parse and that nothing waits for: its load event comes after the error.
+   * @param {Element} element
+   */
+  runEmptyLate(element) {
+    const { elements, recording, sources } = this.page;
+    const number = sources.loads.get(element)?.number || elements.number(element);
+    const isAsync = number !== elements.number(element) || elements.kinds.get(number) === 'async';
+    if (!isAsync || !recording.declared.has(elements.number(element)) || this.hasRun.has(number) || this.whyTooLate(number, 'async')) return false;
+    this.writeRun(element, number);
+    return true;
+  }
+
+  /**
    * An error of the window because a script is no JavaScript: it belongs to the script's empty run.
    * @param {ErrorEvent} event
    */
@@ -232,7 +247,7 @@ class Scripts {
     /** @type {ArrayLike<Element>} */
     const scripts = isInline ? [last] : apply(natives.querySelectorAll, document.documentElement, ['script[src]']);
     const script = findItem(scripts, (one) => (isInline || /** @type {HTMLScriptElement} */ (one).src === filename) && !this.hasRun.has(elements.number(one)));
-    return !!script && this.runEmpty(script);
+    return !!script && (this.runEmpty(script) || this.runEmptyLate(script));
   }
 }
 

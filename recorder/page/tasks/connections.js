@@ -14,8 +14,9 @@ const READERS = [['FileReader', ['readAsArrayBuffer', 'readAsBinaryString', 'rea
 const ASKERS = [
   ['IDBFactory', ['open', 'deleteDatabase']],
   ['IDBDatabase', ['transaction']],
-  ['IDBObjectStore', ['add', 'clear', 'count', 'delete', 'get', 'getAll', 'getAllKeys', 'getKey', 'openCursor', 'openKeyCursor', 'put']],
-  ['IDBIndex', ['count', 'get', 'getAll', 'getAllKeys', 'getKey', 'openCursor', 'openKeyCursor']],
+  ['IDBObjectStore', ['add', 'clear', 'count', 'delete', 'get', 'getAll', 'getAllKeys', 'getAllRecords', 'getKey', 'openCursor', 'openKeyCursor', 'put']],
+  ['IDBIndex', ['count', 'get', 'getAll', 'getAllKeys', 'getAllRecords', 'getKey', 'openCursor', 'openKeyCursor']],
+  ['IDBCursor', ['delete', 'update']],
 ];
 
 class Connections {
@@ -64,7 +65,7 @@ class Connections {
 
   /**
    * A reply begins. The requests of a transaction are answered one after the other, then the transaction ends; what has opened the database for a change
-   * of its version is answered after that.
+   * of its version is answered after that. The events of such a change, which no call has asked for, are replies to the same request.
    * @param {import('../events/dispatches.js').EventDispatch} dispatch
    * @param {import('./requests.js').Request} request
    */
@@ -72,6 +73,8 @@ class Connections {
     const queue = this.queueOf(dispatch.target, request);
     if (!queue) return;
     request.queue = queue;
+    const { target } = dispatch;
+    if (dispatch.event.type === 'upgradeneeded') this.page.dispatches.requests.set(/** @type {any} */ (target).transaction, request);
     dispatch.moments = [queue.last];
     dispatch.why = 'the request before';
     dispatch.whenClosed = () => { queue.last = this.recording.lastMoment(); };

@@ -33,6 +33,12 @@ exports.cases = [
     races: ['click of div#outer'],
   },
   {
+    page: 'capture-at-target.html', // two of one phase have no order
+    words: CLICK,
+    due: ['on bubbles', 'on captures', 'on capturesToo', 'inline button click', 'run captures', 'w first', 'run capturesToo', 'w second', 'run bubbles', 'r first', 'r second'],
+    races: ['click of button', 'one'],
+  },
+  {
     page: 'once.html',
     words: CLICK,
     due: [
@@ -71,6 +77,13 @@ exports.cases = [
     races: ['who', 'last'],
   },
   {
+    page: 'error-unheard.html',
+    due: ['message', 'run fails', 'inline window error', 'r error of window', 'close', 'back', 'wfire unhandledrejection', 'r unhandledrejection of window',
+      'timer', 'on reports', 'w error of window', 'on reportsToo', 'w unhandledrejection of window'],
+    races: ['error of window', 'unhandledrejection of window'],
+    throws: true,
+  },
+  {
     page: 'throws-in-handler.html',
     words: CLICK,
     due: [
@@ -88,6 +101,24 @@ exports.cases = [
       'run submitted',
     ],
     races: ['seen', 'change of input#box', 'submit of form#form'],
+  },
+  {
+    page: 'form-reset.html', // the second form is not reset
+    due: ['timer', 'r value of input#text', 'timer', 'inline form#form reset', 'close', 'w value of input#text', 'w checked of input#box', 'w value of select#list', 'w value of textarea#area', 'back',
+      'inline form#kept reset', 'run prevents', 'close', 'back'],
+    races: ['value of input#text', 'checked of input#box', 'value of select#list', 'value of textarea#area'],
+  },
+  {
+    page: 'form-reset-by-user.html',
+    words: CLICK,
+    due: ['inline button click', 'close', 'inline form reset', 'close', 'w value of input#text', 'back', 'back'],
+    races: ['value of input#text'],
+  },
+  {
+    page: 'radio-buttons.html',
+    words: ['--do', 'click:#big'],
+    due: ['timer', 'w checked of input#outside2', 'w checked of input#outside', 'w value of select#list', 'inline input#big input', 'w checked of input#big', 'w checked of input#small'],
+    races: ['checked of input#small', 'checked of input#outside', 'value of select#list'],
   },
   {
     page: 'typing.html',

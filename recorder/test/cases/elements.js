@@ -46,10 +46,43 @@ exports.cases = [
     races: ['late'],
   },
   {
+    page: 'image-made.html', // a handler that another event sets late
+    due: ['timer', 'new img image', 'w picture', 'eload img'],
+    races: ['load of img'],
+  },
+  {
+    page: 'image-cloned.html', // it loads before code inserts it
+    due: ['timer', 'new img#second image', 'w kept', 'eload img#second'],
+    races: ['order'],
+  },
+  {
+    page: 'image-in-text.html',
+    due: ['timer', 'new img#inside image', 'eload img#inside', 'run load', 'w seen'],
+    races: ['order'],
+  },
+  {
+    page: 'sources-of-sets.html',
+    due: ['timer', 'w size1', 'new img#set image', 'eload img#set', 'r size1'],
+    besides: [
+      ['w size2', 'new img#chosen image', 'eload img#chosen', 'r size2'], ['w size3', 'new input#button image', 'eload input#button', 'r size3'],
+      ['w size4', 'new image#drawn image', 'eload image#drawn', 'r size4'], ['w size5', 'new image#old image', 'eload image#old', 'r size5'],
+      ['w size6', 'new image#based image', 'eload image#based', 'r size6'],
+    ],
+    races: ['seen1', 'seen2', 'seen3', 'seen4', 'seen5', 'seen6'],
+  },
+  {
+    page: 'image-again.html', // the second load of `full` can be that of its first source: only what loads `empty` is after `chooses`
+    due: ['timer', 'new img#empty image', 'eload img#empty', 'run load', 'timer', 'fire img#empty load', 'run load', 'r size'],
+    besides: [['timer', 'new img#full image', 'eload img#full', 'run load', 'timer', 'fire img#full load', 'run load', 'r size']],
+    races: ['size'],
+  },
+  {
     page: 'style-sheet.html',
     due: [
       'parse link image', 'eload link', 'run load', 'w styled', 'load', 'r styled',
     ],
+    besides: [['parse style image', 'eload style', 'run load', 'w inside', 'load', 'r inside']],
+    races: ['added'],
   },
   {
     page: 'inner-html.html',

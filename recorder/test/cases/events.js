@@ -96,6 +96,12 @@ exports.cases = [
     races: [],
   },
   {
+    page: 'database-cursor.html', // a change of version is a transaction, and so is what a cursor asks for in one; two transactions have no order
+    due: ['run walks', 'run updates', 'w updated', 'run the request before', 'run ends', 'r updated', 'w changed', 'run the request before', 'run opens', 'r changed'],
+    besides: [['run finds', 'run counts', 'r deleted', 'run the request before', 'run deletes', 'w deleted']],
+    races: ['other'],
+  },
+  {
     page: 'motion-of-two.html',
     due: ['timer', 'timer', 'w state', 'fire div#panel transitionend', 'r state'],
     never: ['new div#panel plain'],
@@ -286,6 +292,11 @@ exports.cases = [
       'new Navigation plain', 'back', 'fire Navigation navigatesuccess', 'run over', 'r shown'],
     races: ['click of a#link'],
   },
+  {
+    page: 'navigate-waits.html',
+    due: ['timer', 'inline Navigation navigate', 'run goes', 'reply', 'w shown', 'new Navigation plain', 'fire Navigation navigatesuccess', 'run over', 'r shown'],
+  },
+  { page: 'navigate-sooner.html', due: ['w other', 'w shown', 'fire Navigation navigatesuccess', 'r shown', 'r other'], races: ['other'] },
   {
     page: 'navigate-by-script.html',
     due: ['timer', 'w asked', 'inline Navigation navigate', 'run goes', 'r asked', 'close', 'back', 'w shown', 'r shown', 'w behind'],

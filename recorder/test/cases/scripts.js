@@ -40,6 +40,18 @@ exports.cases = [
     ],
   },
   {
+    page: 'module-inserted.html', // an inline one: what it imports is of its run
+    due: ['timer', 'w first', 'new script async', 'exec script', 'w other', 'r first', 'r other', 'r second', 'w seen'],
+    races: ['second'],
+  },
+  {
+    page: 'modules-in-order.html', // the third is not in the list
+    due: ['timer', 'new script async', 'new script async', 'exec script', 'w other', 'w told', 'on the end of a script', 'exec script', 'inline the end of a script behind',
+      'run the end of a script', 'back', 'r told', 'r free'],
+    besides: [['exec script', 'w free']],
+    races: ['free'],
+  },
+  {
     page: 'import-call.html',
     due: [
       'exec script', 'every 0', 'tick', 'w lazyRan',
@@ -77,9 +89,20 @@ exports.cases = [
   {
     page: 'script-later.html',
     due: [
-      'parse script#empty inline', 'timer', 'w config', 'new script#empty async', 'exec script#empty', 'r config', 'w ready', 'inline script#empty load', 'run loaded', 'r config',
+      'parse script#empty inline', 'timer', 'w config', 'new script#empty async', 'exec script#empty', 'r config', 'w ready', 'eload script#empty', 'run loaded', 'r config',
       'r ready',
     ],
+  },
+  {
+    page: 'script-of-data.html',
+    due: [
+      'timer', 'w config', 'new script#data async', 'exec script#data', 'r config', 'w ready', 'eload script#data', 'run loaded', 'r config', 'r ready',
+    ],
+  },
+  {
+    page: 'script-inserted-later.html', // it has started: a further insertion is not before its run
+    due: ['timer', 'on loaded', 'new script async', 'timer', 'w first', 'new script async', 'exec script', 'r first', 'r second', 'eload script', 'run loaded'],
+    races: ['second'],
   },
   {
     page: 'script-load.html',
@@ -121,6 +144,13 @@ exports.cases = [
     ],
   },
   {
+    page: 'scripts-in-order-late.html', // a handler has declared them before
+    due: [
+      'timer', 'on loaded', 'new script async', 'on loaded', 'new script async', 'exec script', 'w ready', 'on the end of a script', 'eload script', 'exec script',
+      'inline the end of a script behind', 'run the end of a script', 'run the end of a script', 'back', 'r ready',
+    ],
+  },
+  {
     page: 'ready-defer.html',
     due: [
       'parse script defer', 'parse script inline', 'exec script', 'w before', 'fire document readystatechange', 'run the end of a script', 'run onState', 'r before', 'w states',
@@ -144,6 +174,16 @@ exports.cases = [
     races: ['#late', '#last', 'isReady of the closure of ?'],
   },
   { page: 'drawing.svg', due: ['parse svg plain', 'parse script plain', 'parse rect#part plain', 'load'], losses: [/^XML pages, as XHTML and SVG/] },
+  {
+    page: 'script-broken.html', // nothing waits for it
+    due: ['parse script async', 'exec script', 'inline window error', 'run broken', 'r before', 'w faults', 'back', 'eload script', 'run load', 'r faults'],
+    throws: true,
+  },
+  {
+    page: 'script-broken-later.html',
+    due: ['w before', 'new script async', 'exec script', 'inline window error', 'run broken', 'r before', 'w faults', 'back', 'eload script', 'run loaded', 'r faults'],
+    throws: true,
+  },
   {
     page: 'no-javascript.html',
     due: [
@@ -191,5 +231,11 @@ exports.cases = [
     ],
   },
   { page: 'integrity-set.html', due: ['exec script', 'w ready'], losses: [/^integrity attributes that scripts set, dropped: 2$/] },
+  {
+    page: 'javascript-location.html',
+    due: ['timer', 'r last', 'w other', 'timer', 'exec script', 'w added', 'r added'],
+    never: ['w last'],
+    losses: [/^accesses while nothing recorded ran: 1$/, /^variables that changed while nothing recorded ran: 1$/],
+  },
   { page: 'integrity-map.html', due: ['exec script', 'w last', 'w total', 'r total of store'], losses: [/^integrity of import maps dropped/] },
 ];

@@ -35,6 +35,12 @@ exports.cases = [
     races: ['pagehide of window', 'unload of window', 'visibilitychange of document'],
   },
   {
+    page: 'leaving-by-call.html', // the call asks first
+    due: ['timer', 'w asked', 'inline window beforeunload', 'run asks', 'r asked', 'w left', 'close', 'on an event before', 'back', 'w late', 'wfire pagehide', 'run an event before',
+      'run hides', 'r left', 'r late'],
+    races: ['late', 'pagehide of window'],
+  },
+  {
     page: 'text-timer.html',
     due: [
       'set 1', 'timer', 'w late',
@@ -97,6 +103,29 @@ exports.cases = [
     version: 2,
     due: ['on got', 'timer', 'fire ? message', 'run got', 'w last', 'fire ? message', 'run got', 'w last'],
     races: ['last'],
+  },
+  {
+    page: 'when-defined.html',
+    due: ['reply', 'run reply of fetch', 'w config', 'w rest', 'inline what settled the promise settled', 'on what settled the promise', 'back', 'r config', 'w late',
+      'timer', 'inline promise reactions then', 'run what settled the promise', 'run uses', 'r config', 'r rest', 'r late'],
+    races: ['late'],
+  },
+  {
+    page: 'message-unheard.html',
+    due: ['timer', 'w sent', 'post', 'post', 'message', 'inline ? message', 'run got', 'r told', 'r sent', 'message', 'inline ? message', 'run heard', 'r told', 'r sent'],
+    races: ['told'],
+  },
+  {
+    page: 'message-unheard.html',
+    version: 2,
+    due: ['timer', 'w sent', 'fire ? message', 'run got', 'r told', 'r sent', 'fire ? message', 'run heard', 'r told', 'r sent'],
+    races: ['seen', 'told'],
+  },
+  { page: 'message-refused.html', due: ['timer', 'w sent', 'post', 'message', 'inline ? message', 'run got', 'r sent'] },
+  {
+    page: 'broadcast-worker.html',
+    due: ['timer', 'w sent', 'post', 'fire BroadcastChannel message', 'run got', 'r sent'],
+    races: ['sent'],
   },
   {
     page: 'worker.html',
