@@ -1,11 +1,11 @@
 // Steering of a replay: some things that the page requests are held back until the driver releases them. A plain recording holds nothing back.
 
 import { each, findItem, joined, keep } from '../core/lists.js';
-import { replaceMethod } from '../core/replacing.js';
 import { settings } from '../core/settings.js';
 import { sliceOf, withoutFragment } from '../core/strings.js';
 import { String, WeakSet, apply } from '../core/taken.js';
 import { callsOfPage, ownPlace } from '../log/stack.js';
+import { unlessCleared, watchClearing } from './clearing.js';
 import { testOfCode } from './spots.js';
 
 class Steering {
@@ -57,7 +57,7 @@ class Steering {
       const known = hold && findItem(this.holds, ({ id }) => id === hold.id);
       if (known && !isOfPage) known.spots = hold.spots;
       if (known) return;
-      if (hold) this.holds[this.holds.length] = { ...hold, asked: 0, isLet: false, waiting: [], timer: null, target: null, met: 0 };
+      if (hold) this.holds[this.holds.length] = { ...hold, asked: 0, isLet: false, waiting: [], request: null, isCleared: false, target: null, met: 0 };
     });
   }
 
@@ -93,7 +93,7 @@ class Steering {
     if (!hold) return run;
     return (...args) => {
       if (hold.isLet) apply(run, undefined, args);
-      else if (!hold.waiting.length) this.keep(hold, { go: () => again(run) });
+      else if (!hold.waiting.length) this.keep(hold, { go: () => again(unlessCleared(hold, run)) });
     };
   }
 
@@ -112,25 +112,23 @@ class Steering {
   }
 
   /**
-   * Notes the browser's number of a callback that is held back, so that the page can cancel it.
+   * Notes what the browser's function for the callback returned to the page, with which the page can clear it.
    * @param {import('../types').Held|undefined} hold
-   * @param {number} timer
+   * @param {import('../types').PageWindow} window
+   * @param {string} queue whose numbers it has, of clearing.js
+   * @param {number} number
    */
-  note(hold, timer) {
-    if (hold) hold.timer = timer;
-    return timer;
+  note(hold, window, queue, number) {
+    if (hold) hold.request = { window, queue, number };
+    return number;
   }
 
   /**
+   * Called for each window, by timers.js. A driven browser learns only later what it holds back.
    * @param {import('../types').PageWindow} window
-   * @param {string[]} names
    */
-  watchClearing(window, names) {
-    if (!this.holds.length) return;
-    each(names, (name) => replaceMethod(window, name, (native) => (timer) => {
-      each(this.holds, (hold) => { if (timer !== undefined && hold.timer === timer) hold.waiting = []; });
-      return apply(native, window, [timer]);
-    }));
+  watchClearing(window) {
+    if (this.isActive) watchClearing(window, this.holds);
   }
 
   /**
