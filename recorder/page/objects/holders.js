@@ -26,8 +26,9 @@ const DATA = 7;
 const SCOPE = 8;
 const WINDOW = 9;
 const SET = 10;
-const LEFT_OUT = 11;
-const BUILTIN = 12;
+const STORAGE = 11;
+const LEFT_OUT = 12;
+const BUILTIN = 13;
 
 /** Variables of more than one name: all bytes, which names or keys there are, which items an array has. */
 const WHOLE = '(all)';
@@ -155,7 +156,7 @@ const actionOf = (access) => access >> 2;
 const modeOf = (access) => access & 3;
 
 export {
-  READ, WRITE, KEPT, COUNTED, isWrite, PLAIN, LIST, BYTES, MAP, TREE, STYLE, CLASSES, DATA, SCOPE, WINDOW, SET, LEFT_OUT, BUILTIN, WHOLE,
-  NAMES, ITEMS, SINGLE_ITEMS, OTHER_ITEMS, IS_SHARED, IS_WRITTEN, IS_READ, MAY_RACE, IS_LEFT_OUT, IS_COUNTED, IS_OF_TREE, Variable, Holder, accessOf, actionOf,
+  READ, WRITE, KEPT, COUNTED, isWrite, PLAIN, LIST, BYTES, MAP, TREE, STYLE, CLASSES, DATA, SCOPE, WINDOW, SET, STORAGE, LEFT_OUT, BUILTIN,
+  WHOLE, NAMES, ITEMS, SINGLE_ITEMS, OTHER_ITEMS, IS_SHARED, IS_WRITTEN, IS_READ, MAY_RACE, IS_LEFT_OUT, IS_COUNTED, IS_OF_TREE, Variable, Holder, accessOf, actionOf,
   modeOf,
 };

@@ -1,9 +1,10 @@
 // Accesses to properties by their names: which object of the prototype chain they belong to, and what they touch.
 
+import { findItem } from '../core/lists.js';
 import { settings } from '../core/settings.js';
 import { fits } from '../core/strings.js';
 import { getPrototypeOf, hasOwn } from '../core/taken.js';
-import { BUILTIN, BYTES, CLASSES, DATA, IS_LEFT_OUT, LEFT_OUT, LIST, NAMES, READ, STYLE, TREE, WHOLE, WINDOW, WRITE } from './holders.js';
+import { BUILTIN, BYTES, CLASSES, DATA, IS_LEFT_OUT, LEFT_OUT, LIST, NAMES, READ, STORAGE, STYLE, TREE, WHOLE, WINDOW, WRITE } from './holders.js';
 import { LONGEST_PROTOTYPE_CHAIN, isAccessor } from './kinds.js';
 
 const { keepsAll } = settings;
@@ -37,6 +38,7 @@ class Properties {
       case BYTES: if (typeof name === 'number') variables.touchModes(kinds.hold(object, site), WHOLE, modes, site); break;
       case TREE: this.objects.trees.access(object, name, modes, site); break;
       case STYLE: case CLASSES: case DATA: if (known !== undefined) this.objects.trees.accessPart(known, object, name, modes, site); break;
+      case STORAGE: this.accessStorage(kinds.hold(object, site), `${name}`, modes, site); break;
       case WINDOW: if (known !== undefined) this.accessWindow(known.object, name, modes, site); break;
       default: this.accessPlain(object, typeof name === 'number' ? `${name}` : name, modes, site);
     }
@@ -73,6 +75,42 @@ class Properties {
     else if (modes === 'u') page.globals.update(text, site);
     else if (modes === 'U') page.globals.count(text, site);
     else page.globals.write(text, site);
+  }
+
+  /**
+   * The recorder of the window whose storage an object is, if it is one.
+   * @param {object} object
+   */
+  fieldsOf(object) {
+    return findItem(this.recording.documents, ({ fields }) => fields.areaOf(object) !== '')?.fields;
+  }
+
+  /**
+   * An item of a storage by its key, as `localStorage.theme`. A name that the prototypes have is no key for a read; a write of it is one.
+   * @param {import('../types').Holder} holder
+   * @param {string} name
+   * @param {import('../types').Modes} modes
+   * @param {number} site
+   */
+  accessStorage({ object }, name, modes, site) {
+    const fields = this.fieldsOf(object);
+    if (!fields || (modes !== 'w' && this.isInherited(object, name))) return;
+    if (modes !== 'w' && modes !== 'd') fields.accessItem('r', object, name, site);
+    if (modes !== 'r') fields.accessItem('w', object, name, site);
+  }
+
+  /**
+   * Whether a prototype of an object has a name, or is a proxy, which is asked nothing.
+   * @param {object} object
+   * @param {string} name
+   */
+  isInherited(object, name) {
+    let at = getPrototypeOf(object);
+    for (let depth = 0; at !== null && depth < LONGEST_PROTOTYPE_CHAIN; depth++) {
+      if (this.kinds.holders.get(at)?.kind === LEFT_OUT || hasOwn(at, name)) return true;
+      at = getPrototypeOf(at);
+    }
+    return false;
   }
 
   /**

@@ -64,6 +64,15 @@ exports.cases = [
       'w localStorage.theme', 'w document.cookie', 'timer', 'r localStorage.theme', 'r document.cookie',
     ],
   },
+  {
+    page: 'storage-properties.html',
+    due: [
+      'w localStorage.theme', 'w localStorage.size', 'r localStorage.shown', 'w localStorage.shown', 'w sessionStorage.step', 'w localStorage.gone',
+      'timer', 'r localStorage.theme', 'r localStorage.size', 'r localStorage.shown', 'r sessionStorage.step', 'r localStorage.gone',
+      'timer', 'r sessionStorage.step',
+    ],
+    never: ['r localStorage.length', 'r localStorage.getItem', 'w localStorage.getItem'],
+  },
 
   // ---- custom elements that the parser makes
   {
