@@ -86,7 +86,7 @@ class Properties {
   }
 
   /**
-   * An item of a storage by its key, as `localStorage.theme`. A name that the prototypes have is no key for a read; a write of it is one.
+   * An item of a storage by its key, as `localStorage.theme`. A name that the prototypes have is no key, also of a write.
    * @param {import('../types').Holder} holder
    * @param {string} name
    * @param {import('../types').Modes} modes
@@ -94,7 +94,7 @@ class Properties {
    */
   accessStorage({ object }, name, modes, site) {
     const fields = this.fieldsOf(object);
-    if (!fields || (modes !== 'w' && this.isInherited(object, name))) return;
+    if (!fields || this.isInherited(object, name)) return;
     if (modes !== 'w' && modes !== 'd') fields.accessItem('r', object, name, site);
     if (modes !== 'r') fields.accessItem('w', object, name, site);
   }

@@ -64,6 +64,7 @@ exports.cases = [
       'w localStorage.theme', 'w document.cookie', 'timer', 'r localStorage.theme', 'r document.cookie',
     ],
   },
+  { page: 'storage-key.html', due: ['w localStorage.k'], never: ['w sessionStorage.none'] },
   {
     page: 'storage-properties.html',
     due: [
@@ -71,7 +72,7 @@ exports.cases = [
       'timer', 'r localStorage.theme', 'r localStorage.size', 'r localStorage.shown', 'r sessionStorage.step', 'r localStorage.gone',
       'timer', 'r sessionStorage.step',
     ],
-    never: ['r localStorage.length', 'r localStorage.getItem', 'w localStorage.getItem'],
+    never: ['r localStorage.length', 'r localStorage.getItem', 'w localStorage.key'],
   },
 
   // ---- custom elements that the parser makes
