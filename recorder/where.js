@@ -9,6 +9,7 @@ const { print, printError } = require('./common/output.js');
 
 /** What a module defines: a function, a class, a constant, a method. */
 const DEFINITION = /^(?:async function|function|class|const| {2}(?:static |async |\*|#)*(?!if|for|while|switch|return|super)(?=[\w$#]+\([^)]*\) \{$))\s*([\w$#]+)(?:\(([^)]*)\))?/;
+const MOST_ROWS = 6;
 const MOST_MODULES = 12;
 const MOST_DEFINITIONS = 4;
 const MOST_LETTERS = 110;
@@ -92,10 +93,12 @@ function scoreOf({ name, about, definitions }, wanted) {
  */
 const hasAll = (text, words) => words.every((word) => word.test(text));
 
-/** The rows of the map and of the table of waits that have all words. */
+/** The rows of the tables of README.md that have all words: first those that have more of them in their first cell, the question. */
 function printRows(/** @type {RegExp[]} */ wanted) {
-  const rows = fs.readFileSync(path.join(__dirname, 'README.md'), 'utf8').split('\n').filter((line) => /^\| [^*]/.test(line) && hasAll(line, wanted));
-  for (const row of rows) print(`README.md: ${row.slice(2, -2).replace(/`/g, '')}`);
+  const countOf = (/** @type {string} */ row) => wanted.filter((word) => word.test(row.split(' | ')[0])).length;
+  const rows = fs.readFileSync(path.join(__dirname, 'README.md'), 'utf8').split('\n').filter((line) => /^\| [^*]/.test(line) && hasAll(line, wanted))
+    .map((row) => ({ row, count: countOf(row) })).sort((one, other) => other.count - one.count);
+  for (const { row } of rows.slice(0, MOST_ROWS)) print(`README.md: ${row.slice(2, -2).replace(/`/g, '')}`);
   return rows.length;
 }
 

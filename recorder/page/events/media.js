@@ -1,4 +1,4 @@
-// Events of media elements: they come in later tasks, after who chose what is played, or after the call that plays it, pauses it or moves in it.
+// Events of media elements (video, audio): they come in later tasks, after who chose what is played, or after the call that plays it, pauses it or moves in it.
 
 import { each } from '../core/lists.js';
 import { replaceMethod, replaceProperty } from '../core/replacing.js';
