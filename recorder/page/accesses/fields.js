@@ -34,6 +34,7 @@ class Fields {
   }
 
   /**
+   * The location of a variable of a field, as the trace has it.
    * @param {Element} field
    * @param {string} variable
    */
@@ -42,6 +43,7 @@ class Fields {
   }
 
   /**
+   * Records an access to a field in the document, if code runs.
    * @param {string} mode
    * @param {Element} field
    * @param {string} variable

@@ -86,6 +86,7 @@ class Calls {
   }
 
   /**
+   * Puts a function of the recorder around a method that may dispatch events or change the tree. Also for tasks/requests.js.
    * @param {any} owner
    * @param {string} name
    * @param {boolean} isInsertion

@@ -64,6 +64,7 @@ class Media {
   }
 
   /**
+   * Expects events at a media element, whose cause is the running code.
    * @param {HTMLMediaElement} element
    * @param {string[]} types
    */
@@ -110,7 +111,10 @@ class Media {
 
   // ---- calls
 
-  /** @param {any} owner */
+  /**
+   * Replaces what sets a source or loads it, of an interface of media elements.
+   * @param {any} owner
+   */
   replaceSources(owner) {
     const media = this;
     each(['src', 'srcObject'], (name) => replaceProperty(owner, name, (native) => ({

@@ -85,6 +85,7 @@ class Messages {
   }
 
   /**
+   * Records the call of `postMessage` or the like: its message is expected at the receiver.
    * @param {object} receiver
    * @param {ArrayLike<any>} [words] the arguments of the call
    * @returns {import('../types').Held|undefined} what holds the message back in a replay

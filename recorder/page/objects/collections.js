@@ -115,6 +115,7 @@ class Collections {
   }
 
   /**
+   * Reads all keys of a map or a set.
    * @param {import('../types').Holder} holder
    * @param {number} site
    */
@@ -145,6 +146,7 @@ class Collections {
   // ---- wholes
 
   /**
+   * Code asks for the names or items of an object: `for..in`, `Object.keys`.
    * @param {object} object
    * @param {number} site
    */
@@ -156,6 +158,7 @@ class Collections {
   }
 
   /**
+   * Code goes through an object: `for..of`, a spread into a list, a pattern of items.
    * @param {object} object
    * @param {number} site
    */
@@ -166,6 +169,7 @@ class Collections {
   }
 
   /**
+   * Code reads all properties of an object: `{...a}`, `Object.assign`.
    * @param {object} object
    * @param {number} site
    */

@@ -97,6 +97,7 @@ class Holder {
   }
 
   /**
+   * The variable of a name, or null.
    * @param {import('../types').VariableName} name
    * @returns {Variable|null}
    */
@@ -108,7 +109,10 @@ class Holder {
     return null;
   }
 
-  /** @param {import('../types').VariableName} name that it has not */
+  /**
+   * Makes the variable of a name.
+   * @param {import('../types').VariableName} name that it has not
+   */
   add(name) {
     const variable = new Variable(name);
     variable.next = this.first;
@@ -127,7 +131,10 @@ class Holder {
     return byName;
   }
 
-  /** @param {import('../types').VariableName} name */
+  /**
+   * The variable of a name, which is made if there is none.
+   * @param {import('../types').VariableName} name
+   */
   variable(name) {
     return this.find(name) || this.add(name);
   }

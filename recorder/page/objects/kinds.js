@@ -99,6 +99,7 @@ class Kinds {
   }
 
   /**
+   * The kind of an object that is not held yet (holders.js).
    * @param {object} object
    * @returns {number}
    */

@@ -45,6 +45,7 @@ class Properties {
   }
 
   /**
+   * Records an access to a property of an object that is none of the special kinds.
    * @param {object} object
    * @param {string} name
    * @param {import('../types').Modes} modes
@@ -138,6 +139,7 @@ class Properties {
   }
 
   /**
+   * Records the read of a property that an object has itself, unless it is a getter.
    * @param {import('../types').Holder} holder
    * @param {object} object
    * @param {import('../types').VariableName} name
@@ -179,6 +181,7 @@ class Properties {
   }
 
   /**
+   * Records the read of a name that no object of the chain has: one of them might get it.
    * @param {object} object
    * @param {import('../types').VariableName} name
    * @param {number} site
@@ -196,6 +199,7 @@ class Properties {
   }
 
   /**
+   * Records a write by a name. If a setter takes it, the code of the setter is recorded.
    * @param {import('../types').Holder} holder
    * @param {object} object
    * @param {import('../types').VariableName} name

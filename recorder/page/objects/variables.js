@@ -26,6 +26,7 @@ class Variables {
   }
 
   /**
+   * Records an access to the variable of a name.
    * @param {import('../types').Holder} holder
    * @param {import('../types').VariableName} name
    * @param {number} mode
@@ -36,6 +37,7 @@ class Variables {
   }
 
   /**
+   * Records what an expression does with the variable of a name.
    * @param {import('../types').Holder} holder
    * @param {import('../types').VariableName} name
    * @param {import('../types').Modes} modes
@@ -64,7 +66,10 @@ class Variables {
     if (isOnlyCounted) variable.flags |= IS_COUNTED;
   }
 
-  /** @param {import('../types').Variable} variable */
+  /**
+   * Whether the running action has done nothing with a variable except to count it.
+   * @param {import('../types').Variable} variable
+   */
   isOnlyCounted({ flags, lastRead, lastWrite }) {
     const { actions } = this.recording;
     return lastWrite === actions ? (flags & IS_COUNTED) !== 0 : lastRead !== actions;
@@ -103,6 +108,7 @@ class Variables {
   }
 
   /**
+   * Records a read, with what it found.
    * @param {import('../types').Holder} holder
    * @param {import('../types').Variable} variable
    * @param {number} site

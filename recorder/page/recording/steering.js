@@ -74,6 +74,7 @@ class Steering {
   }
 
   /**
+   * Something waits for the release of a hold.
    * @param {import('../types').Held} hold
    * @param {import('../types').Waiting} one
    */
@@ -233,6 +234,7 @@ class Steering {
   }
 
   /**
+   * Dispatches an event that was held back once more.
    * @param {EventTarget} target
    * @param {Event} event
    */
@@ -271,8 +273,8 @@ class Steering {
     again();
   }
 
-  /** @param {number} id */
-  letGo(id) {
+  /** Releases a hold. Called by the driver. */
+  letGo(/** @type {number} */ id) {
     const hold = findItem(this.holds, (one) => one.id === id);
     if (!hold || hold.isLet) return;
     const { waiting } = hold;
@@ -283,14 +285,14 @@ class Steering {
 
   // ---- the script elements at which the parser waits, which are not of the page
 
-  /** @param {Node} node */
-  isHold(node) {
+  /** Whether a node is such an element. */
+  isHold(/** @type {Node} */ node) {
     const element = /** @type {Element} */ (node);
     return this.isActive && element.localName === 'script' && apply(this.natives.hasAttribute, element, ['data-er-hold']);
   }
 
-  /** @param {Element} script */
-  removeHold(script) {
+  /** Such an element has done its work. */
+  removeHold(/** @type {Element} */ script) {
     apply(this.natives.remove, script, []);
   }
 }

@@ -155,7 +155,10 @@ class Modules {
     return indexIn(text, `import.meta.url,${site})`) >= 0 || indexIn(text, `import.meta.url,${site},`) >= 0;
   }
 
-  /** @param {string} address */
+  /**
+   * Called by the marks at the end of a module.
+   * @param {string} address
+   */
   ends(address) {
     const { recording } = this;
     const moment = recording.moment();
@@ -177,12 +180,14 @@ class Modules {
     this.ended.set(address, end);
   }
 
+  /** The run of modules is over. */
   close() {
     const { recording } = this;
     recording.moduleRun = null;
     if (recording.contexts.length) recording.leave();
   }
 
+  /** Whether the body of a module runs, and nothing that it called. */
   isRunning() {
     const { contexts, moduleRun, running } = this.recording;
     return !!moduleRun && running === moduleRun.event && contexts.length === 1;

@@ -90,6 +90,7 @@ class Timers {
   }
 
   /**
+   * Writes the name of a callback, if it has one.
    * @param {string} kind
    * @param {number} number
    * @param {unknown} callback
@@ -127,7 +128,10 @@ class Timers {
     }
   }
 
-  /** @param {PageWindow} window */
+  /**
+   * A timeout is a `set` where it is requested, and a `timer` where it runs.
+   * @param {PageWindow} window
+   */
   replaceTimeout(window) {
     const timers = this;
     const { recording, page } = this;
@@ -148,7 +152,10 @@ class Timers {
     });
   }
 
-  /** @param {PageWindow} window */
+  /**
+   * An interval is an `every` where it is requested, and each of its runs a `tick`.
+   * @param {PageWindow} window
+   */
   replaceInterval(window) {
     const timers = this;
     const { recording } = this;
