@@ -32,6 +32,7 @@ class OpenedWindow {
   }
 
   /**
+   * The recorder's script, as an insertion at the begin of the window's first page.
    * @param {string} address
    * @param {string} html
    */
