@@ -89,7 +89,10 @@ class NamedRun {
     this.elements.set(element, this.counted(known.map((one) => one || '').join(' ') + asker));
   }
 
-  /** @param {string} name */
+  /**
+   * A name, with a count if an earlier thing has it too.
+   * @param {string} name
+   */
   counted(name) {
     const count = (this.counts.get(name) || 0) + 1;
     this.counts.set(name, count);
@@ -98,17 +101,24 @@ class NamedRun {
 
   // ---- things
 
-  /** @param {Place|null|undefined} place */
+  /**
+   * A place by address, line and column.
+   * @param {Place|null|undefined} place
+   */
   place(place) {
     return place ? `${this.names.files[place[0]]?.address}:${place[1]}:${place[2]}` : '';
   }
 
-  /** @param {string} number */
+  /**
+   * The address of a document, without its query.
+   * @param {string} number
+   */
   document(number) {
     return (this.names.documents[number]?.address || (number === '0' ? 'page' : 'frame')).replace(/[?#].*$/, '');
   }
 
   /**
+   * The name of an element.
    * @param {string} number
    * @returns {string}
    */
