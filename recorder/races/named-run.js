@@ -128,7 +128,10 @@ class NamedRun {
     return this.elements.get(String(number)) || `${facts.tag || ''} ${facts.id || ''}`;
   }
 
-  /** @param {string} number */
+  /**
+   * The name of a handler, by its registration.
+   * @param {string} number
+   */
   handler(number) {
     const facts = this.names.handlers[number] || {};
     const of = facts.target && !facts.place ? this.element(String(facts.target)) : '';
@@ -161,6 +164,7 @@ class NamedRun {
   }
 
   /**
+   * The name of a handler slot.
    * @param {string} name
    * @param {string} mode
    */
@@ -172,6 +176,7 @@ class NamedRun {
   // ---- actions
 
   /**
+   * The name of an action, made once.
    * @param {number} number
    * @returns {string}
    */
@@ -223,13 +228,17 @@ class NamedRun {
     return `${Number(number) >= FIRST_FOREIGN_TIMEOUT ? 'timer' : 'tick'} ${this.declared.get(`every ${number}`)}`.replace(/^timer every/, 'timer set');
   }
 
-  /** @param {string} number */
+  /**
+   * The name of a request, by its method, its address and the code that sent it.
+   * @param {string} number
+   */
   request(number) {
     const facts = this.names.requests[number] || {};
     return `${facts.method || ''} ${(facts.url || facts.address || '').replace(/[?#].*$/, '')} ${this.declared.get(`send ${number}`)}`;
   }
 
   /**
+   * The name of the dispatch that an action belongs to.
    * @param {Action} action
    * @returns {string}
    */

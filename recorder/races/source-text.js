@@ -41,12 +41,18 @@ class SourceText {
     return read;
   }
 
-  /** @param {Place} place */
+  /**
+   * Whether the line of a place is too long to be its text.
+   * @param {Place} place
+   */
   isLong([file, line]) {
     return (this.linesOf(file)[line] || '').length > LONGEST_LINE;
   }
 
-  /** @param {Place} place */
+  /**
+   * The name of the function around a place.
+   * @param {Place} place
+   */
   functionAt(place) {
     return this.names.functions?.[place.join(':')] || '';
   }

@@ -86,6 +86,7 @@ class MemberMarks extends ClosureMarks {
   }
 
   /**
+   * Visits a member and marks its access, in any expression.
    * @param {MemberExpression} node
    * @param {Scope} scope
    * @param {Mode} mode
