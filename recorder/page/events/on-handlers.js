@@ -1,4 +1,4 @@
-// Handlers of `on..` properties and `on..` attributes: a target has at most one of each type.
+// Handlers of `on..` properties and `on..` attributes (inline handlers, `onclick`): a target has at most one of each type.
 
 import { each, joined, keep, mapped } from '../core/lists.js';
 import { markIn } from '../core/marks.js';

@@ -1,4 +1,5 @@
-// Accesses to properties by their names: which object of the prototype chain they belong to, and what they touch.
+// Accesses to properties by their names: which object of the prototype chain they belong to, and what they touch. Of a getter or a
+// setter, its own code is recorded.
 
 import { findItem } from '../core/lists.js';
 import { settings } from '../core/settings.js';

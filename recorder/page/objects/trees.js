@@ -1,5 +1,5 @@
-// The page's tree as variables of its elements: one for each attribute, and one for what is in an element (`content`). The observer of tree.js sees
-// their changes; this module knows which properties and methods read them.
+// The page's tree as variables of its elements: one for each attribute (also of style and class), and one for what is in an element (`content`). The
+// observer of tree.js sees their changes; this module knows which properties and methods read them, as `innerHTML`.
 
 import { each, findItem } from '../core/lists.js';
 import { lowerCase, sliceOf } from '../core/strings.js';

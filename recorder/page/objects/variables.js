@@ -1,4 +1,5 @@
-// Accesses of the running action to variables: which of them count, and what a write has changed when the action is over.
+// Accesses of the running action to variables: which of them count, what a write has changed when the action is over, and writes that only
+// move a counter.
 
 import { settings } from '../core/settings.js';
 import { Object, getOwnPropertyDescriptor } from '../core/taken.js';
