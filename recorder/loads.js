@@ -102,6 +102,31 @@ function writeIndex(listing, judged, folder, html) {
 }
 
 /**
+ * One list of analyzed loads.
+ * @param {Judged[]} judged
+ * @param {Known|null} known
+ * @param {ListOptions} options
+ * @param {string} folder from which the list names the views
+ */
+function listingOf(judged, known, options, folder) {
+  const views = judged.map(({ file }) => path.relative(folder, besides(file, '.html')));
+  return new LoadsListing(judged.map(({ run }) => run), known, options, views);
+}
+
+/**
+ * Writes the outputs that the options request.
+ * @param {LoadsListing} listing
+ * @param {Judged[]} judged
+ * @param {ListOptions} options
+ * @param {{page: string, status: number}} facts
+ */
+function writeLists(listing, judged, options, { page, status }) {
+  const loads = judged.map(({ load }) => load);
+  writeOutputs(listing, options, { page, status, files: judged.map(({ file }) => file), folder: null, loads });
+  if (options.junit) writeWhole(options.junit, junitOf(listing));
+}
+
+/**
  * Prints and writes the list of the loads. Returns the status.
  * @param {Judged[]} judged
  * @param {number} failed the status of a load that was not analyzed
@@ -110,16 +135,12 @@ function writeIndex(listing, judged, folder, html) {
  * @param {Place} place
  */
 async function listLoads(judged, failed, known, options, { folder, page, replay }) {
-  const files = judged.map(({ file }) => file);
-  const loads = judged.map(({ load }) => load);
-  const views = files.map((file) => path.relative(folder, besides(file, '.html')));
-  const listing = new LoadsListing(judged.map(({ run }) => run), known, options, views);
+  const listing = listingOf(judged, known, options, folder);
   const status = failed || (listing.failing().length ? STATUS.race : STATUS.ok);
   const replayed = replay ? await replay(listing, judged) : STATUS.ok;
-  printErrors(loads);
+  printErrors(judged.map(({ load }) => load));
   tellLines(listing, options);
-  writeOutputs(listing, options, { page, status, files, folder: null, loads });
-  if (options.junit) writeWhole(options.junit, junitOf(listing));
+  writeLists(listing, judged, options, { page, status });
   const index = writeIndex(listing, judged, folder, options.html);
   const printLine = options.isJson ? printError : print;
   printLine(`${page}: ${judged.length} page loads, ${options.html ? index : 'index.html'}`);
@@ -141,4 +162,4 @@ async function reportLoads(files, known, options, place) {
   return phase('listing the races', () => atSignalsMercy(() => listLoads(judged, failed, known, options, place)));
 }
 
-module.exports = { reportLoads, judgeLoads };
+module.exports = { reportLoads, judgeLoads, listingOf, writeLists, writeIndex };
