@@ -7,14 +7,15 @@ const { eachAtOnce } = require('./common/at-once.js');
 const { STATUS } = require('./common/status.js');
 const { makeFolder, writeWhole, WriteFault } = require('./common/whole-file.js');
 const { print, printError } = require('./common/output.js');
-const { judgeAndView } = require('./judged.js');
 const { junitOf } = require('./list/loads-junit.js');
 const { LoadsListing } = require('./list/loads-listing.js');
 const { loadsPage } = require('./list/loads-page.js');
 const { LoadRuns } = require('./list/loads-run.js');
 const { writeOutputs, tellLines, totalsOf } = require('./list/outputs.js');
+const { LoadJudge } = require('./load-judge.js');
+const { LoadJudges } = require('./load-judges.js');
 const { atSignalsMercy, phase } = require('./phase.js');
-const { askAhead } = require('./races/program.js');
+const { answersAtOnce, askAhead, programFacts } = require('./races/program.js');
 const { besides } = require('./view.js');
 
 /** @typedef {import('./recording/options.js').ListOptions} ListOptions */
@@ -31,6 +32,10 @@ const { besides } = require('./view.js');
 
 /** So many traces are analyzed at once, and are in memory. */
 const AT_ONCE = 4;
+/** In a list of more loads, a view has the paths only for the problems that no earlier load has: each path is a query of the analyzer. */
+const MOST_LINKED = 50;
+/** So many loads are analyzed by this process alone: others take time to start. */
+const MOST_ALONE = 20;
 
 /**
  * Has the loads analyzed, and writes their reports and views. Of each load only what the list needs stays in memory.
@@ -42,25 +47,30 @@ const AT_ONCE = 4;
  */
 async function judgeLoads(files, command, known, { isJson }) {
   await askAhead(files);
+  const start = { program: programFacts(), command, known: known && known.file, isWhole: isJson, isLinkedAll: files.length <= MOST_LINKED };
+  const isAlone = files.length <= MOST_ALONE || !answersAtOnce();
+  const judges = isAlone ? null : new LoadJudges(start);
+  const alone = new LoadJudge(start);
   const runs = new LoadRuns(isJson);
   /** @type {Judged[]} */
   const judged = [];
   /** @type {Promise<number>[]} */
   const statuses = [];
   const judgeNext = async (/** @type {string} */ file, /** @type {number} */ k) => {
-    const { view, status } = await judgeAndView(file, command, known);
+    const { stored, status } = await (judges ? judges.judge(k, file) : alone.judge(file));
     await statuses[k - 1]; // loads join the list in order
-    if (!view) return status;
-    /** @type {import('./list/types').Names & {load?: Load}} */
-    const { load, page = file } = view.problems.names;
-    judged.push({ file, run: runs.add(view.problems), load: { address: page, ...load } });
-    return STATUS.ok;
+    if (stored) judged.push({ file, run: runs.take(stored.facts), load: stored.load });
+    return status;
   };
-  const all = await eachAtOnce(files, AT_ONCE, (file, k) => {
-    statuses[k] = judgeNext(file, k);
-    return statuses[k];
-  });
-  return { judged, failed: all.find((status) => status) || STATUS.ok };
+  try {
+    const all = await eachAtOnce(files, judges ? judges.atOnce : AT_ONCE, (file, k) => {
+      statuses[k] = judgeNext(file, k);
+      return statuses[k];
+    });
+    return { judged, failed: all.find((status) => status) || STATUS.ok };
+  } finally {
+    judges?.end();
+  }
 }
 
 /** @param {Load[]} loads */
