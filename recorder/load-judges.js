@@ -28,7 +28,13 @@ class Judge {
     this.child.stderr?.on('data', (piece) => process.stderr.write(piece));
     this.child.on('message', (/** @type {Answer} */ answer) => this.take(answer));
     this.child.on('error', (fault) => this.fail(fault.message));
-    this.child.on('exit', (status, signal) => this.fail(`it ended with ${signal || `status ${status}`}`));
+    /** @type {Promise<void>} */
+    this.ended = new Promise((resolve) => {
+      this.child.on('exit', (status, signal) => {
+        this.fail(`it ended with ${signal || `status ${status}`}`);
+        resolve();
+      });
+    });
     this.child.send(start, () => {});
   }
 
@@ -76,8 +82,9 @@ class LoadJudges {
     return judge.judge(number, file);
   }
 
-  end() {
+  async end() {
     this.judges.forEach(({ child }) => { if (child.connected) child.disconnect(); });
+    await Promise.all(this.judges.map(({ child, ended }) => (child.pid === undefined ? null : ended)));
   }
 }
 

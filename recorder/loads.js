@@ -33,7 +33,7 @@ const { besides } = require('./view.js');
 /** So many traces are analyzed at once, and are in memory. */
 const AT_ONCE = 4;
 /** In a list of more loads, a view has the paths only for the problems that no earlier load has: each path is a query of the analyzer. */
-const MOST_LINKED = 50;
+const MOST_LINKED = 10;
 /** So many loads are analyzed by this process alone: others take time to start. */
 const MOST_ALONE = 20;
 
@@ -69,7 +69,7 @@ async function judgeLoads(files, command, known, { isJson }) {
     });
     return { judged, failed: all.find((status) => status) || STATUS.ok };
   } finally {
-    judges?.end();
+    await judges?.end();
   }
 }
 
