@@ -36,6 +36,7 @@ const AT_ONCE = 4;
 const MOST_LINKED = 10;
 /** So many loads are analyzed by this process alone: others take time to start. */
 const MOST_ALONE = 20;
+const OF_DRIVER = /while nothing recorded ran/;
 
 /**
  * Has the loads analyzed, and writes their reports and views. Of each load only what the list needs stays in memory.
@@ -77,6 +78,21 @@ async function judgeLoads(files, command, known, { isJson }) {
 function printErrors(loads) {
   const errors = loads.flatMap((load) => (load.errors || []).map((error) => `${error} in ${load.address}`));
   new Set(errors).forEach((error) => printError(`  error: ${error}`));
+}
+
+/**
+ * Prints what the recordings lack of their pages, over all loads. What a driver's code does between two tasks is in each of them (docs/suites.md).
+ * @param {Load[]} loads
+ */
+function printLosses(loads) {
+  /** @type {Map<string, {count: number, loads: number}>} */
+  const losses = new Map();
+  for (const line of loads.flatMap(({ lost = [] }) => lost).filter((one) => !OF_DRIVER.test(one))) {
+    const [, what, count] = /^(.*): (\d+)$/.exec(line) || ['', line, '1'];
+    const sum = losses.get(what) || { count: 0, loads: 0 };
+    losses.set(what, { count: sum.count + Number(count), loads: sum.loads + 1 });
+  }
+  losses.forEach(({ count, loads: some }, what) => printError(`  not recorded: ${what}: ${count}, in ${some} page load${some === 1 ? '' : 's'}`));
 }
 
 /**
@@ -144,11 +160,12 @@ function writeLists(listing, judged, options, { page, status }) {
  * @param {ListOptions} options
  * @param {Place} place
  */
-async function listLoads(judged, failed, known, options, { folder, page, replay }) {
+async function listLoads(judged, failed, known, options, { command, folder, page, replay }) {
   const listing = listingOf(judged, known, options, folder);
   const status = failed || (listing.failing().length ? STATUS.race : STATUS.ok);
   const replayed = replay ? await replay(listing, judged) : STATUS.ok;
   printErrors(judged.map(({ load }) => load));
+  if (command === 'er_suite') printLosses(judged.map(({ load }) => load)); // er_page has printed them
   tellLines(listing, options);
   writeLists(listing, judged, options, { page, status });
   const index = writeIndex(listing, judged, folder, options.html);

@@ -28,7 +28,7 @@ const FIRST_OBJECT = 1000000;
 /** Numbers of the document and the window, as elements; those of the page follow. */
 const FIRST_ELEMENT = 4;
 
-/** Names are without numbers: stable names are made so. @param {number} number */
+/** @param {number} number in letters: stable names are made of names without their numbers */
 const lettersOf = (number) => [...String(number)].map((digit) => String.fromCharCode(97 + Number(digit))).join('');
 
 class MadeLoad {

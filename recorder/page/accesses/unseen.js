@@ -71,6 +71,7 @@ class Unseen {
   // ---- comparing
 
   compare() {
+    this.page.clock.look();
     each(Object.keys(this.page.window), (name) => this.compareOne(name));
     each(this.hidden, (name) => this.compareOne(name));
   }
@@ -95,6 +96,7 @@ class Unseen {
 
   /** What a driver's own code wrote between two tasks of the page is no write of the next one. */
   takeOver() {
+    this.page.clock.look();
     const { values } = this.globals;
     each(Object.keys(this.page.window), (name) => {
       const descriptor = this.descriptorOf(name);
