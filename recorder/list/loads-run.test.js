@@ -42,7 +42,7 @@ test('a load as it is stored gives the same list, JSON and SARIF', async () => {
     for (const isWhole of [false, true]) {
       const runs = new LoadRuns(isWhole);
       const [odd, even, all] = [new LoadRuns(isWhole), new LoadRuns(isWhole), new LoadRuns(isWhole)];
-      const sent = loads.map((one, k) => structuredClone((k % 2 ? odd : even).factsOf(one))); // by two processes in turns
+      const sent = loads.map((one, k) => structuredClone((k % 2 ? odd : even).factsOf(one))); // by two processes, alternately
       for (const stored of [loads.map((one) => runs.add(one)), sent.map((facts) => all.take(facts))]) {
         const listing = new LoadsListing(stored, known, {}, loads.map((_, k) => `${k + 1}.html`));
         assert.deepStrictEqual(linesOf(listing), linesOf(whole));

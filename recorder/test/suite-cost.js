@@ -1,7 +1,7 @@
 #!/usr/bin/env node
 'use strict';
 // What er_browser costs a suite, and whether a test fails because of it: runs drivers/small_suite.py (twenty tests over the shop and two packaged applications)
-// in turns with the browser alone and with er_browser. recorder/test/suite-cost.js [RUNS] (20 of each) writes its part of docs/measured/suite.md. It needs
+// alternately with the browser alone and with er_browser. recorder/test/suite-cost.js [RUNS] (20 of each) writes its part of docs/measured/suite.md. It needs
 // python3-selenium, chromium-driver, dokuwiki, fossil and php-xml.
 
 const fs = require('node:fs');
@@ -73,7 +73,7 @@ function write(pairs) {
   const loads = pairs.map(({ within }) => within.loads);
   writePart('A suite with and without the recorder', `By \`recorder/test/suite-cost.js\`, on ${os.cpus().length} processors with a load of ${os.loadavg()[2].toFixed(1)}.
 
-Twenty small tests with Selenium and three browsers, over the shop of examples/, dokuwiki and fossil (\`drivers/small_suite.py\`), in turns without and with \`er_browser\`, which recorded ${Math.min(...loads)} to ${Math.max(...loads)} page loads in each run. With it, a run took ${span(ratios)} times as long (median, least and most).
+Twenty small tests with Selenium and three browsers, over the shop of examples/, dokuwiki and fossil (\`drivers/small_suite.py\`), alternately without and with \`er_browser\`, which recorded ${Math.min(...loads)} to ${Math.max(...loads)} page loads in each run. With it, a run took ${span(ratios)} times as long (median, least and most).
 
 | Browser | Runs | Tests | Failed | Seconds a run |
 |---|---|---|---|---|
