@@ -44,7 +44,6 @@ class TaskFault extends Error {
 async function record({ trace, args, ...task }) {
   const words = task.name === 'attach' ? [`--attach=${task.endpoint}`, '--', task.endpoint] : ['--', task.url];
   const { options, positionals: [given] } = parseCommand('er_record', [...args, ...words]);
-  if (options.flowOfMany) throw new UsageFault(`the flow loads several pages, which er_page records: ${options.flowOfMany}`);
   const recorder = recorderFor(given, options);
   const { failed, incomplete } = await recordInto(given, trace, options, recorder);
   if (failed) throw new TaskFault(failed);
@@ -77,7 +76,7 @@ async function tracesOf(given) {
 async function list({ traces: given, args }) {
   const { options } = parseCommand('er_suite', args);
   const traces = await tracesOf(given);
-  const known = options.known ? Known.readFile(options.known, options.writesKnown) : null;
+  const known = Known.of(options);
   const { judged, failed } = await stoppable(() => endAsking(STATUS.stopped), () => judgeLoads(traces, 'er_page', known, { isJson: true }));
   if (failed) throw new TaskFault(failed);
   const listing = listingOf(judged, known, options, '');

@@ -103,7 +103,7 @@ function prepareFolder(folder) {
 /** @param {Call} call */
 async function pageRaces(call) {
   const { given, folder, options } = call;
-  const known = options.known ? Known.readFile(options.known, options.writesKnown) : null;
+  const known = Known.of(options);
   prepareFolder(folder);
   const first = new Recorder(given, options.isReplayed ? withEnd({ ...options, keepsBrowser: true, fixed: chance(options) }) : options);
   try {

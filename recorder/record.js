@@ -120,11 +120,12 @@ async function recordInto(given, traceFile, options, recorder = new Recorder(giv
 }
 
 /**
- * The recorder of a page, or of what another program loads.
+ * The recorder of a page, or of what another program loads. Refuses a flow over several pages.
  * @param {string} given
  * @param {RecordingOptions} options
  */
 function recorderFor(given, options) {
+  if (options.flowOfMany) throw new UsageFault(`the flow loads several pages, which er_page records: ${options.flowOfMany}`);
   return options.attach ? new AttachedRecorder(given, options, options.attach) : new Recorder(given, options);
 }
 
@@ -132,8 +133,7 @@ function recorderFor(given, options) {
 async function main(args) {
   const { options, positionals, isHelp } = parseCommand('er_record', args);
   if (isHelp) return printHelp('er_record');
-  const { attach, flowOfMany } = options;
-  if (flowOfMany) throw new UsageFault(`the flow loads several pages, which er_page records: ${flowOfMany}`);
+  const { attach } = options;
   if (positionals.length !== (attach ? 1 : 2)) throw new UsageFault('');
   const given = attach ? `${attach.host}:${attach.port}` : positionals[0];
   const { failed, incomplete } = await recordInto(given, positionals[positionals.length - 1], options, recorderFor(given, options));

@@ -56,7 +56,7 @@ async function waitForTraces(folder) {
  * @param {CommandOptions} options
  */
 async function judgeFolders(folders, options) {
-  const known = options.known ? Known.readFile(options.known, options.writesKnown) : null;
+  const known = Known.of(options);
   const traces = await Promise.all(folders.map(waitForTraces));
   const page = folders.join(' ');
   const files = traces.flat();

@@ -27,6 +27,14 @@ class Known {
     if (this.rest[this.rest.length - 1] === '') this.rest.pop();
   }
 
+  /**
+   * The file that a command's options name, if they name one.
+   * @param {{known: string|null, writesKnown: boolean}} options
+   */
+  static of({ known, writesKnown }) {
+    return known ? Known.readFile(known, writesKnown) : null;
+  }
+
   /** @param {string} file @param {boolean} mayLack whether the file may still have to be written */
   static readFile(file, mayLack) {
     let text;

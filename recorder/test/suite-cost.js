@@ -90,8 +90,10 @@ async function main(runs) {
     const started = await Promise.all(NAMES.map((name, k) => APPLICATIONS[name].start(places[k])));
     const addresses = [shop.origin, ...started.map(({ page }) => new URL(page).origin)];
     const pairs = [];
-    for (let k = 0; k < runs; k++) pairs.push(await runBoth(addresses, k));
-    write(pairs);
+    for (let k = 0; k < runs; k++) {
+      pairs.push(await runBoth(addresses, k));
+      write(pairs); // what came so far stays
+    }
   } finally {
     shop.close();
     for (const place of places) await place.end();
