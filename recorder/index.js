@@ -1,6 +1,6 @@
 'use strict';
-// The interface for programs: record, attach, judge, list, replay. Each call runs in a process of its own, which an AbortSignal ends, and returns plain data
-// with `format: 1`; members are only added to it. Each throws an EventRacerError.
+// The interface for programs (API): record, attach, judge, list, replay. Each call runs in a process of its own, which an AbortSignal ends, and returns
+// plain data with `format: 1`; members are only added to it. Each throws an EventRacerError.
 
 const { fork } = require('node:child_process');
 const path = require('node:path');

@@ -96,7 +96,10 @@ class ReplayCommand {
     (this.options.isJson ? printError : print)(withoutCommands(line));
   }
 
-  /** @param {string} text */
+  /**
+   * Prints a line on standard error.
+   * @param {string} text
+   */
   complain(text) {
     printError(`${this.options.name}: ${text}`);
   }
@@ -128,7 +131,10 @@ class ReplayCommand {
     return true;
   }
 
-  /** @returns {Promise<number>} 0, or the status with which it ended before its end */
+  /**
+   * Replays the races, prints what came of each, and writes the files.
+   * @returns {Promise<number>} 0, or the status with which it ended before its end
+   */
   async run() {
     if (!this.mayRun()) {
       writePage(this.traceFile, await this.linked);
@@ -215,6 +221,7 @@ class ReplayCommand {
   }
 
   /**
+   * Writes what the replay found.
    * @param {Replay} replay
    * @param {ReturnType<typeof plain>[]} races
    * @param {Shown} model

@@ -44,7 +44,10 @@ class SuiteLoad {
     return { keys: this.keys, end: { ...NO_END, errors: this.facts.errors || [], isLoaded } };
   }
 
-  /** @param {SuiteLoad} other */
+  /**
+   * What differs between the end of this load and that of another one.
+   * @param {SuiteLoad} other
+   */
   differencesTo(other) {
     return compare(this.comparable(), other.comparable());
   }

@@ -91,7 +91,10 @@ class SuiteReplays {
     this.current?.stop();
   }
 
-  /** @returns {Promise<number>} 0, or the status with which it ended before its end */
+  /**
+   * Runs the suite for each problem, and prints what came of it.
+   * @returns {Promise<number>} 0, or the status with which it ended before its end
+   */
   async run() {
     const problems = this.problems();
     if (!problems.length) return STATUS.ok;
@@ -107,6 +110,7 @@ class SuiteReplays {
   }
 
   /**
+   * Runs the suite once with a plan.
    * @param {string} name
    * @param {Plan} plan
    */
@@ -138,7 +142,10 @@ class SuiteReplays {
 
   // ---- one problem
 
-  /** @param {Listed} problem */
+  /**
+   * Replays one problem.
+   * @param {Listed} problem
+   */
   async replay(problem) {
     const { run, first, name } = problem;
     const found = this.races.get(this.listing.runs[run].ofRaces[first].name) || this.races.get(name);
@@ -164,6 +171,7 @@ class SuiteReplays {
   }
 
   /**
+   * Runs the suite with a cause held back, and says what came of it.
    * @param {{problem: Listed, load: SuiteLoad, race: Race, cause: Awaited<ReturnType<SuiteLoad['toReverse']>>['causes'][0]}} wanted
    * @param {number} k which of the causes it is
    * @returns {Promise<Omit<Outcome, 'name'|'race'>>}
@@ -229,7 +237,10 @@ class SuiteReplays {
 
   // ---- what came of all
 
-  /** @param {Outcome} outcome */
+  /**
+   * Notes and prints what came of a problem.
+   * @param {Outcome} outcome
+   */
   note(outcome) {
     const words = outcome.words || verdictInWords({ verdict: 'not turned', why: outcome.why });
     this.outcomes.push({ ...outcome, words });

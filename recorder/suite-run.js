@@ -51,7 +51,10 @@ class SuiteRun {
     this.hasEnded = false;
   }
 
-  /** @returns {Promise<Ended>} */
+  /**
+   * Runs the command, and waits until its recorders have written.
+   * @returns {Promise<Ended>}
+   */
   async run() {
     const output = path.join(this.folder, 'output.txt');
     makeFolder(this.folder);
@@ -98,7 +101,10 @@ class SuiteRun {
     setTimeout(() => { if (!this.hasEnded) this.signal('SIGKILL'); }, LONGEST_END).unref();
   }
 
-  /** @param {NodeJS.Signals} signal */
+  /**
+   * Sends a signal to the command and all that it started.
+   * @param {NodeJS.Signals} signal
+   */
   signal(signal) {
     try {
       if (this.child?.pid) process.kill(-this.child.pid, signal);

@@ -1,31 +1,46 @@
 #!/usr/bin/env node
 'use strict';
-// where.js WORD..: prints the modules of the recorder that have all these words in their first comment, or in the name or the comment of what they define.
-// For developers who look for the place of something. Words are compared without case, and their starts suffice.
+// where.js WORD..: prints the rows of the map (README.md) that have all these words, then the modules of the recorder that have them in their name,
+// first comment, or the names and comments of what they define. For developers. Words are compared without case, and their starts suffice.
 
 const fs = require('node:fs');
 const path = require('node:path');
 const { print, printError } = require('./common/output.js');
 
 /** What a module defines: a function, a class, a constant, a method. */
-const DEFINITION = /^(?:async function|function|class|const| {2}(?:static |async |\*|#)*(?!if|for|while|switch|return|super)(?=[\w$#]+\([^)]*\) \{$))\s*([\w$#]+)/;
-const MOST_DEFINITIONS = 6;
+const DEFINITION = /^(?:async function|function|class|const| {2}(?:static |async |\*|#)*(?!if|for|while|switch|return|super)(?=[\w$#]+\([^)]*\) \{$))\s*([\w$#]+)(?:\(([^)]*)\))?/;
+const MOST_ROWS = 6;
+const MOST_MODULES = 12;
+const MOST_DEFINITIONS = 4;
 const MOST_LETTERS = 110;
+const MOST_OF_COMMENT = 160;
+/** What a word counts in a module, by where it is. */
+const IN_NAME = 8;
+const IN_COMMENT = 4;
+const IN_DEFINITION = 2;
+const IN_ITS_COMMENT = 1;
 
-/** @param {string} file */
-const isOfTests = (file) => path.relative(__dirname, file).startsWith(`test${path.sep}`);
+/** @typedef {{name: string, line: number, parameters: string, comment: string}} Definition */
+/** @typedef {{name: string, text: string, about: string, definitions: Definition[]}} Module its path in recorder/, and its first comment */
+
+/** @param {string} name */
+const isOfTests = (name) => name.startsWith(`test${path.sep}`);
+/** @param {string} text @param {number} most */
+const cut = (text, most) => (text.length > most ? `${text.slice(0, most)}..` : text);
 
 /**
- * The modules below a folder, without tests; what only tests use comes last.
+ * The modules below a folder, without unit tests.
  * @param {string} folder
- * @returns {string[]}
+ * @returns {Module[]}
  */
 function modulesIn(folder) {
   return fs.readdirSync(folder, { withFileTypes: true }).flatMap((entry) => {
     const file = path.join(folder, entry.name);
     if (entry.isDirectory()) return entry.name === 'pages' || entry.name === 'out' ? [] : modulesIn(file);
-    return entry.name.endsWith('.js') && !entry.name.endsWith('.test.js') ? [file] : [];
-  }).sort((a, b) => Number(isOfTests(a)) - Number(isOfTests(b)));
+    if (!(entry.name.endsWith('.js') || entry.name === 'launch') || entry.name.endsWith('.test.js')) return [];
+    const text = fs.readFileSync(file, 'utf8');
+    return [{ name: path.relative(__dirname, file), text, ...partsOf(text) }];
+  });
 }
 
 /**
@@ -34,25 +49,20 @@ function modulesIn(folder) {
  */
 function partsOf(text) {
   const lines = text.split('\n');
-  const from = lines.findIndex((line) => line.startsWith('// '));
-  const rest = lines.slice(from).findIndex((line) => !line.startsWith('//'));
-  const about = from < 0 ? '' : lines.slice(from, from + rest).map((line) => line.slice(3)).join(' ');
-  /** @type {{name: string, line: number, comment: string}[]} */
+  const sign = /^(?:\/\/|#) /;
+  const from = lines.findIndex((line) => sign.test(line));
+  const rest = lines.slice(from).findIndex((line) => !sign.test(line));
+  const about = from < 0 ? '' : lines.slice(from, from + rest).map((line) => line.replace(sign, '')).join(' ');
+  /** @type {Definition[]} */
   const definitions = [];
   let comment = '';
   lines.forEach((line, k) => {
-    const [, name] = DEFINITION.exec(line) || [];
-    if (name) definitions.push({ name, line: k + 1, comment });
+    const [, name, parameters = ''] = DEFINITION.exec(line) || [];
+    if (name) definitions.push({ name, line: k + 1, parameters, comment: comment.replace(/@\w+.*/, '').trim() });
     comment = /^\s*(?:\/?\*|\/\/)/.test(line) ? `${comment} ${line.replace(/^[\s/*]+|\*\/$/g, '')}` : '';
   });
   return { about, definitions };
 }
-
-/**
- * @param {string} text
- * @param {RegExp[]} words
- */
-const hasAll = (text, words) => words.every((word) => word.test(text));
 
 /**
  * The start of a word in a text, or of a part of a name.
@@ -65,18 +75,56 @@ function formOf(word) {
 }
 
 /**
- * Prints a module that has the words, and returns whether it has them.
- * @param {{file: string, text: string}} module
+ * How well words fit a module: 0 if one is nowhere in it. All of them in one comment or definition count more than one here and one there.
+ * @param {Module} module
  * @param {RegExp[]} wanted
  */
-function printModule({ file, text }, wanted) {
-  const { about, definitions } = partsOf(text);
-  const found = definitions.filter(({ name, comment }) => hasAll(`${name} ${comment}`, wanted)).slice(0, MOST_DEFINITIONS);
-  const name = path.relative(__dirname, file);
-  if (!found.length && !hasAll(`${name} ${about}`, wanted)) return false;
-  print(`recorder/${name}: ${about}`);
-  for (const one of found) print(`  ${one.line}: ${one.name}${one.comment ? `: ${one.comment.replace(/@\w+.*/, '').trim().slice(0, MOST_LETTERS)}` : ''}`);
-  return true;
+function scoreOf({ name, about, definitions }, wanted) {
+  const counts = wanted.map((word) => Math.max(word.test(name) ? IN_NAME : 0, word.test(about) ? IN_COMMENT : 0,
+    ...definitions.map((one) => (word.test(one.name) ? IN_DEFINITION : word.test(one.comment) ? IN_ITS_COMMENT : 0))));
+  if (counts.includes(0)) return 0;
+  const isTogether = [`${name} ${about}`, ...definitions.map((one) => `${one.name} ${one.comment}`)].some((text) => hasAll(text, wanted));
+  return counts.reduce((sum, one) => sum + one, isTogether ? IN_NAME * wanted.length : 0);
+}
+
+/**
+ * @param {string} text
+ * @param {RegExp[]} words
+ */
+const hasAll = (text, words) => words.every((word) => word.test(text));
+
+/** The rows of the tables of README.md that have all words: first those that have more of them in their first cell, the question. */
+function printRows(/** @type {RegExp[]} */ wanted) {
+  const countOf = (/** @type {string} */ row) => wanted.filter((word) => word.test(row.split(' | ')[0])).length;
+  const rows = fs.readFileSync(path.join(__dirname, 'README.md'), 'utf8').split('\n').filter((line) => /^\| [^*]/.test(line) && hasAll(line, wanted))
+    .map((row) => ({ row, count: countOf(row) })).sort((one, other) => other.count - one.count);
+  for (const { row } of rows.slice(0, MOST_ROWS)) print(`README.md: ${row.slice(2, -2).replace(/`/g, '')}`);
+  return rows.length;
+}
+
+/**
+ * @param {Module} module
+ * @param {RegExp[]} wanted
+ */
+function printModule({ name, about, definitions }, wanted) {
+  print(`recorder/${name}: ${cut(about, MOST_OF_COMMENT)}`);
+  const counted = definitions.map((one) => ({ one, count: wanted.filter((word) => word.test(`${one.name} ${one.comment}`)).length }));
+  const most = Math.max(1, ...counted.map(({ count }) => count));
+  const found = counted.filter(({ count }) => count === most).slice(0, MOST_DEFINITIONS);
+  for (const { one } of found) print(`  ${one.line}: ${one.comment ? `${one.name}: ${cut(one.comment, MOST_LETTERS)}` : `${one.name}(${one.parameters})`}`);
+}
+
+/**
+ * The lines of code that have a word, of the modules that have all words.
+ * @param {Module[]} modules
+ * @param {string[]} words
+ */
+function printCode(modules, words) {
+  const others = modules.filter(({ text }) => words.every((word) => text.includes(word)))
+    .map((one) => ({ name: one.name, about: one.about, lines: one.text.split('\n').flatMap((line, k) => (words.some((word) => line.includes(word)) ? [k + 1] : [])) }))
+    .sort((one, other) => other.lines.length - one.lines.length);
+  print(others.length ? 'Only the code of these modules has the words, in these lines:' : 'nothing found');
+  for (const { name, about, lines } of others.slice(0, MOST_MODULES)) print(`recorder/${name}:${lines.slice(0, MOST_DEFINITIONS).join(',')}: ${cut(about, MOST_OF_COMMENT)}`);
 }
 
 /** @param {string[]} words */
@@ -86,13 +134,14 @@ function main(words) {
     process.exitCode = 2;
     return;
   }
-  const modules = modulesIn(__dirname).map((file) => ({ file, text: fs.readFileSync(file, 'utf8') }));
   const wanted = words.map(formOf);
-  const count = modules.filter((one) => printModule(one, wanted)).length;
-  if (count) return;
-  const others = modules.filter(({ text }) => words.every((word) => text.includes(word)));
-  print(others.length ? 'Only the code of these modules has the words:' : 'nothing found');
-  others.forEach(({ file, text }) => print(`recorder/${path.relative(__dirname, file)}: ${partsOf(text).about}`));
+  const rows = printRows(wanted);
+  const modules = modulesIn(__dirname);
+  const found = modules.map((module) => ({ module, score: scoreOf(module, wanted) })).filter(({ score }) => score)
+    .sort((one, other) => Number(isOfTests(one.module.name)) - Number(isOfTests(other.module.name)) || other.score - one.score);
+  found.slice(0, MOST_MODULES).forEach(({ module }) => printModule(module, wanted));
+  if (found.length > MOST_MODULES) print(`and ${found.length - MOST_MODULES} more modules: a further word leaves fewer`);
+  if (!rows && !found.length) printCode(modules, words);
 }
 
 if (require.main === module) main(process.argv.slice(2));

@@ -78,7 +78,10 @@ class AttachedChromium extends Protocol {
     this.socket = null;
   }
 
-  /** @param {Endpoint} endpoint */
+  /**
+   * Connects to a browser that runs. Fails with a BrowserFault.
+   * @param {Endpoint} endpoint
+   */
   static async connect(endpoint) {
     const browser = new AttachedChromium();
     const path = await pathOfSocket(endpoint);
@@ -92,7 +95,10 @@ class AttachedChromium extends Protocol {
     return browser;
   }
 
-  /** @param {string} text */
+  /**
+   * Sends a message of the protocol.
+   * @param {string} text
+   */
   write(text) {
     this.socket?.send(text);
   }
@@ -105,7 +111,10 @@ class AttachedChromium extends Protocol {
 
 /** The first tab of a browser, as it is. */
 class AttachedTab extends Tab {
-  /** @param {Protocol} browser */
+  /**
+   * The session of the browser's first tab.
+   * @param {Protocol} browser
+   */
   static async first(browser) {
     const { targetInfos } = await browser.send('Target.getTargets');
     const pages = /** @type {import('./protocol.js').ProtocolObject[]} */ (targetInfos).filter(({ type, url }) => type === 'page' && !url.startsWith('devtools:'));

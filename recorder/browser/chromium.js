@@ -158,11 +158,15 @@ class Chromium extends Protocol {
     return this.send('Browser.getVersion', {}, undefined, LONGEST_START);
   }
 
-  /** @param {string} text */
+  /**
+   * Sends a message of the protocol.
+   * @param {string} text
+   */
   write(text) {
     this.input?.write(`${text}\0`);
   }
 
+  /** Kills the browser without waiting, as this process ends. */
   killNow() {
     try {
       if (this.process?.pid) process.kill(-this.process.pid, 'SIGKILL'); // the browser and its own processes, which are a group
@@ -172,6 +176,7 @@ class Chromium extends Protocol {
     fs.rmSync(this.folder, { recursive: true, force: true, maxRetries: 10, retryDelay: 50 });
   }
 
+  /** Ends the browser, and kills it if it does not end in time. */
   async close() {
     if (!this.process) return;
     const ended = this.isGone ? Promise.resolve() : new Promise((resolve) => { this.once('gone', resolve); });

@@ -96,7 +96,10 @@ class Folder {
     return file.endsWith('/') ? path.join(file, 'index.html') : file;
   }
 
-  /** @param {string} address */
+  /**
+   * Whether an address is one of the folder's.
+   * @param {string} address
+   */
   has(address) {
     return address === ORIGIN || address.startsWith(`${ORIGIN}/`);
   }

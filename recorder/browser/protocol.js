@@ -37,13 +37,19 @@ class Protocol extends EventEmitter {
     throw new Error(`no way to send ${text}`);
   }
 
-  /** @param {string} text a message as it came */
+  /**
+   * Takes a message as it came.
+   * @param {string} text a message as it came
+   */
   receiveText(text) {
     debug('protocol', 'RECV', text);
     this.receive(JSON.parse(text));
   }
 
-  /** @param {ProtocolMessage} message */
+  /**
+   * Emits an event, or settles the call that a message answers.
+   * @param {ProtocolMessage} message
+   */
   receive({ id, method = '', params, sessionId, result, error }) {
     if (!id) {
       this.emit(method, params, sessionId);
@@ -84,7 +90,10 @@ class Protocol extends EventEmitter {
     });
   }
 
-  /** @param {string} why */
+  /**
+   * The browser has gone: calls without an answer fail.
+   * @param {string} why
+   */
   end(why) {
     if (this.isGone) return;
     this.isGone = true;

@@ -138,7 +138,10 @@ class Responses {
 
   // ---- one event
 
-  /** @param {Paused} event */
+  /**
+   * Leads a paused request or response through the chain. It is answered or let pass in any case.
+   * @param {Paused} event
+   */
   async pass(event) {
     try {
       if (isResponse(event)) await this.passResponse(event);

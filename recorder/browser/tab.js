@@ -17,6 +17,7 @@ const LOCAL_NETWORK = ['loopback-network', 'local-network'];
 
 class Tab {
   /**
+   * Opens a tab in a context of its own, or in the profile's.
    * @param {Protocol} browser
    * @param {{width: number, height: number}} size
    * @param {boolean} [isOfProfile] whether it has the cookies and the storage of the browser's profile; else those are its own
@@ -74,11 +75,13 @@ class Tab {
     await this.browser.send('Target.disposeBrowserContext', { browserContextId: this.contextId });
   }
 
+  /** Hears no more events: of a tab that is done with, in a browser that goes on. */
   removeListeners() {
     this.listeners.forEach(([method, listener]) => this.browser.off(method, listener));
   }
 
   /**
+   * Calls a method of the protocol in this tab.
    * @param {string} method
    * @param {ProtocolObject} [params]
    * @param {number} [limit] in milliseconds
@@ -88,6 +91,7 @@ class Tab {
   }
 
   /**
+   * Listens to an event of the protocol of this tab.
    * @param {string} method
    * @param {(params: ProtocolObject) => void} listener
    */
@@ -120,7 +124,10 @@ class Tab {
     await this.browser.send('Target.setDiscoverTargets', { discover: true });
   }
 
-  /** @returns {Promise<string>} */
+  /**
+   * The identifier of the page's own frame.
+   * @returns {Promise<string>}
+   */
   async mainFrame() {
     return (await this.send('Page.getFrameTree')).frameTree.frame.id;
   }

@@ -1,5 +1,5 @@
 'use strict';
-// What a user does in each step of --do and of a flow.
+// What a user does in each step of --do and of a flow: clicks, types, presses keys, hovers, selects, uploads, scrolls, waits, ..
 
 const path = require('node:path');
 const { keepSecret } = require('../common/secrets.js');

@@ -1,5 +1,6 @@
 'use strict';
-// A user at a page, by the browser's own input, so that the page sees trusted events: a pointer and keys. What each step does with these: user-steps.js.
+// A user at a page, by the browser's own input, so that the page sees trusted events: a pointer, keys, typed text. What each step does with these:
+// user-steps.js.
 
 const { sleep, within } = require('../common/time.js');
 const { bitsOf, chordOfCharacter, eventsOf, halfOf, isModifier } = require('./input/keyboard.js');
@@ -63,12 +64,16 @@ class User {
 
   // ---- the pointer
 
-  /** @param {Point} point */
+  /**
+   * Moves the pointer.
+   * @param {Point} point
+   */
   async moveTo({ x, y }) {
     await this.tab.send('Input.dispatchMouseEvent', { type: 'mouseMoved', x, y, modifiers: bitsOf(this.held) });
   }
 
   /**
+   * Clicks at a point.
    * @param {Point} point
    * @param {string} [button]
    * @param {number} [times] how often it is clicked in a row
@@ -84,7 +89,10 @@ class User {
 
   // ---- keys
 
-  /** @param {import('./input/keyboard.js').Chord} chord */
+  /**
+   * Presses and releases a key, with others held.
+   * @param {import('./input/keyboard.js').Chord} chord
+   */
   async press(chord) {
     for (const event of eventsOf(chord)) await this.tab.send('Input.dispatchKeyEvent', event);
   }
@@ -112,7 +120,10 @@ class User {
     else await this.tab.send('Input.insertText', { text: character });
   }
 
-  /** @param {string} text */
+  /**
+   * Types a text, letter after letter, with pauses.
+   * @param {string} text
+   */
   async type(text) {
     let number = 0;
     for (const letter of text) {
@@ -134,6 +145,7 @@ class User {
   }
 
   /**
+   * Does one act, and says what came of it.
    * @param {Step|SpotAct} action
    * @returns {Promise<Outcome>}
    */

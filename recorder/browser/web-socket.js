@@ -48,7 +48,10 @@ class Received {
     this.size = 0;
   }
 
-  /** @param {Buffer} piece */
+  /**
+   * Adds bytes that came.
+   * @param {Buffer} piece
+   */
   add(piece) {
     this.pieces.push(piece);
     this.size += piece.length;
@@ -121,12 +124,18 @@ class WebSocketClient extends EventEmitter {
     this.socket.on('close', () => this.shut('the connection was closed'));
   }
 
-  /** @param {string} text */
+  /**
+   * Sends a text.
+   * @param {string} text
+   */
   send(text) {
     this.socket.write(frame(TEXT, Buffer.from(text)));
   }
 
-  /** @param {string} why */
+  /**
+   * Closes the connection without an answer.
+   * @param {string} why
+   */
   shut(why) {
     if (this.isShut) return;
     this.isShut = true;
@@ -136,7 +145,10 @@ class WebSocketClient extends EventEmitter {
 
   // ---- what comes
 
-  /** @param {Buffer} data */
+  /**
+   * Takes bytes as they come.
+   * @param {Buffer} data
+   */
   receive(data) {
     this.received.add(data);
     this.receiveAll();

@@ -34,13 +34,17 @@ class Lines {
     this.length = text.length;
   }
 
-  /** @param {number} offset */
+  /**
+   * The line and the column of an offset, from 1 on.
+   * @param {number} offset
+   */
   placeOf(offset) {
     const line = lastNotGreater(this.starts, offset);
     return { line: line + 1, column: offset - this.starts[line] + 1 };
   }
 
   /**
+   * The offset of a line and a column; the end of the text if it has no such line.
    * @param {number} line
    * @param {number} column
    */

@@ -112,7 +112,10 @@ class BrowserRecorder {
     tab.setUp(waitingForDebugger);
   }
 
-  /** @param {string} sessionId */
+  /**
+   * A tab is closed: its load is over.
+   * @param {string} sessionId
+   */
   part(sessionId) {
     const tab = this.sessions.get(sessionId);
     this.sessions.delete(sessionId);
@@ -175,6 +178,7 @@ class BrowserRecorder {
   }
 
   /**
+   * Passes a paused response to the load to which it belongs.
    * @param {any} event `Fetch.requestPaused`, which a driver may have answered in any way
    * @param {DrivenTab|undefined} tab
    * @param {boolean} isOfBrowser whether it was paused in the browser's own session
@@ -196,6 +200,7 @@ class BrowserRecorder {
   // ---- loads
 
   /**
+   * Makes the load of a page that a tab shows from now on.
    * @param {DrivenTab} tab
    * @param {string} given
    */
@@ -236,6 +241,7 @@ class BrowserRecorder {
   }
 
   /**
+   * Ends a load, and writes it.
    * @param {LoadOfPage} load
    * @param {string} why
    */
@@ -265,7 +271,10 @@ class BrowserRecorder {
     for (const load of this.loads) if (!load.isOver && load.isDue(now)) this.write(load);
   }
 
-  /** @param {LoadOfPage} load */
+  /**
+   * Writes a load after those before it.
+   * @param {LoadOfPage} load
+   */
   write(load) {
     this.writing = this.writing.then(() => load.write()).catch((fault) => this.complain(`a page load is not recorded: ${complaints.faultInWords(fault)}`)).then(() => {
       if (load.isOver && this.loads.delete(load) && load.hasTrace()) this.written++;

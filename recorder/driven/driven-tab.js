@@ -69,6 +69,7 @@ class DrivenTab {
   }
 
   /**
+   * Calls a method of the protocol in this tab, beside its driver.
    * @param {string} method
    * @param {object} [params]
    */
@@ -111,6 +112,7 @@ class DrivenTab {
   // ---- events
 
   /**
+   * Takes an event of the protocol.
    * @param {string} method
    * @param {ProtocolEvent} params
    */
@@ -165,7 +167,10 @@ class DrivenTab {
     return this.contexts.get(executionContextId) || this.current;
   }
 
-  /** @param {string} why */
+  /**
+   * The load of this tab is over, if it has one.
+   * @param {string} why
+   */
   endLoad(why) {
     if (this.current) this.recorder.endLoad(this.current, why);
     this.current = null;
@@ -178,7 +183,10 @@ class DrivenTab {
     return this.coming?.steering || this.current?.steering || null;
   }
 
-  /** @param {Pick<DocumentEvent, 'frameId'|'request'>} event */
+  /**
+   * Whether a response is of the page that this tab has instrumented last.
+   * @param {Pick<DocumentEvent, 'frameId'|'request'>} event
+   */
   hasMarked({ frameId, request }) {
     return frameId === this.targetId && request.url === this.marked;
   }

@@ -93,7 +93,10 @@ class FlowRecorder {
     await this.waitForQuiet();
   }
 
-  /** @param {Tab} tab */
+  /**
+   * Watches the tab that the user is in.
+   * @param {Tab} tab
+   */
   async listen(tab) {
     tab.on('Page.frameNavigated', ({ frame }) => { if (!frame.parentId) this.noteChange(false); });
     tab.on('Page.navigatedWithinDocument', ({ frameId }) => { if (frameId === tab.targetId) this.noteChange(true); });
@@ -104,7 +107,10 @@ class FlowRecorder {
     await this.network.start(tab);
   }
 
-  /** @param {boolean} isOfPage whether the page is the same */
+  /**
+   * The page has changed, or its address.
+   * @param {boolean} isOfPage whether the page is the same
+   */
   noteChange(isOfPage) {
     this.changes++;
     if (isOfPage) return;
@@ -149,7 +155,10 @@ class FlowRecorder {
     }
   }
 
-  /** @param {Step} step */
+  /**
+   * Loads a page, as a step of the flow says.
+   * @param {Step} step
+   */
   async navigate({ target }) {
     const { time } = this.options;
     this.pageStatus = 0;
@@ -190,6 +199,7 @@ class FlowRecorder {
 
   // ---- rest
 
+  /** Waits until the page is loaded and quiet. */
   async waitForLoad() {
     for (const until = Date.now() + this.options.time * 1000; !this.isLoaded && Date.now() < until;) await sleep(POLL);
     await this.waitForQuiet();

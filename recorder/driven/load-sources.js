@@ -30,6 +30,7 @@ class LoadSources extends Sources {
   }
 
   /**
+   * The instrumented copy of a script: the one of an earlier load, if its text is equal.
    * @param {string} address
    * @param {string} code
    */

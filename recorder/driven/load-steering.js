@@ -47,6 +47,7 @@ class LoadSteering extends RunSteering {
   // ---- in the page
 
   /**
+   * What the copy of the load's page gets before it is instrumented.
    * @param {string} address
    * @param {string} html
    */

@@ -69,7 +69,10 @@ class Load {
     this.lastTaken = 0;
   }
 
-  /** @param {string} payload */
+  /**
+   * Takes lines that the page has sent.
+   * @param {string} payload
+   */
   take(payload) {
     if (this.isOver || Date.now() > this.until) {
       this.late++;
@@ -81,7 +84,10 @@ class Load {
     this.steering?.look();
   }
 
-  /** @param {import('./driven-tab.js').ExceptionDetails} details */
+  /**
+   * Takes an error that nothing in the page has caught.
+   * @param {import('./driven-tab.js').ExceptionDetails} details
+   */
   takeError(details) {
     if (!this.isOver && this.errors.length < MOST_ERRORS) this.errors.push(errorText(details, this.address, this.sources));
   }
@@ -91,11 +97,15 @@ class Load {
     return this.intake.actions > 0;
   }
 
-  /** @param {number} now */
+  /**
+   * Whether it is to be written again: something new came, and the page rests.
+   * @param {number} now
+   */
   isDue(now) {
     return this.isNew && this.hasTrace() && now >= this.nextWrite && now - this.lastTaken >= SHORTEST_PAUSE / 2;
   }
 
+  /** Writes the trace and the names so far. */
   async write() {
     if (!this.hasTrace()) return;
     this.isNew = false;
@@ -105,11 +115,15 @@ class Load {
     this.nextWrite = Date.now() + Math.max(SHORTEST_PAUSE, SHARE * (Date.now() - begin));
   }
 
+  /** Reads the source maps of the load's scripts. */
   readMaps() {
     return this.sources.readMaps((/** @type {string} */ address, /** @type {string} */ script) => readMapOf(address, script, null));
   }
 
-  /** @param {string} why */
+  /**
+   * The load is over. Nothing is taken after that.
+   * @param {string} why
+   */
   end(why) {
     if (this.isOver) return;
     this.isOver = true;
@@ -128,6 +142,7 @@ class Load {
     return { ...facts, ...held, ...asked };
   }
 
+  /** What the load lacks, as lines. */
   losses() {
     const lines = lossesOf(this.intake, this.sources);
     if (this.late) lines.push(`lines of the page that came later than ${this.options.time} s, or after the end of the load: ${this.late} pieces`);

@@ -1,5 +1,5 @@
 'use strict';
-// The first page of a window that a page opened. It may have the window of the empty page before it, in which the browser runs no script ahead of it, or
+// The first page of a window that a page opened (a popup). It may have the window of the empty page before it, in which the browser runs no script ahead of it, or
 // its driver lets it go before the recorder is set up in it: so the recorder is a script at its begin, which does nothing where it runs already. For
 // `Responses` it takes the place of what steers a replay.
 
@@ -32,6 +32,7 @@ class OpenedWindow {
   }
 
   /**
+   * The recorder's script, as an insertion at the begin of the window's first page.
    * @param {string} address
    * @param {string} html
    */

@@ -23,6 +23,7 @@ class Paused extends Tab {
   }
 
   /**
+   * A request or a response is paused in a session.
    * @param {PausedEvent} event
    * @param {string|undefined} sessionId
    */
@@ -31,6 +32,7 @@ class Paused extends Tab {
   }
 
   /**
+   * Calls a method for a paused request, in the session of its pause.
    * @param {string} method
    * @param {{[name: string]: any}} params as the protocol has them
    * @param {number} [limit]

@@ -42,6 +42,7 @@ class ProfileLock {
     }
   }
 
+  /** Gives the lock back, if this process has it. */
   release() {
     if (this.isTaken) fs.rmSync(this.file, { force: true });
   }

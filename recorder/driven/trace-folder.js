@@ -31,15 +31,18 @@ class TraceFolder {
     this.lockFile = path.join(this.folder, `.recording-${process.pid}`);
   }
 
+  /** Says that a recorder writes into the folder. */
   lock() {
     fs.writeFileSync(this.lockFile, '');
   }
 
+  /** Says that this recorder writes no more. */
   unlock() {
     fs.rmSync(this.lockFile, { force: true });
   }
 
   /**
+   * The file for the trace of a load.
    * @param {number} number
    * @param {string} address
    */

@@ -52,13 +52,19 @@ class BrowserNames {
     this.own = new Set();
   }
 
-  /** @param {Iterable<string>} names */
+  /**
+   * The browser's names are known: all of them, or those that are known without the browser.
+   * @param {Iterable<string>} names
+   */
   set(names, areAll = true) {
     this.names = new Set(names);
     this.areAll = areAll;
   }
 
-  /** @param {string} name */
+  /**
+   * Whether a name is one of the browser's that no script of the page has declared.
+   * @param {string} name
+   */
   has(name) {
     return this.names.has(name) && !this.own.has(name);
   }

@@ -157,6 +157,7 @@ class PageRewriter {
   }
 
   /**
+   * Instruments the text of a script in the page.
    * @param {Tag} tag
    * @param {Range} range
    */
@@ -242,6 +243,7 @@ class PageRewriter {
   }
 
   /**
+   * Replaces the value of an attribute.
    * @param {Attribute} attribute
    * @param {string} text
    */
@@ -250,6 +252,7 @@ class PageRewriter {
   }
 
   /**
+   * An attribute with another value, in the quotes of the original.
    * @param {Attribute} attribute
    * @param {string} text
    */

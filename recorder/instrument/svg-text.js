@@ -43,6 +43,7 @@ class SvgText {
   }
 
   /**
+   * Adds a piece of the code.
    * @param {string} text
    * @param {number} inPage
    * @param {boolean} isMarkup
@@ -78,7 +79,10 @@ class SvgText {
     return this.pieces[low];
   }
 
-  /** @param {number} place */
+  /**
+   * The offset in the page for an offset in the code.
+   * @param {number} place
+   */
   placeInPage(place) {
     const { inCode, inPage } = this.pieceAt(place);
     return inPage + place - inCode;

@@ -29,7 +29,10 @@ class Callbacks {
     this.placeInWords = placeInWords;
   }
 
-  /** @param {number} number @returns {string} */
+  /**
+   * What runs in an action, and where it was requested, in words.
+   * @param {number} number @returns {string}
+   */
   of(number) {
     const action = this.words.actions.list[number];
     const { names } = this;
@@ -49,6 +52,7 @@ class Callbacks {
   }
 
   /**
+   * A callback with its name, and where it was requested.
    * @param {string} what @param {string} verb @param {Asked|undefined} facts
    */
   asked(what, verb, facts) {
@@ -57,12 +61,18 @@ class Callbacks {
     return `${what}${name ? ` ${shown(name)}` : ''}${at}${at && facts?.way ? ` (via ${this.placeInWords(facts.way)})` : ''}`;
   }
 
-  /** @param {string} number @returns {string} */
+  /**
+   * A script in words, without its place.
+   * @param {string} number @returns {string}
+   */
   script(number) {
     return this.words.script(number).replace(/^the /, '').replace(/ at .*$/, '');
   }
 
-  /** @param {string} number */
+  /**
+   * The callback of an interval, or of what counts as one.
+   * @param {string} number
+   */
   tick(number) {
     const facts = this.names.intervals[number] || {};
     if (!facts.why) return this.asked('timeout', 'scheduled', { ...this.names.timeouts[Number(number) - FIRST_FOREIGN_TIMEOUT], ...facts });
@@ -70,23 +80,35 @@ class Callbacks {
     return this.asked(what, verb, facts);
   }
 
-  /** @param {string} number */
+  /**
+   * The last part of the address that a request is for.
+   * @param {string} number
+   */
   request(number) {
     const { address } = this.names.requests[number] || {};
     return address ? shown(address.replace(/^[^?#]*\/(?=[^/?#])/, '')) : 'a request';
   }
 
-  /** @param {string} number */
+  /**
+   * The reply of a request, and where it was requested.
+   * @param {string} number
+   */
   reply(number) {
     return this.asked(`reply of ${this.request(number)}`, 'requested', { ...this.names.requests[number], function: '' });
   }
 
-  /** @param {Asked|undefined} facts */
+  /**
+   * A message, and where it was posted.
+   * @param {Asked|undefined} facts
+   */
   message(facts) {
     return this.asked('message', 'posted', facts);
   }
 
-  /** @param {Action} action */
+  /**
+   * A handler, and where it was registered.
+   * @param {Action} action
+   */
   handler(action) {
     const facts = this.names.handlers[action.words[3]] || {};
     if (facts.type === 'reply of fetch') return this.reply(action.dispatch?.words[2] || '');

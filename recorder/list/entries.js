@@ -56,7 +56,10 @@ class Entries {
     this.sides = [];
   }
 
-  /** @param {number} run */
+  /**
+   * The sides of the races of a run.
+   * @param {number} run
+   */
   sidesOf(run) {
     const problems = this.listing.runs[run];
     const fileOf = (/** @type {number} */ file) => pathInFolder(problems.names.files[file]?.address, this.folder);
@@ -64,17 +67,26 @@ class Entries {
     return this.sides[run];
   }
 
-  /** @param {Listed} line */
+  /**
+   * What the list says of a problem, by its worst race.
+   * @param {Listed} line
+   */
   toldOf({ run, first, worst, look }) {
     return this.sidesOf(run).of(worst ?? first, look.look);
   }
 
-  /** @param {Listed} line */
+  /**
+   * The place of a problem's first line.
+   * @param {Listed} line
+   */
   placeOf(line) {
     return this.toldOf(line).place;
   }
 
-  /** @param {Listed} line */
+  /**
+   * The first line of a problem.
+   * @param {Listed} line
+   */
   summaryOf(line) {
     return summaryOf(this.toldOf(line));
   }
@@ -116,7 +128,10 @@ class Entries {
     return worst === undefined ? null : this.sidesOf(run).of(first, this.listing.runs[run].ofRaces[first].look.look);
   }
 
-  /** @param {Listed} line @returns {Entry['details']} */
+  /**
+   * What the list says of a problem besides its sides.
+   * @param {Listed} line @returns {Entry['details']}
+   */
   details(line) {
     const { look } = line;
     const cause = this.causeOf(line);
@@ -137,7 +152,10 @@ class Entries {
     return isSome && look.part !== APART ? 'no (--most N replays more races)' : '';
   }
 
-  /** @param {Listed} line @param {Listed[]} others */
+  /**
+   * How many races a line stands for besides its own, in words.
+   * @param {Listed} line @param {Listed[]} others
+   */
   more(line, others) {
     const size = [line, ...others].reduce((sum, one) => sum + this.listing.size(one), 0);
     const inProblems = others.length ? ` in ${others.length + 1} problems` : '';

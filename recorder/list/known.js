@@ -27,7 +27,10 @@ class Known {
     if (this.rest[this.rest.length - 1] === '') this.rest.pop();
   }
 
-  /** @param {string} file @param {boolean} mayLack whether the file may still have to be written */
+  /**
+   * Reads a file of known races. Fails with a KnownFault.
+   * @param {string} file @param {boolean} mayLack whether the file may still have to be written
+   */
   static readFile(file, mayLack) {
     let text;
     try {
@@ -40,7 +43,10 @@ class Known {
     return new Known(text, file);
   }
 
-  /** @param {string} line @param {number} number */
+  /**
+   * Takes a line of the file.
+   * @param {string} line @param {number} number
+   */
   read(line, number) {
     if (!line.trim() || line.startsWith('#')) {
       this.rest.push(line);

@@ -26,16 +26,16 @@ const NAMES = {
 
 /**
  * Two scripts write x, and others what else is said; the second run has them in the other order.
- * @param {{isTurned?: boolean, more?: string[]}} options
+ * @param {{isTurned?: boolean, more?: string[], address?: string}} options
  */
-async function run({ isTurned = false, more = [] } = {}) {
+async function run({ isTurned = false, more = [], address = PAGE } = {}) {
   const scripts = isTurned ? [2, 1] : [1, 2];
   const lines = ['parse 0 1 async', 'parse 0 2 async', ...scripts.flatMap((number) => [`exec ${number}`, 'w var 0 x', ...more.map((name) => `w var 0 ${name}`)])];
   const { text, report } = await judgeLines(lines);
   /** @type {import('./types').Names['places']} */
   const places = {};
   text.split('\n').forEach((line, k) => { if (line === 'w var 0 x') places[k + 1] = [0, Object.keys(places).length === Number(isTurned) ? 2 : 3, 1]; });
-  return new Problems(text, { ...NAMES, places }, report);
+  return new Problems(text, { ...NAMES, places, files: [{ ...NAMES.files[0], address }] }, report);
 }
 
 const NAME = /^[0-9a-f]{12}$/;
@@ -61,6 +61,14 @@ test('a name of a race alone is known too', async () => {
   const one = await run();
   const [{ name }] = one.ofRaces;
   assert.strictEqual(new Listing([one], new Known(`${name}\n`, 'known')).fresh().length, 0);
+});
+
+test('a known race stays known after a build that gives its file another digest, and other files have names of their own', async () => {
+  const nameOf = async (/** @type {string} */ file) => (await run({ address: `http://localhost/assets/${file}` })).list[0].name;
+  const [name, ...others] = await Promise.all(['index-BxK3a_9Q.js', 'index-Cq-7_bZk.js', 'index-PLXRPBPE.js', 'index-3f2a9c1b.js'].map(nameOf));
+  assert.deepStrictEqual(others, [name, name, name]);
+  const files = ['index-settings.js', 'index-download.js', 'jquery-3.5.1.js', 'chunk-VENDORS1.js', 'chunk-VENDORS9.js'];
+  assert.strictEqual(new Set([name, ...await Promise.all(files.map(nameOf))]).size, files.length + 1);
 });
 
 test('a file of known races keeps its comments, and what is new comes where it belongs', async () => {

@@ -64,11 +64,15 @@ class LastingNames extends Keys {
 
   // ---- what a replay's name has, and a stable one has not
 
-  /** @param {string} name */
+  /**
+   * A name without the count of NamedRun: the order in which equal things came can be another one.
+   * @param {string} name
+   */
   counted(name) {
     return name;
   }
 
+  /** No name contains which act of the user it was. */
   act() {
     return '';
   }
@@ -84,12 +88,18 @@ class LastingNames extends Keys {
     return texts.at(place);
   }
 
-  /** @param {string} number @returns {string} */
+  /**
+   * The address of a document without what changes from build to build.
+   * @param {string} number @returns {string}
+   */
   document(number) {
     return lastingAddress(super.document(number));
   }
 
-  /** @param {string} number @returns {string} */
+  /**
+   * A request without what changes from run to run.
+   * @param {string} number @returns {string}
+   */
   request(number) {
     return shortAddress(super.request(number).replace(/^(\S*) (\S*)/, (/** @type {string} */ whole, /** @type {string} */ method, /** @type {string} */ url) => `${method} ${shortAddress(url)}`));
   }
@@ -128,7 +138,10 @@ class LastingNames extends Keys {
     return `${mode} ${kind} ${kind.startsWith('event') || kind === 'parse' ? '' : withoutNumbers(this.action(side.action))}`;
   }
 
-  /** @param {Side} side */
+  /**
+   * The place of a side, by the text there.
+   * @param {Side} side
+   */
   siteOf(side) {
     const line = isByValue(side.location) ? this.firstLine(side) : side.line;
     return found(this.sites, line, () => this.site({ ...side, line }));
@@ -151,7 +164,10 @@ class LastingNames extends Keys {
     return found(this.details, action, () => withoutLongNumbers(this.action(action)));
   }
 
-  /** @param {Race} race @returns {Side[]} */
+  /**
+   * The two sides of a race.
+   * @param {Race} race @returns {Side[]}
+   */
   sidesOf({ location, modes, actions, lines }) {
     return [0, 1].map((k) => ({ location, mode: modes[k], action: actions[k], line: lines[k] }));
   }

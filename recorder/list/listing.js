@@ -56,7 +56,10 @@ class Listing {
     this.lines = this.sorted(this.lines);
   }
 
-  /** @param {Listed} problem */
+  /**
+   * The rank of a problem: a lower one comes first.
+   * @param {Listed} problem
+   */
   rankOf(problem) {
     return rankOf(problem.look, this.verdictOf(problem));
   }
@@ -107,7 +110,10 @@ class Listing {
     return problems;
   }
 
-  /** @param {Listed} one @param {Problem} problem @param {number} k */
+  /**
+   * A run has a problem.
+   * @param {Listed} one @param {Problem} problem @param {number} k
+   */
   add(one, problem, k) {
     const { ofRaces } = this.runs[k];
     one.runs.push(k + 1);
@@ -133,6 +139,7 @@ class Listing {
     return covered;
   }
 
+  /** The lines of problems that are not known. */
   fresh() {
     return this.lines.filter(({ isKnown }) => !isKnown);
   }
@@ -174,10 +181,12 @@ class Listing {
     return this.runs[run].report.races[first].location.replace(/ style(?:\.\S+)?$/, ' style');
   }
 
+  /** The lines of problems that are known. */
   knownLines() {
     return this.lines.filter(({ isKnown }) => isKnown);
   }
 
+  /** The known problems that no run has. */
   notSeen() {
     return this.known ? this.known.notSeen(this.problems) : [];
   }

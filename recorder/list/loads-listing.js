@@ -55,7 +55,10 @@ class LoadsListing extends Listing {
     this.entries = new LoadEntries(this);
   }
 
-  /** @param {Listed} problem */
+  /**
+   * In how many loads a problem was seen, and where first.
+   * @param {Listed} problem
+   */
   seenInWords({ runs, orders }) {
     const both = orders.size > 1 ? ', in both orders' : '';
     return `seen in ${runs.length} of ${this.runs.length} loads${both}: ${this.views[runs[0] - 1]}`;

@@ -156,7 +156,10 @@ class LoadRuns {
     return own;
   }
 
-  /** @param {Problem['look']} look */
+  /**
+   * A pattern with its words, one object for equal ones.
+   * @param {Problem['look']} look
+   */
   look(look) {
     const key = JSON.stringify(look);
     const known = this.looks.get(key);
@@ -168,6 +171,7 @@ class LoadRuns {
   }
 
   /**
+   * A problem without the texts of its load.
    * @param {Problem} problem
    * @param {Numbers} numbers
    * @returns {Problem}
@@ -180,6 +184,7 @@ class LoadRuns {
   }
 
   /**
+   * What the list needs of a load's problems: words only of those that no earlier load has.
    * @param {Problems} problems
    * @returns {LoadRun}
    */

@@ -63,7 +63,10 @@ class Looks {
     }
   }
 
-  /** @param {Race} race @returns {Look} */
+  /**
+   * The pattern of a race: the first that fits.
+   * @param {Race} race @returns {Look}
+   */
   look(race) {
     const acts = race.actions.map((action) => this.userActs.actOf(action));
     if (acts[0] && acts[1]) return lookOf('acts', `${acts[0] === acts[1] ? 'both come from one act of a user' : 'two acts of a user'}: it takes another input to turn them, not another order`);
@@ -71,7 +74,10 @@ class Looks {
     return this.alike(race) || this.writes(race, acts) || this.flag(race) || this.use(race) || this.scratch(race) || lookOf('other');
   }
 
-  /** @param {Race} race @param {number[]} acts */
+  /**
+   * The pattern of a race between an event and the registration of its handler.
+   * @param {Race} race @param {number[]} acts
+   */
   handler(race, acts) {
     const k = race.modes.indexOf('r');
     if (k < 0) return null;

@@ -17,6 +17,7 @@ class ProblemWords {
   }
 
   /**
+   * The words of a problem.
    * @param {{races: number[], sites: string[]}} problem @param {number} first the race that is shown
    * @param {(race: number) => string} siteOf the first side of a race
    */
@@ -44,14 +45,20 @@ class ProblemWords {
     return varied ? `${varied.length} such: ${listed(varied)}` : '';
   }
 
-  /** @param {number} number */
+  /**
+   * An action in words, made once.
+   * @param {number} number
+   */
   action(number) {
     let words = this.actions.get(number);
     if (words === undefined) this.actions.set(number, words = String(this.words.action(number)));
     return words;
   }
 
-  /** @param {string} location */
+  /**
+   * A location in words, made once.
+   * @param {string} location
+   */
   location(location) {
     let words = this.locations.get(location);
     if (words === undefined) this.locations.set(location, words = this.words.location(location).text);

@@ -46,7 +46,10 @@ class Sides {
 
   // ---- places
 
-  /** @param {Place|null|undefined} place */
+  /**
+   * A place as a compiler prints it.
+   * @param {Place|null|undefined} place
+   */
   place(place, hasColumn = true) {
     if (!place) return '';
     const [file, line, column] = place;
@@ -85,7 +88,10 @@ class Sides {
 
   // ---- sides
 
-  /** @param {Race} race @param {number} k @returns {Side} */
+  /**
+   * What one side of a race does, to what, and where.
+   * @param {Race} race @param {number} k @returns {Side}
+   */
   side({ location, modes, lines, actions }, k) {
     const { kind } = this.words.location(location);
     const number = actions[k];
@@ -154,7 +160,10 @@ class Sides {
     return request ? `reply of ${this.callbacks.request(request).replace(/[?#].*$/, '')}` : '';
   }
 
-  /** @param {string} kind @param {string} mode @param {number} line */
+  /**
+   * What an access does, in a word.
+   * @param {string} kind @param {string} mode @param {number} line
+   */
   verb(kind, mode, line) {
     if (kind === 'handler') return 'registers';
     if (kind === 'element') return mode === 'w' ? 'adds or changes' : 'looks up';
@@ -173,7 +182,10 @@ class Sides {
     return Math.max(reader, 0);
   }
 
-  /** @param {number} number of a race @param {LookKey} look @returns {Told} */
+  /**
+   * What the list says of a race: its sentence and its two sides.
+   * @param {number} number of a race @param {LookKey} look @returns {Told}
+   */
   of(number, look) {
     const race = this.problems.report.races[number];
     const { kind } = this.words.location(race.location);
@@ -192,7 +204,10 @@ class Sides {
     return [this.side(race, first), this.side(race, 1 - first)];
   }
 
-  /** @param {number} number */
+  /**
+   * The first action of the event that an action is in.
+   * @param {number} number
+   */
   firstOf(number) {
     return this.words.actions.list[number].first;
   }

@@ -183,17 +183,22 @@ class Page {
   }
 
   /**
-   * A plain element of the document for something that is no element.
+   * Makes a plain element of the document for something that is no element, as promises (tasks/jobs.js). It is no target of the page, so
+   * `elements.markDeclared` knows nothing of it.
    * @param {string} what
+   * @returns {number} its number
    */
-  placeOf(what) {
+  newPlainElement(what) {
     const number = this.recording.next('element');
     this.recording.log.line(`new ${this.number} ${number} plain`);
     this.recording.log.name('element', number, { tag: what });
     return number;
   }
 
-  /** @param {import('./types').Target} target */
+  /**
+   * The number of the document that a target belongs to.
+   * @param {import('./types').Target} target
+   */
   numberOfDocumentOf(target) {
     const owner = target.nodeType ? target.ownerDocument : null;
     if (!owner || owner === this.document) return this.number;

@@ -94,8 +94,10 @@ export interface Held extends Hold {
   isLet: boolean;
   /** What waits, and the receiver of a message, or the target of an event. */
   waiting: Waiting[];
-  /** The browser's number of a callback. */
-  timer: number | null;
+  /** The number that the page got for a callback, and of which window and queue it is. */
+  request: { window: PageWindow, queue: string, number: number } | null;
+  /** Whether the page has cleared the callback. */
+  isCleared: boolean;
   /** The target whose events are held back, and how many have been met. */
   target: EventTarget | null;
   met: number;

@@ -45,6 +45,7 @@ class Actions {
   }
 
   /**
+   * Takes a line of the trace.
    * @param {string[]} words
    * @param {number} line
    */
@@ -56,6 +57,7 @@ class Actions {
   }
 
   /**
+   * A line declares something.
    * @param {string} key
    * @param {number} line
    */
@@ -81,6 +83,7 @@ class Actions {
   }
 
   /**
+   * The earlier actions from which an action comes, by its own line.
    * @param {string[]} words
    * @param {number} number
    */

@@ -55,7 +55,10 @@ class Keys extends NamedRun {
 
   // ---- accesses
 
-  /** @param {{location: string, mode: string, action: number, line: number}} access */
+  /**
+   * The key of an access, by which another run has it too.
+   * @param {{location: string, mode: string, action: number, line: number}} access
+   */
   access({ location, mode, action, line }) {
     if (isByValue(location)) return `access ${this.location(location, mode)} | ${this.action(action)}`;
     const isLookUp = location.startsWith('slot') && mode === 'r';

@@ -89,7 +89,10 @@ class NamedRun {
     this.elements.set(element, this.counted(known.map((one) => one || '').join(' ') + asker));
   }
 
-  /** @param {string} name */
+  /**
+   * A name, with a count if an earlier thing has it too.
+   * @param {string} name
+   */
   counted(name) {
     const count = (this.counts.get(name) || 0) + 1;
     this.counts.set(name, count);
@@ -98,17 +101,24 @@ class NamedRun {
 
   // ---- things
 
-  /** @param {Place|null|undefined} place */
+  /**
+   * A place by address, line and column.
+   * @param {Place|null|undefined} place
+   */
   place(place) {
     return place ? `${this.names.files[place[0]]?.address}:${place[1]}:${place[2]}` : '';
   }
 
-  /** @param {string} number */
+  /**
+   * The address of a document, without its query.
+   * @param {string} number
+   */
   document(number) {
     return (this.names.documents[number]?.address || (number === '0' ? 'page' : 'frame')).replace(/[?#].*$/, '');
   }
 
   /**
+   * The name of an element.
    * @param {string} number
    * @returns {string}
    */
@@ -118,7 +128,10 @@ class NamedRun {
     return this.elements.get(String(number)) || `${facts.tag || ''} ${facts.id || ''}`;
   }
 
-  /** @param {string} number */
+  /**
+   * The name of a handler, by its registration.
+   * @param {string} number
+   */
   handler(number) {
     const facts = this.names.handlers[number] || {};
     const of = facts.target && !facts.place ? this.element(String(facts.target)) : '';
@@ -151,6 +164,7 @@ class NamedRun {
   }
 
   /**
+   * The name of a handler slot.
    * @param {string} name
    * @param {string} mode
    */
@@ -162,6 +176,7 @@ class NamedRun {
   // ---- actions
 
   /**
+   * The name of an action, made once.
    * @param {number} number
    * @returns {string}
    */
@@ -213,13 +228,17 @@ class NamedRun {
     return `${Number(number) >= FIRST_FOREIGN_TIMEOUT ? 'timer' : 'tick'} ${this.declared.get(`every ${number}`)}`.replace(/^timer every/, 'timer set');
   }
 
-  /** @param {string} number */
+  /**
+   * The name of a request, by its method, its address and the code that sent it.
+   * @param {string} number
+   */
   request(number) {
     const facts = this.names.requests[number] || {};
     return `${facts.method || ''} ${(facts.url || facts.address || '').replace(/[?#].*$/, '')} ${this.declared.get(`send ${number}`)}`;
   }
 
   /**
+   * The name of the dispatch that an action belongs to.
    * @param {Action} action
    * @returns {string}
    */

@@ -2,6 +2,7 @@
 // Places in the page's own text, by the text there: a line can move, and its text still identifies it.
 
 const { splitLines } = require('../common/lines.js');
+const { withoutDigest } = require('./build-digest.js');
 
 /** @typedef {import('./types').Place} Place */
 
@@ -15,8 +16,8 @@ const BEGIN_OF_COUNT = /(?:^|[;{})]|\belse|\bdo)\s*(?:\+\+|--)\s*(?:[\w$]+\.)*$/
 
 /** An address without its query, and without this machine as the server. */
 const shortAddress = (/** @type {string|undefined} */ address) => (address || '').replace(/[?#].*$/, '').replace(/^\w+:\/\/(?:localhost|127\.0\.0\.1|\[::1\])(?::\d+)?(?=\/|$)/, '');
-/** An address without the digest that builds put into a file's name. */
-const lastingAddress = (/** @type {string|undefined} */ address) => shortAddress(address).replace(/([.-])(?=[0-9a-f]*\d)[0-9a-f]{6,}(?=\.)/gi, '$1*');
+/** An address as stable names contain it: without the digest of a build too. */
+const lastingAddress = (/** @type {string|undefined} */ address) => withoutDigest(shortAddress(address));
 const withoutBlanks = (/** @type {string} */ text) => text.trim().replace(/\s+/g, ' ');
 
 class SourceText {
@@ -40,12 +41,18 @@ class SourceText {
     return read;
   }
 
-  /** @param {Place} place */
+  /**
+   * Whether the line of a place is too long to be its text.
+   * @param {Place} place
+   */
   isLong([file, line]) {
     return (this.linesOf(file)[line] || '').length > LONGEST_LINE;
   }
 
-  /** @param {Place} place */
+  /**
+   * The name of the function around a place.
+   * @param {Place} place
+   */
   functionAt(place) {
     return this.names.functions?.[place.join(':')] || '';
   }

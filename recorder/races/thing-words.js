@@ -34,7 +34,10 @@ class ThingWords {
 
   // ---- places
 
-  /** @param {number} file */
+  /**
+   * The short name of a file.
+   * @param {number} file
+   */
   fileName(file) {
     this.fileNames = this.fileNames || fileNames(this.names.files).map(shown);
     return this.fileNames[file] || '';
@@ -51,6 +54,7 @@ class ThingWords {
   }
 
   /**
+   * Where something is, as the end of a sentence.
    * @param {Place|null|undefined} place
    * @param {Place} [way] where a library made the request for the page's own code at the place
    */
@@ -59,6 +63,7 @@ class ThingWords {
   }
 
   /**
+   * The place of a line of the trace, or null.
    * @param {number|undefined} line
    * @returns {Place|null}
    */
@@ -88,6 +93,7 @@ class ThingWords {
   // ---- things
 
   /**
+   * An element in words: its tag with its id, name or source, else its place.
    * @param {string|number} number
    * @returns {string}
    */
@@ -128,6 +134,7 @@ class ThingWords {
   }
 
   /**
+   * A script in words.
    * @param {string|number} number
    * @returns {string}
    */
@@ -148,13 +155,17 @@ class ThingWords {
     return file < 0 ? shown(source.replace(/[?#].*$/, '').replace(/^.*\//, '')) : this.fileName(file);
   }
 
-  /** @param {string} name */
+  /**
+   * A name as the page wrote it, from the form of the trace.
+   * @param {string} name
+   */
   unescape(name) {
     const bytes = name.replace(/%([0-9A-F]{2})/g, (whole, digits) => String.fromCharCode(parseInt(digits, 16)));
     return shown(Buffer.from(bytes, 'latin1').toString('utf8'));
   }
 
   /**
+   * What a location is, and its words.
    * @param {string} location
    * @returns {{kind: 'variable'|'element'|'handler', text: string}}
    */
@@ -170,7 +181,10 @@ class ThingWords {
     return { kind: 'variable', text: name };
   }
 
-  /** @param {number} number */
+  /**
+   * A module in words.
+   * @param {number} number
+   */
   module(number) {
     const { module } = (this.names.objects || {})[number] || {};
     return module ? `the module ${shown(module.replace(/[?#].*$/, '').replace(/^.*\//, ''))}` : 'a module';

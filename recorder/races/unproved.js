@@ -45,7 +45,10 @@ class Unproved {
     return this.answers.get(key) || NO_ANSWER;
   }
 
-  /** @param {string[]} traces */
+  /**
+   * Requests the reports of traces, all at once.
+   * @param {string[]} traces
+   */
   queryReports(traces) {
     return this.queryAll(traces.flatMap((trace) => REPORTS.map((words) => ({ words, trace }))));
   }
@@ -58,6 +61,7 @@ class Unproved {
   }
 
   /**
+   * Starts the program with some questions.
    * @param {Query[]} queries
    * @returns {Promise<Output[]|null>} null if no answer came, after a line on standard error
    */

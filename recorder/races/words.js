@@ -40,6 +40,7 @@ class Words extends ThingWords {
   // ---- actions
 
   /**
+   * An action in words.
    * @param {number} number
    * @returns {string}
    */
@@ -66,6 +67,7 @@ class Words extends ThingWords {
   }
 
   /**
+   * An event at an element, in words.
    * @param {string} element
    * @param {string} type
    */
@@ -84,17 +86,26 @@ class Words extends ThingWords {
     return name ? ` ${shown(name)}` : '';
   }
 
-  /** @param {{function?: string, place?: Place, way?: Place}|undefined} facts */
+  /**
+   * A timeout in words.
+   * @param {{function?: string, place?: Place, way?: Place}|undefined} facts
+   */
   timeout(facts) {
     return `the timeout${this.named(facts)} set${this.at(facts?.place, facts?.way)}`;
   }
 
-  /** @param {{place?: Place, way?: Place}|undefined} facts */
+  /**
+   * A message in words.
+   * @param {{place?: Place, way?: Place}|undefined} facts
+   */
   message(facts) {
     return facts?.place ? `the message posted${this.at(facts.place, facts.way)}` : 'a message';
   }
 
-  /** @param {string} number */
+  /**
+   * The callback of an interval, or of what counts as one, in words.
+   * @param {string} number
+   */
   tick(number) {
     const facts = this.names.intervals[number] || {};
     if (!facts.why) return this.timeout({ ...this.names.timeouts[Number(number) - FIRST_FOREIGN_TIMEOUT], ...facts });
@@ -102,24 +113,36 @@ class Words extends ThingWords {
     return `${what}${this.named(facts)}${asked}${this.at(facts.place, facts.way)}`;
   }
 
-  /** @param {string} number */
+  /**
+   * A request in words.
+   * @param {string} number
+   */
   request(number) {
     const { address } = this.names.requests[number] || {};
     return `the request${address ? ` for ${shown(address.replace(/^[^?#]*\/(?=[^/?#])/, ''))}` : ''}`;
   }
 
-  /** @param {string} number */
+  /**
+   * The reply to a request, in words.
+   * @param {string} number
+   */
   reply(number) {
     const { place, way } = this.names.requests[number] || {};
     return `the reply to ${this.request(number)}${this.at(place, way)}`;
   }
 
-  /** @param {Action} action */
+  /**
+   * The event that an action belongs to, in words.
+   * @param {Action} action
+   */
   dispatch(action) {
     return action.dispatch ? this.action(action.dispatch.number) : 'an event';
   }
 
-  /** @param {Action} action */
+  /**
+   * A handler in words.
+   * @param {Action} action
+   */
   handler(action) {
     const facts = this.names.handlers[action.words[3]] || {};
     const name = this.named(facts);
@@ -148,7 +171,10 @@ class Words extends ThingWords {
     return mode === 'w' ? 'written' : 'read';
   }
 
-  /** @param {Pick<import('./types').Race, 'lines'|'modes'|'actions'|'location'>} race */
+  /**
+   * A race in words. Stable names contain them.
+   * @param {Pick<import('./types').Race, 'lines'|'modes'|'actions'|'location'>} race
+   */
   race({ lines, modes, actions, location }) {
     const { kind, text } = this.location(location);
     const what = kind === 'handler' ? `The handler "${text}"` : `"${text}"`;

@@ -54,6 +54,7 @@ class Acts {
     return this.session.steering ? this.session.steering.actions(both) : both;
   }
 
+  /** Does the acts that do not wait for the page to load. */
   async doEarly() {
     for (const act of this.planned().early) await this.do(act);
   }
@@ -77,7 +78,10 @@ class Acts {
     return 'from' in act && !!act.from && !keepsGoing && !steering;
   }
 
-  /** @param {import('../browser/user.js').User} user */
+  /**
+   * Clicks where the seed says (`--clicks`), until the time is over.
+   * @param {import('../browser/user.js').User} user
+   */
   async clickAround(user) {
     const { until, options: { actions, clicks, seed, avoided } } = this.session;
     if (Date.now() >= until) return;
@@ -91,7 +95,10 @@ class Acts {
     this.hasClicked = true;
   }
 
-  /** @param {Act} act */
+  /**
+   * Does an act when its target is there, and notes what came of it.
+   * @param {Act} act
+   */
   async do(act) {
     const { session, rest, user } = this;
     if (!user) throw new Error('there is no page to act in yet');

@@ -39,6 +39,7 @@ class AttachedRecorder extends Session {
     await this.runToEnd(() => this.recordToEnd(), () => this.detach());
   }
 
+  /** Records the page that the driver loads next, until the driver ends it. */
   async recordToEnd() {
     await this.attach();
     try {
@@ -56,6 +57,7 @@ class AttachedRecorder extends Session {
     }
   }
 
+  /** Connects to the browser and its first tab. */
   async attach() {
     const { given } = this;
     try {

@@ -65,6 +65,7 @@ class Awaited {
   }
 
   /**
+   * Something is due after a delay.
    * @param {string} key
    * @param {number} now
    * @param {number} delay

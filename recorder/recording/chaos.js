@@ -37,7 +37,10 @@ class ChaosHolds {
     await sleep(seeded(this.seed, `pause ${id}`) * LONGEST);
   }
 
-  /** @param {string} place */
+  /**
+   * The number of a place where the parser is paused.
+   * @param {string} place
+   */
   numberOf(place) {
     const number = this.numbers.get(place) || this.numbers.size + 1;
     this.numbers.set(place, number);
@@ -45,6 +48,7 @@ class ChaosHolds {
   }
 
   /**
+   * The pauses in the copy of a page, by the seed.
    * @param {string} address
    * @param {string} html
    * @returns {Insertion[]}

@@ -21,7 +21,7 @@ const GETTERS = new Set(['prepareStackTrace', 'stackTraceLimit', 'anchorNode', '
  */
 const OWN = [
   [/^(Object|OBJECT)$/, /^(keys|entries|values)$/, 'taken of the window'],
-  [/^(owner|map|CHANGES|joining)$/, /^forEach$/, 'a taken Map or Set, whose methods nobody can replace'],
+  [/^(collection|CHANGES|joining)$/, /^forEach$/, 'a taken Map or Set, whose methods nobody can replace'],
   [/^this\.registrations\(.*\)$/, /^values$/, 'a taken Map'],
   [/^recording$/, /^push$/, 'Recording.push'],
   [/^(collections|objects\.trees)$/, /^call$/, 'Collections.call, Trees.call'],

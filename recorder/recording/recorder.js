@@ -62,6 +62,7 @@ class Recorder extends Session {
     await this.runToEnd(() => this.recordToEnd(), () => this.closeBrowser());
   }
 
+  /** Opens a browser, loads the page, does what the user does, and waits for rest. */
   async recordToEnd() {
     const { address, folder } = this.resolve();
     this.address = address;
@@ -75,6 +76,7 @@ class Recorder extends Session {
     await this.options.whenOver?.(this);
   }
 
+  /** The address to load, and the folder that is served for it, if it is a file. */
   resolve() {
     try {
       const resolved = resolveAddress(this.given, this.options.root, { fallback: this.options.fallback });
@@ -145,6 +147,7 @@ class Recorder extends Session {
     this.isUsed = await this.useAndWait();
   }
 
+  /** Loads the page. Fails with a RecordingFault if it does not load. */
   async load() {
     const { address, responses } = this;
     this.isLoaded = false;

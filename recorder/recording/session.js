@@ -144,6 +144,7 @@ class Session {
     this.stop(new RecordingFault('stopped', STATUS.stopped));
   }
 
+  /** How many requests are open whose end is waited for. */
   openRequests() {
     return this.responses ? this.responses.openRequests() : 0;
   }
@@ -185,7 +186,10 @@ class Session {
 
   // ---- the tab
 
-  /** @param {Preparation} how */
+  /**
+   * Prepares the tab for the page: its listeners, the script of the recorder, the chain of responses.
+   * @param {Preparation} how
+   */
   async prepare({ holds, isDriven = false, leaves = null, beforePage, evaluate }) {
     const { options, folder } = this;
     const tab = this.openTab();
@@ -220,7 +224,10 @@ class Session {
     if (isOfThisMachine(address)) await this.openTab().allowLocalNetwork(new URL(address).origin);
   }
 
-  /** @param {boolean} [isDriven] whether another program drives the tab */
+  /**
+   * Listens to what the page sends, and to its errors and dialogs.
+   * @param {boolean} [isDriven] whether another program drives the tab
+   */
   listen(isDriven = false) {
     const tab = this.openTab();
     tab.on('Runtime.bindingCalled', ({ name, payload }) => { if (name === this.ownNames.binding) this.take(payload); });
@@ -239,17 +246,22 @@ class Session {
     tab.on('Inspector.targetCrashed', () => this.stop(new RecordingFault('the page crashed the browser', STATUS.failed)));
   }
 
-  /** @param {string} payload lines of the log */
+  /**
+   * Takes lines of the page's log.
+   * @param {string} payload lines of the log
+   */
   take(payload) {
     this.intake.take(payload);
     this.steering?.look();
   }
 
+  /** Asks the page for its lines so far. */
   async flush() {
     this.awaited?.read(Date.now());
     await this.callRecording('flush');
   }
 
+  /** Ends the recording in the page, which sends its last lines. */
   async finish() {
     await this.callRecording('finish', Date.now() < this.until ? LONGEST_FLUSH : LONGEST_END);
     await sleep(POLL); // the last batch comes as an event of the protocol
@@ -267,6 +279,7 @@ class Session {
 
   // ---- after the recording
 
+  /** Reads the source maps of the page's scripts. */
   async readMaps() {
     await this.sources.readMaps((address, script) => readMapOf(address, script, this.folder));
   }

@@ -1,5 +1,6 @@
 'use strict';
-// What a tab has before its page loads, as of a user who is logged in: cookies, local storage, the name of the browser, the size of the view.
+// What a tab has before its page loads, as of a user who is logged in: cookies, local storage, the name of the browser (user agent), the size of the view
+// (viewport).
 /* global localStorage, location, window */
 
 /** @typedef {import('../options/storage-state.js').StorageState} StorageState */

@@ -35,7 +35,10 @@ class Due {
     return isNew.some(({ text }) => this.line.test(text));
   }
 
-  /** @param {import('../recording/recorder.js').Recorder} recorder */
+  /**
+   * Whether the access, or its action, is in the log by now.
+   * @param {import('../recording/recorder.js').Recorder} recorder
+   */
   hasCome(recorder) {
     if (!this.mayHaveCome(recorder.intake.entries)) return false;
     const { keys } = readKeys(recorder, this.options, this.isLoose);

@@ -30,6 +30,7 @@ class FreeRun {
     return this.isOver;
   }
 
+  /** Runs the page with nothing reversed, and finds what differs by itself. */
   async runOnce() {
     this.recorded.orders.note(this.recorded.run);
     const { run, astray } = await this.inOrder.run('free', 0, null);

@@ -56,7 +56,10 @@ class Hold {
     return new URL(`/${HOLD_NAME}?${this.id}`, address).href;
   }
 
-  /** @param {string} address */
+  /**
+   * Whether it makes the parser of a page wait, and goes on.
+   * @param {string} address
+   */
   isOfPage(address) {
     return this.cause.means === 'parser' && this.cause.address === address && !this.isReleased;
   }
@@ -88,7 +91,10 @@ class Hold {
     return this.length !== null && this.heldAt > 0 && !this.isReleased;
   }
 
-  /** @param {string} key of the request that waits */
+  /**
+   * Waits until it is released.
+   * @param {string} key of the request that waits
+   */
   async wait(key) {
     if (this.isReleased) return;
     this.hold();
@@ -96,6 +102,7 @@ class Hold {
     await this.over;
   }
 
+  /** Lets everything go that it holds back. */
   release() {
     this.isReleased = true;
     this.heldFor = this.heldAt ? Date.now() - this.heldAt : 0;

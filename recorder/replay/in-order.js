@@ -97,6 +97,7 @@ class InOrder {
   }
 
   /**
+   * Whether a race has to come in the other order when one of some others does.
    * @param {Race} race
    * @param {Race[]} reversed
    */

@@ -45,7 +45,10 @@ class Recorded {
     return { name: 'recorded', text, keys: new Keys(text, names), end: /** @type {import('./found/end-state.js').End} */ (recorder.end), recorder };
   }
 
-  /** @param {Pick<Run, 'keys'|'recorder'>} run */
+  /**
+   * What can be held back in a run.
+   * @param {Pick<Run, 'keys'|'recorder'>} run
+   */
   causesIn({ keys, recorder }) {
     const early = this.acts.filter(({ isEarly }) => isEarly);
     const late = this.acts.filter(({ isEarly }) => !isEarly);
@@ -62,6 +65,7 @@ class Recorded {
   }
 
   /**
+   * Whether one action comes before another one, as the analyzer says.
    * @param {number} from
    * @param {number} to
    */

@@ -62,10 +62,12 @@ class Replay {
     this.runs.interrupt();
   }
 
+  /** Runs the page with nothing reversed, which all races need. */
   runFreely() {
     return this.free.run();
   }
 
+  /** Ends what compares the runs. The browser stays. */
   close() {
     return this.differences.close();
   }
@@ -114,6 +116,7 @@ class Replay {
   }
 
   /**
+   * Holds a cause back, and says what came of it.
    * @param {Pick<Reversal, 'cause'|'race'|'isLoose'>} wanted
    * @param {number} number
    * @param {number} tries

@@ -134,7 +134,10 @@ class Runs {
     return run;
   }
 
-  /** @param {RunSteering|null} steering */
+  /**
+   * The options of a further run.
+   * @param {RunSteering|null} steering
+   */
   optionsOf(steering) {
     const { browser, sources, options: { fixed } } = this.recorder;
     const time = this.options.time + Math.ceil(this.longest / 1000);
@@ -146,7 +149,10 @@ class Runs {
     if (this.isStopped) throw new RecordingFault('stopped', STATUS.stopped);
   }
 
-  /** @param {FurtherRun} run */
+  /**
+   * Writes the trace and the names of a further run.
+   * @param {FurtherRun} run
+   */
   write({ file, text, names }) {
     fs.mkdirSync(this.folder, { recursive: true });
     writeWhole(file, text);

@@ -58,7 +58,10 @@ class RunSteering {
 
   // ---- its course
 
-  /** @param {import('../recording/recorder.js').Recorder} recorder */
+  /**
+   * The run begins: what is held back is released at the latest after the longest time.
+   * @param {import('../recording/recorder.js').Recorder} recorder
+   */
   begin(recorder) {
     this.recorder = recorder;
     this.timer = setTimeout(() => this.holds.forEach((hold) => this.release(hold)), this.longest);
@@ -101,7 +104,10 @@ class RunSteering {
     return true;
   }
 
-  /** @param {Hold} hold */
+  /**
+   * Releases a hold, in the page too.
+   * @param {Hold} hold
+   */
   release(hold) {
     if (hold.isReleased) return;
     hold.release();
@@ -113,6 +119,7 @@ class RunSteering {
     answer?.catch(() => {}); // a page that has gone holds nothing back
   }
 
+  /** Whether nothing is held back any more. */
   isReleased() {
     return this.holds.every(({ isReleased }) => isReleased);
   }
@@ -169,12 +176,18 @@ class RunSteering {
     return holds.length > 0;
   }
 
-  /** @param {Paused} request */
+  /**
+   * Whether a request is one that is held back.
+   * @param {Paused} request
+   */
   isMet(request) {
     return this.met.has(keyOf(request));
   }
 
-  /** @param {Paused} request */
+  /**
+   * Waits until the holds of a request are released.
+   * @param {Paused} request
+   */
   async hold(request) {
     const key = keyOf(request);
     await Promise.all((this.met.get(key) || []).map((hold) => hold.wait(key)));

@@ -17,7 +17,7 @@ function helpersOfWorld(window) {
   Object.assign(objects.trees, {
     addWindow() {}, notePart: () => false, variableOf: () => null, call() {}, accessAttribute() {}, number: () => 1, isNode: () => false, valueOf: () => UNKNOWN,
   });
-  Object.assign(window, { Node: class {} });
+  Object.assign(window, { Node: class {}, Storage: class {} });
   const globals = { read() {}, write() {}, update() {}, count() {}, valueOf: () => MISSING, noteValue() {} };
   objects.addWindow(/** @type {import('../page/types').Page} */ (/** @type {unknown} */ ({ window, globals }))); // as far as the helpers use one
   const { prototype } = window.Function;

@@ -1,6 +1,6 @@
 #!/usr/bin/env node
 'use strict';
-// packaged-heap.js [PACKAGE..]: how much of the heap pages of Debian packages (packaged.json; those that are installed) use once they are loaded,
+// packaged-heap.js [PACKAGE..]: how much memory (heap) pages of Debian packages (packaged.json; those that are installed) use once they are loaded,
 // without the recorder, with global variables alone, and with objects. Each is loaded once, and the garbage is collected before.
 
 const { Chromium } = require('../browser/chromium.js');

@@ -73,5 +73,6 @@ exports.more = [
   { page: 'race-restless.html', location: 'state', worst: CONTENT, differs: last('soon'), says: /the page never rests: compared after \d+ of its own turns in each run/ },
   { page: 'race-post-late.html', location: 'cart', worst: CONTENT, differs: last('bought', 'empty'), says: /; not sent again without --yes: POST http:\/\/shop\.invalid:1\/reset/ },
   { page: 'race-post-late.html', words: ['--replay', '--yes'], location: 'cart', isLong: true, worst: CONTENT, differs: last('bought', 'empty'), says: /^(?!.*not sent again)/ },
+  { page: 'race-cleared.html', location: 'state', isLong: true, worst: CONTENT, differs: last('soon', 'none'), says: /the access that was recorded first did not come any more/ },
   { page: 'race-slow-note.html', words: ['--do', 'wait:3500'], location: 'came', isLong: true, differs: null, says: /but what the delay alone does too: text in the other order alone: "The network is slow"/ },
 ];

@@ -46,7 +46,10 @@ class Modules {
     }
   }
 
-  /** @param {number} number */
+  /**
+   * The address of a module.
+   * @param {number} number
+   */
   addressOf(number) {
     return this.addresses[number - FIRST_MODULE];
   }

@@ -37,12 +37,16 @@ class Places {
     this.sites = [];
   }
 
-  /** @param {Source|OriginalFile} file */
+  /**
+   * Adds a file. Returns its index.
+   * @param {Source|OriginalFile} file
+   */
   addFile(file) {
     return this.files.push(file) - 1;
   }
 
   /**
+   * Adds a site. Returns its number.
    * @param {Source} source
    * @param {number} offset
    * @param {About|undefined} about
@@ -91,6 +95,7 @@ class Places {
   }
 
   /**
+   * The place of a site.
    * @param {number} site
    * @returns {Place}
    */

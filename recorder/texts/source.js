@@ -117,7 +117,10 @@ class Source {
     };
   }
 
-  /** @param {boolean} isFile whether the module is this whole text */
+  /**
+   * The number of a module in this text.
+   * @param {boolean} isFile whether the module is this whole text
+   */
   numberOfModule(isFile) {
     const { modules } = this.sources;
     return isFile ? modules.at(this.address) : modules.add(this.address);
@@ -138,7 +141,10 @@ class Source {
     return this.map?.names.length ? this.originalName(found.start) || '' : found.name; // in a bundle names are cut short
   }
 
-  /** @param {AnyMap|null} map */
+  /**
+   * Uses a source map for all places from now on.
+   * @param {AnyMap|null} map
+   */
   useMap(map) {
     this.map = map;
   }
@@ -166,6 +172,7 @@ class Source {
   }
 
   /**
+   * Notes a script of a page with its marks, by the page's own text: a content policy can allow it by its hash.
    * @param {string} own the text of an inline script or a handler attribute
    * @param {string} marked the text with marks
    */
@@ -173,7 +180,10 @@ class Source {
     this.sources.markedTexts.set(own, marked);
   }
 
-  /** @param {string} what */
+  /**
+   * Counts something that the copy lacks.
+   * @param {string} what
+   */
   drop(what) {
     this.sources.count(this.sources.dropped, what);
   }
@@ -222,6 +232,7 @@ class OriginalFile {
   }
 
   /**
+   * Notes the name of a function at its place.
    * @param {Place} place
    * @param {string} name
    */

@@ -68,6 +68,7 @@ class Sources {
   }
 
   /**
+   * Counts something for `losses.js`.
    * @param {Map<string, number>} counts
    * @param {string} what
    */
@@ -110,6 +111,7 @@ class Sources {
   }
 
   /**
+   * Makes the copy of a text by edits.
    * @param {Source} source
    * @param {Edit[]} edits
    */
@@ -156,6 +158,7 @@ class Sources {
   }
 
   /**
+   * Reads the source map of a text.
    * @param {Source} source
    * @param {(address: string, script: string) => Promise<string|null>} read
    */
@@ -166,22 +169,32 @@ class Sources {
 
   // ---- places
 
-  /** @param {Place} place */
+  /**
+   * The name of the function around a place.
+   * @param {Place} place
+   */
   functionAt(place) {
     return this.places.functionAt(place);
   }
 
-  /** @param {number} site */
+  /**
+   * The place of a site.
+   * @param {number} site
+   */
   placeOfSite(site) {
     return this.places.ofSite(site);
   }
 
-  /** @param {number} site */
+  /**
+   * What a mark says about its site, as the text of its object.
+   * @param {number} site
+   */
   aboutSite(site) {
     return this.places.aboutSite(site);
   }
 
   /**
+   * Whether a place is in a library's file.
    * @param {string|undefined} place
    * @param {RegExp|null} pattern
    */

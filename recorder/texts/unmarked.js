@@ -22,6 +22,7 @@ class Unmarked {
   }
 
   /**
+   * A script or a handler attribute stays as it is.
    * @param {Unmarkable} what
    * @param {Fault} fault
    * @param {Place} place

@@ -87,6 +87,7 @@ class Accesses {
   }
 
   /**
+   * Counts accesses that are left out, by the reason.
    * @param {string} why
    * @param {number} number
    */
@@ -139,6 +140,7 @@ class Accesses {
     return true;
   }
 
+  /** The accesses in their actions. */
   placed() {
     /** @type {Map<number, Entry[]>} */
     const byAction = new Map();

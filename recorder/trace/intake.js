@@ -82,7 +82,10 @@ class Intake {
     return missed;
   }
 
-  /** @param {string} batch */
+  /**
+   * Takes the lines of a batch. Called as the page sends it.
+   * @param {string} batch
+   */
   take(batch) {
     debug('page', 'LOG', batch);
     for (const line of batch.split('\n')) if (line && !this.takeLine(line)) this.garbled++;

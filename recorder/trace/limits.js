@@ -25,7 +25,10 @@ class Size {
     this.writes = { all: 0, before: 0, isNow: false };
   }
 
-  /** @param {number} action */
+  /**
+   * The next access is of an action.
+   * @param {number} action
+   */
   enter(action) {
     if (this.action === action) return;
     this.action = action;
@@ -36,6 +39,7 @@ class Size {
   }
 
   /**
+   * Counts an access of an action.
    * @param {string} mode
    * @param {number} action
    */

@@ -100,7 +100,10 @@ class Names {
     named.forEach((one) => this.take(one));
   }
 
-  /** @param {Fact} fact */
+  /**
+   * Takes a fact of the log.
+   * @param {Fact} fact
+   */
   take({ kind, number, ...facts }) {
     const list = LISTS.get(kind);
     if (kind === 'object') this.told.set(number, facts);
@@ -110,6 +113,7 @@ class Names {
   }
 
   /**
+   * What is known of a number, to be added to.
    * @param {string} list
    * @param {string} number
    */
@@ -126,6 +130,7 @@ class Names {
   // ---- places
 
   /**
+   * The place in the source for a place of the log, or null.
    * @param {string|undefined} place as the log has it
    * @returns {Place|null}
    */
@@ -274,7 +279,10 @@ class Names {
     return this.sources.files.map(({ address, text }, k) => namedFile(address, text, used.get(k), used.has(k) && this.foreignness([k]) > 0));
   }
 
-  /** @param {{[member: string]: unknown}} facts of the recording */
+  /**
+   * The text of OUT.names.json.
+   * @param {{[member: string]: unknown}} facts of the recording
+   */
   toJson(facts) {
     return `${jsonText({ format: 1, ...facts, ...this.facts(this.files()) }, 1, redactedValue)}\n`;
   }

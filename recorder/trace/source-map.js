@@ -97,6 +97,7 @@ class SourceMap {
   }
 
   /**
+   * The place in the sources for a place in the bundle, or null.
    * @param {number} line from 1
    * @param {number} column from 1
    * @returns {Original|null}
@@ -134,6 +135,7 @@ class IndexMap {
   }
 
   /**
+   * Adds the map of a section of the bundle.
    * @param {{line: number, column: number}} offset
    * @param {SourceMap} map
    */

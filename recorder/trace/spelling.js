@@ -115,7 +115,10 @@ class Spelling {
     this.out.push({ text, place, found, stack });
   }
 
-  /** @param {SpelledEntry} entry */
+  /**
+   * Writes the records for a line of the log.
+   * @param {SpelledEntry} entry
+   */
   spell(entry) {
     this.entry = entry;
     const words = entry.text.split(' ');

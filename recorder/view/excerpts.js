@@ -72,7 +72,10 @@ class Excerpts {
     return text.length > LONGEST_LINE ? { column: cut.column, own: cut.text } : { column: cut.column };
   }
 
-  /** @param {number} file */
+  /**
+   * The index of a file in the view.
+   * @param {number} file
+   */
   fileOf(file) {
     let index = this.indexOf.get(file);
     if (index === undefined) {

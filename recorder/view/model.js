@@ -71,6 +71,7 @@ class Model {
   }
 
   /**
+   * Builds the model, with so many links as there is room for.
    * @param {import('./types').Link[]} links those that the program printed
    * @param {Ordered} ordered
    */
@@ -125,6 +126,7 @@ class Model {
   }
 
   /**
+   * An action as the view has it.
    * @param {import('../races/actions.js').Action} action
    * @param {string} words
    * @returns {ShownAction}
@@ -135,7 +137,10 @@ class Model {
     return [LANES.indexOf(lane), action.line, this.text(words), action.origins.map(({ action: from, word }) => [this.origin(word), from])];
   }
 
-  /** @param {string} word */
+  /**
+   * The index of a word of origins.
+   * @param {string} word
+   */
   origin(word) {
     const index = this.origins.get(word) ?? this.origins.size;
     this.origins.set(word, index);
@@ -190,6 +195,7 @@ class Model {
   }
 
   /**
+   * A race as the view has it.
    * @param {Race} race
    * @param {number} index
    * @param {number} problem

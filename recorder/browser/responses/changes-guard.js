@@ -20,7 +20,10 @@ class ChangesGuard {
     this.refused = [];
   }
 
-  /** @param {Paused} event */
+  /**
+   * Refuses a request that may change something.
+   * @param {Paused} event
+   */
   async passRequest({ requestId, request }) {
     if (!mayChange(request.method) || this.folder?.has(request.url)) return false;
     this.refused.push(requestText(request));

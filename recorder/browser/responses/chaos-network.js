@@ -17,7 +17,10 @@ class ChaosNetwork {
     this.asked = new Map();
   }
 
-  /** @param {Paused} event */
+  /**
+   * Delays a request by the seed.
+   * @param {Paused} event
+   */
   async passRequest({ request: { url } }) {
     const nth = (this.asked.get(url) || 0) + 1;
     this.asked.set(url, nth);

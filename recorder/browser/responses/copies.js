@@ -46,7 +46,10 @@ class Copies {
     this.encodingOfPage = null;
   }
 
-  /** @param {Paused} event */
+  /**
+   * Answers with the instrumented copy of a page or a script.
+   * @param {Paused} event
+   */
   async passResponse(event) {
     const type = valueOf(event.responseHeaders, 'content-type');
     if (!this.isMarked(event, event.responseStatusCode, type)) return false;
@@ -87,6 +90,7 @@ class Copies {
   }
 
   /**
+   * Whether a response is a page or a script, by its type.
    * @param {Paused} event
    * @param {string} type
    */

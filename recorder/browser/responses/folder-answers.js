@@ -32,7 +32,10 @@ class FolderAnswers {
     this.refused = new Map();
   }
 
-  /** @param {Paused} event */
+  /**
+   * Answers a request for a file of the folder.
+   * @param {Paused} event
+   */
   async passRequest(event) {
     const { url } = event.request;
     if (!this.folder.has(url)) return false;

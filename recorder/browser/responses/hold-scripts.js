@@ -23,7 +23,10 @@ class HoldScripts {
     this.holds = holds;
   }
 
-  /** @param {Paused} event */
+  /**
+   * Answers a request for a script or an image of the replay, once it is released.
+   * @param {Paused} event
+   */
   async passRequest(event) {
     const found = HOLD_ADDRESS.exec(event.request.url);
     if (!found) return false;

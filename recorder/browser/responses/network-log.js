@@ -54,7 +54,10 @@ class NetworkLog {
     this.bodies.set(requestId, setTimeout(() => this.close(requestId), LONGEST_PAUSE).unref());
   }
 
-  /** @param {Request} given */
+  /**
+   * A request begins.
+   * @param {Request} given
+   */
   note(given) {
     const { type, request } = given;
     if (this.isAwaited(given)) this.open.add(given.requestId);
@@ -74,7 +77,10 @@ class NetworkLog {
     this.news.set(requestId, this.lastNews);
   }
 
-  /** @param {string} requestId */
+  /**
+   * A request is over, or counts no longer.
+   * @param {string} requestId
+   */
   close(requestId) {
     clearTimeout(this.bodies.get(requestId));
     this.bodies.delete(requestId);

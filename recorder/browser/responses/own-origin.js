@@ -59,6 +59,7 @@ class OwnOrigin {
   }
 
   /**
+   * Whether a header is one that the user gave for the page's origin.
    * @param {string} name
    * @param {string} value
    */

@@ -16,7 +16,10 @@ class PageSteps {
     this.notFollowed = 0;
   }
 
-  /** @param {Paused} event */
+  /**
+   * Whether a request is for the page itself, and not for a frame.
+   * @param {Paused} event
+   */
   isOfPage({ resourceType, frameId }) {
     return resourceType === 'Document' && frameId === this.mainFrame;
   }
@@ -29,7 +32,10 @@ class PageSteps {
     if (this.isOfPage(event)) this.navigations--;
   }
 
-  /** @param {Paused} event */
+  /**
+   * Refuses a step to another page, or calls `leaves` for it.
+   * @param {Paused} event
+   */
   async passRequest(event) {
     if (!this.isOfPage(event) || event.redirectedRequestId) return false;
     this.navigations++;

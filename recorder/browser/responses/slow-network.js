@@ -25,7 +25,10 @@ class SlowNetwork {
     this.salt = salt;
   }
 
-  /** @param {Paused} event */
+  /**
+   * Delays a file by its address.
+   * @param {Paused} event
+   */
   async passRequest({ request, resourceType }) {
     if (resourceType !== 'Document') await sleep(hash(`${request.url}${this.salt || ''}`) % this.most);
     return false;

@@ -34,6 +34,7 @@ class Inserter {
   }
 
   /**
+   * Inserts a mark at an offset.
    * @param {number} offset
    * @param {string} text
    */
@@ -113,7 +114,10 @@ class Inserter {
     return at >= this.code.length || this.code.charCodeAt(at) === CLOSING_BRACE;
   }
 
-  /** @param {Span} node */
+  /**
+   * The text of a node in the original.
+   * @param {Span} node
+   */
   textOf({ start, end }) {
     return this.code.slice(start, end);
   }

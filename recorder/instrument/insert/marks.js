@@ -58,6 +58,7 @@ class Marks extends StatementMarks {
   }
 
   /**
+   * Makes a site: the number by which a mark says where it is.
    * @param {number} offset
    * @param {import('../syntax/types').About} [about]
    */

@@ -20,7 +20,7 @@ const BY_NAME = { r: 'p', w: 'q', u: 'b', U: 'B', d: 'g' };
 const BY_KEY = { r: 'k', w: 'l', u: 'j', U: 'J', d: 'h' };
 /** Names of the browser whose properties a page does not change. */
 const TOOLS = new Set(['Math', 'JSON', 'Object', 'Array', 'String', 'Number', 'Boolean', 'Symbol', 'Reflect', 'Promise', 'Date', 'console', 'performance',
-  'navigator', 'location', 'history', 'screen', 'localStorage', 'sessionStorage', 'Intl', 'CSS', 'crypto']);
+  'navigator', 'location', 'history', 'screen', 'Intl', 'CSS', 'crypto']);
 /** What is made where it is, or has no properties of its own. */
 const FRESH = new Set(['Super', 'Literal', 'TemplateLiteral', 'MetaProperty', 'ArrayExpression', 'ObjectExpression', 'FunctionExpression',
   'ArrowFunctionExpression', 'ClassExpression', 'BinaryExpression', 'UpdateExpression', 'UnaryExpression']);
@@ -86,6 +86,7 @@ class MemberMarks extends ClosureMarks {
   }
 
   /**
+   * Visits a member and marks its access, in any expression.
    * @param {MemberExpression} node
    * @param {Scope} scope
    * @param {Mode} mode

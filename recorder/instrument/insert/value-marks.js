@@ -106,6 +106,7 @@ class ValueMarks extends MemberMarks {
   }
 
   /**
+   * A key in brackets reads from a variable that is taken apart.
    * @param {import('../syntax/types').ObjectPattern['properties'][number]} property
    * @param {Scope} scope
    * @param {import('../syntax/types').ObjectPattern} pattern
@@ -121,6 +122,7 @@ class ValueMarks extends MemberMarks {
   }
 
   /**
+   * Visits a value that a pattern takes apart, and marks what it takes.
    * @param {Pattern} pattern
    * @param {Expression} value
    * @param {Scope} scope

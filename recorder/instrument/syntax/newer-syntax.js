@@ -1,6 +1,6 @@
 'use strict';
 // Syntax that Chromium runs and Debian's acorn (8.8) does not know: import attributes, the options of `import()`, `using` and `await using`, and calls that
-// are assigned to, which fail only when they run. What the browser refuses too may be taken: it runs neither the code nor its marks.
+// are assigned to, which fail only when they run. Decorators are not read. What the browser refuses too may be taken: it runs neither the code nor its marks.
 
 const { tokTypes } = require('/usr/share/nodejs/acorn');
 

@@ -61,6 +61,7 @@ class Scope {
   }
 
   /**
+   * The scope of a function, with its parameters and what its code declares.
    * @param {Scope} parent
    * @param {FunctionNode} node
    */
@@ -88,6 +89,7 @@ class Scope {
   }
 
   /**
+   * The scope of a static block of a class.
    * @param {Scope} parent
    * @param {Statement[]} body
    */
@@ -112,6 +114,7 @@ class Scope {
   }
 
   /**
+   * Where a name is declared, seen from this scope: `local`, `module` or `global`.
    * @param {string} name
    * @returns {Where}
    */

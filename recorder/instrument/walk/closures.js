@@ -47,6 +47,7 @@ class ClosureVariables extends Variables {
   }
 
   /**
+   * Whether the accesses to a name of a scope are marked.
    * @param {Scope|null} owner
    * @param {string} name
    * @returns {owner is ClosureScope}
@@ -75,6 +76,7 @@ class ClosureVariables extends Variables {
   }
 
   /**
+   * The call of a helper for an access to a name, or null if it is not marked.
    * @param {Mode} mode
    * @param {string} name
    * @param {Scope} scope
@@ -122,7 +124,10 @@ class ClosureVariables extends Variables {
     return this.top.closure?.label || '0';
   }
 
-  /** @param {string} name */
+  /**
+   * Whether a variable of the module's own is marked.
+   * @param {string} name
+   */
   isReported(name) {
     return !!this.top.closure?.label && this.top.closure.recorded.has(name);
   }

@@ -31,6 +31,7 @@ const { keysOf, childAt } = require('../syntax/children.js');
 
 class ExpressionWalker {
   /**
+   * Visits a node by the method of its type, else its children.
    * @param {Node} node
    * @param {Scope} scope
    */
@@ -41,6 +42,7 @@ class ExpressionWalker {
   }
 
   /**
+   * Visits the nodes of a list, in which some can be missing.
    * @param {readonly (Node|null|undefined)[]} nodes
    * @param {Scope} scope
    */
@@ -52,6 +54,7 @@ class ExpressionWalker {
   }
 
   /**
+   * Visits the children of a node, except one.
    * @param {Node} node
    * @param {Scope} scope
    * @param {Node|null} [skipped] a child
@@ -73,6 +76,7 @@ class ExpressionWalker {
   MetaProperty() {}
 
   /**
+   * Visits the parts of a member.
    * @param {MemberExpression} node
    * @param {Scope} scope
    * @param {Mode} _mode
@@ -94,6 +98,7 @@ class ExpressionWalker {
   visitShorthand(/** @type {Property} */ _node, /** @type {Scope} */ _scope) {}
 
   /**
+   * Visits the key, if it is in brackets, and the value.
    * @param {{key: Node, value: Node|null, computed: boolean}} node
    * @param {Scope} scope
    */
@@ -196,6 +201,7 @@ class ExpressionWalker {
   }
 
   /**
+   * Visits a property of a pattern.
    * @param {ObjectPattern['properties'][number]} property
    * @param {Scope} scope
    * @param {ObjectPattern} _pattern

@@ -42,7 +42,10 @@ class Look extends Walker {
     if (module) this.startScope(top);
   }
 
-  /** @param {Scope} scope */
+  /**
+   * Collects what is known of a scope's variables.
+   * @param {Scope} scope
+   */
   startScope(scope) {
     scope.closure = { captured: new Map(), assigned: new Map(), firsts: new Map(), waited: this.waited, recorded: new Set(), label: '' };
     this.scopes.push(/** @type {ClosureScope} */ (scope));
@@ -52,6 +55,7 @@ class Look extends Walker {
   // ---- accesses
 
   /**
+   * A name is used: its variable may be captured or assigned here.
    * @param {'r'|'w'} mode
    * @param {string} name
    * @param {Scope} scope
@@ -64,6 +68,7 @@ class Look extends Walker {
   }
 
   /**
+   * A function uses a variable of an outer scope.
    * @param {Scope} owner
    * @param {string} name
    * @param {number} madeAt
@@ -107,6 +112,7 @@ class Look extends Walker {
   }
 
   /**
+   * Names get their values here. Nothing is marked in this walk.
    * @param {string[]} names
    * @param {Scope} scope
    */

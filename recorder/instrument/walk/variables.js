@@ -114,7 +114,10 @@ class Variables {
     return `__er.E(${this.options.module},${this.labelOfModule()},${quote(own)},${quote(others)},${quote(wholes)});`;
   }
 
-  /** @param {string} name of another module */
+  /**
+   * The number of another module.
+   * @param {string} name of another module
+   */
   numberOf(name) {
     return this.options.numberOfModule?.(name);
   }

@@ -81,7 +81,10 @@ class Accesses {
     this.readLines(actions);
   }
 
-  /** @param {import('../../races/actions.js').Actions} actions */
+  /**
+   * Reads the accesses of a trace, by location.
+   * @param {import('../../races/actions.js').Actions} actions
+   */
   readLines({ lines, list }) {
     let action = -1;
     lines.forEach((/** @type {string} */ text, /** @type {number} */ k) => {
@@ -95,7 +98,10 @@ class Accesses {
     });
   }
 
-  /** @param {string} location */
+  /**
+   * The accesses to a location, in the order of the trace.
+   * @param {string} location
+   */
   of(location) {
     return this.byLocation.get(location) || [];
   }

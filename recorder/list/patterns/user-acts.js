@@ -36,7 +36,10 @@ class UserActs {
     }
   }
 
-  /** @param {number} number @returns {number} the user act of an action, or 0 */
+  /**
+   * The user act that an action comes from.
+   * @param {number} number @returns {number} the user act of an action, or 0
+   */
   actOf(number) {
     let act = this.known.get(number);
     if (act === undefined) {
@@ -60,7 +63,10 @@ class UserActs {
     return USER_EVENTS.has(words[3]) ? -Number(words[1]) : 0;
   }
 
-  /** @param {number} number @returns {string|null} the request of a reply */
+  /**
+   * The request whose reply an action is in.
+   * @param {number} number @returns {string|null} the request of a reply
+   */
   requestOf(number) {
     const { words } = this.eventOf(number);
     return words[0] === 'reply' ? words[2] : null;

@@ -1,4 +1,5 @@
-// The values of form fields, cookies and storage: variables of objects of their own.
+// The values of form fields, cookies and storage: variables of objects of their own. Of storage not seen: `length`, `key(n)`, `clear()`, and with
+// `--depth globals` accesses without a method.
 
 import { each } from '../core/lists.js';
 import { replaceGetter, replaceMethod, replaceProperty } from '../core/replacing.js';
@@ -37,6 +38,7 @@ class Fields {
   }
 
   /**
+   * The location of a variable of a field, as the trace has it.
    * @param {Element} field
    * @param {string} variable
    */
@@ -45,6 +47,7 @@ class Fields {
   }
 
   /**
+   * Records an access to a field in the document, if code runs.
    * @param {string} mode
    * @param {Element} field
    * @param {string} variable
@@ -147,32 +150,55 @@ class Fields {
     }));
   }
 
-  /** @param {string} name */
+  // ---- storage
+
+  /**
+   * Which storage of the window an object is: `localStorage`, `sessionStorage`, or '' if it is neither.
+   * @param {unknown} object
+   */
+  areaOf(object) {
+    const { natives, window } = this.page;
+    try {
+      if (apply(natives.localStorage, window, []) === object) return 'localStorage';
+      return apply(natives.sessionStorage, window, []) === object ? 'sessionStorage' : '';
+    } catch {
+      return ''; // a page that is not allowed to use storage
+    }
+  }
+
+  /**
+   * An access to an item of a storage of this window: by a method, or as `localStorage.theme` (objects/properties.js).
+   * @param {string} mode
+   * @param {object} storage
+   * @param {string} key
+   * @param {number} [site] of the code, if it is known
+   */
+  accessItem(mode, storage, key, site) {
+    const location = `var 0 ${spellName(`${this.areaOf(storage)}.${sliceOf(key, 0, LONGEST_KEY)}`)}`;
+    this.recording.access(mode, location, site, () => apply(this.getItem, storage, [key]) ?? undefined);
+  }
+
+  /**
+   * A key that is an object becomes a text once, as without the recorder.
+   * @param {string} name of the method
+   */
   replaceStorage(name) {
+    const fields = this;
     const { recording, page, getItem } = this;
-    replaceMethod(page.window.Storage.prototype, name, (native) => function store(key) {
-      const area = isLocal(page.window, this) ? 'localStorage' : 'sessionStorage';
-      const look = () => apply(getItem, this, [key]) ?? undefined;
-      recording.access(STORAGE_CALLS[name], `var 0 ${spellName(`${area}.${sliceOf(String(key), 0, LONGEST_KEY)}`)}`, undefined, look);
-      if (name === 'getItem' || recording.documents.length < 2) return apply(native, this, arguments);
+    const count = name === 'setItem' ? 2 : 1;
+    replaceMethod(page.window.Storage.prototype, name, (native) => function store(...args) {
+      const given = args[0];
+      if (args.length < count || typeof given === 'symbol' || !fields.areaOf(this)) return apply(native, this, args);
+      const key = String(given);
+      args[0] = key;
+      fields.accessItem(STORAGE_CALLS[name], this, key);
+      if (name === 'getItem' || recording.documents.length < 2) return apply(native, this, args);
       const before = apply(getItem, this, [key]);
-      apply(native, this, arguments);
+      apply(native, this, args);
       const after = apply(getItem, this, [key]);
-      if (after !== before) page.causes.noteStorage(String(key), after);
+      if (after !== before) page.causes.noteStorage(key, after);
       return undefined;
     });
-  }
-}
-
-/**
- * @param {import('../types').PageWindow} window
- * @param {Storage} storage
- */
-function isLocal(window, storage) {
-  try {
-    return window.localStorage === storage;
-  } catch {
-    return false; // a page that is not allowed to use storage
   }
 }
 

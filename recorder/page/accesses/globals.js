@@ -66,7 +66,10 @@ class Globals {
     });
   }
 
-  /** @param {string} name */
+  /**
+   * The location of a global variable, as the trace has it. Also for unseen.js.
+   * @param {string} name
+   */
   location(name) {
     return `var ${this.number} ${spellName(name)}`;
   }
@@ -79,13 +82,17 @@ class Globals {
     return this.lastPieces[site] === this.recording.pieces;
   }
 
-  /** @param {number} site */
+  /**
+   * The site has had its access in this piece of code.
+   * @param {number} site
+   */
   note(site) {
     if (site >= this.lastPieces.length) this.lastPieces = enlarged(this.lastPieces, site);
     this.lastPieces[site] = this.recording.pieces;
   }
 
   /**
+   * Called by helpers, before the code reads the name.
    * @param {string} name
    * @param {number} site
    */
@@ -164,7 +171,10 @@ class Globals {
     if (cell !== null) cell.now = value;
   }
 
-  /** @param {number} site */
+  /**
+   * Makes the list of cells long enough for a site.
+   * @param {number} site
+   */
   makeRoom(site) {
     for (let k = this.cells.length; k <= site; k++) this.cells[k] = undefined;
   }
@@ -188,6 +198,7 @@ class Globals {
   }
 
   /**
+   * Whether a write by a name of the page is to be recorded: its first at the site in this piece.
    * @param {string} name
    * @param {number} site
    */
@@ -196,6 +207,7 @@ class Globals {
   }
 
   /**
+   * Records an access, by what the depth of the recording has.
    * @param {string} name
    * @param {number} mode
    * @param {number} site
@@ -216,6 +228,7 @@ class Globals {
   }
 
   /**
+   * Records a write that comes now, with the value from before.
    * @param {string} name
    * @param {number} site
    */

@@ -64,6 +64,7 @@ class Imports {
   }
 
   /**
+   * Records the read of an imported name, as one of the exporter's variable. Called by a helper.
    * @param {number} number
    * @param {string} name
    * @param {number} site

@@ -61,6 +61,7 @@ class Lookups {
   }
 
   /**
+   * Records a lookup by ids, whose elements another action might add or remove.
    * @param {Node} root
    * @param {string} name of the method
    * @param {unknown} key

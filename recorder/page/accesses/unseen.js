@@ -70,6 +70,7 @@ class Unseen {
 
   // ---- comparing
 
+  /** Records which properties of the window have changed since the last look. Called at the end of each piece of code. */
   compare() {
     each(Object.keys(this.page.window), (name) => this.compareOne(name));
     each(this.hidden, (name) => this.compareOne(name));

@@ -93,26 +93,26 @@ function mapped(list, make) {
 /**
  * The values of a map or a set, in a list.
  * @template T
- * @param {{forEach: (visit: (value: T) => void) => void}} owner
+ * @param {{forEach: (visit: (value: T) => void) => void}} collection of taken.js, whose methods nobody can replace
  * @returns {T[]}
  */
-function valuesOf(owner) {
+function valuesOf(collection) {
   /** @type {T[]} */
   const list = [];
-  owner.forEach((value) => { list[list.length] = value; });
+  collection.forEach((value) => { list[list.length] = value; });
   return list;
 }
 
 /**
  * The keys of a map, in a list.
  * @template K
- * @param {{forEach: (visit: (value: any, key: K) => void) => void}} map with any values
+ * @param {{forEach: (visit: (value: any, key: K) => void) => void}} collection a map of taken.js, with any values
  * @returns {K[]}
  */
-function keysOf(map) {
+function keysOf(collection) {
   /** @type {K[]} */
   const list = [];
-  map.forEach((value, key) => { list[list.length] = key; });
+  collection.forEach((value, key) => { list[list.length] = key; });
   return list;
 }
 

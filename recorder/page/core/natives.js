@@ -46,6 +46,8 @@ function takeNatives(window) {
     then: Promise.prototype.then,
     queueMicrotask: window.queueMicrotask.bind(window),
     setTimeout: window.setTimeout.bind(window),
+    localStorage: getterOf(window, 'localStorage'),
+    sessionStorage: getterOf(window, 'sessionStorage'),
     transaction: window.IDBDatabase && window.IDBDatabase.prototype.transaction,
     count: window.IDBObjectStore && window.IDBObjectStore.prototype.count,
     requestAnimationFrame: window.requestAnimationFrame.bind(window),

@@ -53,6 +53,7 @@ class Controls {
   }
 
   /**
+   * Whether a control matches a selector, by the browser's own function.
    * @param {Element} control
    * @param {string} selector
    */
@@ -107,6 +108,7 @@ class Controls {
   }
 
   /**
+   * Looks whether a control that came disabled is enabled now, and by whom.
    * @param {Element} control
    * @param {Maker} maker
    */

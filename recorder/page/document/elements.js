@@ -56,6 +56,7 @@ class Elements {
   // ---- what an element says of itself
 
   /**
+   * The value of an attribute, or null.
    * @param {Element} element
    * @param {string} name
    */
@@ -72,6 +73,7 @@ class Elements {
   }
 
   /**
+   * Whether an element has an attribute.
    * @param {Element} element
    * @param {string} name
    */
@@ -80,6 +82,7 @@ class Elements {
   }
 
   /**
+   * The element with an id in this document.
    * @param {string} id
    * @returns {Element|undefined}
    */
@@ -141,7 +144,10 @@ class Elements {
     return number;
   }
 
-  /** @param {Target} target */
+  /**
+   * Writes the declaration of a target that no parser made, in the running action.
+   * @param {Target} target
+   */
   declareNew(target) {
     const number = this.number(target);
     const kind = isElement(target) ? this.declaration(target, false) : 'plain';
@@ -170,6 +176,7 @@ class Elements {
   }
 
   /**
+   * The running action declares a target: notes this, its kind and its facts. The caller writes the line.
    * @param {Target} target
    * @param {string} kind
    */
@@ -217,6 +224,7 @@ class Elements {
     if (isOwn && !this.page.loading.hasBegunLoad && fits(/^(async|image|frame)/, kind)) this.awaited.add(number);
   }
 
+  /** Writes the parse steps of what the last script made, as its run is over. Called at the start of a task, and before further parse steps. */
   writeJoining() {
     if (!this.joining.size) return;
     const { joining } = this;

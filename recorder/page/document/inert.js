@@ -1,4 +1,5 @@
-// Whether an element is inert: nobody finds it, with keys either. It or an element around it has the attribute, or a modal dialog is open that it is not in.
+// Whether an element is inert, for reach.js: nobody finds it, with keys either. It or an element around it has the attribute, or a modal dialog is open
+// that it is not in.
 
 import { findItem } from '../core/lists.js';
 import { apply } from '../core/taken.js';
@@ -29,7 +30,10 @@ class Inert {
     return { isAny, modals: apply(natives.querySelectorAll, root, [MODAL]) };
   }
 
-  /** @param {Element} element */
+  /**
+   * Whether an element is inert, by what `find` found in this look.
+   * @param {Element} element
+   */
   has(element) {
     this.found = this.found || this.find();
     const { isAny, modals } = this.found;

@@ -14,6 +14,7 @@ class Kinds {
   }
 
   /**
+   * The value of an attribute, by the browser's own function.
    * @param {Element} element
    * @param {string} name
    * @returns {string|null}
@@ -23,6 +24,7 @@ class Kinds {
   }
 
   /**
+   * Whether an element has an attribute, by the browser's own function.
    * @param {Element} element
    * @param {string} name
    * @returns {boolean}
@@ -32,6 +34,7 @@ class Kinds {
   }
 
   /**
+   * The kind of an element of this window, as a word of the format: `plain`, `image`, `async`, ..
    * @param {Element} element
    * @param {boolean} isStatic whether the parser made it
    */
@@ -82,7 +85,10 @@ class Kinds {
     return element.namespaceURI === SVG_NAMESPACE ? this.has(element, 'href') || this.has(element, 'xlink:href') : this.has(element, 'src');
   }
 
-  /** @param {Element} element */
+  /**
+   * The kind of a script element that the parser made.
+   * @param {Element} element
+   */
   ofStaticScript(element) {
     const type = this.scriptType(element);
     if (!type) return 'plain';

@@ -55,6 +55,7 @@ class Places {
   }
 
   /**
+   * Notes when an element came, for `wasThereBefore`: each of the parser's has a time of its own.
    * @param {Element} element
    * @param {boolean} isMade whether code has put it there
    */
@@ -80,7 +81,10 @@ class Places {
     return this.lookTime > LONGEST_LOOK && this.questions > FREE_QUESTIONS;
   }
 
-  /** @param {Element} element */
+  /**
+   * Whether a user aims at an element: a control, a link, or a part of one.
+   * @param {Element} element
+   */
   isAimedAt(element) {
     return apply(this.natives.matches, element, [AIMED_AT]) || apply(this.natives.matches, element, [PARTS_OF_AIM]);
   }

@@ -90,7 +90,10 @@ class Reach {
     this.look(this.recording.lastMoment());
   }
 
-  /** @param {Moment|null} moment */
+  /**
+   * Looks at all elements that were out of reach, and notes a moment for those that came into reach.
+   * @param {Moment|null} moment
+   */
   look(moment) {
     const { natives } = this;
     if (!natives.checkVisibility || this.recording.isOver || !(this.waiting.size || this.fresh.length)) return;
@@ -206,6 +209,7 @@ class Reach {
   }
 
   /**
+   * Notes since when keys and pointers reach an element, if this is new.
    * @param {State} state
    * @param {number} level
    * @param {Moment|null} moment

@@ -118,6 +118,7 @@ class Reactions {
   }
 
   /**
+   * What is known of a callback as its class is defined.
    * @param {string} name
    * @param {Function} callback
    * @returns {Reaction}
@@ -129,6 +130,7 @@ class Reactions {
   }
 
   /**
+   * The callback that the browser gets: if no code runs, the parser called it.
    * @param {Function} callback
    * @param {Reaction} reaction
    * @returns {import('../types').Method}

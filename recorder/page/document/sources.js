@@ -71,6 +71,7 @@ class Sources {
   }
 
   /**
+   * Declares what an element loads from now on, as an element of its own.
    * @param {Element} element
    * @param {number} number
    * @param {string} kind

@@ -69,8 +69,8 @@ class Tree {
     this.observer.disconnect();
   }
 
-  /** @param {Node} root */
-  watch(root) {
+  /** Observes a document or a shadow tree. */
+  watch(/** @type {Node} */ root) {
     this.observer.observe(root, {
       childList: true, subtree: true, attributes: true, attributeOldValue: true,
       ...(this.recording.objects ? { characterData: true } : { attributeFilter: ATTRIBUTES }),
@@ -165,18 +165,15 @@ class Tree {
     else if (attributeName) this.page.motions.noteChange(target, attributeName);
   }
 
-  /**
-   * A script at which a replay lets the parser wait comes and goes: the page's content is the same.
-   * @param {MutationRecord} record
-   */
-  isOfHold({ addedNodes, removedNodes }) {
+  /** A script at which a replay lets the parser wait comes and goes: the page's content is the same. */
+  isOfHold(/** @type {MutationRecord} */ { addedNodes, removedNodes }) {
     const { steering } = this.recording;
     const isWithout = (/** @type {NodeList} */ nodes) => !findItem(nodes, (node) => !steering.isHold(node));
     return steering.isActive && addedNodes.length + removedNodes.length > 0 && isWithout(addedNodes) && isWithout(removedNodes);
   }
 
-  /** @param {MutationRecord} record */
-  noteChange(record) {
+  /** Records a change as a write of the element's variables, if objects have variables. */
+  noteChange(/** @type {MutationRecord} */ record) {
     const { objects } = this.recording;
     if (objects) objects.trees.noteChange(record);
   }
@@ -221,6 +218,7 @@ class Tree {
   }
 
   /**
+   * An element has come: declares it, unless it is known, and reads its handlers.
    * @param {Node} node
    * @param {Maker} maker
    */
@@ -262,6 +260,7 @@ class Tree {
   }
 
   /**
+   * Writes a step of the parser.
    * @param {Element|null} element null: a script in a closed shadow tree
    * @param {number} number
    * @param {string} kind
@@ -282,8 +281,8 @@ class Tree {
 
   // ---- elements that scripts make
 
-  /** @param {Element} element */
-  addMade(element) {
+  /** Declares an element that a script made. */
+  addMade(/** @type {Element} */ element) {
     const { elements, page } = this;
     const isWritten = page.calls.isWriting() && page.kinds.scriptType(element) !== null && elements.isBlocking(element);
     const kind = elements.declaration(element, isWritten && page.kinds.ofStaticScript(element) !== 'inline');

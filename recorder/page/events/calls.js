@@ -1,4 +1,4 @@
-// Calls of the browser that may dispatch events or change the tree while a script runs.
+// Calls of the browser that may dispatch events or change the tree while a script runs, as `click()`, `focus()`, `append()`, `document.write`.
 
 import { each } from '../core/lists.js';
 import { replaceMethod, replaceProperty } from '../core/replacing.js';
@@ -76,6 +76,7 @@ class Calls {
   }
 
   /**
+   * Puts a function of the recorder around a method that may dispatch events or change the tree. Also for tasks/requests.js.
    * @param {any} owner
    * @param {string} name
    * @param {boolean} isInsertion

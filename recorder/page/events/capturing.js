@@ -36,7 +36,10 @@ class Capturing {
     apply(this.natives.addEventListener, this.page.window, ['unhandledrejection', this.see, true]);
   }
 
-  /** @param {string} type */
+  /**
+   * Listens to a type of events from now on. Called for each handler that is registered.
+   * @param {string} type
+   */
   capture(type) {
     this.listened.add(type);
     this.captureAt(type);
@@ -70,7 +73,10 @@ class Capturing {
     else if (!this.page.dispatches.find(event)) this.begin(event);
   }
 
-  /** @param {Event} event */
+  /**
+   * The recorder's own listener: no handler of the page has run yet.
+   * @param {Event} event
+   */
   begin(event) {
     this.page.dispatches.begin(event, event.currentTarget);
   }

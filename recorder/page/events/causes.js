@@ -174,7 +174,10 @@ class Causes {
     return result;
   }
 
-  /** @param {Element} element */
+  /**
+   * How far an element is scrolled, as a text to compare.
+   * @param {Element} element
+   */
   placeOf(element) {
     const { scrollLeft, scrollTop } = this.page.natives;
     return `${apply(scrollLeft, element, [])} ${apply(scrollTop, element, [])}`;

@@ -43,7 +43,10 @@ class Dispatches {
     this.told = new WeakSet();
   }
 
-  /** @param {Event} event */
+  /**
+   * The dispatch of an event that is not over.
+   * @param {Event} event
+   */
   find(event) {
     return findItem(this.recording.dispatches, (dispatch) => dispatch.event === event);
   }
@@ -91,7 +94,10 @@ class Dispatches {
     return !this.recording.steering.isTrusted(event) || (event.type === 'slotchange' && this.recording.isCheckpoint);
   }
 
-  /** @param {EventDispatch} dispatch */
+  /**
+   * Begins a dispatch that running code has called. Returns false if the trace cannot have it.
+   * @param {EventDispatch} dispatch
+   */
   beginInline(dispatch) {
     const { recording } = this;
     recording.endPiece();
@@ -108,6 +114,7 @@ class Dispatches {
   }
 
   /**
+   * Writes the begin of a dispatch inside of the running event.
    * @param {EventDispatch} dispatch
    * @param {string} why
    */
@@ -227,7 +234,10 @@ class Dispatches {
     return dispatch;
   }
 
-  /** @param {Dispatch} dispatch */
+  /**
+   * Whether a handler of a dispatch can run now: those that it called are over then.
+   * @param {Dispatch} dispatch
+   */
   isOnTop(dispatch) {
     const { recording } = this;
     if (dispatch.isClosed) return false;
@@ -235,12 +245,16 @@ class Dispatches {
     return recording.top() === dispatch;
   }
 
+  /** A handler runs that is in no dispatch: `handlerEnds` leaves this call. */
   unrecorded() {
     this.recording.enter('call');
     return null;
   }
 
-  /** @param {Dispatch|null} dispatch */
+  /**
+   * Ends what `handlerBegins` entered: a handler of a dispatch, or with null a call that is not recorded.
+   * @param {Dispatch|null} dispatch
+   */
   handlerEnds(dispatch) {
     const { recording } = this;
     if (dispatch) {

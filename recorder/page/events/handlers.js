@@ -57,6 +57,7 @@ class Handlers {
   }
 
   /**
+   * Records a registration. Also for on-handlers.js.
    * @param {Target} target
    * @param {string} type
    * @param {unknown} given the function, as the page gives it
@@ -76,6 +77,7 @@ class Handlers {
   }
 
   /**
+   * Writes what OUT.names.json has of a handler.
    * @param {number} handler
    * @param {Target} target
    * @param {string} type

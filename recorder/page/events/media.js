@@ -1,4 +1,4 @@
-// Events of media elements: they come in later tasks, after who chose what is played, or after the call that plays it, pauses it or moves in it.
+// Events of media elements (video, audio): they come in later tasks, after who chose what is played, or after the call that plays it, pauses it or moves in it.
 
 import { each } from '../core/lists.js';
 import { replaceMethod, replaceProperty } from '../core/replacing.js';
@@ -64,6 +64,7 @@ class Media {
   }
 
   /**
+   * Expects events at a media element, whose cause is the running code.
    * @param {HTMLMediaElement} element
    * @param {string[]} types
    */
@@ -110,7 +111,10 @@ class Media {
 
   // ---- calls
 
-  /** @param {any} owner */
+  /**
+   * Replaces what sets a source or loads it, of an interface of media elements.
+   * @param {any} owner
+   */
   replaceSources(owner) {
     const media = this;
     each(['src', 'srcObject'], (name) => replaceProperty(owner, name, (native) => ({

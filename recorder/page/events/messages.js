@@ -134,6 +134,7 @@ class Messages {
   }
 
   /**
+   * Records the call of `postMessage` or the like: its message is expected at the receiver.
    * @param {object} receiver
    * @param {ArrayLike<any>} words
    * @param {import('../types').PostedMessage[]} added gets the message

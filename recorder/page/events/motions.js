@@ -54,7 +54,10 @@ class Motions {
     return !!findItem(keysOf(FIRST_OF_MOTION), (type) => listened.has(type));
   }
 
-  /** @param {Element} element */
+  /**
+   * An element has come: a motion directly after this may be due to it.
+   * @param {Element} element
+   */
   noteAdded(element) {
     this.came.set(element, { time: this.page.natives.now(), event: this.recording.running });
   }
@@ -81,6 +84,7 @@ class Motions {
   }
 
   /**
+   * Calls a function after so many frames.
    * @param {number} frames
    * @param {() => void} call
    */
@@ -132,6 +136,7 @@ class Motions {
   }
 
   /**
+   * What started the motion that an event belongs to. Called by queued.js.
    * @param {MotionEvent} event
    * @param {EventTarget} target
    * @returns {Cause|undefined}

@@ -1,4 +1,4 @@
-// Steps of the page's address: `navigate` comes before each, at once for a change of the fragment, and for a way back when it is made.
+// Steps of the page's address (history): `navigate` comes before each, at once for a change of the fragment (hash), and for a way back when it is made.
 
 import { each, takeFirst } from '../core/lists.js';
 import { replaceMethod } from '../core/replacing.js';

@@ -1,4 +1,4 @@
-// Handlers of `on..` properties and `on..` attributes: a target has at most one of each type.
+// Handlers of `on..` properties and `on..` attributes (inline handlers, `onclick`): a target has at most one of each type.
 
 import { each, joined, keep, mapped } from '../core/lists.js';
 import { markIn } from '../core/marks.js';
@@ -65,6 +65,7 @@ class OnHandlers {
   // ---- properties
 
   /**
+   * The number of the handler in an `on..` property.
    * @param {Target} target
    * @param {string} type
    */
@@ -119,6 +120,7 @@ class OnHandlers {
   }
 
   /**
+   * The function that the browser gets in the place of a page's handler.
    * @param {number} handler
    * @param {Function} value
    * @returns {Method}
@@ -133,7 +135,10 @@ class OnHandlers {
 
   // ---- attributes
 
-  /** @param {Element} element */
+  /**
+   * Registers the handlers in the attributes of a new element.
+   * @param {Element} element
+   */
   readAttributes(element) {
     const { getAttribute, getAttributeNames } = this.natives;
     each(apply(getAttributeNames, element, []), (name) => {
@@ -150,7 +155,10 @@ class OnHandlers {
     return HANDLER_NAMES.has(name);
   }
 
-  /** @param {Target} owner */
+  /**
+   * The handlers in the attributes of a target, by type.
+   * @param {Target} owner
+   */
   attributesOf(owner) {
     const known = this.ofAttributes.get(owner) || new Map();
     this.ofAttributes.set(owner, known);
@@ -158,6 +166,7 @@ class OnHandlers {
   }
 
   /**
+   * Registers a handler whose text is in an attribute, as the parser or a script put it there.
    * @param {Element} element
    * @param {string} type
    * @param {string} text

@@ -141,6 +141,7 @@ class Queued {
   }
 
   /**
+   * The expected event that has come, which is expected no longer.
    * @param {Event} event
    * @param {EventTarget} target
    */

@@ -1,4 +1,5 @@
-// Helpers for global variables, also as properties of the window, in handlers of elements, and of modules.
+// Helpers for global variables, also as properties of the window, in handlers of elements, and of modules. What each letter means, and which argument
+// it returns: instrument/marks/helpers.js.
 
 import { each } from '../core/lists.js';
 import { BigInt } from '../core/taken.js';

@@ -1,4 +1,4 @@
-// What instrumented code calls: the properties of `__er`. Their names are short, as they are many times in it.
+// What instrumented code calls: the properties of `__er`. Their names are short, as they are many times in it: instrument/marks/helpers.js explains them.
 
 import { helpersOfAwaits } from './awaits.js';
 import { helpersOfGlobals } from './globals.js';

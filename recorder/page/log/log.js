@@ -13,6 +13,7 @@ const has = (text, part) => apply(indexOf, text, [part]) >= 0;
 
 /** A page never gets hold of a log. What it passes to a helper can be in a line, but makes no other line, and no other part of it. */
 class Log {
+  /** Passes lines and counts to the driver (main.js). */
   #send;
   /** The lines that have not been sent, each with a line break, and how many there are. */
   #text = '';
@@ -115,13 +116,19 @@ class Log {
     });
   }
 
-  /** @param {number} now milliseconds */
+  /**
+   * Sends what was written, if it is much or some time has gone. Called as a task starts.
+   * @param {number} now milliseconds
+   */
   sendIfDue(now) {
     const isDue = this.#lines > LINES_A_BATCH || now - this.#lastSent > MILLISECONDS_A_BATCH;
     if (isDue && this.#lines) this.sendAll(now);
   }
 
-  /** @param {number} now milliseconds */
+  /**
+   * Sends all lines that were written, with the counts of what was missed.
+   * @param {number} now milliseconds
+   */
   sendAll(now) {
     const send = this.#send;
     const text = `${this.#text}!${this.#json(this.#counts)}`;

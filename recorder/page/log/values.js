@@ -85,6 +85,7 @@ class Values {
     return `=${this.number}`;
   }
 
+  /** Writes the values that the writes so far have left. Called as an action or a piece of it ends. */
   write() {
     if (!this.open.length) return;
     const { open } = this;

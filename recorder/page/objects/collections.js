@@ -1,7 +1,7 @@
 // Arrays, maps and sets: what their items, keys and methods touch; and whole objects, as a spread reads them.
 
 import { Array, Map, Object, Set, apply, hasOwn } from '../core/taken.js';
-import { CLASSES, ITEMS, LEFT_OUT, LIST, MAP, NAMES, OTHER_ITEMS, PLAIN, READ, SET, SINGLE_ITEMS, TREE, WRITE } from './holders.js';
+import { CLASSES, ITEMS, LEFT_OUT, LIST, MAP, NAMES, OTHER_ITEMS, PLAIN, READ, SET, SINGLE_ITEMS, STORAGE, TREE, WRITE } from './holders.js';
 
 const mapHas = Map.prototype.has;
 const setHas = Set.prototype.has;
@@ -115,6 +115,7 @@ class Collections {
   }
 
   /**
+   * Reads all keys of a map or a set.
    * @param {import('../types').Holder} holder
    * @param {number} site
    */
@@ -145,6 +146,7 @@ class Collections {
   // ---- wholes
 
   /**
+   * Code asks for the names or items of an object: `for..in`, `Object.keys`.
    * @param {object} object
    * @param {number} site
    */
@@ -152,9 +154,11 @@ class Collections {
     const holder = this.kinds.hold(object, site);
     if (holder.kind === LIST) this.readItems(holder, site);
     else if (holder.kind === PLAIN) this.variables.touchName(holder, NAMES, READ, site);
+    else if (holder.kind === STORAGE) this.readEach(object, site);
   }
 
   /**
+   * Code goes through an object: `for..of`, a spread into a list, a pattern of items.
    * @param {object} object
    * @param {number} site
    */
@@ -165,15 +169,26 @@ class Collections {
   }
 
   /**
+   * Code reads all properties of an object: `{...a}`, `Object.assign`.
    * @param {object} object
    * @param {number} site
    */
   spread(object, site) {
     const holder = this.kinds.hold(object, site);
     if (holder.kind === LIST) this.readItems(holder, site);
+    else if (holder.kind === STORAGE) this.readEach(object, site);
     if (holder.kind !== PLAIN) return;
     this.variables.touchName(holder, NAMES, READ, site);
     this.eachName(object, (name) => this.objects.properties.read(object, name, site));
+  }
+
+  /**
+   * Reads the items of a storage that are there: which others could be there is no variable.
+   * @param {object} object
+   * @param {number} site
+   */
+  readEach(object, site) {
+    this.eachName(object, (name) => this.objects.properties.access(object, name, 'r', site));
   }
 
   /**

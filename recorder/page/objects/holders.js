@@ -26,8 +26,9 @@ const DATA = 7;
 const SCOPE = 8;
 const WINDOW = 9;
 const SET = 10;
-const LEFT_OUT = 11;
-const BUILTIN = 12;
+const STORAGE = 11;
+const LEFT_OUT = 12;
+const BUILTIN = 13;
 
 /** Variables of more than one name: all bytes, which names or keys there are, which items an array has. */
 const WHOLE = '(all)';
@@ -96,6 +97,7 @@ class Holder {
   }
 
   /**
+   * The variable of a name, or null.
    * @param {import('../types').VariableName} name
    * @returns {Variable|null}
    */
@@ -107,7 +109,10 @@ class Holder {
     return null;
   }
 
-  /** @param {import('../types').VariableName} name that it has not */
+  /**
+   * Makes the variable of a name.
+   * @param {import('../types').VariableName} name that it has not
+   */
   add(name) {
     const variable = new Variable(name);
     variable.next = this.first;
@@ -126,7 +131,10 @@ class Holder {
     return byName;
   }
 
-  /** @param {import('../types').VariableName} name */
+  /**
+   * The variable of a name, which is made if there is none.
+   * @param {import('../types').VariableName} name
+   */
   variable(name) {
     return this.find(name) || this.add(name);
   }
@@ -155,7 +163,7 @@ const actionOf = (access) => access >> 2;
 const modeOf = (access) => access & 3;
 
 export {
-  READ, WRITE, KEPT, COUNTED, isWrite, PLAIN, LIST, BYTES, MAP, TREE, STYLE, CLASSES, DATA, SCOPE, WINDOW, SET, LEFT_OUT, BUILTIN, WHOLE,
-  NAMES, ITEMS, SINGLE_ITEMS, OTHER_ITEMS, IS_SHARED, IS_WRITTEN, IS_READ, MAY_RACE, IS_LEFT_OUT, IS_COUNTED, IS_OF_TREE, Variable, Holder, accessOf, actionOf,
+  READ, WRITE, KEPT, COUNTED, isWrite, PLAIN, LIST, BYTES, MAP, TREE, STYLE, CLASSES, DATA, SCOPE, WINDOW, SET, STORAGE, LEFT_OUT, BUILTIN,
+  WHOLE, NAMES, ITEMS, SINGLE_ITEMS, OTHER_ITEMS, IS_SHARED, IS_WRITTEN, IS_READ, MAY_RACE, IS_LEFT_OUT, IS_COUNTED, IS_OF_TREE, Variable, Holder, accessOf, actionOf,
   modeOf,
 };

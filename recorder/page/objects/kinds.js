@@ -3,7 +3,7 @@
 import { replaceMethod, replacedFunctions } from '../core/replacing.js';
 import { sliceOf } from '../core/strings.js';
 import { Object, Symbol, WeakMap, apply, construct, functionText, getOwnPropertyDescriptor, getPrototypeOf, isArray, isView } from '../core/taken.js';
-import { BUILTIN, BYTES, Holder, LEFT_OUT, LIST, MAP, PLAIN, SET, TREE } from './holders.js';
+import { BUILTIN, BYTES, Holder, LEFT_OUT, LIST, MAP, PLAIN, SET, STORAGE, TREE } from './holders.js';
 
 const LONGEST_PROTOTYPE_CHAIN = 12;
 const NATIVE_TEXT = ' [native code] }';
@@ -37,6 +37,7 @@ class Kinds {
     this.addBuiltin(window.Node.prototype, TREE);
     this.addBuiltin(window.Map.prototype, MAP);
     this.addBuiltin(window.Set.prototype, SET);
+    this.addBuiltin(window.Storage.prototype, STORAGE);
     this.watchProxies(window);
   }
 
@@ -98,6 +99,7 @@ class Kinds {
   }
 
   /**
+   * The kind of an object that is not held yet (holders.js).
    * @param {object} object
    * @returns {number}
    */
@@ -109,10 +111,20 @@ class Kinds {
     for (let depth = 0; at !== null && depth < LONGEST_PROTOTYPE_CHAIN; depth++) {
       const holder = this.holdPrototype(at);
       if (holder.kind === LEFT_OUT) return PLAIN; // a proxy is asked nothing
-      if (holder.kind === BUILTIN) return madeBy(holder) === TREE && !this.objects.trees.isNode(object) ? PLAIN : madeBy(holder);
+      if (holder.kind === BUILTIN) return this.isMade(object, madeBy(holder)) ? madeBy(holder) : PLAIN;
       at = getPrototypeOf(at);
     }
     return PLAIN;
+  }
+
+  /**
+   * Whether an object is of the kind that its prototype makes: code can make others with this prototype.
+   * @param {object} object
+   * @param {number} kind
+   */
+  isMade(object, kind) {
+    if (kind === TREE) return this.objects.trees.isNode(object);
+    return kind !== STORAGE || this.objects.properties.fieldsOf(object) !== undefined;
   }
 
   /**

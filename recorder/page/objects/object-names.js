@@ -41,7 +41,10 @@ class ObjectNames {
     return holder.number;
   }
 
-  /** @param {import('../types').Holder} holder */
+  /**
+   * Writes what OUT.names.json has of an object that has a number.
+   * @param {import('../types').Holder} holder
+   */
   write(holder) {
     this.recording.log.name('object', holder.number, this.facts(holder));
   }

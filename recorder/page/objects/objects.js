@@ -27,7 +27,10 @@ class Objects {
     this.scopes = new Scopes(this);
   }
 
-  /** @param {import('../types').Page} page */
+  /**
+   * Called for each window before its page runs: its prototypes, and itself, are known then.
+   * @param {import('../types').Page} page
+   */
   addWindow(page) {
     this.trees.addWindow(page);
     this.kinds.addWindow(page);

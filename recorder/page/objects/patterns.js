@@ -20,7 +20,10 @@ class Patterns {
     this.shapes = new Map();
   }
 
-  /** @param {string} text */
+  /**
+   * The shape in the text that a mark has, read once.
+   * @param {string} text
+   */
   shapeOf(text) {
     const known = this.shapes.get(text);
     if (known !== undefined) return known;
@@ -30,6 +33,7 @@ class Patterns {
   }
 
   /**
+   * Records what a pattern reads of an object.
    * @param {object} object
    * @param {number} site
    * @param {Shape} shape

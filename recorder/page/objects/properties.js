@@ -1,9 +1,11 @@
-// Accesses to properties by their names: which object of the prototype chain they belong to, and what they touch.
+// Accesses to properties by their names: which object of the prototype chain they belong to, and what they touch. Of a getter or a
+// setter, its own code is recorded.
 
+import { findItem } from '../core/lists.js';
 import { settings } from '../core/settings.js';
 import { fits } from '../core/strings.js';
 import { getPrototypeOf, hasOwn } from '../core/taken.js';
-import { BUILTIN, BYTES, CLASSES, DATA, IS_LEFT_OUT, LEFT_OUT, LIST, NAMES, READ, STYLE, TREE, WHOLE, WINDOW, WRITE } from './holders.js';
+import { BUILTIN, BYTES, CLASSES, DATA, IS_LEFT_OUT, LEFT_OUT, LIST, NAMES, READ, STORAGE, STYLE, TREE, WHOLE, WINDOW, WRITE } from './holders.js';
 import { LONGEST_PROTOTYPE_CHAIN, isAccessor } from './kinds.js';
 
 const { keepsAll } = settings;
@@ -37,12 +39,14 @@ class Properties {
       case BYTES: if (typeof name === 'number') variables.touchModes(kinds.hold(object, site), WHOLE, modes, site); break;
       case TREE: this.objects.trees.access(object, name, modes, site); break;
       case STYLE: case CLASSES: case DATA: if (known !== undefined) this.objects.trees.accessPart(known, object, name, modes, site); break;
+      case STORAGE: this.accessStorage(kinds.hold(object, site), `${name}`, modes, site); break;
       case WINDOW: if (known !== undefined) this.accessWindow(known.object, name, modes, site); break;
       default: this.accessPlain(object, typeof name === 'number' ? `${name}` : name, modes, site);
     }
   }
 
   /**
+   * Records an access to a property of an object that is none of the special kinds.
    * @param {object} object
    * @param {string} name
    * @param {import('../types').Modes} modes
@@ -76,6 +80,42 @@ class Properties {
   }
 
   /**
+   * The recorder of the window whose storage an object is, if it is one.
+   * @param {object} object
+   */
+  fieldsOf(object) {
+    return findItem(this.recording.documents, ({ fields }) => fields.areaOf(object) !== '')?.fields;
+  }
+
+  /**
+   * An item of a storage by its key, as `localStorage.theme`. A name that the prototypes have is no key, also of a write.
+   * @param {import('../types').Holder} holder
+   * @param {string} name
+   * @param {import('../types').Modes} modes
+   * @param {number} site
+   */
+  accessStorage({ object }, name, modes, site) {
+    const fields = this.fieldsOf(object);
+    if (!fields || this.isInherited(object, name)) return;
+    if (modes !== 'w' && modes !== 'd') fields.accessItem('r', object, name, site);
+    if (modes !== 'r') fields.accessItem('w', object, name, site);
+  }
+
+  /**
+   * Whether a prototype of an object has a name, or is a proxy, which is asked nothing.
+   * @param {object} object
+   * @param {string} name
+   */
+  isInherited(object, name) {
+    let at = getPrototypeOf(object);
+    for (let depth = 0; at !== null && depth < LONGEST_PROTOTYPE_CHAIN; depth++) {
+      if (this.kinds.holders.get(at)?.kind === LEFT_OUT || hasOwn(at, name)) return true;
+      at = getPrototypeOf(at);
+    }
+    return false;
+  }
+
+  /**
    * A read by a name: of the object that has it, or of all that were looked at if none has it.
    * @param {object} object
    * @param {import('../types').VariableName} name
@@ -100,6 +140,7 @@ class Properties {
   }
 
   /**
+   * Records the read of a property that an object has itself, unless it is a getter.
    * @param {import('../types').Holder} holder
    * @param {object} object
    * @param {import('../types').VariableName} name
@@ -141,6 +182,7 @@ class Properties {
   }
 
   /**
+   * Records the read of a name that no object of the chain has: one of them might get it.
    * @param {object} object
    * @param {import('../types').VariableName} name
    * @param {number} site
@@ -158,6 +200,7 @@ class Properties {
   }
 
   /**
+   * Records a write by a name. If a setter takes it, the code of the setter is recorded.
    * @param {import('../types').Holder} holder
    * @param {object} object
    * @param {import('../types').VariableName} name

@@ -58,7 +58,10 @@ class Sites {
     touched.length = 0;
   }
 
-  /** @param {number} site */
+  /**
+   * Makes the lists long enough for a site.
+   * @param {number} site
+   */
   makeRoom(site) {
     for (let k = this.objects.length; k <= site; k++) {
       this.objects[k] = null;
@@ -106,6 +109,7 @@ class Sites {
   }
 
   /**
+   * The site has had a key of its object.
    * @param {object} object
    * @param {import('../types').VariableName} key
    * @param {number} site

@@ -1,5 +1,5 @@
-// The page's tree as variables of its elements: one for each attribute, and one for what is in an element (`content`). The observer of tree.js sees
-// their changes; this module knows which properties and methods read them.
+// The page's tree as variables of its elements: one for each attribute (also of style and class), and one for what is in an element (`content`). The
+// observer of tree.js sees their changes; this module knows which properties and methods read them, as `innerHTML`.
 
 import { each, findItem } from '../core/lists.js';
 import { lowerCase, sliceOf } from '../core/strings.js';
@@ -98,6 +98,7 @@ class Trees {
   // ---- what marked code touches
 
   /**
+   * Records an access to a property of a node: what it shows of the tree, or one that scripts put there.
    * @param {any} node of the page
    * @param {import('../types').VariableName} name
    * @param {import('../types').Modes} modes
@@ -175,6 +176,7 @@ class Trees {
   }
 
   /**
+   * Records what a method of an element touches. Called by collections.js.
    * @param {import('../types').Holder} holder
    * @param {string} name
    * @param {number} site
@@ -186,6 +188,7 @@ class Trees {
   }
 
   /**
+   * Records what `getAttribute(key)` and the like touch.
    * @param {import('../types').Holder} holder
    * @param {unknown} key
    * @param {string} method
@@ -196,6 +199,7 @@ class Trees {
   }
 
   /**
+   * The value of a variable of an element, without a call of the page's code.
    * @param {Element} node
    * @param {import('../types').VariableName} name
    * @returns {unknown}
@@ -209,7 +213,10 @@ class Trees {
 
   // ---- changes
 
-  /** @param {MutationRecord} change */
+  /**
+   * Records a change that the observer has seen.
+   * @param {MutationRecord} change
+   */
   noteChange({ target, type, attributeName, oldValue }) {
     if (type === 'characterData' && this.recording.ownTexts.delete(target)) return; // what the recorder did (page/scripts/scripts.js)
     if (type === 'childList') this.write(target, CONTENT, UNKNOWN);

@@ -1,4 +1,5 @@
-// Accesses of the running action to variables: which of them count, and what a write has changed when the action is over.
+// Accesses of the running action to variables: which of them count, what a write has changed when the action is over, and writes that only
+// move a counter.
 
 import { settings } from '../core/settings.js';
 import { Object, getOwnPropertyDescriptor } from '../core/taken.js';
@@ -26,6 +27,7 @@ class Variables {
   }
 
   /**
+   * Records an access to the variable of a name.
    * @param {import('../types').Holder} holder
    * @param {import('../types').VariableName} name
    * @param {number} mode
@@ -36,6 +38,7 @@ class Variables {
   }
 
   /**
+   * Records what an expression does with the variable of a name.
    * @param {import('../types').Holder} holder
    * @param {import('../types').VariableName} name
    * @param {import('../types').Modes} modes
@@ -64,7 +67,10 @@ class Variables {
     if (isOnlyCounted) variable.flags |= IS_COUNTED;
   }
 
-  /** @param {import('../types').Variable} variable */
+  /**
+   * Whether the running action has done nothing with a variable except to count it.
+   * @param {import('../types').Variable} variable
+   */
   isOnlyCounted({ flags, lastRead, lastWrite }) {
     const { actions } = this.recording;
     return lastWrite === actions ? (flags & IS_COUNTED) !== 0 : lastRead !== actions;
@@ -103,6 +109,7 @@ class Variables {
   }
 
   /**
+   * Records a read, with what it found.
    * @param {import('../types').Holder} holder
    * @param {import('../types').Variable} variable
    * @param {number} site

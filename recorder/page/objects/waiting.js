@@ -28,6 +28,7 @@ class Waiting {
   }
 
   /**
+   * An access whose values are known: it is written if its variable might race, else it waits.
    * @param {import('../types').Holder} holder
    * @param {import('../types').Variable} variable
    * @param {number} access
@@ -93,6 +94,7 @@ class Waiting {
   }
 
   /**
+   * Gives a variable its number in the log.
    * @param {import('../types').Holder} holder
    * @param {import('../types').Variable} variable
    */

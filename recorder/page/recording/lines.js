@@ -33,7 +33,10 @@ class Lines extends Shared {
 
   // ---- actions
 
-  /** @param {string} kind */
+  /**
+   * The next number of a kind: each kind has numbers of its own, from 1 on.
+   * @param {string} kind
+   */
   next(kind) {
     this.numbers[kind] = (this.numbers[kind] || 0) + 1;
     return this.numbers[kind];

@@ -51,11 +51,8 @@ class Recording extends Lines {
     if (objects) this.log.beforeSending = () => objects.settleEarly(); // no page answers while it is left (--attach)
   }
 
-  /**
-   * The driver says which act of the user it does now.
-   * @param {number} number or 0
-   */
-  setAct(number) {
+  /** The driver says which act of the user it does now, or 0. */
+  setAct(/** @type {number} */ number) {
     this.act = number;
   }
 
@@ -100,6 +97,7 @@ class Recording extends Lines {
   }
 
   /**
+   * Records an access of the running action. If nothing recorded runs, it is counted.
    * @param {string} mode
    * @param {string} location
    * @param {import('../types').Place} [place]
@@ -132,6 +130,7 @@ class Recording extends Lines {
 
   // ---- what runs
 
+  /** Whether recorded code runs: it is on the stack, or its microtasks run. */
   isRunning() {
     return this.hasBegun && (this.contexts.length > 0 || this.isCheckpoint);
   }
@@ -162,6 +161,7 @@ class Recording extends Lines {
   }
 
   /**
+   * Code begins to run: `leave` or `leaveCall` ends it.
    * @param {string} kind
    * @param {import('../scripts/scripts.js').FunctionOfScript[]} functions those of a script, which are there before it begins
    */
@@ -179,6 +179,7 @@ class Recording extends Lines {
     this.leaveCall();
   }
 
+  /** Code returns whose changes of the tree the code around it writes, or whose caller has called `endPiece`. Tools replace this method (stamps.js). */
   leaveCall() {
     this.startPiece();
     if (this.contexts.length) this.contexts.length--;
@@ -196,6 +197,7 @@ class Recording extends Lines {
     this.values.write();
   }
 
+  /** No code is on the stack: the microtasks of the running event run now. */
   startCheckpoint() {
     this.turns = TURNS_OF_A_CHECKPOINT;
     if (this.tellsRejections) each(this.documents, ({ queued }) => queued.noteJobs(this.running));
@@ -219,16 +221,19 @@ class Recording extends Lines {
 
   // ---- dispatches
 
+  /** Whether the format allows an inline dispatch in the running event. */
   mayDispatch() {
     return MAY_DISPATCH.has(this.running.kind) && this.dispatches.length < MOST_OPEN;
   }
 
+  /** The innermost dispatch that is not over, or undefined. */
   top() {
     const { dispatches } = this;
     return dispatches.length ? dispatches[dispatches.length - 1] : undefined;
   }
 
   /**
+   * Notes a dispatch whose begin is written.
    * @param {import('../types').NewDispatch} given
    * @returns {import('../types').Dispatch} the same object
    */
@@ -243,8 +248,8 @@ class Recording extends Lines {
     return dispatch;
   }
 
-  /** @param {import('../types').Dispatch} dispatch */
-  close(dispatch) {
+  /** Writes the end of a dispatch. It stays on the stack: the caller removes it (`finishTop`). */
+  close(/** @type {import('../types').Dispatch} */ dispatch) {
     if (dispatch.isClosed) return;
     dispatch.isClosed = true;
     if (dispatch.event) this.endedEvents.add(dispatch.event);
@@ -282,6 +287,7 @@ class Recording extends Lines {
     for (let top = this.top(); top && this.dispatches.length > height && top.isInline && !top.active; top = this.top()) this.finishTop();
   }
 
+  /** All dispatches are over whose handlers do not run. */
   finishAll() {
     for (let top = this.top(); top && !top.active; top = this.top()) this.finishTop();
   }
@@ -293,6 +299,7 @@ class Recording extends Lines {
     this.flush();
   }
 
+  /** Sends everything so far, if the page is asked for it while the recording goes on. */
   flush() {
     if (this.objects) this.objects.settleEarly();
     this.log.sendAll(this.natives.now());

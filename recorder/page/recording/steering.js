@@ -1,11 +1,11 @@
 // Steering of a replay: some things that the page requests are held back until the driver releases them. A plain recording holds nothing back.
 
 import { each, findItem, joined, keep } from '../core/lists.js';
-import { replaceMethod } from '../core/replacing.js';
 import { settings } from '../core/settings.js';
 import { sliceOf, withoutFragment } from '../core/strings.js';
 import { String, WeakSet, apply } from '../core/taken.js';
 import { callsOfPage, ownPlace } from '../log/stack.js';
+import { unlessCleared, watchClearing } from './clearing.js';
 import { testOfCode } from './spots.js';
 
 class Steering {
@@ -57,7 +57,7 @@ class Steering {
       const known = hold && findItem(this.holds, ({ id }) => id === hold.id);
       if (known && !isOfPage) known.spots = hold.spots;
       if (known) return;
-      if (hold) this.holds[this.holds.length] = { ...hold, asked: 0, isLet: false, waiting: [], timer: null, target: null, met: 0 };
+      if (hold) this.holds[this.holds.length] = { ...hold, asked: 0, isLet: false, waiting: [], request: null, isCleared: false, target: null, met: 0 };
     });
   }
 
@@ -74,6 +74,7 @@ class Steering {
   }
 
   /**
+   * Something waits for the release of a hold.
    * @param {import('../types').Held} hold
    * @param {import('../types').Waiting} one
    */
@@ -93,7 +94,7 @@ class Steering {
     if (!hold) return run;
     return (...args) => {
       if (hold.isLet) apply(run, undefined, args);
-      else if (!hold.waiting.length) this.keep(hold, { go: () => again(run) });
+      else if (!hold.waiting.length) this.keep(hold, { go: () => again(unlessCleared(hold, run)) });
     };
   }
 
@@ -112,25 +113,23 @@ class Steering {
   }
 
   /**
-   * Notes the browser's number of a callback that is held back, so that the page can cancel it.
+   * Notes what the browser's function for the callback returned to the page, with which the page can clear it.
    * @param {import('../types').Held|undefined} hold
-   * @param {number} timer
+   * @param {import('../types').PageWindow} window
+   * @param {string} queue whose numbers it has, of clearing.js
+   * @param {number} number
    */
-  note(hold, timer) {
-    if (hold) hold.timer = timer;
-    return timer;
+  note(hold, window, queue, number) {
+    if (hold) hold.request = { window, queue, number };
+    return number;
   }
 
   /**
+   * Called for each window, by timers.js. A driven browser learns only later what it holds back.
    * @param {import('../types').PageWindow} window
-   * @param {string[]} names
    */
-  watchClearing(window, names) {
-    if (!this.holds.length) return;
-    each(names, (name) => replaceMethod(window, name, (native) => (timer) => {
-      each(this.holds, (hold) => { if (timer !== undefined && hold.timer === timer) hold.waiting = []; });
-      return apply(native, window, [timer]);
-    }));
+  watchClearing(window) {
+    if (this.isActive) watchClearing(window, this.holds);
   }
 
   /**
@@ -235,6 +234,7 @@ class Steering {
   }
 
   /**
+   * Dispatches an event that was held back once more.
    * @param {EventTarget} target
    * @param {Event} event
    */
@@ -273,8 +273,8 @@ class Steering {
     again();
   }
 
-  /** @param {number} id */
-  letGo(id) {
+  /** Releases a hold. Called by the driver. */
+  letGo(/** @type {number} */ id) {
     const hold = findItem(this.holds, (one) => one.id === id);
     if (!hold || hold.isLet) return;
     const { waiting } = hold;
@@ -285,14 +285,14 @@ class Steering {
 
   // ---- the script elements at which the parser waits, which are not of the page
 
-  /** @param {Node} node */
-  isHold(node) {
+  /** Whether a node is such an element. */
+  isHold(/** @type {Node} */ node) {
     const element = /** @type {Element} */ (node);
     return this.isActive && element.localName === 'script' && apply(this.natives.hasAttribute, element, ['data-er-hold']);
   }
 
-  /** @param {Element} script */
-  removeHold(script) {
+  /** Such an element has done its work. */
+  removeHold(/** @type {Element} */ script) {
     apply(this.natives.remove, script, []);
   }
 }

@@ -58,6 +58,7 @@ class Addresses {
   }
 
   /**
+   * A click or a submit begins: the browser may run a `javascript:` address after it.
    * @param {import('../events/dispatches.js').EventDispatch} dispatch
    * @param {EventTarget[]} path
    */
@@ -77,6 +78,7 @@ class Addresses {
     };
   }
 
+  /** Called by the marks at the start of an address's code. */
   begins() {
     const { recording } = this;
     if (recording.isOver) return;
@@ -90,6 +92,7 @@ class Addresses {
     recording.enter('callback');
   }
 
+  /** Called by the marks at the end of an address's code. */
   ends() {
     if (!this.recording.isOver && this.recording.contexts.length) this.recording.leave();
   }

@@ -42,7 +42,10 @@ class InOrder {
     return before.ends.length ? before.ends : this.endsBefore(before);
   }
 
-  /** @param {number} number */
+  /**
+   * A script's run comes after those that the browser runs before it.
+   * @param {number} number
+   */
   begins(number) {
     const script = this.scripts.get(number);
     if (script) this.page.joins.here(this.endsBefore(script), 'the end of a script');

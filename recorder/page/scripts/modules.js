@@ -174,7 +174,10 @@ class Modules {
     return indexIn(text, `import.meta.url,${site})`) >= 0 || indexIn(text, `import.meta.url,${site},`) >= 0;
   }
 
-  /** @param {string} address */
+  /**
+   * Called by the marks at the end of a module.
+   * @param {string} address
+   */
   ends(address) {
     const { recording } = this;
     const moment = recording.moment();
@@ -196,6 +199,7 @@ class Modules {
     this.ended.set(address, end);
   }
 
+  /** The run of modules is over. */
   close() {
     const { recording } = this;
     if (recording.moduleRun) this.page.inOrder.ends(recording.moduleRun.element);
@@ -203,6 +207,7 @@ class Modules {
     if (recording.contexts.length) recording.leave();
   }
 
+  /** Whether the body of a module runs, and nothing that it called. */
   isRunning() {
     const { contexts, moduleRun, running } = this.recording;
     return !!moduleRun && running === moduleRun.event && contexts.length === 1;

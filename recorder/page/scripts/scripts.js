@@ -31,6 +31,7 @@ class Scripts {
   // ---- classic scripts
 
   /**
+   * Called by the marks at the start of a script.
    * @param {HTMLScriptElement|null} element null in a module that looks like a classic script, as one without imports, and in a shadow tree
    * @param {number} site
    * @param {FunctionOfScript[]} functions
@@ -129,6 +130,7 @@ class Scripts {
     this.declareFunctions(functions);
   }
 
+  /** Called by the marks at the end of a script. */
   ends() {
     const { recording } = this;
     if (recording.isOver) return;
@@ -140,14 +142,20 @@ class Scripts {
     recording.leave();
   }
 
-  /** @param {number} number */
+  /**
+   * The run of a script element is over, also of one that failed.
+   * @param {number} number
+   */
   noteEnd(number) {
     const { elements, inOrder, loading } = this.page;
     inOrder.ends(number);
     if (fits(/^(inline|sync)$/, elements.kinds.get(number) || '')) loading.noteRunOf(number);
   }
 
-  /** @param {number} number */
+  /**
+   * A deferred script runs: the parser has nothing more to do for it.
+   * @param {number} number
+   */
   noteDeferred(number) {
     const { tree } = this.page;
     tree.pendingDeferred.delete(number);

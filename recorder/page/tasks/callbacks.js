@@ -51,6 +51,7 @@ class Callbacks {
   }
 
   /**
+   * Puts a function of the recorder around one that gets callbacks.
    * @param {any} owner
    * @param {string} name
    * @param {number[]} indices
@@ -106,6 +107,7 @@ class Callbacks {
   }
 
   /**
+   * Records the call: the callback is a one-shot interval.
    * @param {string} name
    * @param {Function} callback
    * @returns {Asked}
@@ -120,6 +122,7 @@ class Callbacks {
   }
 
   /**
+   * The function that the browser gets in the place of a callback.
    * @param {Asked} asked
    * @param {Function} callback
    * @returns {import('../types').Method}

@@ -238,6 +238,7 @@ class Chaos {
   }
 
   /**
+   * Sends a message now, or later with those that wait before it.
    * @param {object} from the port, or the window
    * @param {boolean} mayWait
    * @param {unknown[]} words
@@ -264,6 +265,7 @@ class Chaos {
   }
 
   /**
+   * Posts what waits in a queue after some time.
    * @param {Queue} queue
    * @param {number} wait
    */

@@ -25,12 +25,13 @@ class Jobs {
   }
 
   start() {
-    this.place = this.page.placeOf('promise reactions');
+    this.place = this.page.newPlainElement('promise reactions');
   }
 
   // ---- what a job comes after
 
   /**
+   * What is known of a job as it is requested. Also for observers, reactions and `await`.
    * @param {unknown} promise
    * @param {number} [site]
    * @returns {Asked}
@@ -58,6 +59,7 @@ class Jobs {
   // ---- jobs that are functions
 
   /**
+   * The function that the browser gets in the place of a callback which runs as a job.
    * @template T
    * @param {T} callback
    * @param {Asked} asked
@@ -81,6 +83,7 @@ class Jobs {
   }
 
   /**
+   * Records the registration of what runs as a handler without an event, and returns its number.
    * @param {Function} callback
    * @param {string} [why]
    */
@@ -111,6 +114,7 @@ class Jobs {
   }
 
   /**
+   * Runs a job as a part of the running action.
    * @template T
    * @param {'job'|'call'} kind
    * @param {() => T} call
@@ -128,6 +132,7 @@ class Jobs {
   }
 
   /**
+   * Runs a job as a handler of a dispatch, which ends with it if it is an inline one.
    * @template T
    * @param {Dispatch} dispatch
    * @param {number} handler
@@ -149,13 +154,17 @@ class Jobs {
     }
   }
 
-  /** @param {string} why */
+  /**
+   * Begins a dispatch inside of the running event, whose handlers are reactions.
+   * @param {string} why
+   */
   beginInline(why) {
     this.recording.running.hasLateJobs = true;
     return this.page.joins.beginInline('then', { standsFor: this.place, why });
   }
 
   /**
+   * Writes the begin of a reaction's handler, after all that it comes after.
    * @param {Dispatch} dispatch
    * @param {number} handler
    * @param {Asked} asked
@@ -185,6 +194,7 @@ class Jobs {
   }
 
   /**
+   * Begins a dispatch that no rule puts after anything: nothing recorded has settled the promise.
    * @param {Asked} asked
    * @returns {Dispatch}
    */
@@ -233,6 +243,7 @@ class Jobs {
     this.natives.queueMicrotask(() => { if (this.recording.top() === dispatch) this.endContinuation(); });
   }
 
+  /** The code after an `await` is over, if it runs: something else begins. */
   endContinuation() {
     const { recording } = this;
     const top = recording.top();

@@ -70,6 +70,7 @@ class Observers {
   }
 
   /**
+   * What is known of an observer as it is made.
    * @param {string} name
    * @param {Function} callback
    */
@@ -91,6 +92,7 @@ class Observers {
   }
 
   /**
+   * The function that the browser gets in the place of an observer's callback.
    * @param {About} about
    * @param {Function} callback
    * @returns {import('../types').Method}

@@ -40,6 +40,7 @@ class Requests {
   }
 
   /**
+   * Records a request. Also for connections.js.
    * @param {Facts & {address?: string}|undefined} facts
    * @returns {Request}
    */
@@ -101,6 +102,7 @@ class Requests {
     });
   }
 
+  /** The handler of all replies of one `fetch`: its number. */
   registerReply() {
     const handler = this.recording.next('handler');
     this.recording.note(`on ${handler}`);

@@ -39,7 +39,7 @@ class Timers {
     each(['requestAnimationFrame', 'webkitRequestAnimationFrame', 'requestIdleCallback'], (name) => {
       if (window[name]) this.replaceFrame(window, name);
     });
-    this.recording.steering.watchClearing(window, ['clearTimeout', 'clearInterval', 'cancelAnimationFrame', 'cancelIdleCallback']);
+    this.recording.steering.watchClearing(window); // clearing is no access, so a plain recording does not see it
   }
 
   /**
@@ -90,6 +90,7 @@ class Timers {
   }
 
   /**
+   * Writes the name of a callback, if it has one.
    * @param {string} kind
    * @param {number} number
    * @param {unknown} callback
@@ -127,7 +128,10 @@ class Timers {
     }
   }
 
-  /** @param {PageWindow} window */
+  /**
+   * A timeout is a `set` where it is requested, and a `timer` where it runs.
+   * @param {PageWindow} window
+   */
   replaceTimeout(window) {
     const timers = this;
     const { recording, page } = this;
@@ -144,11 +148,14 @@ class Timers {
       const callable = timers.callable(callback);
       const asker = recording.running;
       const run = steering.limited('set', () => timers.run(`timer ${timeout}`, 'timer', isKnown ? asker : null, callable, words, { nesting }));
-      return steering.note(hold, apply(native, window, [steering.callback(hold, run, (again) => apply(native, window, [again, 0])), delay]));
+      return steering.note(hold, window, 'timers', apply(native, window, [steering.callback(hold, run, (again) => apply(native, window, [again, 0])), delay]));
     });
   }
 
-  /** @param {PageWindow} window */
+  /**
+   * An interval is an `every` where it is requested, and each of its runs a `tick`.
+   * @param {PageWindow} window
+   */
   replaceInterval(window) {
     const timers = this;
     const { recording } = this;
@@ -163,7 +170,7 @@ class Timers {
       const callable = timers.callable(callback);
       const asker = recording.running;
       const run = steering.limited('every', () => timers.run(`tick ${interval}`, 'tick', asker, callable, words, { nesting: ++nesting }));
-      return steering.note(hold, apply(native, window, [steering.callback(hold, run, (again) => again()), delay]));
+      return steering.note(hold, window, 'timers', apply(native, window, [steering.callback(hold, run, (again) => again()), delay]));
     });
   }
 
@@ -201,7 +208,7 @@ class Timers {
       const place = isQueue && !isIdle ? timers.placeOfFrame() : null;
       const run = steering.limited(words[0], (time) => timers.run(`${words[1]} ${number}`, 'tick', asker, callback, [time], { place }));
       const ask = (/** @type {import('../types').Callback} */ next) => apply(native, window, joined([next], rest));
-      return steering.note(hold, ask(steering.callback(hold, run, ask)));
+      return steering.note(hold, window, isIdle ? 'idle' : 'frames', ask(steering.callback(hold, run, ask)));
     });
   }
 }

@@ -76,7 +76,10 @@ class Callbacks {
     return { means: 'event', word: 'event', event: { type, nth, tag, id, source }, action: action.number, words: this.held(action) };
   }
 
-  /** @param {Action} action */
+  /**
+   * What is held back, in words.
+   * @param {Action} action
+   */
   held(action) {
     return `${this.run.words.action(action.number)} is kept back`;
   }

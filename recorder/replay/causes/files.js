@@ -85,7 +85,10 @@ class Files {
 
   // ---- scripts
 
-  /** @param {Action} action */
+  /**
+   * What can be held back so that a script runs later.
+   * @param {Action} action
+   */
   script(action) {
     const element = this.run.real(action.words[1]);
     const { place, loads } = this.run.names.elements[element] || {};
@@ -97,7 +100,10 @@ class Files {
     return [file, kind === 'sync' && !file ? this.parserAt(place, action.number, this.run.words.script(element)) : null];
   }
 
-  /** @param {string} element */
+  /**
+   * The kind of an element, as its declaration says.
+   * @param {string} element
+   */
   kindOf(element) {
     const line = this.run.keys.actions.lines.find((one) => /^(parse|new) /.test(one) && one.split(' ')[2] === element);
     return line ? line.split(' ')[3] : 'plain';
@@ -127,7 +133,10 @@ class Files {
     return document === undefined ? undefined : this.run.firstParsed(document)?.number;
   }
 
-  /** @param {string} document */
+  /**
+   * The file of a frame's page, or null.
+   * @param {string} document
+   */
   frameFile(document) {
     const element = this.run.keys.documents.get(document);
     if (document === '0' || !element) return null;
@@ -179,6 +188,7 @@ class Files {
   }
 
   /**
+   * The parser waits at the end of a page.
    * @param {string} document
    * @param {Action} action
    * @returns {Cause}

@@ -42,7 +42,10 @@ class RunFacts {
     }
   }
 
-  /** @param {string} word of the note */
+  /**
+   * What code has requested by a note of a word, in the order of the run.
+   * @param {string} word of the note
+   */
   askedBy(word) {
     const asked = this.asked.get(word) || [];
     this.asked.set(word, asked);
@@ -84,7 +87,10 @@ class RunFacts {
     return standsFor ? this.real(String(standsFor)) : element;
   }
 
-  /** @param {string} document */
+  /**
+   * The address of a document, without its fragment.
+   * @param {string} document
+   */
   addressOf(document) {
     return (this.names.documents[document]?.address || '').replace(/#.*$/, '');
   }

@@ -76,6 +76,7 @@ class Comparison {
     this.differences = [];
   }
 
+  /** All differences. */
   all() {
     this.lists('error', 'errors');
     this.lists('console error', 'consoleErrors');
@@ -96,6 +97,7 @@ class Comparison {
   }
 
   /**
+   * What is shown of both ends.
    * @param {(end: End) => string} show
    * @returns {[recorded: string, other: string]}
    */
@@ -104,6 +106,7 @@ class Comparison {
   }
 
   /**
+   * Adds a difference.
    * @param {string} kind
    * @param {string} subject
    * @param {string} recorded
@@ -143,6 +146,7 @@ class Comparison {
   }
 
   /**
+   * Adds the differences of two tables of names and values.
    * @param {string} kind
    * @param {'fields'|'storage'|'variables'} name
    * @param {{isSeen?: boolean, isOfUser?: boolean}} [facts]
@@ -174,6 +178,7 @@ class Comparison {
   }
 
   /**
+   * Adds the handlers that only one run has in an event of both.
    * @param {Dispatch} one
    * @param {Dispatch} other
    * @param {(words: string) => [recorded: string, other: string]} sides

@@ -53,6 +53,7 @@ class Differences {
     return [...all, { kind: 'picture', subject: 'the picture', isSeen: true, recorded: 'as recorded', other: `${differing} of ${points} points differ`, boxes }];
   }
 
+  /** Closes the tab that compares pictures. */
   close() {
     return this.pictures.close();
   }

@@ -77,6 +77,7 @@ class Orders {
   }
 
   /**
+   * In which order a race came in a run.
    * @param {Run} run
    * @param {Race} race
    * @returns {Order}

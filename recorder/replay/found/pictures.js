@@ -106,6 +106,7 @@ class Pictures {
     return result.value || null;
   }
 
+  /** Closes the tab in which pictures are compared. */
   async close() {
     await this.tab?.then((tab) => tab.close()).catch(() => {}); // the browser may have gone
   }

@@ -97,6 +97,16 @@ exports.cases = [
       'w localStorage.theme', 'w document.cookie', 'timer', 'r localStorage.theme', 'r document.cookie',
     ],
   },
+  { page: 'storage-key.html', due: ['w localStorage.k'], never: ['w sessionStorage.none'] },
+  {
+    page: 'storage-properties.html',
+    due: [
+      'w localStorage.theme', 'w localStorage.size', 'r localStorage.shown', 'w localStorage.shown', 'w sessionStorage.step', 'w localStorage.gone',
+      'timer', 'r localStorage.theme', 'r localStorage.size', 'r localStorage.shown', 'r sessionStorage.step', 'r localStorage.gone',
+      'timer', 'r sessionStorage.step',
+    ],
+    never: ['r localStorage.length', 'r localStorage.getItem', 'w localStorage.key'],
+  },
 
   // ---- custom elements that the parser makes
   {

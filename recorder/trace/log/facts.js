@@ -90,6 +90,7 @@ class Facts {
   }
 
   /**
+   * Takes a line of facts. Returns whether it fits.
    * @param {string} json
    * @returns {Fact|null} null if it is none
    */
@@ -113,7 +114,10 @@ class Facts {
     return this.isTaken(/** @type {Fact} */ (fact)) ? /** @type {Fact} */ (fact) : null;
   }
 
-  /** @param {Fact} fact */
+  /**
+   * Whether a fact is about something that the log has.
+   * @param {Fact} fact
+   */
   isTaken({ kind, number: own, standsFor, site: place, places: way }) {
     if (kind === 'stack' && way === undefined) return false;
     if (kind === 'written') return true;

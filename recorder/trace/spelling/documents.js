@@ -23,12 +23,18 @@ class Documents {
     this.steps = 0;
   }
 
-  /** @param {string} document */
+  /**
+   * Whether a document was declared.
+   * @param {string} document
+   */
   has(document) {
     return this.documents.has(document);
   }
 
-  /** @param {string} element */
+  /**
+   * Whether an element was declared.
+   * @param {string} element
+   */
   hasElement(element) {
     return this.elements.has(element);
   }
@@ -57,6 +63,7 @@ class Documents {
   }
 
   /**
+   * Whether an element, and the document in it, can be declared.
    * @param {string} element
    * @param {string|undefined} inner the document of a frame
    */
@@ -65,6 +72,7 @@ class Documents {
   }
 
   /**
+   * Declares an element, and the document in it.
    * @param {string} element
    * @param {ElementState} state
    * @param {string|undefined} inner
@@ -98,7 +106,10 @@ class Documents {
     return BLOCKING.has(kind) ? document.lastStep === step && !document.lastDeferred : document.lastDeferred < step;
   }
 
-  /** @param {string} document */
+  /**
+   * DOMContentLoaded of a document begins. Returns whether it may.
+   * @param {string} document
+   */
   beginReady(document) {
     const state = this.documents.get(document);
     if (!state || state.isReady || state.isLoaded) return false;
@@ -106,7 +117,10 @@ class Documents {
     return true;
   }
 
-  /** @param {string} document */
+  /**
+   * The load of a document begins. Returns whether it may.
+   * @param {string} document
+   */
   beginLoad(document) {
     const state = this.documents.get(document);
     if (!state || state.isLoaded) return false;
@@ -114,7 +128,10 @@ class Documents {
     return true;
   }
 
-  /** @param {string} element */
+  /**
+   * The load of an element begins. Returns whether it may.
+   * @param {string} element
+   */
   beginElementLoad(element) {
     const state = this.elements.get(element);
     if (!state || state.hasLoaded) return false;

@@ -54,6 +54,7 @@ class LegalTrace {
   }
 
   /**
+   * Whether a number of a kind was declared.
    * @param {string} kind
    * @param {string} number
    */
@@ -72,7 +73,10 @@ class LegalTrace {
     return !numbers.has(number) && numbers.add(number) !== undefined;
   }
 
-  /** @param {string[]} tokens */
+  /**
+   * A record that begins no action. Returns whether the analyzer takes it.
+   * @param {string[]} tokens
+   */
   note([word, ...rest]) {
     const kind = DECLARES.get(word);
     if (kind) return this.add(kind, rest[0]);
@@ -81,7 +85,10 @@ class LegalTrace {
 
   // ---- records that begin an action
 
-  /** @param {string[]} tokens */
+  /**
+   * A record that begins an action. Returns whether the analyzer takes it.
+   * @param {string[]} tokens
+   */
   begin([word, ...rest]) {
     if (!this.isPlaced(word, rest[0]) || !this.start(word, rest)) return false;
     this.running = word === 'back' ? this.leaveInline() : word;
@@ -123,6 +130,7 @@ class LegalTrace {
   }
 
   /**
+   * Whether a dispatch may begin at its target.
    * @param {string} word
    * @param {string} target
    */
@@ -138,6 +146,7 @@ class LegalTrace {
   }
 
   /**
+   * A dispatch begins.
    * @param {string} word
    * @param {string} number
    */
@@ -150,6 +159,7 @@ class LegalTrace {
   }
 
   /**
+   * A handler runs in a group of the innermost dispatch. Returns whether it may.
    * @param {number} group
    * @param {string} handler
    */

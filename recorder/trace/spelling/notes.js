@@ -41,7 +41,10 @@ class MovedNotes {
     this.rest = [];
   }
 
-  /** @param {Entry} entry */
+  /**
+   * Takes a line that belongs to an earlier place.
+   * @param {Entry} entry
+   */
   add(entry) {
     const words = entry.text.split(' ');
     if (words[0] === 'early') {

@@ -18,12 +18,18 @@ class Picture {
     this.height = model.lanes.length * LANE_HEIGHT + 2 * MARGIN;
   }
 
-  /** @param {number} action */
+  /**
+   * Where an action is in the picture, from the left.
+   * @param {number} action
+   */
   x(action) {
     return LANE_LEFT + (action / this.count) * (PICTURE_WIDTH - LANE_LEFT - MARGIN);
   }
 
-  /** @param {number} action */
+  /**
+   * The middle of an action's lane.
+   * @param {number} action
+   */
   y(action) {
     return MARGIN + (model.actions[action][0] + 0.5) * LANE_HEIGHT;
   }
