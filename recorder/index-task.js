@@ -3,44 +3,30 @@
 
 const fs = require('node:fs');
 const { statusOf } = require('./command.js');
+const { stoppable } = require('./common/stoppable.js');
 const { STATUS } = require('./common/status.js');
+const { waitForWriters, tracesIn } = require('./driven/trace-folder.js');
 const { Known } = require('./list/known.js');
-const { LoadsListing } = require('./list/loads-listing.js');
 const { plainListing } = require('./list/json.js');
-const { judgeLoads } = require('./loads.js');
-const { answersAtOnce, programState, askAhead } = require('./races/program.js');
-const { recordInto } = require('./record.js');
-const { AttachedRecorder } = require('./recording/attached-recorder.js');
+const { judgeLoads, listingOf, writeIndex, writeLists } = require('./loads.js');
+const { answersAtOnce, askAhead, endAsking, programState } = require('./races/program.js');
+const { recordInto, recorderFor } = require('./record.js');
 const { namesFile } = require('./recording/files.js');
 const { parseCommand, UsageFault } = require('./recording/options.js');
-const { Recorder } = require('./recording/recorder.js');
 const { replayTrace } = require('./replay-race.js');
+const { SuiteReplays } = require('./suite-replays.js');
 const { besides, viewTrace } = require('./view.js');
 
-/**
- * @typedef {{name: 'record', url: string, trace: string, args: string[]}} RecordTask
- * @typedef {{name: 'attach', endpoint: string, trace: string, args: string[]}} AttachTask
- * @typedef {{name: 'list', traces: string[], known: string|null, countsActs: boolean}} ListTask
- * @typedef {{name: 'replay', trace: string, problem: string|number, mayChange: boolean}} ReplayTask
- * @typedef {RecordTask|AttachTask|ListTask|ReplayTask} Task
- * @typedef {{result: Recording|Report|Reversal}|{status: number, message: string}} Answer
- */
-/**
- * A recording. `isComplete` is false if its time was over or a step could not be done; then `why` is the code of that. `errors` are uncaught errors of the
- * page, and `lost` says what was not recorded. `loadTime` is in milliseconds.
- * @typedef {{format: 1, page: string, trace: string, names: string, isComplete: boolean, why: 'NO_PAGE'|'NOT_DONE'|null, actions: number,
- *   loadTime: number|null, errors: string[], lost: string[]}} Recording
- */
-/**
- * A list of races: `isFailing` if a problem is new. `problems`, `notSeen` and the members for each run are those of --json (docs/ci.md).
- * @typedef {{format: 1, isFailing: boolean, traces: string[], views: string[]} & Pick<ReturnType<typeof plainListing>,
- *   'problems'|'notSeen'|'leftOut'|'unmarked'|'ofLibraries'>} Report
- */
-/**
- * What came of a race in the other order: `isFound` is false if the race did not come again. `verdict` and `words` are those of OUT.replay.json
- * (docs/replay.md).
- * @typedef {{format: 1, isFound: boolean, race: number, verdict: string|null, effect: string|null, words: string, folder: string}} Reversal
- */
+/** @typedef {import('./recording/options.js').CommandOptions} CommandOptions */
+/** @typedef {import('./index-types.js').Answer} Answer */
+/** @typedef {import('./index-types.js').AttachTask} AttachTask */
+/** @typedef {import('./index-types.js').ListTask} ListTask */
+/** @typedef {import('./index-types.js').Recording} Recording */
+/** @typedef {import('./index-types.js').RecordTask} RecordTask */
+/** @typedef {import('./index-types.js').ReplayTask} ReplayTask */
+/** @typedef {import('./index-types.js').Report} Report */
+/** @typedef {import('./index-types.js').Reversal} Reversal */
+/** @typedef {import('./index-types.js').Task} Task */
 
 /** A call that failed with a status; standard error has the reason. */
 class TaskFault extends Error {
@@ -55,72 +41,114 @@ class TaskFault extends Error {
  * @param {RecordTask|AttachTask} task
  * @returns {Promise<Recording>}
  */
-async function record(task) {
-  const { options, positionals } = parseCommand('er_record', [...task.args, ...task.name === 'attach' ? ['--attach', task.endpoint] : [], '--', task.name === 'attach' ? task.endpoint : task.url]);
-  const [given] = positionals;
-  const recorder = options.attach ? new AttachedRecorder(given, options, options.attach) : new Recorder(given, options);
-  const { failed, incomplete } = await recordInto(given, task.trace, options, recorder);
+async function record({ trace, args, ...task }) {
+  const words = task.name === 'attach' ? [`--attach=${task.endpoint}`, '--', task.endpoint] : ['--', task.url];
+  const { options, positionals: [given] } = parseCommand('er_record', [...args, ...words]);
+  const recorder = recorderFor(given, options);
+  const { failed, incomplete } = await recordInto(given, trace, options, recorder);
   if (failed) throw new TaskFault(failed);
   const { intake, loadTime, errors } = recorder;
   const why = incomplete === STATUS.ok ? null : incomplete === STATUS.notDone ? 'NOT_DONE' : 'NO_PAGE';
-  const files = { trace: task.trace, names: namesFile(task.trace) };
-  return { format: 1, page: given, ...files, isComplete: !why, why, actions: intake.actions, loadTime, errors, lost: recorder.losses() };
+  return { format: 1, page: given, trace, names: namesFile(trace), isComplete: !why, why, actions: intake.actions, loadTime, errors, lost: recorder.losses() };
 }
 
-/** @param {string[]} traces */
-function checkTraces(traces) {
-  if (!traces.length) throw new UsageFault('there is no trace');
-  for (const trace of traces) if (!fs.existsSync(trace)) throw new TaskFault(STATUS.noPage, `there is no file ${trace}`);
+/**
+ * The traces that are named: files, and all of a folder.
+ * @param {string[]} given
+ */
+async function tracesOf(given) {
+  const traces = await Promise.all(given.map(async (one) => {
+    const facts = fs.statSync(one, { throwIfNoEntry: false });
+    if (!facts) throw new TaskFault(STATUS.noPage, `there is no file ${one}`);
+    if (!facts.isDirectory()) return [one];
+    await waitForWriters(one);
+    return tracesIn(one);
+  }));
+  if (!traces.flat().length) throw new TaskFault(STATUS.noPage, `there is no trace in ${given.join(', ')}`);
   if (programState() === 'missing') throw new TaskFault(STATUS.noProgram);
+  return traces.flat();
 }
 
 /**
  * @param {ListTask} task
  * @returns {Promise<Report>}
  */
-async function list({ traces, known: knownFile, countsActs }) {
-  checkTraces(traces);
-  const known = knownFile ? Known.readFile(knownFile, false) : null;
-  const { judged, failed } = await judgeLoads(traces, 'er_page', known, { isJson: true });
+async function list({ traces: given, args }) {
+  const { options } = parseCommand('er_suite', args);
+  const traces = await tracesOf(given);
+  const known = Known.of(options);
+  const { judged, failed } = await stoppable(() => endAsking(STATUS.stopped), () => judgeLoads(traces, 'er_page', known, { isJson: true }));
   if (failed) throw new TaskFault(failed);
-  const views = traces.map((trace) => besides(trace, '.html'));
-  const listing = new LoadsListing(judged.map(({ run }) => run), known, { countsActs }, views);
-  const { problems, notSeen, leftOut, unmarked, ofLibraries } = plainListing(listing, { page: '', status: STATUS.ok, files: traces, folder: null });
-  return { format: 1, isFailing: listing.failing().length > 0, traces, views, problems, notSeen, leftOut, unmarked, ofLibraries };
+  const listing = listingOf(judged, known, options, '');
+  const isFailing = listing.failing().length > 0;
+  const status = isFailing ? STATUS.race : STATUS.ok;
+  writeLists(listing, judged, options, { page: '', status });
+  if (options.html) writeIndex(listing, judged, '', options.html);
+  const { problems, notSeen, leftOut, unmarked, ofLibraries } = plainListing(listing, { page: '', status, files: traces, folder: null });
+  return { format: 1, isFailing, traces, views: traces.map((trace) => besides(trace, '.html')), problems, notSeen, leftOut, unmarked, ofLibraries };
 }
 
 /**
- * The number of the race that is meant.
+ * The problem that is meant: its name, and the number of its race.
  * @param {string} trace
  * @param {string|number} problem
  */
-async function raceOf(trace, problem) {
-  if (typeof problem === 'number') return problem;
+async function problemOf(trace, problem) {
   await askAhead([trace]);
   const { view, status } = await viewTrace(trace, 'er_page');
   if (!view) throw new TaskFault(status);
   const { list: problems, ofRaces } = view.problems;
-  const race = problems.find(({ name }) => name === problem)?.first ?? ofRaces.findIndex(({ name }) => name === problem);
-  if (race < 0) throw new UsageFault(`there is no problem ${problem} in ${trace}`);
-  return race + 1;
+  const own = problems.find(({ name }) => name === problem);
+  const race = typeof problem === 'number' ? problem - 1 : own?.first ?? ofRaces.findIndex(({ name }) => name === problem);
+  if (!ofRaces[race]) throw new UsageFault(`there is no ${typeof problem === 'number' ? 'race' : 'problem'} ${problem} in ${trace}`);
+  return { name: ofRaces[race].problem, race: race + 1 };
 }
 
 /**
  * @param {ReplayTask} task
  * @returns {Promise<Reversal>}
  */
-async function replay({ trace, problem, mayChange }) {
-  checkTraces([trace]);
+async function replay({ trace, problem, args, isOfSuite }) {
+  const { options } = parseCommand(isOfSuite ? 'er_suite' : 'er_replay', args);
+  await tracesOf([trace]);
   if (!answersAtOnce()) throw new TaskFault(STATUS.noProgram, 'a replay needs the built analyzer, or a Rust compiler: run ./er_cli --build');
-  const race = await raceOf(trace, problem);
-  const { options } = parseCommand('er_replay', [`--race=${race}`, ...mayChange ? ['--yes'] : [], trace]);
-  const status = await replayTrace(trace, options, false);
+  const { name, race } = await problemOf(trace, problem);
+  if (isOfSuite) return replayInSuite(trace, name, options);
+  return replayPage(trace, race, options, args.some((word) => word.startsWith('--time=')));
+}
+
+/**
+ * @param {string} trace
+ * @param {number} race
+ * @param {CommandOptions} options
+ * @param {boolean} hasTime
+ * @returns {Promise<Reversal>}
+ */
+async function replayPage(trace, race, options, hasTime) {
+  const status = await replayTrace(trace, { ...options, races: [race] }, hasTime);
   const folder = `${besides(trace, '')}.replay`;
   const file = `${folder}/page.replay.json`;
   if (status !== STATUS.ok && status !== STATUS.race) throw new TaskFault(status);
   /** @type {import('./list/types').Verdict|undefined} */
   const found = fs.existsSync(file) ? JSON.parse(fs.readFileSync(file, 'utf8')).races[0] : undefined;
   return { format: 1, isFound: !!found, race, verdict: found?.verdict || null, effect: found?.effect || null, words: found?.words || '', folder };
+}
+
+/**
+ * @param {string} trace
+ * @param {string} problem
+ * @param {CommandOptions} options
+ * @returns {Promise<Reversal>}
+ */
+async function replayInSuite(trace, problem, options) {
+  const { judged, failed } = await judgeLoads([trace], 'er_suite', null, { isJson: true });
+  if (failed) throw new TaskFault(failed);
+  const folder = `${besides(trace, '')}.replay`;
+  const replays = new SuiteReplays(listingOf(judged, null, options, ''), judged, { ...options, wanted: [problem] }, folder);
+  const status = await stoppable(() => replays.stop(), () => replays.run());
+  if (status) throw new TaskFault(status);
+  const [{ race, verdict, effect = null, words, suiteStatus, isFound }] = replays.outcomes;
+  return { format: 1, isFound, race, verdict, effect, words, folder: replays.folder, ...suiteStatus === undefined ? {} : { suiteStatus } };
 }
 
 /**

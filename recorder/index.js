@@ -4,29 +4,25 @@
 
 const { fork } = require('node:child_process');
 const path = require('node:path');
-const { argumentsOf } = require('./index-options.js');
+const { recordArguments, listArguments, replayArguments } = require('./index-options.js');
 
 /** @typedef {import('./index-options.js').RecordOptions} RecordOptions */
-/** @typedef {import('./index-task.js').Recording} Recording */
-/** @typedef {import('./index-task.js').Report} Report */
-/** @typedef {import('./index-task.js').Reversal} Reversal */
-/** @typedef {import('./index-task.js').Task} Task */
+/** @typedef {import('./index-options.js').ListOptions} ListOptions */
+/** @typedef {import('./index-options.js').ReplayOptions} ReplayOptions */
+/** @typedef {import('./index-types.js').Code} Code */
+/** @typedef {import('./index-types.js').Recording} Recording */
+/** @typedef {import('./index-types.js').Report} Report */
+/** @typedef {import('./index-types.js').Reversal} Reversal */
+/** @typedef {import('./index-types.js').Task} Task */
 /** @typedef {{signal?: AbortSignal}} Abortable */
-
-/**
- * `USAGE`: wrong arguments. `REFUSED`: the analyzer refused a trace. `NO_PAGE`: the page, the trace or the browser to attach to cannot be used. `FAILED`:
- * the browser failed, or a file could not be written. `NOT_DONE`: a step of `actions` could not be done. `NO_ANALYZER`: it is missing, or for `replay` not
- * built. `ABORTED`: the signal was aborted; `cause` is its reason. `INTERNAL`: a bug of EventRacer.
- * @typedef {'USAGE'|'REFUSED'|'NO_PAGE'|'FAILED'|'NOT_DONE'|'NO_ANALYZER'|'ABORTED'|'INTERNAL'} Code
- */
 
 /** What a recorded page needs of Node (recorder/start). */
 const FLAGS = ['--stack-size=4000', '--min-semi-space-size=64', '--max-semi-space-size=128', '--always-sparkplug', '--max-old-space-size=4096'];
 const TASK = path.join(__dirname, 'index-task.js');
-/** The process of an aborted call gets so many milliseconds to end its browser. */
-const LONGEST_END = 8000;
+/** The process of an aborted call gets so many milliseconds to end its browser, or the suite that it runs and its recorders. */
+const LONGEST_END = 15000;
 const LONGEST_MESSAGES = 100000;
-/** @type {{[status: number]: Code}} */
+/** @type {{[status: number]: Code}} by the statuses of common/status.js */
 const CODES = { 2: 'USAGE', 3: 'REFUSED', 4: 'NO_PAGE', 5: 'FAILED', 6: 'NOT_DONE', 10: 'NO_ANALYZER', 70: 'INTERNAL', 130: 'ABORTED' };
 
 class EventRacerError extends Error {
@@ -48,17 +44,17 @@ const aborted = (signal) => new EventRacerError('ABORTED', 'the call was aborted
 /**
  * What the process of a call answers.
  * @param {import('node:child_process').ChildProcess} child
- * @returns {Promise<{answer: import('./index-task.js').Answer|null, said: string}>}
+ * @returns {Promise<{answer: import('./index-types.js').Answer|null, said: string}>}
  */
 function answerOf(child) {
-  /** @type {import('./index-task.js').Answer|null} */
+  /** @type {import('./index-types.js').Answer|null} */
   let answer = null;
   let said = '';
   child.stderr?.setEncoding('utf8').on('data', (piece) => { said = (said + piece).slice(-LONGEST_MESSAGES); });
   child.stdout?.resume();
-  child.on('message', (message) => { answer = /** @type {import('./index-task.js').Answer} */ (message); });
+  child.on('message', (message) => { answer = /** @type {import('./index-types.js').Answer} */ (message); });
   return new Promise((resolve, reject) => {
-    child.on('error', reject);
+    child.on('error', (fault) => reject(new EventRacerError('INTERNAL', `the process of the call cannot be started: ${fault.message}`, { cause: fault })));
     child.on('close', () => resolve({ answer, said }));
   });
 }
@@ -92,16 +88,30 @@ async function call(task, signal) {
   }
 }
 
+/** @param {string} message @returns {never} */
+function refuse(message) {
+  throw new EventRacerError('USAGE', message);
+}
+
 /**
- * The arguments for a recording; wrong members are the caller's fault.
- * @param {RecordOptions} options
+ * The signal, and the other options as arguments of a command. Wrong values are the caller's fault.
+ * @template {object} T
+ * @param {(options: T) => string[]} write
+ * @param {T & Abortable} options
  */
-function checked(options) {
+function checked(write, options) {
+  if (typeof options !== 'object' || !options) return refuse('the options are missing');
+  const { signal, ...others } = options;
   try {
-    return argumentsOf(options);
+    return { signal, args: write(/** @type {T} */ (/** @type {unknown} */ (others))) };
   } catch (fault) {
-    throw new EventRacerError('USAGE', fault instanceof Error ? fault.message : String(fault));
+    return refuse(fault instanceof Error ? fault.message : String(fault));
   }
+}
+
+/** @param {unknown} value @param {string} name of the argument */
+function checkText(value, name) {
+  if (typeof value !== 'string' || !value) refuse(`${name} is no text`);
 }
 
 /**
@@ -110,8 +120,10 @@ function checked(options) {
  * @param {RecordOptions & Abortable} options
  * @returns {Promise<Recording>}
  */
-async function record(url, { signal, ...options }) {
-  return /** @type {Recording} */ (await call({ name: 'record', url, trace: options.trace, args: checked(options) }, signal));
+async function record(url, options) {
+  checkText(url, 'url');
+  const { signal, args } = checked(recordArguments, options);
+  return /** @type {Recording} */ (await call({ name: 'record', url, trace: options.trace, args }, signal));
 }
 
 /**
@@ -120,8 +132,10 @@ async function record(url, { signal, ...options }) {
  * @param {RecordOptions & Abortable} options
  * @returns {Promise<Recording>}
  */
-async function attach(endpoint, { signal, ...options }) {
-  return /** @type {Recording} */ (await call({ name: 'attach', endpoint, trace: options.trace, args: checked(options) }, signal));
+async function attach(endpoint, options) {
+  checkText(endpoint, 'endpoint');
+  const { signal, args } = checked(recordArguments, options);
+  return /** @type {Recording} */ (await call({ name: 'attach', endpoint, trace: options.trace, args }, signal));
 }
 
 /**
@@ -130,29 +144,34 @@ async function attach(endpoint, { signal, ...options }) {
  * @param {Abortable} options
  * @returns {Promise<Report>}
  */
-async function judge(trace, { signal } = {}) {
-  return /** @type {Report} */ (await call({ name: 'list', traces: [trace], known: null, countsActs: false }, signal));
+async function judge(trace, options = {}) {
+  return list([trace], options);
 }
 
 /**
- * One list of several traces.
- * @param {string[]} traces
- * @param {{known?: string|null, countsActs?: boolean} & Abortable} options `known` is the file of known races
+ * One list of several traces; writes the report and the view of each.
+ * @param {string[]} traces files, or folders of er_browser: all traces in a folder, once its recorders have written them
+ * @param {ListOptions & Abortable} options
  * @returns {Promise<Report>}
  */
-async function list(traces, { known = null, countsActs = false, signal } = {}) {
-  return /** @type {Report} */ (await call({ name: 'list', traces, known, countsActs }, signal));
+async function list(traces, options = {}) {
+  if (!Array.isArray(traces) || !traces.length) refuse('there is no trace');
+  traces.forEach((trace) => checkText(trace, 'trace'));
+  const { signal, args } = checked(listArguments, options);
+  return /** @type {Report} */ (await call({ name: 'list', traces, args }, signal));
 }
 
 /**
  * Runs the page of a trace with a race in the other order.
- * @param {string} trace that `record` has written
+ * @param {string} trace that `record` or er_browser has written
  * @param {string|number} problem the stable name of a problem or a race, or the number of a race in the report
- * @param {{mayChange?: boolean} & Abortable} options `mayChange`: requests may be sent again that change something on another machine's server
+ * @param {ReplayOptions & Abortable} options
  * @returns {Promise<Reversal>}
  */
-async function replay(trace, problem, { mayChange = false, signal } = {}) {
-  return /** @type {Reversal} */ (await call({ name: 'replay', trace, problem, mayChange }, signal));
+async function replay(trace, problem, options = {}) {
+  checkText(trace, 'trace');
+  const { signal, args } = checked(replayArguments, options);
+  return /** @type {Reversal} */ (await call({ name: 'replay', trace, problem, isOfSuite: !!options.command, args }, signal));
 }
 
 module.exports = { record, attach, judge, list, replay, EventRacerError };

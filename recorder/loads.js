@@ -7,14 +7,15 @@ const { eachAtOnce } = require('./common/at-once.js');
 const { STATUS } = require('./common/status.js');
 const { makeFolder, writeWhole, WriteFault } = require('./common/whole-file.js');
 const { print, printError } = require('./common/output.js');
-const { judgeAndView } = require('./judged.js');
 const { junitOf } = require('./list/loads-junit.js');
 const { LoadsListing } = require('./list/loads-listing.js');
 const { loadsPage } = require('./list/loads-page.js');
 const { LoadRuns } = require('./list/loads-run.js');
 const { writeOutputs, tellLines, totalsOf } = require('./list/outputs.js');
+const { LoadJudge } = require('./load-judge.js');
+const { LoadJudges } = require('./load-judges.js');
 const { atSignalsMercy, phase } = require('./phase.js');
-const { askAhead } = require('./races/program.js');
+const { answersAtOnce, askAhead, programFacts } = require('./races/program.js');
 const { besides } = require('./view.js');
 
 /** @typedef {import('./recording/options.js').ListOptions} ListOptions */
@@ -31,6 +32,11 @@ const { besides } = require('./view.js');
 
 /** So many traces are analyzed at once, and are in memory. */
 const AT_ONCE = 4;
+/** In a list of more loads, a view has the paths only for the problems that no earlier load has: each path is a query of the analyzer. */
+const MOST_LINKED = 10;
+/** So many loads are analyzed by this process alone: others take time to start. */
+const MOST_ALONE = 20;
+const OF_DRIVER = /while nothing recorded ran/;
 
 /**
  * Has the loads analyzed, and writes their reports and views. Of each load only what the list needs stays in memory.
@@ -42,31 +48,51 @@ const AT_ONCE = 4;
  */
 async function judgeLoads(files, command, known, { isJson }) {
   await askAhead(files);
+  const start = { program: programFacts(), command, known: known && known.file, isWhole: isJson, isLinkedAll: files.length <= MOST_LINKED };
+  const isAlone = files.length <= MOST_ALONE || !answersAtOnce();
+  const judges = isAlone ? null : new LoadJudges(start);
+  const alone = new LoadJudge(start);
   const runs = new LoadRuns(isJson);
   /** @type {Judged[]} */
   const judged = [];
   /** @type {Promise<number>[]} */
   const statuses = [];
   const judgeNext = async (/** @type {string} */ file, /** @type {number} */ k) => {
-    const { view, status } = await judgeAndView(file, command, known);
+    const { stored, status } = await (judges ? judges.judge(k, file) : alone.judge(file));
     await statuses[k - 1]; // loads join the list in order
-    if (!view) return status;
-    /** @type {import('./list/types').Names & {load?: Load}} */
-    const { load, page = file } = view.problems.names;
-    judged.push({ file, run: runs.add(view.problems), load: { address: page, ...load } });
-    return STATUS.ok;
+    if (stored) judged.push({ file, run: runs.take(stored.facts), load: stored.load });
+    return status;
   };
-  const all = await eachAtOnce(files, AT_ONCE, (file, k) => {
-    statuses[k] = judgeNext(file, k);
-    return statuses[k];
-  });
-  return { judged, failed: all.find((status) => status) || STATUS.ok };
+  try {
+    const all = await eachAtOnce(files, judges ? judges.atOnce : AT_ONCE, (file, k) => {
+      statuses[k] = judgeNext(file, k);
+      return statuses[k];
+    });
+    return { judged, failed: all.find((status) => status) || STATUS.ok };
+  } finally {
+    await judges?.end();
+  }
 }
 
 /** @param {Load[]} loads */
 function printErrors(loads) {
   const errors = loads.flatMap((load) => (load.errors || []).map((error) => `${error} in ${load.address}`));
   new Set(errors).forEach((error) => printError(`  error: ${error}`));
+}
+
+/**
+ * Prints what the recordings lack of their pages, over all loads. What a driver's code does between two tasks is in each of them (docs/suites.md).
+ * @param {Load[]} loads
+ */
+function printLosses(loads) {
+  /** @type {Map<string, {count: number, loads: number}>} */
+  const losses = new Map();
+  for (const line of loads.flatMap(({ lost = [] }) => lost).filter((one) => !OF_DRIVER.test(one))) {
+    const [, what, count] = /^(.*): (\d+)$/.exec(line) || ['', line, '1'];
+    const sum = losses.get(what) || { count: 0, loads: 0 };
+    losses.set(what, { count: sum.count + Number(count), loads: sum.loads + 1 });
+  }
+  losses.forEach(({ count, loads: some }, what) => printError(`  not recorded: ${what}: ${count}, in ${some} page load${some === 1 ? '' : 's'}`));
 }
 
 /**
@@ -102,6 +128,31 @@ function writeIndex(listing, judged, folder, html) {
 }
 
 /**
+ * One list of analyzed loads.
+ * @param {Judged[]} judged
+ * @param {Known|null} known
+ * @param {ListOptions} options
+ * @param {string} folder from which the list names the views
+ */
+function listingOf(judged, known, options, folder) {
+  const views = judged.map(({ file }) => path.relative(folder, besides(file, '.html')));
+  return new LoadsListing(judged.map(({ run }) => run), known, options, views);
+}
+
+/**
+ * Writes the outputs that the options request.
+ * @param {LoadsListing} listing
+ * @param {Judged[]} judged
+ * @param {ListOptions} options
+ * @param {{page: string, status: number}} facts
+ */
+function writeLists(listing, judged, options, { page, status }) {
+  const loads = judged.map(({ load }) => load);
+  writeOutputs(listing, options, { page, status, files: judged.map(({ file }) => file), folder: null, loads });
+  if (options.junit) writeWhole(options.junit, junitOf(listing));
+}
+
+/**
  * Prints and writes the list of the loads. Returns the status.
  * @param {Judged[]} judged
  * @param {number} failed the status of a load that was not analyzed
@@ -109,17 +160,14 @@ function writeIndex(listing, judged, folder, html) {
  * @param {ListOptions} options
  * @param {Place} place
  */
-async function listLoads(judged, failed, known, options, { folder, page, replay }) {
-  const files = judged.map(({ file }) => file);
-  const loads = judged.map(({ load }) => load);
-  const views = files.map((file) => path.relative(folder, besides(file, '.html')));
-  const listing = new LoadsListing(judged.map(({ run }) => run), known, options, views);
+async function listLoads(judged, failed, known, options, { command, folder, page, replay }) {
+  const listing = listingOf(judged, known, options, folder);
   const status = failed || (listing.failing().length ? STATUS.race : STATUS.ok);
   const replayed = replay ? await replay(listing, judged) : STATUS.ok;
-  printErrors(loads);
+  printErrors(judged.map(({ load }) => load));
+  if (command === 'er_suite') printLosses(judged.map(({ load }) => load)); // er_page has printed them
   tellLines(listing, options);
-  writeOutputs(listing, options, { page, status, files, folder: null, loads });
-  if (options.junit) writeWhole(options.junit, junitOf(listing));
+  writeLists(listing, judged, options, { page, status });
   const index = writeIndex(listing, judged, folder, options.html);
   const printLine = options.isJson ? printError : print;
   printLine(`${page}: ${judged.length} page loads, ${options.html ? index : 'index.html'}`);
@@ -141,4 +189,4 @@ async function reportLoads(files, known, options, place) {
   return phase('listing the races', () => atSignalsMercy(() => listLoads(judged, failed, known, options, place)));
 }
 
-module.exports = { reportLoads, judgeLoads };
+module.exports = { reportLoads, judgeLoads, listingOf, writeLists, writeIndex };

@@ -184,7 +184,7 @@ async function pagesOf(options) {
  * @param {CommandOptions} options
  */
 async function listPages(options) {
-  const known = options.known ? Known.readFile(options.known, options.writesKnown) : null;
+  const known = Known.of(options);
   const { folder, addresses } = await pagesOf(options);
   const credentials = options.credentials || credentialsOf(options.sitemap || '');
   const pages = addresses.map((address) => pageOf(address, folder, { ...options, credentials }));

@@ -76,10 +76,10 @@ function printLoads(files) {
  * @param {CommandOptions} options
  */
 async function listFlow(given, options) {
-  const { flowOfMany, known: knownFile, writesKnown } = options;
+  const { flowOfMany } = options;
   const file = String(flowOfMany);
   if (!/^https?:/i.test(given)) throw new CommandFault(`a flow that loads several pages starts at a web address: ${given}`, STATUS.usage);
-  const known = knownFile ? Known.readFile(knownFile, writesKnown) : null;
+  const known = Known.of(options);
   const folder = folderOf(file);
   const traces = new TraceFolder(path.join(folder, 'flow.log'), { pid: process.pid, words: 'er_page --flow', name: path.basename(file) });
   /** @type {import('./options/step.js').Step} */

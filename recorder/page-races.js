@@ -84,7 +84,7 @@ async function judgeRuns(files, known, isReplayed) {
   /** @type {View[]} */
   const runs = [];
   for (const file of files) {
-    const { status, view } = await judgeAndView(file, 'er_page', known, isReplayed);
+    const { status, view } = await judgeAndView(file, 'er_page', { known, isLinkedLater: isReplayed });
     if (!view) return { runs, failed: status };
     runs.push(view);
   }
@@ -104,7 +104,7 @@ function prepareFolder(folder) {
 /** @param {Call} call */
 async function pageRaces(call) {
   const { given, folder, options } = call;
-  const known = options.known ? Known.readFile(options.known, options.writesKnown) : null;
+  const known = Known.of(options);
   prepareFolder(folder);
   const first = new Recorder(given, call.mayReplay ? withEnd({ ...options, keepsBrowser: true, fixed: chance(options) }) : options);
   try {

@@ -119,19 +119,27 @@ async function recordInto(given, traceFile, options, recorder = new Recorder(giv
   return { failed, incomplete: failed ? STATUS.ok : printIncomplete(recorder) };
 }
 
+/**
+ * The recorder of a page, or of what another program loads. Refuses a flow over several pages.
+ * @param {string} given
+ * @param {RecordingOptions} options
+ */
+function recorderFor(given, options) {
+  if (options.flowOfMany) throw new UsageFault(`the flow loads several pages, which er_page records: ${options.flowOfMany}`);
+  return options.attach ? new AttachedRecorder(given, options, options.attach) : new Recorder(given, options);
+}
+
 /** @param {string[]} args */
 async function main(args) {
   const { options, positionals, isHelp } = parseCommand('er_record', args);
   if (isHelp) return printHelp('er_record');
-  const { attach, flowOfMany } = options;
-  if (flowOfMany) throw new UsageFault(`the flow loads several pages, which er_page records: ${flowOfMany}`);
+  const { attach } = options;
   if (positionals.length !== (attach ? 1 : 2)) throw new UsageFault('');
   const given = attach ? `${attach.host}:${attach.port}` : positionals[0];
-  const recorder = attach ? new AttachedRecorder(given, options, attach) : new Recorder(given, options);
-  const { failed, incomplete } = await recordInto(given, positionals[positionals.length - 1], options, recorder);
+  const { failed, incomplete } = await recordInto(given, positionals[positionals.length - 1], options, recorderFor(given, options));
   return failed || incomplete;
 }
 
-module.exports = { recordInto };
+module.exports = { recordInto, recorderFor };
 
 if (require.main === module) runCommand('er_record', main);

@@ -25,10 +25,10 @@ const { SuiteRun } = require('./suite-run.js');
 /** @typedef {import('./suite-run.js').Plan} Plan */
 /** @typedef {{replayWith: string, wanted: string[], suiteTime: number}} Options */
 /**
- * What came of a problem in the other order. `words` and `differences` are as in OUT.replay.json (docs/replay.md); `suiteStatus` is that of the command,
- * `folder` has the run's traces and output.
- * @typedef {{name: string, race: number, verdict: 'turned'|'not turned', effect?: string, words: string, why?: string, means?: string, heldFor?: number,
- *   suiteStatus?: number, differences?: Difference[], unsteady?: Difference[], folder?: string}} Outcome
+ * What came of a problem in the other order. `isFound` is false if its race did not come again. `words` and `differences` are as in OUT.replay.json
+ * (docs/replay.md); `suiteStatus` is that of the command, `folder` has the run's traces and output.
+ * @typedef {{name: string, race: number, isFound: boolean, verdict: 'turned'|'not turned', effect?: string, words: string, why?: string, means?: string,
+ *   heldFor?: number, suiteStatus?: number, differences?: Difference[], unsteady?: Difference[], folder?: string}} Outcome
  */
 
 /** How many problems are run by default, and how many causes of each are tried. */
@@ -149,7 +149,7 @@ class SuiteReplays {
   async replay(problem) {
     const { run, first, name } = problem;
     const found = this.races.get(this.listing.runs[run].ofRaces[first].name) || this.races.get(name);
-    const facts = { name, race: first + 1 };
+    const facts = { name, race: first + 1, isFound: !!found };
     if (!found) {
       this.note({ ...facts, verdict: 'not turned', why: 'the race did not come again in the run with nothing held back', words: '' });
       return;
@@ -174,7 +174,7 @@ class SuiteReplays {
    * Runs the suite with a cause held back, and says what came of it.
    * @param {{problem: Listed, load: SuiteLoad, race: Race, cause: Awaited<ReturnType<SuiteLoad['toReverse']>>['causes'][0]}} wanted
    * @param {number} k which of the causes it is
-   * @returns {Promise<Omit<Outcome, 'name'|'race'>>}
+   * @returns {Promise<Omit<Outcome, 'name'|'race'|'isFound'>>}
    */
   async tryCause({ problem, load, race, cause }, k) {
     const sides = load.sidesOf(race);
@@ -198,7 +198,7 @@ class SuiteReplays {
    * @param {{load: SuiteLoad, held: SuiteLoad, sides: ReturnType<SuiteLoad['sidesOf']>, race: Race, cause: import('./replay/types').Cause}} tried
    * @param {Ended} ended
    * @param {Listed} problem
-   * @returns {Promise<Omit<Outcome, 'name'|'race'>>}
+   * @returns {Promise<Omit<Outcome, 'name'|'race'|'isFound'>>}
    */
   async judge({ load, held, sides, race, cause }, ended, problem) {
     const { isHeld = false, isReached = false, heldFor = 0 } = held.facts.held || {};

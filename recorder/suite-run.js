@@ -15,9 +15,8 @@ const { waitForWriters, tracesIn } = require('./driven/trace-folder.js');
  * @typedef {{status: number, isLate: boolean, isStopped: boolean, seconds: number, traces: string[], output: string, plan: Plan}} Ended
  */
 
-/** Milliseconds that a command gets to end after a signal, and its recorders to write. */
+/** Milliseconds that a command gets to end after a signal, and then its recorders to write. */
 const LONGEST_END = 5000;
-const LONGEST_WRITING = 60000;
 const SIGNALLED = 128;
 /** In the command line of each recorder: it ends with its browser, once it has written. */
 const RECORDER = 'driven/main.js';
@@ -62,7 +61,7 @@ class SuiteRun {
     const begin = Date.now();
     const status = await this.runCommand(output);
     if (this.isLate || this.isStopped) await this.endRest();
-    await waitForWriters(this.folder, this.isStopped ? LONGEST_END : LONGEST_WRITING);
+    await waitForWriters(this.folder, this.isStopped ? LONGEST_END : undefined);
     const { isLate, isStopped, plan } = this;
     return { status, isLate, isStopped, seconds: (Date.now() - begin) / 1000, traces: tracesIn(this.folder), output, plan };
   }

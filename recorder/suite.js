@@ -18,8 +18,6 @@ const { SuiteReplays } = require('./suite-replays.js');
 /** @typedef {import('./list/loads-listing.js').LoadsListing} LoadsListing */
 /** @typedef {import('./loads.js').Judged} Judged */
 
-/** What a recorder has not written after so many milliseconds does not come. */
-const LONGEST_WAIT = 60000;
 /** Lines of a recorder's log that say nothing to a reader. */
 const QUIET_LINE = /^er_browser: (?:recording|\d+ page loads recorded)$|^ +at /;
 
@@ -48,7 +46,7 @@ function printLogs(folder) {
  * @returns {Promise<string[]>} the traces in it, once all recorders have written them
  */
 async function waitForTraces(folder) {
-  if (!await waitForWriters(folder, LONGEST_WAIT)) printError('er_suite: a recorder still writes: the list has what it has written so far; call er_suite again later for the rest');
+  if (!await waitForWriters(folder)) printError('er_suite: a recorder still writes: the list has what it has written so far; call er_suite again later for the rest');
   printLogs(folder);
   return tracesIn(folder);
 }
@@ -58,7 +56,7 @@ async function waitForTraces(folder) {
  * @param {CommandOptions} options
  */
 async function judgeFolders(folders, options) {
-  const known = options.known ? Known.readFile(options.known, options.writesKnown) : null;
+  const known = Known.of(options);
   const traces = await Promise.all(folders.map(waitForTraces));
   const page = folders.join(' ');
   const files = traces.flat();

@@ -31,6 +31,11 @@ const { why } = require('./view/why.js');
  * trace.
  * @typedef {{status: number, report: import('./races/types').Report, isRewritten: boolean, model: Shown, problems: Problems, linked: Promise<Shown>}} View
  */
+/**
+ * How a view is made: with the file of known races; `isLinkedLater` if its links are queried meanwhile, as when the page is run again; `isLinked` if links are
+ * queried only for the problems for which it is true, as in a list of many loads.
+ * @typedef {{known?: Known|null, isLinkedLater?: boolean, isLinked?: ((name: string) => boolean)|null}} ViewOptions
+ */
 
 /** Of a trace with more actions it is not queried why these are ordered: each query takes as long as the report, seconds. */
 const MOST_TO_QUERY = 8000;
@@ -66,15 +71,15 @@ const doNow = (work) => work();
  * Writes the view of an analyzed trace; if its links come later, without them.
  * @param {string} traceFile
  * @param {import('./races/types').Report} report
- * @param {Known|null} known
- * @param {boolean} isLinkedLater
+ * @param {ViewOptions} options
  */
-async function writeView(traceFile, report, known, isLinkedLater) {
+async function writeView(traceFile, report, { known = null, isLinkedLater = false, isLinked = null }) {
   const text = fs.readFileSync(traceFile, 'utf8');
   const names = readNames(traceFile);
   const busy = isLinkedLater ? doNow : atSignalsMercy; // a browser that runs for a replay ends only by a handler
   const { model, problems } = busy(() => ({ model: new Model(report, names, new Actions(text.replace(/end\n$/, ''))), problems: new Problems(text, names, report) }));
-  const queried = report.actions <= MOST_TO_QUERY ? linksBetween(traceFile, model.pairsToExplain()) : Promise.resolve([]);
+  const pairs = isLinked ? model.pairsOf(problems.list.filter(({ name }) => isLinked(name)).map(({ first }) => first)) : model.pairsToExplain();
+  const queried = report.actions <= MOST_TO_QUERY ? linksBetween(traceFile, pairs) : Promise.resolve([]);
   const links = isLinkedLater ? [] : await queried;
   const listing = busy(() => new Listing([problems], known));
   const nameOf = (/** @type {number} */ race) => problems.ofRaces[race].problem;
@@ -101,11 +106,10 @@ function writePage(traceFile, shown) {
  * Has a trace analyzed and writes its view.
  * @param {string} traceFile
  * @param {string} command whose name messages start with
- * @param {Known|null} [known]
- * @param {boolean} [isLinkedLater]
+ * @param {ViewOptions} [options]
  * @returns {Promise<{status: number, view?: View}>} no view if the trace was refused, or there is no report
  */
-async function viewTrace(traceFile, command, known = null, isLinkedLater = false) {
+async function viewTrace(traceFile, command, options = {}) {
   const { status, report, fault, leftOut } = await judgeWithin(traceFile);
   if (!report) {
     printError(`${command}: the analyzer gave no report: ${fault}`);
@@ -115,7 +119,7 @@ async function viewTrace(traceFile, command, known = null, isLinkedLater = false
     printError(`${command}: the trace is refused at line ${report.refused.line}: ${report.refused.cause}`);
     return { status };
   }
-  const shown = await writeView(traceFile, report, known, isLinkedLater);
+  const shown = await writeView(traceFile, report, options);
   if (leftOut.length) printError(`${command}: ${traceFile} is written again without what is over the limits of the analyzer`);
   for (const { words, accesses, pairs } of shown.problems.leftOut) {
     printError(`${command}: left out, over the limits of the analyzer: ${words}, with ${accesses} accesses and ${pairs} pairs`);

@@ -102,11 +102,14 @@ class Stage:
         return run(self.path(f"usr/bin/{name}"), "--help")
 
     def write_module(self):
-        """The interface for programs, with this version."""
+        """The interface for programs, with this version and TypeScript's declarations."""
         path = self.path(f"{SHARED}/recorder/package.json")
         facts = json.loads(read(path))
         major_minor = self.facts["version"].split("~")[0]
-        write(path, json.dumps({**facts, "version": major_minor + ".0" * (2 - major_minor.count("."))}, indent=2) + "\n")
+        run(f"{TOP}/tools/declarations", self.path(f"{SHARED}/recorder"))
+        named = {"version": major_minor + ".0" * (2 - major_minor.count(".")), "types": "./index.d.ts"}
+        named["exports"] = {**facts["exports"], ".": {"types": "./index.d.ts", "default": facts["exports"]["."]}}
+        write(path, json.dumps({**facts, **named}, indent=2) + "\n")
         os.makedirs(os.path.dirname(self.path(MODULE)), exist_ok=True)
         os.symlink("../eventracer/recorder", self.path(MODULE))
 

@@ -1,7 +1,6 @@
 // Not run by this project's tests, since no package of Debian has this version of Jest: a reporter that lists the races of the page loads in ER_TRACES.
 'use strict';
 const fs = require('node:fs');
-const path = require('node:path');
 const { list } = require('eventracer');
 
 module.exports = class RaceReporter {
@@ -10,9 +9,8 @@ module.exports = class RaceReporter {
   }
 
   async onRunComplete() {
-    const traces = fs.readdirSync(this.folder).filter((name) => name.endsWith('.trace')).map((name) => path.join(this.folder, name));
-    if (!traces.length) return;
-    const { problems } = await list(traces, { known: this.known });
+    if (!fs.existsSync(this.folder)) return; // no test loaded a page
+    const { problems } = await list([this.folder], { known: this.known }); // it waits for the recorders
     this.fresh = problems.filter(({ fails }) => fails);
     for (const { name, words } of this.fresh) console.error(`${name} ${words}`);
   }

@@ -6,15 +6,19 @@ const path = require('node:path');
 const { test: base, chromium } = require('@playwright/test');
 const { list } = require('eventracer');
 
+/** A worker that loaded no page has no trace. */
+const ifNone = (fault) => {
+  if (fault.code !== 'NO_PAGE') throw fault;
+  return { problems: [] };
+};
+
 exports.test = base.extend({
   browser: [async ({}, use) => {
     const folder = fs.mkdtempSync(path.join(os.tmpdir(), 'traces-'));
     const browser = await chromium.launch({ executablePath: '/usr/bin/er_browser', env: { ...process.env, ER_TRACES: folder } });
     await use(browser);
     await browser.close();
-    while (fs.readdirSync(folder).some((name) => name.startsWith('.recording-'))) await new Promise((resolve) => { setTimeout(resolve, 100); });
-    const traces = fs.readdirSync(folder).filter((name) => name.endsWith('.trace')).map((name) => path.join(folder, name));
-    const { problems } = traces.length ? await list(traces, { known: 'races.known' }) : { problems: [] };
+    const { problems } = await list([folder], { known: 'races.known' }).catch(ifNone); // it waits for the recorder
     const fresh = problems.filter(({ fails }) => fails);
     if (fresh.length) throw new Error(fresh.map(({ name, words }) => `${name} ${words}`).join('\n'));
   }, { scope: 'worker' }],

@@ -21,6 +21,7 @@ const POLL_MEETING = 2;
 const LONGEST_MEETING = 2000;
 const LONGEST_START = 10000;
 const ONLY_PAGES = [{ type: 'page' }, { exclude: true }];
+const ONLY_SERVICE_WORKERS = [{ type: 'service_worker' }, { exclude: true }];
 
 /** @typedef {import('./driven-tab.js').ProtocolEvent} ProtocolEvent */
 /** @typedef {import('./load.js').Load} LoadOfPage */
@@ -81,6 +82,7 @@ class BrowserRecorder {
     const { browser } = this;
     browser.on('Target.attachedToTarget', (params) => this.meet(params));
     browser.on('Target.detachedFromTarget', ({ sessionId }) => this.part(sessionId));
+    browser.on('Target.targetCreated', ({ targetInfo }) => this.meetWorker(targetInfo));
     browser.on('Fetch.requestPaused', (event, sessionId) => this.pass(event, sessionId).catch(() => this.paused.letPass(event)));
     for (const method of ['Page.frameNavigated', 'Page.documentOpened', 'Runtime.executionContextsCleared', 'Runtime.executionContextCreated', 'Runtime.bindingCalled',
       'Runtime.exceptionThrown', 'Inspector.targetCrashed']) {
@@ -90,6 +92,7 @@ class BrowserRecorder {
     // no document comes before its tab is set up
     await browser.send('Fetch.enable', { patterns: [{ urlPattern: '*', requestStage: 'Request', resourceType: 'Document' }] });
     await browser.send('Target.setAutoAttach', { autoAttach: true, waitForDebuggerOnStart: true, flatten: true, filter: ONLY_PAGES });
+    await browser.send('Target.setDiscoverTargets', { discover: true, filter: ONLY_SERVICE_WORKERS });
   }
 
   /** Loads pages in the tabs with which the browser has started. */
@@ -110,6 +113,15 @@ class BrowserRecorder {
     this.tabs.set(targetInfo.targetId, tab);
     this.sessions.set(sessionId, tab);
     tab.setUp(waitingForDebugger);
+  }
+
+  /**
+   * What a service worker answers comes to no session of a page.
+   * @param {{type: string, url: string}} targetInfo
+   */
+  meetWorker({ type, url }) {
+    if (type !== 'service_worker' || !/^https?:/.test(url)) return;
+    this.complain(`not recorded: the accesses of scripts that a service worker answers (${withoutCredentials(url)}); a suite that blocks service workers has them`);
   }
 
   /**

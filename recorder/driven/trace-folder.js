@@ -9,6 +9,8 @@ const { sleep } = require('../common/time.js');
 const LOCK = /^\.recording-(\d+)$/;
 const POLL = 50;
 const LONGEST_SLUG = 60;
+/** What a recorder has not written after so many milliseconds does not come. */
+const LONGEST_WRITING = 60000;
 
 /**
  * An address as a part of a file's name.
@@ -59,7 +61,7 @@ const writersOf = (/** @type {string} */ folder) => fs.readdirSync(folder).map((
  * @param {string} folder
  * @param {number} longest
  */
-async function waitForWriters(folder, longest) {
+async function waitForWriters(folder, longest = LONGEST_WRITING) {
   for (const until = Date.now() + longest; Date.now() < until; await sleep(POLL)) {
     if (!writersOf(folder).length) return true;
   }

@@ -28,6 +28,14 @@ class Known {
   }
 
   /**
+   * The file that a command's options name, if they name one.
+   * @param {{known: string|null, writesKnown: boolean}} options
+   */
+  static of({ known, writesKnown }) {
+    return known ? Known.readFile(known, writesKnown) : null;
+  }
+
+  /**
    * Reads a file of known races. Fails with a KnownFault.
    * @param {string} file @param {boolean} mayLack whether the file may still have to be written
    */

@@ -28,43 +28,31 @@ const keyOf = (place) => place.join(' ');
 /** @param {number} line @param {number} action */
 const accessOf = (line, action) => `${line} ${action}`;
 
+/**
+ * What is stored of a load: plain data, which another process can send. `counts` says how many races each problem without a group has; `shown` is by the
+ * accesses of the race, `said` by the name of the problem.
+ * @typedef {{report: {races: Race[], groups: {race: number, size: number}[]}, ofRaces: NamedRace[], leads: number[], list: Problem[], counts: Map<string, number>,
+ *   leftOut: Problems['leftOut'], ofLibraries: Problems['ofLibraries'], unmarked: Problems['unmarked'], shown: Map<string, Shown>, said: Map<string, Said>,
+ *   names: {files: {address: string}[], documents: {0: {address: string}}, page: string}}} LoadFacts
+ * @typedef {{name: string, problem: string, order: number, ownOrder: number, look: Problem['look']}} NamedRace
+ */
+
 /** The load in the place of `Problems`: it has the members that `Listing`, JSON, SARIF and JUnit read. */
 class LoadRun {
-  /**
-   * @param {LoadRuns} pool
-   * @param {Problems} problems
-   * @param {number[]} kept the races that stay, in ascending order
-   * @param {Set<number>} inWords those of them that are shown in words
-   * @param {Set<string>} named the problems that no earlier load has
-   */
-  constructor(pool, problems, kept, inWords, named) {
-    const { report, ofRaces, leads, names, leftOut, ofLibraries, unmarked } = problems;
-    const copy = (/** @type {string} */ text) => pool.copy(text);
-    /** @type {Numbers} */
-    const numbers = new Map(kept.map((race, k) => [race, k]));
-    const numberOf = (/** @type {number} */ race) => numbers.get(race) ?? 0;
-    this.report = {
-      races: kept.map((race) => ({ ...report.races[race], location: copy(report.races[race].location), modes: copy(report.races[race].modes) })),
-      groups: report.groups.map(({ race, size }) => ({ race: numberOf(race - 1) + 1, size })),
-    };
-    this.ofRaces = kept.map((race) => {
-      const { name, problem, order, ownOrder, look } = ofRaces[race];
-      return { name: copy(name), problem: copy(problem), order, ownOrder, look: pool.look(look) };
-    });
-    this.leads = leads.map(numberOf);
-    this.list = problems.list.map((one) => pool.problem(one, numbers));
-    /** How many races each problem without a group has. */
-    this.counts = new Map(problems.list.filter(({ groups }) => !groups.length).map(({ name, races }) => [copy(name), races.length]));
+  /** @param {LoadFacts} facts */
+  constructor({ report, ofRaces, leads, list, counts, leftOut, ofLibraries, unmarked, shown, said, names }) {
+    this.report = report;
+    this.ofRaces = ofRaces;
+    this.leads = leads;
+    this.list = list;
+    this.counts = counts;
     this.leftOut = leftOut;
     this.ofLibraries = ofLibraries;
     this.unmarked = unmarked;
-    /** @type {Map<string, Shown>} by the accesses of the race */
-    this.shown = new Map([...inWords].map((race) => [report.races[race].lines.join(' '), shownOf(problems, race, copy)]));
-    const page = names.documents['0']?.address || names.page || '';
-    /** @type {{files: {address: string}[], documents: {0: {address: string}}, page: string}} */
-    this.names = { files: names.files.map(({ address }) => ({ address: copy(address) })), documents: { 0: { address: copy(page) } }, page: copy(page) };
-    this.words = wordsOf(this.shown);
-    this.said = saidOf(problems, named, copy);
+    this.shown = shown;
+    this.said = said;
+    this.names = names;
+    this.words = wordsOf(shown);
   }
 }
 
@@ -138,6 +126,8 @@ class LoadRuns {
     this.texts = new Map();
     /** @type {Map<string, Problem['look']>} */
     this.looks = new Map();
+    /** @type {Set<Problem['look']>} the values of these */
+    this.sharedLooks = new Set();
     /** @type {Set<string>} the problems of the loads so far */
     this.seen = new Set();
   }
@@ -167,6 +157,7 @@ class LoadRuns {
     /** @type {Problem['look']} */
     const own = JSON.parse(key);
     this.looks.set(key, own);
+    this.sharedLooks.add(own);
     return own;
   }
 
@@ -184,18 +175,90 @@ class LoadRuns {
   }
 
   /**
-   * What the list needs of a load's problems: words only of those that no earlier load has.
+   * The load's facts. The next load has nothing in words of which this one has.
    * @param {Problems} problems
-   * @returns {LoadRun}
+   * @returns {LoadFacts}
    */
-  add(problems) {
+  factsOf(problems) {
     const fresh = problems.list.filter(({ name }) => !this.seen.has(name));
-    const inWords = fresh.map(({ first }) => first);
-    const named = new Set(fresh.map(({ name }) => name));
     problems.list.forEach(({ name }) => this.seen.add(this.copy(name)));
-    if (!this.isWhole) return new LoadRun(this, problems, racesOf(problems), new Set(inWords), named);
     const all = problems.ofRaces.map((_, k) => k);
-    return new LoadRun(this, problems, all, new Set(all), named);
+    const kept = this.isWhole ? all : racesOf(problems);
+    return this.storedOf(problems, kept, this.isWhole ? all : fresh.map(({ first }) => first), new Set(fresh.map(({ name }) => name)));
+  }
+
+  /**
+   * @param {Problems} problems
+   * @param {number[]} kept the races that stay, in ascending order
+   * @param {number[]} inWords those of them that are shown in words
+   * @param {Set<string>} named the problems that no earlier load has
+   * @returns {LoadFacts}
+   */
+  storedOf(problems, kept, inWords, named) {
+    const { report, ofRaces, leads, list, names, leftOut, ofLibraries, unmarked } = problems;
+    const copy = (/** @type {string} */ text) => this.copy(text);
+    /** @type {Numbers} */
+    const numbers = new Map(kept.map((race, k) => [race, k]));
+    const numberOf = (/** @type {number} */ race) => numbers.get(race) ?? 0;
+    const page = names.documents['0']?.address || names.page || '';
+    return {
+      report: {
+        races: kept.map((race) => ({ ...report.races[race], location: copy(report.races[race].location), modes: copy(report.races[race].modes) })),
+        groups: report.groups.map(({ race, size }) => ({ race: numberOf(race - 1) + 1, size })),
+      },
+      ofRaces: kept.map((race) => {
+        const { name, problem, order, ownOrder, look } = ofRaces[race];
+        return { name: copy(name), problem: copy(problem), order, ownOrder, look: this.look(look) };
+      }),
+      leads: leads.map(numberOf),
+      list: list.map((one) => this.problem(one, numbers)),
+      counts: new Map(list.filter(({ groups }) => !groups.length).map(({ name, races }) => [copy(name), races.length])),
+      leftOut,
+      ofLibraries,
+      unmarked,
+      shown: new Map([...new Set(inWords)].map((race) => [report.races[race].lines.join(' '), shownOf(problems, race, copy)])),
+      said: saidOf(problems, named, copy),
+      names: { files: names.files.map(({ address }) => ({ address: copy(address) })), documents: { 0: { address: copy(page) } }, page: copy(page) },
+    };
+  }
+
+  /** @param {Problems} problems */
+  add(problems) {
+    return new LoadRun(this.factsOf(problems));
+  }
+
+  /**
+   * A load of which another process has stored the facts. Of a problem that an earlier load has, what is said is not kept.
+   * @param {LoadFacts} facts
+   */
+  take(facts) {
+    const said = new Map([...facts.said].filter(([name]) => !this.seen.has(name)));
+    const isFresh = (/** @type {number} */ race) => this.isWhole || !this.seen.has(facts.ofRaces[race].problem);
+    const shown = new Map(facts.report.races.flatMap(({ lines }, race) => {
+      const one = isFresh(race) && facts.shown.get(lines.join(' '));
+      return one ? [[lines.join(' '), one]] : [];
+    }));
+    facts.list.forEach(({ name }) => this.seen.add(this.copy(name)));
+    for (const one of [...facts.ofRaces, ...facts.list]) one.look = this.look(one.look);
+    return new LoadRun(this.shared({ ...facts, said, shown }));
+  }
+
+  /**
+   * Data with each text stored once.
+   * @template T
+   * @param {T} data
+   * @returns {T}
+   */
+  shared(data) {
+    /** @type {(value: any) => any} */
+    const share = (value) => {
+      if (typeof value === 'string') return this.copy(value);
+      if (!value || typeof value !== 'object' || this.sharedLooks.has(value)) return value;
+      if (Array.isArray(value)) return value.map(share);
+      if (value instanceof Map) return new Map([...value].map(([key, one]) => [share(key), share(one)]));
+      return Object.fromEntries(Object.entries(value).map(([key, one]) => [key, share(one)]));
+    };
+    return share(data);
   }
 }
 

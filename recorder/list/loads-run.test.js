@@ -41,11 +41,15 @@ test('a load as it is stored gives the same list, JSON and SARIF', async () => {
     const whole = new WholeListing(loads, known, {});
     for (const isWhole of [false, true]) {
       const runs = new LoadRuns(isWhole);
-      const listing = new LoadsListing(loads.map((one) => runs.add(one)), known, {}, loads.map((_, k) => `${k + 1}.html`));
-      assert.deepStrictEqual(linesOf(listing), linesOf(whole));
-      assert.deepStrictEqual(sarifOf(listing, FACTS), sarifOf(whole, FACTS));
-      if (isWhole) assert.deepStrictEqual(plainListing(listing, FACTS), plainListing(whole, FACTS));
-      if (known) assert.strictEqual(known.textWith(listing.problems), known.textWith(whole.problems));
+      const [odd, even, all] = [new LoadRuns(isWhole), new LoadRuns(isWhole), new LoadRuns(isWhole)];
+      const sent = loads.map((one, k) => structuredClone((k % 2 ? odd : even).factsOf(one))); // by two processes, alternately
+      for (const stored of [loads.map((one) => runs.add(one)), sent.map((facts) => all.take(facts))]) {
+        const listing = new LoadsListing(stored, known, {}, loads.map((_, k) => `${k + 1}.html`));
+        assert.deepStrictEqual(linesOf(listing), linesOf(whole));
+        assert.deepStrictEqual(sarifOf(listing, FACTS), sarifOf(whole, FACTS));
+        if (isWhole) assert.deepStrictEqual(plainListing(listing, FACTS), plainListing(whole, FACTS));
+        if (known) assert.strictEqual(known.textWith(listing.problems), known.textWith(whole.problems));
+      }
     }
   }
 });

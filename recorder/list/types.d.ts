@@ -115,6 +115,8 @@ export interface Load {
   address: string;
   test?: { name?: string; words?: string };
   errors?: string[];
+  /** What was not recorded. */
+  lost?: string[];
   why?: string;
   actions?: number;
 }

@@ -42,6 +42,7 @@ import { Ready } from './scripts/ready.js';
 import { Scripts } from './scripts/scripts.js';
 import { Callbacks } from './tasks/callbacks.js';
 import { Chaos } from './tasks/chaos.js';
+import { Clock } from './tasks/clock.js';
 import { Connections } from './tasks/connections.js';
 import { Jobs } from './tasks/jobs.js';
 import { Observers } from './tasks/observers.js';
@@ -99,6 +100,7 @@ class Page {
     this.joins = new Joins(this);
     this.chaos = new Chaos(this);
     this.timers = new Timers(this);
+    this.clock = new Clock(this);
     this.callbacks = new Callbacks(this);
     this.jobs = new Jobs(this);
     this.promises = new Promises(this);
@@ -139,7 +141,7 @@ class Page {
     if (this.recording.objects) this.recording.objects.addWindow(this);
     this.beginDocument();
     const parts = [this.chaos, this.handlers, this.onHandlers, this.capturing, this.calls, this.attributes, this.made, this.lookups, this.fields, this.causes, this.media, this.navigations, this.timers, this.callbacks,
-      this.jobs, this.promises, this.observers, this.requests, this.connections, this.messages, this.reactions, this.unseen];
+      this.jobs, this.promises, this.observers, this.requests, this.connections, this.messages, this.reactions, this.clock, this.unseen];
     each(parts, (part) => part.start());
     this.replaceToString();
     this.tree.start(maker);

@@ -5,7 +5,7 @@ const { eachAtOnce } = require('../common/at-once.js');
 const { answersAtOnce, runProgram } = require('./program.js');
 
 const AT_ONCE = 4;
-const MOST_PAIRS = 300;
+const MOST_QUERIES = 300;
 /** A view waits at most this many milliseconds for links. */
 const LONGEST = 4000;
 
@@ -25,6 +25,38 @@ async function explain(traceFile, from, to) {
 }
 
 /**
+ * The paths that were found, from the first action of each pair. The analyzer takes one link into each action, so a path over an action contains the path
+ * to it, and this one is not queried.
+ */
+class Paths {
+  constructor() {
+    /** @type {Map<string, [number, number, number]>} */
+    this.links = new Map();
+    /** @type {Map<number, Set<number>>} the actions of the paths by their first action */
+    this.reached = new Map();
+  }
+
+  /** @param {number} from @param {number} to */
+  has(from, to) {
+    return !!this.reached.get(from)?.has(to);
+  }
+
+  /** @param {number} from @param {number} to @param {[from: number, to: number, rule: number][]} steps */
+  add(from, to, steps) {
+    const reached = this.reached.get(from) || new Set();
+    this.reached.set(from, reached.add(to));
+    for (const step of steps) {
+      this.links.set(step.join(' '), step);
+      reached.add(step[1]);
+    }
+  }
+
+  list() {
+    return [...this.links.values()].sort((a, b) => a[0] - b[0] || a[1] - b[1]);
+  }
+}
+
+/**
  * The links of the paths from the first action of each pair to its second, each `[from, to, rule]` once.
  * @param {string} traceFile
  * @param {[from: number, to: number][]} pairs
@@ -33,17 +65,18 @@ async function explain(traceFile, from, to) {
 async function linksBetween(traceFile, pairs) {
   if (!answersAtOnce()) return null;
   const until = Date.now() + LONGEST;
-  /** @type {Map<string, [number, number, number]>} */
-  const links = new Map();
+  const paths = new Paths();
   /** @type {string[]} */
   const faults = [];
-  await eachAtOnce(pairs.slice(0, MOST_PAIRS), AT_ONCE, async ([from, to]) => {
-    if (faults.length || Date.now() >= until) return;
+  let queries = 0;
+  await eachAtOnce(pairs, AT_ONCE, async ([from, to]) => {
+    if (faults.length || Date.now() >= until || queries >= MOST_QUERIES || paths.has(from, to)) return;
+    queries++;
     const { steps, fault } = await explain(traceFile, from, to);
     if (fault) faults.push(fault); // an analyzer without this subcommand
-    (steps || []).forEach((step) => links.set(step.join(' '), step));
+    paths.add(from, to, steps || []);
   });
-  return [...links.values()].sort((a, b) => a[0] - b[0] || a[1] - b[1]);
+  return paths.list();
 }
 
 module.exports = { explain, linksBetween };

@@ -40,6 +40,17 @@ function programState() {
 const answersAtOnce = () => AT_ONCE.includes(programState());
 const isProved = () => programState() === 'built';
 
+/** Which program answers, for a process that this one starts. */
+const programFacts = () => ({ state: programState(), program });
+
+/**
+ * Takes the program of the process that started this one.
+ * @param {ReturnType<typeof programFacts>} facts
+ */
+function useProgram(facts) {
+  ({ state, program } = facts);
+}
+
 /**
  * @param {string[]} args
  * @param {string} traceFile
@@ -90,4 +101,4 @@ async function endAsking(status) {
   process.exit(status);
 }
 
-module.exports = { judge, runProgram, askAhead, answersAtOnce, isProved, programState, endAsking, PROGRAM };
+module.exports = { judge, runProgram, askAhead, answersAtOnce, isProved, programState, programFacts, useProgram, endAsking, PROGRAM };

@@ -107,3 +107,41 @@ test('a page that the driver writes into an empty one: a line says that it is no
   assert.ok(await waitForWriters(traces, LONGEST));
   assert.strictEqual(tracesIn(traces).length, 1);
 });
+
+test('a service worker: a line says what is not recorded', LIMIT, async () => {
+  const traces = path.join(folder, 'worker');
+  Object.assign(process.env, { ER_TRACES: traces, TMPDIR: folder });
+  const driver = await Driver.launch(BROWSER);
+  process.on('exit', () => driver.killNow());
+  try {
+    const tab = await driver.newTab();
+    await tab.load(`${server.origin}/worker`);
+    await tab.waitForValue('isReady');
+    await until(() => /not recorded: the accesses of scripts that a service worker answers \(http:.*worker-script\.js\)/.test(logOf(traces)));
+  } finally {
+    delete process.env.ER_TRACES;
+    await driver.close();
+  }
+  assert.ok(await waitForWriters(traces, LONGEST));
+});
+
+test('a clock of a program: the recording and er_suite say what has no timer', LIMIT, async () => {
+  const traces = path.join(folder, 'clock');
+  Object.assign(process.env, { ER_TRACES: traces, TMPDIR: folder });
+  const driver = await Driver.launch(BROWSER);
+  process.on('exit', () => driver.killNow());
+  try {
+    const tab = await driver.newTab();
+    await tab.load(`${server.origin}/clock`);
+    await tab.waitForValue('isSet');
+    await tab.value('pass()');
+    await tab.load(`${server.origin}/clock?watched`); // as zone.js: the date stays
+    await tab.waitForValue('isSet');
+  } finally {
+    delete process.env.ER_TRACES;
+    await driver.close();
+  }
+  assert.ok(await waitForWriters(traces, LONGEST));
+  const { stderr } = await run(path.join(TOP, 'er_suite'), [traces], { longest: LONGEST });
+  assert.match(stderr, /^ {2}not recorded: clocks that a program put in the place of the browser's, whose callbacks have no timer: 1, in 1 page load$/m);
+});

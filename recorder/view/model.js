@@ -58,16 +58,25 @@ class Model {
 
   /**
    * The pairs of actions of which the view shows why they are ordered: what the first race of each group comes from, the largest group first, and the
-   * ways from the first action to each other one.
+   * ways from the first action to each other one; the last ones first, since a way to these leads over others.
    * @returns {[number, number][]}
    */
   pairsToExplain() {
-    const firsts = [...this.report.groups].sort((a, b) => b.size - a.size).slice(0, MOST_TO_EXPLAIN).map(({ race }) => this.report.races[race - 1]);
-    const ofRaces = firsts.flatMap(({ actions }) => {
+    const firsts = [...this.report.groups].sort((a, b) => b.size - a.size).slice(0, MOST_TO_EXPLAIN).map(({ race }) => race - 1);
+    return [...this.pairsOf(firsts), ...this.actions.list.slice(1).reverse().map(({ number }) => /** @type {[number, number]} */ ([0, number]))];
+  }
+
+  /**
+   * The ways to both actions of races.
+   * @param {number[]} races
+   * @returns {[number, number][]}
+   */
+  pairsOf(races) {
+    return races.flatMap((race) => {
+      const { actions } = this.report.races[race];
       const common = this.commonOrigin(actions) ?? 0;
       return actions.filter((action) => action !== common).map((action) => /** @type {[number, number]} */ ([common, action]));
     });
-    return [...ofRaces, ...this.actions.list.slice(1).map(({ number }) => /** @type {[number, number]} */ ([0, number]))];
   }
 
   /**

@@ -72,6 +72,7 @@ class Unseen {
 
   /** Records which properties of the window have changed since the last look. Called at the end of each piece of code. */
   compare() {
+    this.page.clock.look();
     each(Object.keys(this.page.window), (name) => this.compareOne(name));
     each(this.hidden, (name) => this.compareOne(name));
   }
@@ -100,6 +101,7 @@ class Unseen {
    * @param {import('../scripts/scripts.js').FunctionOfScript[]} functions
    */
   takeOver(functions) {
+    this.page.clock.look();
     const { values } = this.globals;
     each(joined(Object.keys(this.page.window), this.hidden), (name) => {
       const descriptor = this.descriptorOf(name);

@@ -1,0 +1,35 @@
+// A clock that a program puts in the place of the browser's, as test suites do: what it calls back has no timer.
+
+const OTHER_CLOCK = 'clocks that a program put in the place of the browser\'s, whose callbacks have no timer';
+/** A library that only looks at timers, as zone.js, leaves the date. */
+const NAMES = /** @type {const} */ (['setTimeout', 'Date']);
+
+class Clock {
+  /** @param {import('../types').Page} page */
+  constructor(page) {
+    this.page = page;
+    /** @type {unknown[]} what the window has in the end of its start */
+    this.own = [];
+    this.isOther = false;
+  }
+
+  start() {
+    this.own = [this.valueOf(NAMES[0]), this.valueOf(NAMES[1])];
+  }
+
+  /** @param {string} name */
+  valueOf(name) {
+    const descriptor = this.page.globals.propertyOf(name);
+    return descriptor && 'value' in descriptor ? descriptor.value : descriptor?.get;
+  }
+
+  /** Counts another clock, once. */
+  look() {
+    if (this.isOther || !this.own.length) return;
+    const { 0: timeout, 1: date } = this.own;
+    this.isOther = this.valueOf(NAMES[0]) !== timeout && this.valueOf(NAMES[1]) !== date;
+    if (this.isOther) this.page.recording.log.miss(OTHER_CLOCK);
+  }
+}
+
+export { Clock };

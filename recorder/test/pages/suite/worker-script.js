@@ -1,0 +1,1 @@
+self.addEventListener('fetch', function (event) { event.respondWith(fetch(event.request)); });
