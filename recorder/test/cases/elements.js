@@ -97,7 +97,7 @@ exports.cases = [
       'w localStorage.theme', 'w document.cookie', 'timer', 'r localStorage.theme', 'r document.cookie',
     ],
   },
-  { page: 'storage-key.html', due: ['w localStorage.k'], never: ['w sessionStorage.none'] },
+  { page: 'storage-key.html', due: ['w localStorage.k', 'w localStorage.hidden', 'w localStorage.later'], never: ['w sessionStorage.none'] },
   {
     page: 'storage-properties.html',
     due: [
