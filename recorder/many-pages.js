@@ -16,6 +16,7 @@ const { makeFolder } = require('./common/whole-file.js');
 const { slugOf } = require('./driven/trace-folder.js');
 const { Known } = require('./list/known.js');
 const { reportLoads } = require('./loads.js');
+const { AVOIDED } = require('./options/avoided.js');
 const { endAsking } = require('./races/program.js');
 const { argumentsOf } = require('./recording/origin.js');
 const { readSitemap } = require('./sitemap.js');
@@ -55,18 +56,20 @@ function readList(file) {
  * @param {CommandOptions} options
  */
 function wordsOf(options) {
-  const { clicks, root, fallback, ignoresCertificateErrors } = options;
+  const { clicks, avoided, redacted, root, fallback, ignoresCertificateErrors } = options;
   const own = [...root ? [`--root=${root}`] : [], ...fallback ? [`--fallback=${fallback}`] : [], ...ignoresCertificateErrors ? ['--ignore-certificate-errors'] : []];
-  return [...argumentsOf({ ...options, isLive: false }), '--clicks', String(clicks), ...own];
+  const avoids = avoided === AVOIDED ? [] : [`--avoid=${avoided ? avoided.source : 'none'}`];
+  return [...argumentsOf({ ...options, isLive: false }), '--clicks', String(clicks), ...avoids, ...redacted.map((one) => `--redact=${one}`), ...own];
 }
 
 /**
  * What servers require, as arguments of er_record.
- * @param {Pick<CommandOptions, 'headers'|'credentials'>} options
+ * @param {Pick<CommandOptions, 'headers'|'credentials'|'cookies'|'storageStateFile'>} options
  */
-function secretsOf({ headers, credentials }) {
+function secretsOf({ headers, credentials, cookies, storageStateFile }) {
   const user = credentials ? [`--http-credentials=${credentials.user}:${credentials.password}`] : [];
-  return [...headers.map(([name, value]) => `--header=${name}:${value}`), ...user];
+  const state = storageStateFile ? [`--storage-state=${storageStateFile}`] : [];
+  return [...headers.map(([name, value]) => `--header=${name}:${value}`), ...cookies.map(([name, value]) => `--cookie=${name}=${value}`), ...state, ...user];
 }
 
 /**
@@ -80,7 +83,7 @@ function pageOf(given, folder, options) {
   const address = withoutCredentials(given);
   const name = `${slugOf(address)}-${digestOf(address).slice(0, DIGITS)}`;
   const words = wordsOf(options);
-  const secrets = secretsOf({ headers: options.headers, credentials: credentialsOf(given) || options.credentials });
+  const secrets = secretsOf({ ...options, credentials: credentialsOf(given) || options.credentials });
   const file = path.join(folder, name, 'page.trace');
   return { address, file, args: [...words, ...secrets, '--', address, file], key: digestOf(JSON.stringify([address, words])) };
 }
@@ -201,4 +204,4 @@ async function listPages(options) {
   return status || failed;
 }
 
-module.exports = { listPages, addressesOf };
+module.exports = { listPages, addressesOf, pageOf };

@@ -183,7 +183,7 @@ class ReplayCommand {
     this.results.sort(orderOfResults);
     const isInList = this.options.name === 'er_page' && !this.options.isJson; // the list comes next, and has each result
     this.lines().slice(isInList ? -1 : 0).forEach((line) => this.print(line));
-    const races = redactedObject(this.results.map(({ number, result }) => plain(result, this.report.races[number - 1], number)));
+    const races = redactedObject(this.results.map(({ number, result }) => plain(result, this.report.races[number - 1], number, (one) => this.listing.placeOfRace(0, one - 1))));
     this.listing.setVerdicts(0, races);
     this.write(replay, races, await this.linked);
   }
@@ -206,6 +206,15 @@ class ReplayCommand {
   }
 
   /**
+   * The view's problems with their places in the list as it is after the replays.
+   * @param {Shown} model
+   */
+  inOrder(model) {
+    const places = new Map(this.listing.problems.map(({ name }, k) => [name, k]));
+    return model.problems.map((one) => ({ ...one, order: places.get(one.name) ?? one.order }));
+  }
+
+  /**
    * @param {Replay} replay
    * @param {ReturnType<typeof plain>[]} races
    * @param {Shown} model
@@ -219,7 +228,7 @@ class ReplayCommand {
       const shownRace = { ...race, differences: race.differences || [], trace: race.trace || '', picture: pictures[k], groupWords: groups[k] };
       return /** @type {import('./view/types').ShownReplay} */ (shownRace);
     });
-    writePage(this.traceFile, { ...model, replays, recordedPicture: replay.recorded.run.end.picture?.small || null });
+    writePage(this.traceFile, { ...model, problems: this.inOrder(model), replays, recordedPicture: replay.recorded.run.end.picture?.small || null });
   }
 }
 

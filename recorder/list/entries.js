@@ -3,6 +3,7 @@
 
 const { Sides, summaryOf } = require('./sides.js');
 const { pathInFolder } = require('./places.js');
+const { APART } = require('./patterns/table.js');
 
 /**
  * @typedef {import('./listing.js').Listing} Listing
@@ -69,6 +70,11 @@ class Entries {
   }
 
   /** @param {Listed} line */
+  placeOf(line) {
+    return this.toldOf(line).place;
+  }
+
+  /** @param {Listed} line */
   summaryOf(line) {
     return summaryOf(this.toldOf(line));
   }
@@ -118,8 +124,17 @@ class Entries {
     const replay = this.listing.verdictOf(line);
     const seen = this.listing.seenInWords(line);
     /** @type {Entry['details']} */
-    const all = [['cause', cause ? summaryOf(cause) : ''], ['recorded', here], ['replayed', replay ? replay.sentence || replay.words : ''], ['runs', seen]];
+    const all = [['cause', cause ? summaryOf(cause) : ''], ['recorded', here], ['replayed', replay ? replay.sentence || replay.words : this.notReplayed(line)], ['runs', seen]];
     return all.filter(([, text]) => text);
+  }
+
+  /**
+   * What a problem has in place of a verdict, if others have one.
+   * @param {Listed} line
+   */
+  notReplayed({ look }) {
+    const isSome = this.listing.verdicts.some((verdicts) => verdicts?.size);
+    return isSome && look.part !== APART ? 'no (--most N replays more races)' : '';
   }
 
   /** @param {Listed} line @param {Listed[]} others */

@@ -76,10 +76,24 @@ class Looks {
     const k = race.modes.indexOf('r');
     if (k < 0) return null;
     const event = this.words.action(race.actions[k]);
-    const here = k === 0 ? 'here it came before the handler was set' : 'here the handler was there';
     const look = acts[k] ? 'late' : 'missed';
-    const type = race.location.split(' ')[2].replace(/\/\d+$/, '');
+    const [type, handler = ''] = race.location.split(' ')[2].split('/');
+    const here = k === 0 ? 'here it came before the handler was set' : `here the handler was there${this.isIdle(race.actions[k], handler) ? ', and changed nothing that is recorded' : ''}`;
     return lookOf(look, `a handler that comes late: ${event} may find none; ${here}`, detailOf(look, 'slot', type));
+  }
+
+  /**
+   * Whether a handler of an event ran and did nothing that the trace has but reads.
+   * @param {number} number of the action that starts the dispatch
+   * @param {string} handler
+   */
+  isIdle(number, handler) {
+    const { list, lines } = this.actions;
+    const [, dispatch] = list[number].words;
+    const run = list.findIndex(({ words }, k) => k > number && words[0] === 'run' && words[1] === dispatch && words[3] === handler);
+    if (run < 0 || !list[run + 1]) return false;
+    const isOver = ['run', 'close'].includes(list[run + 1].words[0]) && list[run + 1].words[1] === dispatch;
+    return isOver && lines.slice(list[run].line, list[run + 1].line - 1).every((line) => line.startsWith('r '));
   }
 
   /**

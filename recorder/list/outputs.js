@@ -16,6 +16,8 @@ const { sarifOf } = require('./sarif.js');
  * @typedef {{isJson?: boolean, color?: string, sarif?: string|null, known?: string|null, writesKnown?: boolean}} OutputOptions
  */
 
+/** The last line on a terminal. */
+const HELP = 'What the lines mean: docs/using.md, "A user and a slow network"; usual changes for each pattern: docs/ci.md, "Patterns"';
 /** @type {Style} */
 const PLAIN = { hasColor: false, width: 100, isTerminal: false };
 
@@ -59,9 +61,11 @@ function totalsOf(listing) {
   const counts = parts.map((part) => `${told.filter(({ line }) => line.look.part === part).length} ${part}`);
   const known = listing.knownLines().length;
   const verdicts = listing.verdicts.flatMap((some) => [...some?.values() || []]);
-  const differ = verdicts.filter(({ effect }) => effect).length;
+  const differing = verdicts.filter(({ effect }) => effect);
+  const onlyHandlers = differing.filter(({ differences = [] }) => differences.length && differences.every(({ kind }) => kind === 'event')).length;
+  const only = onlyHandlers ? ` (${onlyHandlers === differing.length ? 'only' : `${onlyHandlers} only`} in which handlers run)` : '';
   return [`${told.length} problem${told.length === 1 ? '' : 's'}${counts.length ? ` (${counts.join('; ')})` : ''}`, ...(known ? [`${known} known`] : []),
-    ...(verdicts.length ? [`${differ} of ${verdicts.length} differ in the other order`] : [])].join(', ');
+    ...(verdicts.length ? [`${differing.length} of ${verdicts.length} differ in the other order${only}`] : [])].join(', ');
 }
 
 /**
@@ -80,7 +84,10 @@ function librariesLine({ runs }) {
  * @param {boolean} isComplete
  */
 function tellLines(listing, options, isComplete = true) {
-  if (!options.isJson) linesOf(listing, isComplete, styleOf(process.stdout, process.env, options.color)).forEach((line) => printStyled(line));
+  if (options.isJson) return;
+  const style = styleOf(process.stdout, process.env, options.color);
+  linesOf(listing, isComplete, style).forEach((line) => printStyled(line));
+  if (style.isTerminal && listing.told().length) printStyled(HELP);
 }
 
 /**

@@ -4,6 +4,7 @@
 const { FIRST_FIELD, FIRST_OBJECT } = require('../common/numbers.js');
 const { shown } = require('../common/shown.js');
 const { Callbacks } = require('./callbacks.js');
+const { labelOf } = require('./element-labels.js');
 const { sentenceOf } = require('./sentences.js');
 
 /**
@@ -106,9 +107,23 @@ class Sides {
   eventOf(number) {
     const { words: [word, , element, type] } = this.words.actions.list[this.words.actions.list[number].first];
     if (!EVENTS.has(word) || type === 'then') return null;
-    const target = word === 'wfire' ? 'the window' : this.words.element(element);
+    const target = word === 'wfire' ? 'the window' : this.words.element(element) + this.labelOf(element);
     const verb = `${this.words.unescape(type)} at`;
     return { verb, target, words: `${verb} ${target}` };
+  }
+
+  /**
+   * What tells an element apart that has neither an id nor the name of a field.
+   * @param {string|number} number
+   * @returns {string}
+   */
+  labelOf(number) {
+    const { tag = '', id, field, standsFor } = this.problems.names.elements[number] || {};
+    if (standsFor) return this.labelOf(standsFor);
+    const place = tag && !id && !field ? this.words.placeOfElement(number) : null;
+    if (!place) return '';
+    const [file, line, column] = place;
+    return labelOf((this.words.sources.linesOf(file)[line] || '').slice(column - 1), tag);
   }
 
   /**

@@ -10,7 +10,8 @@ each page load of each tab into FOLDER. Then er_suite FOLDER lists their races. 
 
 Environment:
   ER_TRACES         folder for the recordings; without it, nothing is recorded
-  ER_OPTIONS        options of er_record: --depth, --libraries, --keep, --time
+  ER_OPTIONS        options of er_record, with spaces between: --depth, --libraries,
+                    --keep, --redact, --time
   ER_TEST           name that is stored with each load
   ER_HOLD           file of er_suite --replay-with: what a run holds back
   CHROMIUM          the browser (/usr/bin/chromium)

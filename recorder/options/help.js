@@ -47,8 +47,10 @@ const RECORDING = `Recording:
   --depth globals|objects
                     of scripts, record only global variables, or also properties
                     of objects, closures, arrays and the page's tree (objects)
-  --libraries REGEX file names of libraries, or "none": leave out what only these
-                    touch of objects and closures (jquery, react and others)
+  --libraries REGEX leave out what only libraries touch of objects and closures. REGEX
+                    is matched against names of files, not of hosts, and replaces the
+                    built-in list (jquery, react and others); with "none", no file is
+                    a library
   --keep            keep accesses that are left out since no race can come of them
   --format 1|2|3    version of the trace format (3)`;
 

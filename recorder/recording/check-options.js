@@ -22,11 +22,12 @@ function checkOptions(options) {
 }
 
 /** @param {CommandOptions} options */
-function checkMany({ list, sitemap, jobs, isFresh, runs, isReplayed, isLive }) {
+function checkMany({ list, sitemap, jobs, isFresh, runs, isReplayed, isLive, userDataDir, isHeaded }) {
   const isOfMany = list || sitemap;
   if (!isOfMany && (jobs || isFresh)) throw new UsageFault('--jobs and --fresh require --list FILE or --sitemap URL');
   if (list && sitemap) throw new UsageFault('--list cannot be combined with --sitemap');
   if (isOfMany && (runs > 1 || isReplayed || isLive)) throw new UsageFault('--list and --sitemap cannot be combined with --runs, --replay or --live');
+  if (isOfMany && (userDataDir || isHeaded)) throw new UsageFault('--list and --sitemap cannot be combined with --user-data-dir or --headed: pages are recorded at once');
 }
 
 /**

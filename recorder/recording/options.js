@@ -42,6 +42,8 @@ const { checkOptions } = require('./check-options.js');
  * @property {boolean} ignoresCertificateErrors
  * @property {[name: string, value: string][]} cookies of the page's origin
  * @property {import('../options/storage-state.js').StorageState|null} storageState cookies and local storage from a file
+ * @property {string|null} storageStateFile this file
+ * @property {string[]} redacted the patterns of --redact
  * @property {string|null} userDataDir the folder of a profile that stays
  * @property {{width: number, height: number}|null} viewport
  * @property {string|null} userAgent
@@ -96,7 +98,7 @@ const MOST_JOBS = 100;
 function defaults() {
   return {
     actions: [], flowPage: null, flowOfMany: null, keepsGoing: false, clicks: 0, seed: 1, avoided: AVOIDED, slow: 0, time: 30, version: NEWEST_VERSION, root: null, fallback: null,
-    headers: [], credentials: null, ignoresCertificateErrors: false, cookies: [], storageState: null, userDataDir: null, viewport: null, userAgent: null,
+    headers: [], credentials: null, ignoresCertificateErrors: false, cookies: [], storageState: null, storageStateFile: null, redacted: [], userDataDir: null, viewport: null, userAgent: null,
     isHeaded: false, isRaw: false, chaos: null, depth: 'objects', libraries: LIBRARIES, keepsAll: false, attach: null, isLive: false, runs: 1, known: null, writesKnown: false,
     countsActs: false, isJson: false, sarif: null, color: 'auto', junit: null, html: null, list: null, sitemap: null, jobs: 0, isFresh: false, isReplayed: false,
     isNeverReplayed: false, races: [], most: null, atOnce: 0, mayChange: false, replayWith: '', suiteTime: 0,
@@ -124,7 +126,7 @@ const SERVER = {
   header: { take: (options, value, name) => { options.headers.push(header(name, value)); } },
   'http-credentials': { take: (options, value, name) => { options.credentials = credentials(name, value); } },
   cookie: { take: (options, value, name) => { options.cookies.push(cookie(name, value)); } },
-  'storage-state': { take: (options, value, name) => { options.storageState = readStorageState(name, value); } },
+  'storage-state': { take: (options, value, name) => Object.assign(options, { storageState: readStorageState(name, value), storageStateFile: value }) },
   'user-data-dir': { take: (options, value, name) => { options.userDataDir = fileName(name, value); } },
   'ignore-certificate-errors': { isFlag: true, take: (options) => { options.ignoresCertificateErrors = true; } },
 };
@@ -141,7 +143,10 @@ const RECORDING = {
   root: { take: (options, value, name) => { options.root = fileName(name, value); } },
   fallback: { take: (options, value, name) => { options.fallback = fileName(name, value); } },
   ...SERVER,
-  redact: { take: (options, value, name) => { keepPattern(new RegExp((pattern(name, value) || /(?!)/).source, 'g')); } },
+  redact: { take: (options, value, name) => {
+    options.redacted.push(value);
+    keepPattern(new RegExp((pattern(name, value) || /(?!)/).source, 'g'));
+  } },
   viewport: { take: (options, value, name) => { options.viewport = viewport(name, value); } },
   'user-agent': { take: (options, value, name) => { options.userAgent = userAgent(name, value); } },
   depth: { take: (options, value, name) => { options.depth = depth(name, value); } },

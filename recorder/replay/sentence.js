@@ -5,7 +5,8 @@
 /** @typedef {import('./types').Result} Result */
 
 const LONGEST = 100;
-const LONGEST_WHY = 160;
+const LONGEST_WHY = 240;
+const MOST_PLACES = 3;
 const NONE = 'none';
 
 /** @param {string} text */
@@ -99,24 +100,52 @@ function ofNone({ byDelay = [], unsteady = [] }) {
  * @param {Difference[]} differences
  * @param {Difference} worst
  * @param {string} location
+ * @param {string} place of the race's handler
  */
-function ownOf(differences, worst, location) {
+function ownOf(differences, worst, location, place) {
   const [, type] = /^slot \d+ ([^/\s]+)/.exec(location) || [];
-  const own = differences.find(({ kind, isOfUser, subject }) => kind === worst.kind && isOfUser === worst.isOfUser && subject.startsWith(`the ${type} `));
-  return (worst.kind === 'event' && own) || worst;
+  const own = differences.filter(({ kind, isOfUser, subject }) => kind === worst.kind && isOfUser === worst.isOfUser && subject.startsWith(`the ${type} `));
+  if (worst.kind !== 'event') return worst;
+  return own.find(({ subject }) => place && `${subject} `.includes(`at ${place} `)) || own[0] || worst;
+}
+
+/**
+ * Other races that came in another order too: where a reader finds them, or else their numbers.
+ * @param {number[]} astray
+ * @param {string} place of the race itself
+ * @param {(number: number) => string} placeOf
+ */
+function othersOf(astray, place, placeOf) {
+  const places = [...new Set(astray.map(placeOf))].filter((one) => one !== place);
+  if (!places.length || places.includes('')) return `race${astray.length > 1 ? 's' : ''} ${astray.join(', ')}`;
+  const more = places.length - MOST_PLACES;
+  return `${places.length > 1 ? 'the races' : 'that'} at ${places.slice(0, MOST_PLACES).join(', ')}${more > 0 ? ` and ${more} more place${more > 1 ? 's' : ''}` : ''}`;
+}
+
+/**
+ * A race that could not be reversed. It may have come in the other order all the same.
+ * @param {Result} result
+ */
+function ofNotTurned({ why = '', chance }) {
+  const short = why.length > LONGEST_WHY ? `${why.slice(0, LONGEST_WHY).replace(/ [^ ]*$/, '')} ..` : why;
+  if (!chance?.turned.length) return `could not be turned, which says nothing about the race: ${short}`;
+  return `the two came in the other order by themselves in ${chance.turned.length} of ${chance.turned.length + chance.kept.length} further runs; no run was made for it: ${short}`;
 }
 
 /**
  * @param {Result} result
  * @param {Difference|undefined} worst the worst difference, if there is one
  * @param {string} location of the race
+ * @param {string} place of the problem in the list
+ * @param {(number: number) => string} placeOf the places of other races in the list; '' if it has none
  */
-function sentenceOf(result, worst, location = '') {
-  const { verdict, why = '', differences = [], astray = [] } = result;
-  if (verdict !== 'turned') return `could not be turned: ${why.length > LONGEST_WHY ? `${why.slice(0, LONGEST_WHY)}..` : why}`;
-  const found = worst ? ofDifferences(differences, ownOf(differences, worst, location)) : ofNone(result);
-  const others = astray.length ? `; race${astray.length > 1 ? 's' : ''} ${astray.join(', ')} came in another order too` : '';
-  return found + others;
+function sentenceOf(result, worst, location = '', place = '', placeOf = () => '') {
+  const { verdict, differences = [], astray = [] } = result;
+  if (verdict !== 'turned') return ofNotTurned(result);
+  const found = worst ? ofDifferences(differences, ownOf(differences, worst, location, place)) : ofNone(result);
+  if (!astray.length) return found;
+  const others = othersOf(astray, place, placeOf);
+  return worst ? `${found}; some of it may come from ${others}, which came in another order too` : `${found}; ${others} came in another order too`;
 }
 
 module.exports = { sentenceOf };

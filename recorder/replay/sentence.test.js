@@ -48,6 +48,23 @@ test('of several lost events the sentence has that of the race', () => {
   assert.strictEqual(sentenceOf({ verdict: 'turned', differences: [down, LOST] }, down, 'slot 12 click/5'),
     'in the other order the click at button#buy does not find the click handler onBuy, and nothing else differs');
   assert.match(sentenceOf({ verdict: 'turned', differences: [down, LOST] }, down, 'slot 12 load/5'), /^in the other order the mousedown at button#buy does not find/);
+  const own = difference('event', 'the click at button#buy: the click handler at other.js:7', 'the click handler at other.js:7', 'not run', true);
+  assert.match(sentenceOf({ verdict: 'turned', differences: [LOST, own] }, LOST, 'slot 12 click/6', 'other.js:7'), /does not find the click handler at other\.js:7, /);
+});
+
+test('races that came in another order too are named by their places', () => {
+  const places = ['', 'own.js:1', 'a.js:1', 'own.js:1', 'b.js:2', 'c.js:3', 'd.js:4', 'e.js:5'];
+  const one = (/** @type {number[]} */ ...astray) => sentenceOf({ verdict: 'turned', differences: [LOST], astray }, LOST, 'slot 1 click/1', 'own.js:1', (number) => places[number] ?? '').split('; ')[1];
+  assert.strictEqual(one(2, 3), 'some of it may come from that at a.js:1, which came in another order too');
+  assert.strictEqual(one(2, 4), 'some of it may come from the races at a.js:1, b.js:2, which came in another order too');
+  assert.strictEqual(one(2, 4, 5, 6, 7), 'some of it may come from the races at a.js:1, b.js:2, c.js:3 and 2 more places, which came in another order too');
+  assert.strictEqual(one(3, 99), 'some of it may come from races 3, 99, which came in another order too');
+});
+
+test('a race that no run was made for can have come in the other order by itself', () => {
+  const chance = { turned: ['free', '2'], kept: ['3'], implied: [] };
+  assert.strictEqual(told({ verdict: 'not turned', why: 'what brings it has to come first', chance }),
+    'the two came in the other order by themselves in 2 of 3 further runs; no run was made for it: what brings it has to come first');
 });
 
 test('what has no visible difference, or was not turned', () => {
@@ -55,5 +72,5 @@ test('what has no visible difference, or was not turned', () => {
   assert.strictEqual(told({ differences: [] }), 'no visible difference');
   assert.strictEqual(told({ differences: [], byDelay: seen }), 'no visible difference, except what a delay in the recorded order does too');
   assert.strictEqual(told({ differences: [], unsteady: seen, astray: [4] }), 'no visible difference, except what differs by itself; race 4 came in another order too');
-  assert.strictEqual(told({ verdict: 'not turned', why: 'both come from one act of the user' }), 'could not be turned: both come from one act of the user');
+  assert.strictEqual(told({ verdict: 'not turned', why: 'both come from one act of the user' }), 'could not be turned, which says nothing about the race: both come from one act of the user');
 });

@@ -134,12 +134,14 @@ function verdictInWords(result) {
  * @param {Result} result
  * @param {Race} race
  * @param {number} number
+ * @param {(number: number) => string} [placeOf] the place of a race in the list, by its number; '' if it has none
  */
-function plain(result, race, number) {
+function plain(result, race, number, placeOf = () => '') {
   const { verdict, why, means, note, isListed, isSteady, isSeenTwice, astray, differences, beside, unsteady, byDelay, group, order, chance, comparedAt, trace } = result;
   const worst = worstOf(result);
   return {
-    race: number, lines: race.lines, location: race.location, verdict, effect: worst ? worst.name : undefined, words: verdictInWords(result), sentence: sentenceOf(result, worst?.difference, race.location), why,
+    race: number, lines: race.lines, location: race.location, verdict, effect: worst ? worst.name : undefined, words: verdictInWords(result), 
+    sentence: sentenceOf(result, worst?.difference, race.location, placeOf(number), placeOf), why,
     means, note,
     isListed, isSteady, isSeenTwice, astray, differences, beside, unsteady, byDelay, group, order, chance, comparedAt, trace,
   };

@@ -5,7 +5,8 @@ const assert = require('node:assert');
 const fs = require('node:fs');
 const path = require('node:path');
 const { test } = require('node:test');
-const { addressesOf } = require('../many-pages.js');
+const { addressesOf, pageOf } = require('../many-pages.js');
+const { parseCommand } = require('../recording/options.js');
 const { run, temporaryFolder } = require('./cleanup.js');
 
 const TOP = path.join(__dirname, '..', '..');
@@ -18,6 +19,24 @@ const page = (...words) => run(path.join(TOP, 'er_page'), words, { cwd: folder, 
 
 test('the addresses of a list', () => {
   assert.deepStrictEqual(addressesOf('# pages\r\nhttp://a/\n\n  b.html  \nhttp://a/\n#c\n'), ['http://a/', 'b.html']);
+});
+
+test('a page of a list is recorded with the options of the call', () => {
+  const state = path.join(folder, 'state.json');
+  fs.writeFileSync(state, JSON.stringify({ cookies: [{ name: 'c', value: 'd', domain: 'a' }], origins: [] }));
+  const words = ['--list', 'x', '--cookie', 'a=b=c', '--storage-state', state, '--header', 'X: y', '--redact', 'own\\d', '--avoid', 'buy', '--clicks', '2', '--slow', '30',
+    '--viewport', '390x844', '--libraries', 'none', '--do', 'click:#a'];
+  const { options } = parseCommand('er_page', words);
+  const { key, args } = pageOf('http://me:secret@a/', 'f', options);
+  const own = parseCommand('er_record', args).options;
+  const { clicks, avoided, slow, libraries, cookies, storageState, headers, redacted, viewport, actions } = own;
+  assert.deepStrictEqual(
+    { clicks, avoided, slow, libraries, cookies, storageState, headers, redacted, viewport, actions },
+    { clicks: 2, avoided: /buy/i, slow: 30, libraries: null, cookies: [['a', 'b=c']], storageState: options.storageState, headers: [['X', 'y']], redacted: ['own\\d'],
+      viewport: { width: 390, height: 844 }, actions: options.actions },
+  );
+  assert.deepStrictEqual(own.credentials, { user: 'me', password: 'secret' });
+  assert.notStrictEqual(key, pageOf('http://a/', 'f', parseCommand('er_page', ['--list', 'x']).options).key);
 });
 
 test('a password in a list is in no file and no line', LIMIT, async () => {

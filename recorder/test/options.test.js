@@ -86,6 +86,7 @@ test('arguments that are wrong say which one', () => {
     [['x', '--http-credentials', 'user'], /^--http-credentials takes USER:PASSWORD$/],
     [['x', '--jobs', '2'], /^--jobs and --fresh require --list FILE or --sitemap URL$/],
     [['--list', 'x', '--runs', '2'], /^--list and --sitemap cannot be combined with --runs, --replay or --live$/],
+    [['--list', 'x', '--user-data-dir', 'y'], /^--list and --sitemap cannot be combined with --user-data-dir or --headed: pages are recorded at once$/],
     [['--list', 'x', '--sitemap', 'http://a/'], /^--list cannot be combined with --sitemap$/],
     [['--sitemap', 'file:///x'], /^--sitemap takes a web address$/],
     [['x', '--write-known'], /^--write-known requires --known FILE$/],

@@ -239,7 +239,7 @@ async function seeView(file, races) {
   await loaded;
   const badges = await tab.evaluate("[...document.querySelectorAll('details.group > summary .verdict')].map((badge) => badge.textContent)");
   assert.deepStrictEqual(badges, Array(races).fill('turned: differs'));
-  assert.strictEqual(await tab.evaluate("document.getElementById('order').value"), 'verdict');
+  assert.strictEqual(await tab.evaluate("document.getElementById('order').value"), 'looks');
   await tab.evaluate("document.querySelectorAll('details.group').forEach((group) => { group.open = true; })");
   await new Promise((resolve) => setTimeout(resolve, 500));
   assert.strictEqual(await tab.evaluate("[...document.querySelectorAll('.end img')].filter((image) => image.naturalWidth > 0).length"), 2 * races);

@@ -16,8 +16,8 @@ const options = (pairs) => pairs.map(([value, text]) => `<option value="${value}
 
 const KINDS = options([['all', 'all'], ['variable', 'variables'], ['element', 'elements'], ['handler', 'handlers']]);
 const ORDERS = [['looks', 'worst first'], ['size', 'largest first'], ['trace', 'as recorded']];
-/** If races were run again, the order is by what came of it. */
-const ORDERS_OF_REPLAYS = [['verdict', 'by what the other order does'], ...ORDERS];
+/** "Worst first" is the order of the list, which has what replays found; by these alone, what was not replayed comes last. */
+const ORDERS_OF_REPLAYS = [ORDERS[0], ['verdict', 'by what the other order does'], ...ORDERS.slice(1)];
 const MOST_LEFT_OUT = 8;
 
 /** @param {ViewModel} model */

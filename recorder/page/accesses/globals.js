@@ -1,7 +1,7 @@
 // Global variables: the reads and writes of instrumented code.
 
 import { each } from '../core/lists.js';
-import { Map, Object, Set, Uint32Array, apply } from '../core/taken.js';
+import { Map, Object, Set, Uint32Array } from '../core/taken.js';
 import { spellName } from '../log/spelling.js';
 import { MISSING } from '../log/values.js';
 import { IS_COUNTED, READ, WRITE } from '../objects/holders.js';
@@ -266,13 +266,12 @@ class Globals {
   }
 
   /**
-   * A name that is no variable is looked up among the elements with an id.
+   * A name that is no variable is looked up among the elements with an id, whether there is one or not.
    * @param {string} name
    * @param {number} site
    */
   readNamedElement(name, site) {
-    if (!apply(this.page.natives.getElementById, this.page.document, [name])) return;
-    this.recording.access('r', `elem ${this.page.number} ${spellName(name)}`, site, 'o');
+    this.recording.access('r', `elem ${this.page.number} ${spellName(name)}`, site, () => this.page.elements.find(name));
   }
 }
 

@@ -1,6 +1,6 @@
 // Writes of global variables that no mark sees, as `root.x = 1`: the window's own properties are compared at the end of each piece of code.
 
-import { each, findItem, hasItem } from '../core/lists.js';
+import { each, findItem, hasItem, joined } from '../core/lists.js';
 import { replaceMethod } from '../core/replacing.js';
 import { fits } from '../core/strings.js';
 import { Object, String, apply } from '../core/taken.js';
@@ -93,12 +93,16 @@ class Unseen {
     return descriptor && 'value' in descriptor ? descriptor : undefined;
   }
 
-  /** What a driver's own code wrote between two tasks of the page is no write of the next one. */
-  takeOver() {
+  /**
+   * What a driver's own code, or code that was not seen to run, wrote between two tasks of the page is no write of the next one. The functions of a
+   * script that begins are its own writes.
+   * @param {import('../scripts/scripts.js').FunctionOfScript[]} functions
+   */
+  takeOver(functions) {
     const { values } = this.globals;
-    each(Object.keys(this.page.window), (name) => {
+    each(joined(Object.keys(this.page.window), this.hidden), (name) => {
       const descriptor = this.descriptorOf(name);
-      if (!descriptor || (values.has(name) && Object.is(values.get(name), descriptor.value))) return;
+      if (!descriptor || Object.is(values.get(name), descriptor.value) || findItem(functions, ({ 0: declared }) => declared === name)) return;
       values.set(name, descriptor.value);
       this.recording.log.miss('variables that changed while nothing recorded ran');
     });

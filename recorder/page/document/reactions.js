@@ -2,7 +2,7 @@
 
 import { each } from '../core/lists.js';
 import { replaceMethod } from '../core/replacing.js';
-import { Reflect, apply, getOwnPropertyDescriptor } from '../core/taken.js';
+import { Map, Reflect, apply, getOwnPropertyDescriptor } from '../core/taken.js';
 import { nameOfFunction } from '../log/values.js';
 
 /** The reactions that the browser calls for elements of the parser, and takes from the prototype before any other code of the page runs in `define`. */
@@ -19,22 +19,65 @@ class Reactions {
   constructor(page) {
     this.page = page;
     this.recording = page.recording;
+    /**
+     * By name: where the element was defined; until then the promise that it will be.
+     * @type {Map<string, {moment?: Moment, promise?: object}>}
+     */
+    this.definitions = new Map();
+    this.get = page.window.CustomElementRegistry.prototype.get;
   }
 
   start() {
     const reactions = this;
-    const { CustomElementRegistry } = this.page.window;
+    const { CustomElementRegistry, customElements } = this.page.window;
     replaceMethod(CustomElementRegistry.prototype, 'define', (native) => function define(name, constructor) {
       const restores = reactions.recording.isOver ? [] : reactions.watch(constructor);
       try {
+        if (this === customElements && typeof name === 'string') reactions.noteDefinition(name);
         return apply(native, this, arguments);
       } finally {
         each(restores, (restore) => restore());
       }
     });
+    replaceMethod(CustomElementRegistry.prototype, 'whenDefined', (native) => function whenDefined(name) {
+      const promise = apply(native, this, arguments);
+      if (this === customElements && typeof name === 'string') reactions.noteAwaited(name, promise);
+      return promise;
+    });
   }
 
   // ---- definitions
+
+  /**
+   * What waits for an element's definition comes after it and what its event does until microtasks run, also if the definition is there already. An
+   * earlier reaction at it is a later microtask.
+   * @param {string} name of the element that is being defined
+   */
+  noteDefinition(name) {
+    const { recording, page: { promises, jobs, natives, number, window } } = this;
+    if (!promises.isSeen()) return;
+    natives.queueMicrotask(() => {
+      if (recording.isOver || !recording.isCheckpoint || recording.contexts.length || !apply(this.get, window.customElements, [name])) return;
+      jobs.endContinuation();
+      if (recording.running.hasLateJobs || !recording.mayDispatch()) return;
+      const moment = recording.point(number);
+      const promise = this.definitions.get(name)?.promise;
+      if (promise && !promises.settled.has(promise)) promises.settled.set(promise, moment);
+      if (!this.definitions.get(name)?.moment) this.definitions.set(name, { moment });
+    });
+  }
+
+  /**
+   * @param {string} name
+   * @param {object} promise
+   */
+  noteAwaited(name, promise) {
+    const { recording, page: { promises } } = this;
+    const moment = this.definitions.get(name)?.moment;
+    if (recording.isOver) return;
+    if (!moment) this.definitions.set(name, { promise });
+    else if (!promises.settled.has(promise)) promises.settled.set(promise, moment);
+  }
 
   /**
    * The browser finds functions of the recorder in place of the reactions of a definition. It looks once.

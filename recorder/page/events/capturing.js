@@ -32,6 +32,8 @@ class Capturing {
   start() {
     each(ALWAYS_RECORDED, (type) => this.capture(type));
     this.captureAt('error');
+    // their causes are looked for only once the page listens (queued.js)
+    apply(this.natives.addEventListener, this.page.window, ['unhandledrejection', this.see, true]);
   }
 
   /** @param {string} type */
@@ -135,7 +137,7 @@ class Capturing {
     } else if (isOfWindow && page.modules.isRunning()) {
       this.endCode(event);
       page.modules.close();
-    } else if (this.listened.has('error') && !page.dispatches.find(event)) this.beginError(event, isOfWindow);
+    } else if ((isOfWindow || this.listened.has('error')) && !page.dispatches.find(event)) this.beginError(event, isOfWindow);
   }
 
   /**
@@ -144,7 +146,7 @@ class Capturing {
    */
   endCode(event) {
     this.recording.endPiece();
-    if (this.listened.has('error')) this.begin(event);
+    this.begin(event);
   }
 
   /**

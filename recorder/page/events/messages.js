@@ -1,7 +1,7 @@
 // Messages: `postMessage` of windows, of ports and of broadcast channels. Each message has a plain element, at which its listeners are handlers: in
 // version 2 its sender makes it, so that the message comes after its sender and no rule joins it with another one.
 
-import { each, findItem, keep, takeFirst } from '../core/lists.js';
+import { each, findItem, hasItem, keep, takeFirst } from '../core/lists.js';
 import { putConstructor, replaceConstructor, replaceMethod } from '../core/replacing.js';
 import { Object, WeakMap, apply, isArray } from '../core/taken.js';
 import { documentOf, isPlainObject } from '../core/things.js';
@@ -21,17 +21,25 @@ class Messages {
      * @type {WeakMap<Element, import('./queued.js').Cause>}
      */
     this.foreign = new WeakMap();
+    this.origin = page.window.origin;
   }
 
   start() {
     const messages = this;
     const { window } = this.page;
     replaceMethod(window, 'postMessage', (native) => function postMessage() {
-      const hold = messages.post(window, arguments);
-      messages.recording.steering.post(hold, window, () => apply(native, window, arguments));
+      const { 1: second } = arguments;
+      messages.postTo(messages.isForHere(second) ? [window] : [], window, arguments, () => apply(native, window, arguments));
     });
     this.replaceChannel(window);
     this.replaceBroadcasts(window);
+    each(['Worker', 'SharedWorker'], (name) => replaceConstructor(window, name, () => { messages.recording.hasOtherSenders = true; }));
+    if (window.ServiceWorkerContainer) {
+      replaceMethod(window.ServiceWorkerContainer.prototype, 'register', (native) => function register() {
+        messages.recording.hasOtherSenders = true;
+        return apply(native, this, arguments);
+      });
+    }
   }
 
   /**
@@ -42,12 +50,13 @@ class Messages {
     const messages = this;
     const { channels } = this.recording;
     if (!window.BroadcastChannel) return;
-    replaceConstructor(window, 'BroadcastChannel', (made) => { channels[channels.length] = made; });
+    replaceConstructor(window, 'BroadcastChannel', (made) => {
+      channels[channels.length] = made;
+      messages.listen(made);
+    });
     replaceMethod(window.BroadcastChannel.prototype, 'postMessage', (native) => function postMessage() {
-      /** @type {import('../types').Held|undefined} */
-      let hold;
-      each(channels, (one) => { if (one !== this && one.name === this.name) hold = messages.post(one) || hold; });
-      messages.recording.steering.post(hold, this.name, () => apply(native, this, arguments));
+      const others = keep(channels, (one) => one !== this && one.name === this.name);
+      messages.postTo(others, this.name, [], () => apply(native, this, arguments));
     });
   }
 
@@ -60,6 +69,7 @@ class Messages {
       const channel = new Native();
       peers.set(channel.port1, channel.port2);
       peers.set(channel.port2, channel.port1);
+      each([channel.port1, channel.port2], (port) => messages.listen(port));
       return channel;
     }
     putConstructor(window, 'MessageChannel', MessageChannel);
@@ -69,10 +79,11 @@ class Messages {
     });
     replaceMethod(window.MessagePort.prototype, 'postMessage', (native) => function postMessage() {
       const peer = peers.get(this);
-      const hold = peer && messages.post(peer, arguments);
-      messages.recording.steering.post(hold, peer, () => apply(native, this, arguments));
+      messages.postTo(peer ? [peer] : [], peer, arguments, () => apply(native, this, arguments));
     });
   }
+
+  // ---- posting
 
   /**
    * A port hands out messages once it is started, whenever they were posted.
@@ -85,11 +96,50 @@ class Messages {
   }
 
   /**
+   * Whether a message comes to this window that is posted to it for some origin.
+   * @param {unknown} second the second argument of the call: the origin, or an object that has it
+   */
+  isForHere(second) {
+    const wanted = isPlainObject(second) ? second.targetOrigin : second;
+    if (typeof wanted !== 'string' || wanted === '*' || wanted === '/') return true;
+    try {
+      return new this.page.natives.URL(wanted).origin === this.origin;
+    } catch { // the call throws too
+      return false;
+    }
+  }
+
+  /**
+   * A message that the browser refuses to post is no cause of a later one.
+   * @param {object[]} receivers
+   * @param {unknown} line messages with the same one keep their order in a replay
+   * @param {ArrayLike<any>} words the arguments of the call, if ports can go with it
+   * @param {() => void} send
+   */
+  postTo(receivers, line, words, send) {
+    const { recording } = this;
+    /** @type {import('../types').Held|undefined} */
+    let hold;
+    /** @type {import('../types').PostedMessage[]} */
+    const added = [];
+    each(receivers, (receiver) => { hold = this.post(receiver, words, added) || hold; });
+    recording.steering.post(hold, line, () => {
+      try {
+        send();
+      } catch (error) {
+        each(receivers, (receiver) => recording.posted.set(receiver, keep(recording.posted.get(receiver) || [], (one) => !hasItem(added, one))));
+        throw error;
+      }
+    });
+  }
+
+  /**
    * @param {object} receiver
-   * @param {ArrayLike<any>} [words] the arguments of the call
+   * @param {ArrayLike<any>} words
+   * @param {import('../types').PostedMessage[]} added gets the message
    * @returns {import('../types').Held|undefined} what holds the message back in a replay
    */
-  post(receiver, words = []) {
+  post(receiver, words, added) {
     const { recording } = this;
     if (recording.isOver) return undefined;
     const message = recording.next('message');
@@ -98,23 +148,50 @@ class Messages {
     recording.log.name('element', standIn, { why: 'a message', message });
     const waiting = recording.posted.get(receiver) || [];
     recording.posted.set(receiver, waiting);
-    waiting[waiting.length] = { message, standIn, sender: recording.isRunning() ? recording.running : null, ports: portsOf(words) };
+    const posted = { message, standIn, sender: recording.isRunning() ? recording.running : null, ports: portsOf(words) };
+    waiting[waiting.length] = posted;
+    added[added.length] = posted;
     return recording.steering.asks('post');
   }
 
+  // ---- what comes
+
   /**
-   * Messages to one receiver come in the order of their posting.
-   * @param {EventDispatch} dispatch
+   * Hears each message that comes to a port or a channel, before the page does, and also those to which nobody listens.
+   * @param {EventTarget} receiver
    */
-  begin(dispatch) {
-    const { event, target } = dispatch;
-    const isMessage = event.type === 'message' && this.recording.steering.isTrusted(event);
-    const waiting = isMessage && !this.isForeign(event) && this.recording.posted.get(target);
+  listen(receiver) {
+    apply(this.page.natives.addEventListener, receiver, ['message', (/** @type {MessageEvent} */ event) => {
+      if (event.isTrusted) this.note(event, receiver);
+    }, true]);
+  }
+
+  /**
+   * A message comes. Those to one receiver come in the order of their posting; but others can post to a channel, and their calls are not seen.
+   * @param {MessageEvent} event
+   * @param {EventTarget} receiver
+   */
+  note(event, receiver) {
+    const { recording } = this;
+    if (recording.isOver || recording.arrived.has(event)) return;
+    if (recording.hasOtherSenders && hasItem(recording.channels, receiver)) return;
+    const waiting = recording.posted.get(receiver);
     const posted = waiting && takeFirst(waiting);
+    if (!posted) return;
+    recording.arrived.set(event, posted);
+    const { ports } = event;
+    each(posted.ports, (port, k) => this.move(port, ports[k]));
+  }
+
+  /** @param {EventDispatch} dispatch */
+  begin(dispatch) {
+    const { target } = dispatch;
+    const event = /** @type {MessageEvent} */ (dispatch.event);
+    if (event.type !== 'message' || !this.recording.steering.isTrusted(event) || this.isForeign(event)) return false;
+    if (target === this.page.window) this.note(event, target);
+    const posted = this.recording.arrived.get(event);
     if (!posted) return false;
-    const { message, standIn, sender, ports } = posted;
-    const { ports: arrived } = /** @type {MessageEvent} */ (event);
-    each(ports, (port, k) => this.move(port, arrived[k]));
+    const { message, standIn, sender } = posted;
     this.recording.begin(`message ${message} ${dispatch.number} ${standIn}`, 'begin', undefined, [sender]);
     dispatch.moments = [this.recording.starts.get(target)];
     dispatch.why = 'the start of the port';
@@ -173,6 +250,7 @@ class Messages {
     peers.set(peer, arrived);
     const waiting = posted.get(port);
     if (waiting) posted.set(arrived, waiting);
+    this.listen(arrived);
   }
 }
 

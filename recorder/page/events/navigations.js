@@ -76,18 +76,31 @@ class Navigations {
    * @returns {import('../types').Method}
    */
   wrap(event, callback) {
-    const { recording, page: { window: { navigation }, jobs, dispatches, queued } } = this;
+    const navigations = this;
+    const { recording, page: { window: { navigation }, jobs, dispatches, queued, promises } } = this;
     const handler = jobs.registerJob(callback, 'intercept');
     const isEnd = (/** @type {Event} */ { type }) => type === 'navigatesuccess' || type === 'navigateerror';
     return function intercepted() {
       const call = () => apply(callback, this, arguments);
       if (recording.isOver) return call();
       const run = () => {
-        queued.note(navigation, null, recording.moment(), isEnd);
-        return call();
+        const expected = queued.note(navigation, null, recording.moment(), isEnd);
+        const result = call();
+        if (expected && promises.isPlain(result)) navigations.moveToEnd(expected, result);
+        return result;
       };
       return recording.contexts.length ? run() : dispatches.runHandler(handler, event, navigation, run);
     };
+  }
+
+  /**
+   * The step ends once the promise of the callback is settled, so after what the callback did by then. The browser waits for it too.
+   * @param {import('./queued.js').Expected} expected
+   * @param {object} promise
+   */
+  moveToEnd(expected, promise) {
+    const settled = () => { expected.moment = this.recording.moment() || expected.moment; };
+    apply(this.page.natives.then, promise, [settled, settled]);
   }
 }
 

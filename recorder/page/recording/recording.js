@@ -36,6 +36,8 @@ class Recording extends Lines {
     this.nesting = 0;
     /** The browser's task, as far as it is seen: events of one task have one number. */
     this.task = 0;
+    /** Whether code of the page has run while nothing recorded ran, as that of a `javascript:` address at `location`: more of it can come. */
+    this.hasUnseenCode = false;
     /** Whether the page has a handler for rejections that nobody handles. */
     this.tellsRejections = false;
     /** @type {import('../types').Dispatch[]} */
@@ -112,6 +114,7 @@ class Recording extends Lines {
     if (this.isOver) return false;
     if (!this.isRunning()) {
       this.log.miss('accesses while nothing recorded ran');
+      this.hasUnseenCode = true;
       return false;
     }
     if (!this.contexts.length) this.turns = TURNS_OF_A_CHECKPOINT;
@@ -158,10 +161,15 @@ class Recording extends Lines {
     this.natives.postTask(() => { this.task++; });
   }
 
-  /** @param {string} kind */
-  enter(kind) {
+  /**
+   * @param {string} kind
+   * @param {import('../scripts/scripts.js').FunctionOfScript[]} functions those of a script, which are there before it begins
+   */
+  enter(kind, functions = []) {
     if (!this.contexts.length && !this.isCheckpoint && !this.isOver) each(this.documents, ({ reach }) => reach.lookBefore());
-    if (settings.isDriven && !this.isRunning()) each(this.documents, (document) => document.unseen.takeOver());
+    if ((settings.isDriven || this.hasUnseenCode) && !this.isRunning()) {
+      each(this.documents, (document) => document.unseen.takeOver(functions));
+    }
     this.contexts[this.contexts.length] = kind;
   }
 

@@ -1,5 +1,6 @@
 // What the documents of a recording share: what is known of their elements, messages and modules.
 
+import { settings } from '../core/settings.js';
 import { Set, WeakMap, WeakSet } from '../core/taken.js';
 
 class Shared {
@@ -35,6 +36,11 @@ class Shared {
      */
     this.posted = new WeakMap();
     /**
+     * The messages that have come, by their events.
+     * @type {WeakMap<Event, import('../types').PostedMessage>}
+     */
+    this.arrived = new WeakMap();
+    /**
      * By port: the other one of its channel, and where it was started.
      * @type {WeakMap<MessagePort, MessagePort>}
      */
@@ -46,6 +52,8 @@ class Shared {
      * @type {BroadcastChannel[]}
      */
     this.channels = [];
+    /** Whether a worker or another tab might post to a broadcast channel. */
+    this.hasOtherSenders = settings.isDriven;
   }
 }
 

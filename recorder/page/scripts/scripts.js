@@ -54,7 +54,7 @@ class Scripts {
     if (script && !element) this.showOwnText(script);
     recording.startTask();
     this.writeRun(script, script ? this.runnable(script) : page.tree.addHiddenScript(), site);
-    recording.enter('script');
+    recording.enter('script', functions);
     this.declareFunctions(functions);
   }
 

@@ -3,7 +3,7 @@
 import { each, findItem, joined } from '../core/lists.js';
 import { replaceMethod } from '../core/replacing.js';
 import { sliceOf } from '../core/strings.js';
-import { WeakMap, apply, functionText, getPrototypeOf } from '../core/taken.js';
+import { WeakMap, apply, functionText, getOwnPropertyDescriptor, getPrototypeOf, hasOwn } from '../core/taken.js';
 import { isThing } from '../core/things.js';
 
 /** Promises of several promises. Of `race` only the first one counts, and its reaction runs after it anyway. */
@@ -211,6 +211,16 @@ class Promises {
   isPromise(given) {
     const { objects } = this.recording;
     return isThing(given) && objects !== null && !objects.kinds.isLeftOut(given) && getPrototypeOf(given) === this.prototype;
+  }
+
+  /**
+   * Whether something is a promise at which a reaction calls no code of the page, as that of an async function.
+   * @param {unknown} given
+   * @returns {given is object}
+   */
+  isPlain(given) {
+    const maker = getOwnPropertyDescriptor(this.prototype, 'constructor');
+    return this.isPromise(given) && !hasOwn(given, 'constructor') && maker?.value === this.page.natives.promise;
   }
 
   /** @param {unknown} promise */

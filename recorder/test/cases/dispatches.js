@@ -77,6 +77,13 @@ exports.cases = [
     races: ['who', 'last'],
   },
   {
+    page: 'error-unheard.html',
+    due: ['message', 'run fails', 'inline window error', 'r error of window', 'close', 'back', 'wfire unhandledrejection', 'r unhandledrejection of window',
+      'timer', 'on reports', 'w error of window', 'on reportsToo', 'w unhandledrejection of window'],
+    races: ['error of window', 'unhandledrejection of window'],
+    throws: true,
+  },
+  {
     page: 'throws-in-handler.html',
     words: CLICK,
     due: [

@@ -293,6 +293,11 @@ exports.cases = [
     races: ['click of a#link'],
   },
   {
+    page: 'navigate-waits.html',
+    due: ['timer', 'inline Navigation navigate', 'run goes', 'reply', 'w shown', 'new Navigation plain', 'fire Navigation navigatesuccess', 'run over', 'r shown'],
+  },
+  { page: 'navigate-sooner.html', due: ['w other', 'w shown', 'fire Navigation navigatesuccess', 'r shown', 'r other'], races: ['other'] },
+  {
     page: 'navigate-by-script.html',
     due: ['timer', 'w asked', 'inline Navigation navigate', 'run goes', 'r asked', 'close', 'back', 'w shown', 'r shown', 'w behind'],
     races: [],

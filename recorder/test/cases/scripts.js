@@ -231,5 +231,11 @@ exports.cases = [
     ],
   },
   { page: 'integrity-set.html', due: ['exec script', 'w ready'], losses: [/^integrity attributes that scripts set, dropped: 2$/] },
+  {
+    page: 'javascript-location.html',
+    due: ['timer', 'r last', 'w other', 'timer', 'exec script', 'w added', 'r added'],
+    never: ['w last'],
+    losses: [/^accesses while nothing recorded ran: 1$/, /^variables that changed while nothing recorded ran: 1$/],
+  },
   { page: 'integrity-map.html', due: ['exec script', 'w last', 'w total', 'r total of store'], losses: [/^integrity of import maps dropped/] },
 ];

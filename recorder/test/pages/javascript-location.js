@@ -1,0 +1,2 @@
+function added() {}
+added();
