@@ -117,6 +117,11 @@ exports.cases = [
     races: ['after'],
     losses: [/^dispatches that a parse step .* called/],
   },
+  {
+    page: 'custom-form.html', // the browser looks for what forms call only at elements of forms
+    due: ['parse x-field plain', 'w disabled', 'parse x-field#field plain', 'w #field', 'w connected', 'w associated', 'exec script', 'r associated', 'r disabled', 'r connected', 'r never'],
+    races: [],
+  },
   // the definition comes before the element, or it upgrades it
   { page: 'custom-async.html', due: ['parse script async', 'parse x-box#box plain', 'exec script', 'r made'], races: ['made'] },
   { page: 'custom-define.html', due: ['parse x-plain plain', 'parse x-heir plain', 'parse x-given plain'], races: [] },
