@@ -139,7 +139,7 @@ function othersOf(astray, place, placeOf) {
 function ofNotTurned({ why = '', chance }) {
   const short = why.length > LONGEST_WHY ? `${why.slice(0, LONGEST_WHY).replace(/ [^ ]*$/, '')} ..` : why;
   if (!chance?.turned.length) return `could not be turned, which says nothing about the race: ${short}`;
-  return `the two came in the other order by themselves in ${chance.turned.length} of ${chance.turned.length + chance.kept.length} further runs; no run was made for it: ${short}`;
+  return `it happened: in ${chance.turned.length} of ${chance.turned.length + chance.kept.length} further runs the two came in the other order by themselves; the ends of these runs are not compared`;
 }
 
 /**

@@ -65,7 +65,7 @@ test('races that came in another order too are named by their places', () => {
 test('a race that no run was made for can have come in the other order by itself', () => {
   const chance = { turned: ['free', '2'], kept: ['3'], implied: [] };
   assert.strictEqual(told({ verdict: 'not turned', why: 'what brings it has to come first', chance }),
-    'the two came in the other order by themselves in 2 of 3 further runs; no run was made for it: what brings it has to come first');
+    'it happened: in 2 of 3 further runs the two came in the other order by themselves; the ends of these runs are not compared');
 });
 
 test('what has no visible difference, or was not turned', () => {
