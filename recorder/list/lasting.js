@@ -101,7 +101,7 @@ class LastingNames extends Keys {
    * @param {Side} side
    */
   placeOfSide({ location, mode, line }) {
-    return location.startsWith('slot') && mode === 'r' ? '' : this.place(this.names.places[line]);
+    return location.startsWith('slot') && mode === 'r' ? '' : this.place(this.placeInName(line));
   }
 
   /**

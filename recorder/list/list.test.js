@@ -72,6 +72,18 @@ test('a problem of an object has one name in both orders, and all items of an ar
   assert.deepStrictEqual(list.list.map(({ races }) => races.length), [3]);
 });
 
+test('a library that is a part of a file changes no name: the place is that of the code that calls it', async () => {
+  const lines = ['parse 0 1 plain', 'parse 0 2 inline', 'exec 2', 'set 1 0', 'fire 1 1 click', 'r slot 1 click', 'close 1', 'timer 1', 'on 2', 'w slot 1 click'];
+  /** @type {(place: import('./types').Place, more?: Given) => Given} */
+  const facts = (place, more = {}) => ({ ...TIMER_FACTS, places: { 5: [1, 3, 1], 10: place, 11: place }, handlers: { 2: { type: 'click', place } }, ...more });
+  const before = await problemsOf(lines, facts([1, 1, 1]));
+  const part = { ...NAMES.files[1], isPart: true, isLibrary: true };
+  const after = await problemsOf(lines, facts([1, 3, 1], { files: [...NAMES.files, part], ways: { 10: [2, 1, 1], 11: [2, 1, 1] } }));
+  assert.strictEqual(before.list.length, 1);
+  assert.deepStrictEqual(after.ofRaces.map(({ name }) => name), before.ofRaces.map(({ name }) => name));
+  assert.match(linesOf(new Listing([after], null))[0], /app\.3f9a2b71\.js:3/);
+});
+
 test('problems at one location are one line, but where their names are asked for', async () => {
   const lines = ['parse 0 2 inline', 'exec 2', 'set 1 9', 'set 2 5', 'set 3 0', 'timer 3', 'w var 0 count', 'timer 2', 'w var 0 count', 'timer 1', 'w var 0 count'];
   /** @type {Given['places']} */

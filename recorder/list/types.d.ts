@@ -27,6 +27,7 @@ export interface SourceFile {
   text?: string;
   lines?: { [line: string]: string };
   isLibrary?: boolean;
+  isPart?: boolean;
 }
 
 /** What is known of a thing of the trace: each kind has some of these members. */
@@ -89,6 +90,7 @@ export interface Names {
   objects?: { [number: string]: ObjectFacts };
   functions?: { [place: string]: string };
   places: { [line: string]: Place };
+  ways?: { [line: string]: Place };
   values?: { [line: string]: string };
   befores?: { [line: string]: string };
   counts?: { [line: string]: boolean };

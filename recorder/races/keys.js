@@ -59,7 +59,7 @@ class Keys extends NamedRun {
   access({ location, mode, action, line }) {
     if (isByValue(location)) return `access ${this.location(location, mode)} | ${this.action(action)}`;
     const isLookUp = location.startsWith('slot') && mode === 'r';
-    const place = isLookUp ? '' : this.place(this.names.places[line]);
+    const place = isLookUp ? '' : this.place(this.placeInName(line));
     return `${mode} ${this.location(location, mode)} | ${this.action(action)} | ${place}`;
   }
 

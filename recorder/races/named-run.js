@@ -61,7 +61,7 @@ class NamedRun {
       if (!DECLARES.has(words[0])) return;
       const key = `${words[0]} ${words[1]}`;
       const what = words[0] === 'on' ? this.names.handlers[words[1]] || {} : {};
-      const known = `${words[0]} ${what.type || ''} ${what.function || ''} ${this.place(this.names.places[k + 1])}`;
+      const known = `${words[0]} ${what.type || ''} ${what.function || ''} ${this.place(this.placeInName(k + 1))}`;
       this.declared.set(key, this.counted(known + this.asker(action)));
     });
   }
@@ -84,7 +84,7 @@ class NamedRun {
     if (kind === 'frame') this.documents.set(inner, element);
     if (facts.standsFor) return;
     const source = (facts.source || '').replace(/[?#].*$/, '');
-    const known = [facts.tag, facts.id, facts.field, source, this.document(document), this.place(facts.place || this.names.places[line])];
+    const known = [facts.tag, facts.id, facts.field, source, this.document(document), this.place(this.placeInName(line, facts))];
     const asker = word === 'new' && facts.tag ? this.asker(action) : '';
     this.elements.set(element, this.counted(known.map((one) => one || '').join(' ') + asker));
   }
@@ -101,6 +101,17 @@ class NamedRun {
   /** @param {Place|null|undefined} place */
   place(place) {
     return place ? `${this.names.files[place[0]]?.address}:${place[1]}:${place[2]}` : '';
+  }
+
+  /**
+   * The place of a line, or of a thing, in a name: if it came by way of a library that is a part of a file, that of the library. Names are older than the
+   * search for such libraries, and stay.
+   * @param {number} line
+   * @param {{place?: Place, way?: Place}} facts
+   */
+  placeInName(line, facts = {}) {
+    const { place, way } = facts.place ? facts : { place: this.names.places[line], way: this.names.ways?.[line] };
+    return way && this.names.files[way[0]]?.isPart ? way : place;
   }
 
   /** @param {string} number */

@@ -23,7 +23,7 @@ const { namedFile } = require('./named-files.js');
 /**
  * The texts that were instrumented, as far as names need them (texts/sources.js).
  * @typedef {object} Texts
- * @property {{address: string, text: string}[]} files
+ * @property {{address: string, text: string, library?: string}[]} files `library` is the name of a library that is a part of a file
  * @property {unknown[]} sites
  * @property {{addressOf: (number: number) => string}} modules
  * @property {(site: number) => Place} placeOfSite
@@ -161,7 +161,8 @@ class Names {
    * @param {[file: number, ...rest: unknown[]]} place
    */
   foreignness([file]) {
-    return foreignness(this.sources.files[file].address, this.libraries);
+    const { address, library } = this.sources.files[file];
+    return foreignness(library || address, this.libraries);
   }
 
   /**
@@ -271,7 +272,7 @@ class Names {
     /** @param {Place} place */
     const note = ([file, line]) => used.set(file, (used.get(file) || new Set()).add(line));
     [...Object.values(this.places), ...Object.values(this.ways), ...Object.values(this.objects).flatMap(({ place }) => (place ? [place] : []))].forEach(note);
-    return this.sources.files.map(({ address, text }, k) => namedFile(address, text, used.get(k), used.has(k) && this.foreignness([k]) > 0));
+    return this.sources.files.map((file, k) => namedFile(file, used.get(k), used.has(k) && this.foreignness([k]) > 0));
   }
 
   /** @param {{[member: string]: unknown}} facts of the recording */
