@@ -51,6 +51,20 @@ function remembered(find) {
   };
 }
 
+/**
+ * How many of some lines are before a line; they are in their order.
+ * @param {number[]} lines @param {number} line
+ */
+function countBefore(lines, line) {
+  let [low, high] = [0, lines.length];
+  while (low < high) {
+    const middle = (low + high) >> 1;
+    if (lines[middle] < line) low = middle + 1;
+    else high = middle;
+  }
+  return low;
+}
+
 class Accesses {
   /**
    * @param {import('../types').Names} names
@@ -68,6 +82,12 @@ class Accesses {
     this.byLocation = new Map();
     /** @type {Map<string, Access[]>} by action and location */
     this.byAction = new Map();
+    /** @type {Map<string, number[]>} the lines of the writes by location, in the order of the trace */
+    this.writes = new Map();
+    /** @type {Map<string, Access[]>} reads with a known place, by location and place */
+    this.readsAt = new Map();
+    /** @type {Map<string, boolean>} whether a read at a place is that of a cache, by location and place */
+    this.caches = new Map();
     /**
      * Locations that are ever written with a known value.
      * @type {Set<string>}
@@ -75,7 +95,6 @@ class Accesses {
     this.seen = new Set();
     // An access is in many races: what its line or its location says is found once.
     this.isEmptyBefore = remembered(this.isEmptyBefore.bind(this));
-    this.isOfCache = remembered(this.isOfCache.bind(this));
     this.isUpdate = remembered(this.isUpdate.bind(this));
     this.isScratch = remembered(this.isScratch.bind(this));
     this.readLines(actions);
@@ -91,6 +110,8 @@ class Accesses {
       const access = { line: k + 1, action, isWrite: text[0] === 'w' };
       addTo(this.byLocation, location, access);
       addTo(this.byAction, `${action} ${location}`, access);
+      if (access.isWrite) addTo(this.writes, location, access.line);
+      else if (this.places[k + 1]) addTo(this.readsAt, this.keyOfPlace(location, k + 1), access);
       if (access.isWrite && this.values[k + 1] && this.values[k + 1] !== '?') this.seen.add(location);
     });
   }
@@ -98,6 +119,11 @@ class Accesses {
   /** @param {string} location */
   of(location) {
     return this.byLocation.get(location) || [];
+  }
+
+  /** @param {string} location @param {number} line */
+  keyOfPlace(location, line) {
+    return `${location} ${this.places[line]}`;
   }
 
   /**
@@ -125,8 +151,9 @@ class Accesses {
   isEmptyBefore(line, location) {
     if (this.befores[line] !== undefined) return this.isEmpty(this.befores[line], location);
     if (isOfObject(location)) return false;
-    const before = this.of(location).filter((one) => one.isWrite && one.line < line).pop();
-    return !before || this.isEmpty(this.values[before.line], location);
+    const writes = this.writes.get(location) || [];
+    const before = writes[countBefore(writes, line) - 1];
+    return before === undefined || this.isEmpty(this.values[before], location);
   }
 
   /**
@@ -195,17 +222,34 @@ class Accesses {
   }
 
   /**
+   * Whether a location is written between two lines.
+   * @param {string} location @param {number} from @param {number} to
+   */
+  isWrittenBetween(location, from, to) {
+    const writes = this.writes.get(location) || [];
+    return countBefore(writes, to) > countBefore(writes, from + 1);
+  }
+
+  /**
    * Whether a read is that of a cache: if it finds nothing, the same action writes a value. This is known where it happened, in this action or, at the
    * same place of the code, in another one.
-   * @param {number} line @param {string} location
+   * @param {number} line @param {number} action of the read @param {string} location
    */
-  isOfCache(line, location) {
-    const all = this.of(location);
-    const place = this.places[line];
-    const reads = all.filter((one) => !one.isWrite && (one.line === line || (place && String(this.places[one.line]) === String(place))));
-    const isFilled = (/** @type {Access} */ read) => this.inAction(location, read.action).some((one) => one.isWrite && one.line > read.line
-      && (this.values[read.line] === undefined ? this.isEmptyBefore(one.line, location) : this.isEmpty(this.values[read.line], location)));
-    return reads.some(isFilled);
+  isOfCache(line, action, location) {
+    if (!this.places[line]) return this.isFilled({ line, action, isWrite: false }, location);
+    const key = this.keyOfPlace(location, line);
+    let isOne = this.caches.get(key);
+    if (isOne === undefined) this.caches.set(key, isOne = (this.readsAt.get(key) || []).some((read) => this.isFilled(read, location)));
+    return isOne;
+  }
+
+  /**
+   * Whether a read finds nothing, and its action then writes a value.
+   * @param {Access} read @param {string} location
+   */
+  isFilled({ line, action }, location) {
+    return this.inAction(location, action).some((one) => one.isWrite && one.line > line
+      && (this.values[line] === undefined ? this.isEmptyBefore(one.line, location) : this.isEmpty(this.values[line], location)));
   }
 
   /**
