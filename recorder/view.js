@@ -13,7 +13,6 @@ const { Listing } = require('./list/listing.js');
 const { Problems } = require('./list/problems.js');
 const { parseArguments, UsageFault } = require('./options/parse.js');
 const { atSignalsMercy } = require('./phase.js');
-const { Actions } = require('./races/actions.js');
 const { linksBetween } = require('./races/links.js');
 const { endAsking, isProved, programState } = require('./races/program.js');
 const { judgeWithin } = require('./races/within-limits.js');
@@ -73,7 +72,8 @@ async function writeView(traceFile, report, known, isLinkedLater) {
   const text = fs.readFileSync(traceFile, 'utf8');
   const names = readNames(traceFile);
   const busy = isLinkedLater ? doNow : atSignalsMercy; // a browser that runs for a replay ends only by a handler
-  const { model, problems } = busy(() => ({ model: new Model(report, names, new Actions(text.replace(/end\n$/, ''))), problems: new Problems(text, names, report) }));
+  const problems = busy(() => new Problems(text, names, report));
+  const model = busy(() => new Model(report, names, problems.words.actions));
   const queried = report.actions <= MOST_TO_QUERY ? linksBetween(traceFile, model.pairsToExplain()) : Promise.resolve([]);
   const links = isLinkedLater ? [] : await queried;
   const listing = busy(() => new Listing([problems], known));

@@ -55,6 +55,7 @@ class NamedRun {
   readLines() {
     let action = -1;
     this.actions.lines.forEach((line, k) => {
+      if (line[1] === ' ') return; // an access
       if (this.actions.list[action + 1]?.line === k + 1) action++;
       const words = line.split(' ');
       if (words[0] === 'parse' || words[0] === 'new') this.declareElement(words, k + 1, action);

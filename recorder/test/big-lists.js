@@ -69,7 +69,7 @@ async function timeToOpen(browser, file) {
   await tab.send('Page.navigate', { url: pathToFileURL(file).href });
   await loaded;
   const drawn = 'new Promise((done) => requestAnimationFrame(() => setTimeout(() => done(performance.now()))))';
-  const milliseconds = await tab.evaluate(drawn);
+  const milliseconds = await tab.evaluate(drawn, true);
   const shown = await tab.evaluate("document.getElementById('groups').childElementCount");
   await tab.close();
   if (!shown) throw new Error(`${file} shows nothing`);

@@ -8,7 +8,6 @@ const { Listing } = require('../list/listing.js');
 const { linesOf } = require('../list/outputs.js');
 const { plainListing } = require('../list/json.js');
 const { Problems } = require('../list/problems.js');
-const { Actions } = require('../races/actions.js');
 const { renderPage } = require('../view/html.js');
 const { Model } = require('../view/model.js');
 const { SHAPES } = require('./big-traces.js');
@@ -30,7 +29,7 @@ function listAndView({ text, report }, names) {
   const problems = new Problems(text, names, report);
   const listing = new Listing([problems], null);
   const ordered = { problems: listing.problems, nameOf: (/** @type {number} */ race) => problems.ofRaces[race].problem, leads: problems.leads, summaryOf: listing.summaryOf.bind(listing) };
-  const model = new Model(report, names, new Actions(text.replace(/end\n$/, '')));
+  const model = new Model(report, names, problems.words.actions);
   model.pairsToExplain();
   const page = renderPage({ ...model.build([], ordered), leftOut: [], ofLibraries: null, isUnproved: false, lacksLinks: false, viewer: '', trace: '', command: '', report: '' });
   linesOf(listing);

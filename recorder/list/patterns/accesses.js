@@ -52,14 +52,15 @@ function remembered(find) {
 }
 
 /**
- * How many of some lines are before a line; they are in their order.
- * @param {number[]} lines @param {number} line
+ * How many items at the start of a list come before something; no item after these does.
+ * @template T
+ * @param {T[]} list @param {(one: T) => boolean} isBefore
  */
-function countBefore(lines, line) {
-  let [low, high] = [0, lines.length];
+function countBefore(list, isBefore) {
+  let [low, high] = [0, list.length];
   while (low < high) {
     const middle = (low + high) >> 1;
-    if (lines[middle] < line) low = middle + 1;
+    if (isBefore(list[middle])) low = middle + 1;
     else high = middle;
   }
   return low;
@@ -80,8 +81,6 @@ class Accesses {
     this.sources = sources;
     /** @type {Map<string, Access[]>} by location, in the order of the trace */
     this.byLocation = new Map();
-    /** @type {Map<string, Access[]>} by action and location */
-    this.byAction = new Map();
     /** @type {Map<string, number[]>} the lines of the writes by location, in the order of the trace */
     this.writes = new Map();
     /** @type {Map<string, Access[]>} reads with a known place, by location and place */
@@ -109,7 +108,6 @@ class Accesses {
       const location = text.slice(2);
       const access = { line: k + 1, action, isWrite: text[0] === 'w' };
       addTo(this.byLocation, location, access);
-      addTo(this.byAction, `${action} ${location}`, access);
       if (access.isWrite) addTo(this.writes, location, access.line);
       else if (this.places[k + 1]) addTo(this.readsAt, this.keyOfPlace(location, k + 1), access);
       if (access.isWrite && this.values[k + 1] && this.values[k + 1] !== '?') this.seen.add(location);
@@ -131,7 +129,11 @@ class Accesses {
    * @param {string} location @param {number} action
    */
   inAction(location, action) {
-    return this.byAction.get(`${action} ${location}`) || [];
+    const all = this.of(location);
+    const first = countBefore(all, (one) => one.action < action);
+    let end = first;
+    while (all[end]?.action === action) end++;
+    return all.slice(first, end);
   }
 
   // ---- values
@@ -152,7 +154,7 @@ class Accesses {
     if (this.befores[line] !== undefined) return this.isEmpty(this.befores[line], location);
     if (isOfObject(location)) return false;
     const writes = this.writes.get(location) || [];
-    const before = writes[countBefore(writes, line) - 1];
+    const before = writes[countBefore(writes, (one) => one < line) - 1];
     return before === undefined || this.isEmpty(this.values[before], location);
   }
 
@@ -227,7 +229,7 @@ class Accesses {
    */
   isWrittenBetween(location, from, to) {
     const writes = this.writes.get(location) || [];
-    return countBefore(writes, to) > countBefore(writes, from + 1);
+    return countBefore(writes, (one) => one < to) > countBefore(writes, (one) => one <= from);
   }
 
   /**
