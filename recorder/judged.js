@@ -10,10 +10,10 @@ const { viewTrace, besides } = require('./view.js');
  * @param {string} traceFile
  * @param {string} command whose name messages start with
  * @param {import('./list/known.js').Known|null} known
- * @param {boolean} [isLinkedLater] whether the view's links are queried meanwhile, as when the page is run again
+ * @param {import('./view.js').HowToView} [how]
  */
-async function judgeAndView(traceFile, command, known, isLinkedLater = false) {
-  const [answer, report] = await Promise.all([viewTrace(traceFile, command, known, isLinkedLater), runProgram([], traceFile)]);
+async function judgeAndView(traceFile, command, known, how = {}) {
+  const [answer, report] = await Promise.all([viewTrace(traceFile, command, known, how), runProgram([], traceFile)]);
   const { output } = answer.view?.isRewritten ? await runProgram([], traceFile) : report;
   if (output) writeWhole(besides(traceFile, '.report'), output);
   return answer;

@@ -25,8 +25,12 @@ const { besides } = require('./view.js');
  * @typedef {{file: string, run: import('./list/loads-run.js').LoadRun, load: Load}} Judged
  */
 /**
+ * `isStopped` is set by a signal: then no other load is analyzed, and those that were are listed.
+ * @typedef {{isStopped: boolean}} Stopping
+ */
+/**
  * Where loads are listed: `folder` gets index.html without --html. `replay` runs problems of the list again, and returns a status.
- * @typedef {{command: 'er_suite'|'er_page', folder: string, page: string, replay?: (listing: LoadsListing, judged: Judged[]) => Promise<number>}} Place
+ * @typedef {{command: 'er_suite'|'er_page', folder: string, page: string, stopping?: Stopping, replay?: (listing: LoadsListing, judged: Judged[]) => Promise<number>}} Place
  */
 
 /** So many traces are analyzed at once, and are in memory. */
@@ -38,9 +42,10 @@ const AT_ONCE = 4;
  * @param {'er_suite'|'er_page'} command
  * @param {Known|null} known
  * @param {{isJson: boolean}} options
+ * @param {Stopping} [stopping] without it, a signal ends the process
  * @returns {Promise<{judged: Judged[], failed: number}>} `failed` is the status of the first load that was not analyzed
  */
-async function judgeLoads(files, command, known, { isJson }) {
+async function judgeLoads(files, command, known, { isJson }, stopping) {
   await askAhead(files);
   const runs = new LoadRuns(isJson);
   /** @type {Judged[]} */
@@ -48,7 +53,8 @@ async function judgeLoads(files, command, known, { isJson }) {
   /** @type {Promise<number>[]} */
   const statuses = [];
   const judgeNext = async (/** @type {string} */ file, /** @type {number} */ k) => {
-    const { view, status } = await judgeAndView(file, command, known);
+    if (stopping?.isStopped) return STATUS.stopped;
+    const { view, status } = await judgeAndView(file, command, known, { hearsSignals: !!stopping });
     await statuses[k - 1]; // loads join the list in order
     if (!view) return status;
     /** @type {import('./list/types').Names & {load?: Load}} */
@@ -109,13 +115,13 @@ function writeIndex(listing, judged, folder, html) {
  * @param {ListOptions} options
  * @param {Place} place
  */
-async function listLoads(judged, failed, known, options, { folder, page, replay }) {
+async function listLoads(judged, failed, known, options, { folder, page, stopping, replay }) {
   const files = judged.map(({ file }) => file);
   const loads = judged.map(({ load }) => load);
   const views = files.map((file) => path.relative(folder, besides(file, '.html')));
   const listing = new LoadsListing(judged.map(({ run }) => run), known, options, views);
   const status = failed || (listing.failing().length ? STATUS.race : STATUS.ok);
-  const replayed = replay ? await replay(listing, judged) : STATUS.ok;
+  const replayed = replay && !stopping?.isStopped ? await replay(listing, judged) : STATUS.ok;
   printErrors(loads);
   tellLines(listing, options);
   writeOutputs(listing, options, { page, status, files, folder: null, loads });
@@ -135,9 +141,10 @@ async function listLoads(judged, failed, known, options, { folder, page, replay 
  * @param {Place} place
  */
 async function reportLoads(files, known, options, place) {
-  const { judged, failed } = await phase('analyzing the page loads and writing their views', () => judgeLoads(files, place.command, known, options));
+  const { judged, failed } = await phase('analyzing the page loads and writing their views', () => judgeLoads(files, place.command, known, options, place.stopping));
+  if (place.stopping?.isStopped) printError(`${place.command}: stopped: the list has ${judged.length} of ${files.length} page loads`);
+  else if (judged.length && failed) printError(`${place.command}: ${files.length - judged.length} of ${files.length} page loads could not be analyzed`);
   if (!judged.length) return failed;
-  if (failed) printError(`${place.command}: ${files.length - judged.length} of ${files.length} page loads could not be analyzed`);
   return phase('listing the races', () => atSignalsMercy(() => listLoads(judged, failed, known, options, place)));
 }
 

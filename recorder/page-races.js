@@ -83,7 +83,7 @@ async function judgeRuns(files, known, isReplayed) {
   /** @type {View[]} */
   const runs = [];
   for (const file of files) {
-    const { status, view } = await judgeAndView(file, 'er_page', known, isReplayed);
+    const { status, view } = await judgeAndView(file, 'er_page', known, { isLinkedLater: isReplayed });
     if (!view) return { runs, failed: status };
     runs.push(view);
   }

@@ -62,16 +62,22 @@ function readNames(traceFile) {
 const doNow = (work) => work();
 
 /**
+ * How a view is made. `isLinkedLater`: its links are queried meanwhile, as when the page is run again. `hearsSignals`: a signal reaches the handlers of this
+ * process, and does not end it.
+ * @typedef {{isLinkedLater?: boolean, hearsSignals?: boolean}} HowToView
+ */
+
+/**
  * Writes the view of an analyzed trace; if its links come later, without them.
  * @param {string} traceFile
  * @param {import('./races/types').Report} report
  * @param {Known|null} known
- * @param {boolean} isLinkedLater
+ * @param {HowToView} how
  */
-async function writeView(traceFile, report, known, isLinkedLater) {
+async function writeView(traceFile, report, known, { isLinkedLater, hearsSignals }) {
   const text = fs.readFileSync(traceFile, 'utf8');
   const names = readNames(traceFile);
-  const busy = isLinkedLater ? doNow : atSignalsMercy; // a browser that runs for a replay ends only by a handler
+  const busy = isLinkedLater || hearsSignals ? doNow : atSignalsMercy; // a browser that runs for a replay ends only by a handler
   const problems = busy(() => new Problems(text, names, report));
   const model = busy(() => new Model(report, names, problems.words.actions));
   const queried = report.actions <= MOST_TO_QUERY ? linksBetween(traceFile, model.pairsToExplain()) : Promise.resolve([]);
@@ -82,7 +88,7 @@ async function writeView(traceFile, report, known, isLinkedLater) {
   const trace = quoted(traceFile);
   const commands = { viewer: called('er_view'), trace: traceFile, command: `${called('er_view')} ${trace}`, report: `${called('er_cli')} < ${trace}` };
   /** @type {Shown} */
-  const shown = { ...busy(() => model.build(links || [], ordered)), leftOut: problems.leftOut, ofLibraries: problems.ofLibraries, isUnproved: !isProved(), lacksLinks: !links, ...commands };
+  const shown = { ...busy(() => model.build(links || [], ordered)), leftOut: problems.leftOut, ofLibraries: problems.ofLibraries, notComplete: problems.notComplete, isUnproved: !isProved(), lacksLinks: !links, ...commands };
   busy(() => writePage(traceFile, shown));
   const linked = queried.then((all) => ({ ...shown, links: (all || []).slice(0, MOST_LINKS), lacksLinks: !all }));
   linked.catch(() => {}); // its fault is that of the command that waits for it
@@ -102,10 +108,10 @@ function writePage(traceFile, shown) {
  * @param {string} traceFile
  * @param {string} command whose name messages start with
  * @param {Known|null} [known]
- * @param {boolean} [isLinkedLater]
+ * @param {HowToView} [how]
  * @returns {Promise<{status: number, view?: View}>} no view if the trace was refused, or there is no report
  */
-async function viewTrace(traceFile, command, known = null, isLinkedLater = false) {
+async function viewTrace(traceFile, command, known = null, how = {}) {
   const { status, report, fault, leftOut } = await judgeWithin(traceFile);
   if (!report) {
     printError(`${command}: the analyzer gave no report: ${fault}`);
@@ -115,7 +121,7 @@ async function viewTrace(traceFile, command, known = null, isLinkedLater = false
     printError(`${command}: the trace is refused at line ${report.refused.line}: ${report.refused.cause}`);
     return { status };
   }
-  const shown = await writeView(traceFile, report, known, isLinkedLater);
+  const shown = await writeView(traceFile, report, known, how);
   if (leftOut.length) printError(`${command}: ${traceFile} is written again without what is over the limits of the analyzer`);
   for (const { words, accesses, pairs } of shown.problems.leftOut) {
     printError(`${command}: left out, over the limits of the analyzer: ${words}, with ${accesses} accesses and ${pairs} pairs`);

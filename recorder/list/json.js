@@ -79,6 +79,7 @@ function plainListing(listing, { page, status, files, folder, loads }) {
     ...(loads ? { loads } : {}),
     leftOut: listing.runs.map(({ leftOut }) => leftOut),
     ofLibraries: listing.runs.map(({ ofLibraries }) => ofLibraries),
+    notComplete: listing.runs.map(({ notComplete }) => notComplete),
     unmarked: listing.runs.map(({ unmarked }) => unmarked),
     problems: listing.problems.map((problem, index) => plainProblem(listing, problem, index, sets, folder)),
     notSeen: listing.notSeen(),

@@ -38,7 +38,7 @@ class LoadRun {
    * @param {Set<string>} named the problems that no earlier load has
    */
   constructor(pool, problems, kept, inWords, named) {
-    const { report, ofRaces, leads, names, leftOut, ofLibraries, unmarked } = problems;
+    const { report, ofRaces, leads, names, leftOut, ofLibraries, notComplete, unmarked } = problems;
     const copy = (/** @type {string} */ text) => pool.copy(text);
     /** @type {Numbers} */
     const numbers = new Map(kept.map((race, k) => [race, k]));
@@ -57,6 +57,7 @@ class LoadRun {
     this.counts = new Map(problems.list.filter(({ groups }) => !groups.length).map(({ name, races }) => [copy(name), races.length]));
     this.leftOut = leftOut;
     this.ofLibraries = ofLibraries;
+    this.notComplete = notComplete.map(copy);
     this.unmarked = unmarked;
     /** @type {Map<string, Shown>} by the accesses of the race */
     this.shown = new Map([...inWords].map((race) => [report.races[race].lines.join(' '), shownOf(problems, race, copy)]));

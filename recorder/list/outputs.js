@@ -50,7 +50,7 @@ function knownLines(listing) {
 }
 
 /**
- * The last line of all: how many problems there are by section, how many are known, and what replays found.
+ * The last line of all: how many problems there are by section, how many are known, what replays found, and whether the recordings lack something.
  * @param {Listing} listing
  */
 function totalsOf(listing) {
@@ -61,7 +61,14 @@ function totalsOf(listing) {
   const verdicts = listing.verdicts.flatMap((some) => [...some?.values() || []]);
   const differ = verdicts.filter(({ effect }) => effect).length;
   return [`${told.length} problem${told.length === 1 ? '' : 's'}${counts.length ? ` (${counts.join('; ')})` : ''}`, ...(known ? [`${known} known`] : []),
-    ...(verdicts.length ? [`${differ} of ${verdicts.length} differ in the other order`] : [])].join(', ');
+    ...(verdicts.length ? [`${differ} of ${verdicts.length} differ in the other order`] : []), ...incompleteInWords(listing)].join(', ');
+}
+
+/** @param {Listing} listing */
+function incompleteInWords({ runs }) {
+  const count = runs.filter(({ notComplete }) => notComplete.length).length;
+  if (!count) return [];
+  return [runs.length === 1 ? 'in a recording that is not complete' : `${count} of ${runs.length} recordings are not complete`];
 }
 
 /**

@@ -97,6 +97,8 @@ export interface Names {
   kept?: { [line: string]: boolean };
   leftOut?: LeftOut[];
   ofLibraries?: CountOfLibraries;
+  /** What the recording lacks of what was to be recorded, in words. */
+  notComplete?: string[];
   /** The scripts and handler attributes that were recorded without marks, and why. */
   unmarked?: unknown[];
 }
