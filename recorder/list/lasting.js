@@ -168,7 +168,7 @@ class LastingNames extends Keys {
 
   /** @param {Race} race @returns {Side[]} */
   sidesOf({ location, modes, actions, lines }) {
-    return [0, 1].map((k) => ({ location, mode: modes[k], action: actions[k], line: lines[k] }));
+    return [0, 1].map((k) => this.asDone({ location, mode: modes[k], action: actions[k], line: lines[k] }));
   }
 
   /**

@@ -95,6 +95,7 @@ export interface Names {
   befores?: { [line: string]: string };
   counts?: { [line: string]: boolean };
   kept?: { [line: string]: boolean };
+  typed?: { [line: string]: boolean };
   leftOut?: LeftOut[];
   ofLibraries?: CountOfLibraries;
   /** What the recording lacks of what was to be recorded, in words. */

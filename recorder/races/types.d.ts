@@ -123,6 +123,7 @@ export interface NamesOfTrace {
   places: { [line: string]: Place };
   ways?: { [line: string]: Place };
   kept?: { [line: string]: boolean };
+  typed?: { [line: string]: boolean };
 }
 
 /** What `Keys.identify` gives of an action: its key, and which of the actions with this key it is, from 1. */

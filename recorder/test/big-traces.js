@@ -64,7 +64,7 @@ function withNames(lines, factsOf) {
  */
 const sideOf = (races) => Math.ceil(Math.sqrt(2 * races)) + 1;
 
-/** Two actions that race do so at this many locations: the analyzer takes 262,144 races, of 32,768 pairs of actions. */
+/** Two actions that race do so at this many locations: the analyzer takes fewer pairs of actions than races. */
 const WIDTH = 8;
 /** @param {string} mode @param {(k: number) => string} locationOf */
 const atEach = (mode, locationOf) => upTo(WIDTH).map((k) => `${mode} ${locationOf(k)}`);

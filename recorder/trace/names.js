@@ -83,6 +83,11 @@ class Names {
      * @type {{[line: string]: true}}
      */
     this.kept = table();
+    /**
+     * The lines of writes of fields in the event of a key: the `input` event of the key does them later.
+     * @type {{[line: string]: true}}
+     */
+    this.typed = table();
     /** @type {{[number: string]: ObjectFacts}} */
     this.objects = table();
     /** @type {Map<string, any[]>} as `nextTag` keeps it */
@@ -170,10 +175,11 @@ class Names {
    * @param {SpelledEntry[]} records they begin with line 2
    */
   addRecords(records) {
-    records.forEach(({ text, place, found, stack, isKept }, k) => {
+    records.forEach(({ text, place, found, stack, isKept, isTyped }, k) => {
       const words = text.split(' ');
       if (found) this.addValue(k + 2, found);
       if (isKept) this.kept[k + 2] = true;
+      if (isTyped) this.typed[k + 2] = true;
       if (words[1] === 'var') this.addObject(Number(words[2]));
       const { own, way } = this.placesOfStack(stack);
       const known = own || this.resolve(place) || this.placeOfBegin(words);
@@ -286,7 +292,7 @@ class Names {
    */
   facts(files = this.sources.files.map(({ address, text }) => ({ address: fileAddress(address), text }))) {
     const functions = Object.fromEntries(Object.entries(this.functions).filter(([, name]) => name));
-    return { files, ...this.lists, objects: this.objects, functions, values: this.values, befores: this.befores, counts: this.counts, kept: this.kept, ways: this.ways, places: this.places };
+    return { files, ...this.lists, objects: this.objects, functions, values: this.values, befores: this.befores, counts: this.counts, kept: this.kept, typed: this.typed, ways: this.ways, places: this.places };
   }
 }
 

@@ -70,6 +70,7 @@ class Dispatches {
     if (event.isTrusted && hasConsequences(event.type)) recording.watchTask();
     page.tree.writeLate();
     this.readSlots(path.length ? path : [target], event.type);
+    page.fields.noteKey(dispatch);
     page.fields.writeInput(event, target);
     page.addresses.watch(dispatch, path);
     return dispatch;
