@@ -5,6 +5,8 @@ const assert = require('node:assert');
 const { test } = require('node:test');
 const { countRuns } = require('./counted-work.js'); // before what it counts
 const { Listing } = require('../list/listing.js');
+const { LoadsListing } = require('../list/loads-listing.js');
+const { LoadRuns } = require('../list/loads-run.js');
 const { linesOf } = require('../list/outputs.js');
 const { plainListing } = require('../list/json.js');
 const { Problems } = require('../list/problems.js');
@@ -34,7 +36,21 @@ function listAndView({ text, report }, names) {
   const page = renderPage({ ...model.build([], ordered), leftOut: [], ofLibraries: null, isUnproved: false, lacksLinks: false, viewer: '', trace: '', command: '', report: '' });
   linesOf(listing);
   plainListing(listing, FACTS);
+  listLoads(problems);
   return page;
+}
+
+/**
+ * Lists a load as er_suite does, once without and once with JSON: another process stores it, and sends what it has stored.
+ * @param {Problems} problems
+ */
+function listLoads(problems) {
+  for (const isWhole of [false, true]) {
+    const run = new LoadRuns(isWhole).factsOf(problems);
+    const listing = new LoadsListing([new LoadRuns(isWhole).take(structuredClone(run))], null, {}, ['1.html']);
+    linesOf(listing);
+    if (isWhole) plainListing(listing, FACTS);
+  }
 }
 
 /**
