@@ -17,7 +17,7 @@ const { sarifOf } = require('./sarif.js');
  */
 
 /** The last line on a terminal. */
-const HELP = 'What the lines mean: docs/using.md, "A user and a slow network"; usual changes for each pattern: docs/ci.md, "Patterns"';
+const HELP = 'What the lines mean: docs/using.md, "A problem of the list"; usual changes for each pattern: docs/ci.md, "Patterns"';
 /** @type {Style} */
 const PLAIN = { hasColor: false, width: 100, isTerminal: false };
 

@@ -96,6 +96,16 @@ function ofNone({ byDelay = [], unsteady = [] }) {
 }
 
 /**
+ * Whether the words of a handler have a place: `at app.js:4` is not in `at app.js:43`.
+ * @param {string} words
+ * @param {string} place
+ */
+function isAt(words, place) {
+  const start = words.indexOf(`at ${place}`);
+  return start >= 0 && !/^\d/.test(words.slice(start + `at ${place}`.length));
+}
+
+/**
  * Of several events that find no handler, that of the race itself.
  * @param {Difference[]} differences
  * @param {Difference} worst
@@ -106,7 +116,7 @@ function ownOf(differences, worst, location, place) {
   const [, type] = /^slot \d+ ([^/\s]+)/.exec(location) || [];
   const own = differences.filter(({ kind, isOfUser, subject }) => kind === worst.kind && isOfUser === worst.isOfUser && subject.startsWith(`the ${type} `));
   if (worst.kind !== 'event') return worst;
-  return own.find(({ subject }) => place && `${subject} `.includes(`at ${place} `)) || own[0] || worst;
+  return own.find(({ subject }) => place && isAt(subject, place)) || own[0] || worst;
 }
 
 /**
@@ -119,7 +129,7 @@ function othersOf(astray, place, placeOf) {
   const places = [...new Set(astray.map(placeOf))].filter((one) => one !== place);
   if (!places.length || places.includes('')) return `race${astray.length > 1 ? 's' : ''} ${astray.join(', ')}`;
   const more = places.length - MOST_PLACES;
-  return `${places.length > 1 ? 'the races' : 'that'} at ${places.slice(0, MOST_PLACES).join(', ')}${more > 0 ? ` and ${more} more place${more > 1 ? 's' : ''}` : ''}`;
+  return `the race${places.length > 1 ? 's' : ''} at ${places.slice(0, MOST_PLACES).join(', ')}${more > 0 ? ` and ${more} more place${more > 1 ? 's' : ''}` : ''}`;
 }
 
 /**

@@ -48,14 +48,15 @@ test('of several lost events the sentence has that of the race', () => {
   assert.strictEqual(sentenceOf({ verdict: 'turned', differences: [down, LOST] }, down, 'slot 12 click/5'),
     'in the other order the click at button#buy does not find the click handler onBuy, and nothing else differs');
   assert.match(sentenceOf({ verdict: 'turned', differences: [down, LOST] }, down, 'slot 12 load/5'), /^in the other order the mousedown at button#buy does not find/);
-  const own = difference('event', 'the click at button#buy: the click handler at other.js:7', 'the click handler at other.js:7', 'not run', true);
-  assert.match(sentenceOf({ verdict: 'turned', differences: [LOST, own] }, LOST, 'slot 12 click/6', 'other.js:7'), /does not find the click handler at other\.js:7, /);
+  const own = difference('event', 'the click at button#buy: the click handler at other.js:7, by way of jquery.js:2', 'x', 'not run', true);
+  const far = difference('event', 'the click at button#buy: the click handler at other.js:71', 'x', 'not run', true);
+  assert.match(sentenceOf({ verdict: 'turned', differences: [LOST, far, own] }, LOST, 'slot 12 click/6', 'other.js:7'), /does not find the click handler at other\.js:7, by/);
 });
 
 test('races that came in another order too are named by their places', () => {
   const places = ['', 'own.js:1', 'a.js:1', 'own.js:1', 'b.js:2', 'c.js:3', 'd.js:4', 'e.js:5'];
   const one = (/** @type {number[]} */ ...astray) => sentenceOf({ verdict: 'turned', differences: [LOST], astray }, LOST, 'slot 1 click/1', 'own.js:1', (number) => places[number] ?? '').split('; ')[1];
-  assert.strictEqual(one(2, 3), 'some of it may come from that at a.js:1, which came in another order too');
+  assert.strictEqual(one(2, 3), 'some of it may come from the race at a.js:1, which came in another order too');
   assert.strictEqual(one(2, 4), 'some of it may come from the races at a.js:1, b.js:2, which came in another order too');
   assert.strictEqual(one(2, 4, 5, 6, 7), 'some of it may come from the races at a.js:1, b.js:2, c.js:3 and 2 more places, which came in another order too');
   assert.strictEqual(one(3, 99), 'some of it may come from races 3, 99, which came in another order too');

@@ -8,6 +8,7 @@ import { apply } from '../core/taken.js';
 /** `nodeType` of a document. */
 const DOCUMENT = 9;
 const RADIO = /^radio$/i;
+const RADIOS = 'input[type="radio" i]';
 /** Types whose value is their attribute: a form does not reset them. */
 const WITHOUT_VALUE = /^(hidden|submit|button|reset|image)$/i;
 
@@ -64,7 +65,7 @@ class Forms {
     const name = isRadio(radio) && elements.attribute(radio, 'name');
     if (!name || !apply(natives.isConnected, radio, [])) return [];
     const form = apply(this.form, radio, []);
-    const all = form ? apply(this.elements, form, []) : this.inputsAround(radio);
+    const all = form ? apply(this.elements, form, []) : this.radiosAround(radio);
     return keep(all, (one) => one !== radio && isRadio(one) && elements.attribute(one, 'name') === name && apply(this.form, one, []) === form);
   }
 
@@ -72,11 +73,11 @@ class Forms {
    * @param {Element} element
    * @returns {ArrayLike<any>}
    */
-  inputsAround(element) {
+  radiosAround(element) {
     const { natives } = this.page;
     const root = apply(natives.getRootNode, element, []);
     const isDocument = apply(natives.nodeType, root, []) === DOCUMENT;
-    return isDocument ? apply(natives.querySelectorAll, root.documentElement, ['input']) : apply(natives.querySelectorAllOfFragment, root, ['input']);
+    return isDocument ? apply(natives.querySelectorAll, root.documentElement, [RADIOS]) : apply(natives.querySelectorAllOfFragment, root, [RADIOS]);
   }
 
   /**

@@ -6,7 +6,7 @@ import { Map, Reflect, apply, getOwnPropertyDescriptor } from '../core/taken.js'
 import { nameOfFunction } from '../log/values.js';
 
 /** The reactions that the browser calls for elements of the parser, and takes from the prototype before any other code of the page runs in `define`. */
-const REACTIONS = ['connectedCallback', 'attributeChangedCallback'];
+const REACTIONS = ['connectedCallback', 'attributeChangedCallback', 'formAssociatedCallback', 'formDisabledCallback'];
 
 /** @typedef {import('../types').Moment} Moment */
 /**

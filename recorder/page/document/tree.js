@@ -289,8 +289,7 @@ class Tree {
     const number = elements.number(element);
     elements.markDeclared(element, kind);
     if (element.localName === 'script' && page.insertions.starts(element) && !page.calls.isWriting()) page.inOrder.note(element, number);
-    const parent = element.parentNode;
-    if (element.localName === 'source' && isMedia(parent)) page.media.noteLoading(parent);
+    if (element.localName === 'source' && isMedia(element.parentNode)) page.media.noteLoading(element.parentNode);
     if (elements.joinsParsing(element, number, kind)) return;
     elements.noteAwaited(element, number, kind);
     this.recording.log.line(`new ${page.number} ${number} ${kind}`, this.placeOfCode());

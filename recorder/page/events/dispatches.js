@@ -4,7 +4,7 @@ import { each, findItem, heightOfLast, joined, positionOf } from '../core/lists.
 import { settings } from '../core/settings.js';
 import { Map, Set, WeakMap, WeakSet, apply } from '../core/taken.js';
 import { spellName } from '../log/spelling.js';
-import { MOST_OPEN } from '../recording/recording.js';
+import { MOST_OPEN } from '../recording/open-dispatches.js';
 import { isOfTree } from './capturing.js';
 import { hasConsequences, isConsequence } from './consequences.js';
 

@@ -97,7 +97,7 @@ exports.cases = [
       'w localStorage.theme', 'w document.cookie', 'timer', 'r localStorage.theme', 'r document.cookie',
     ],
   },
-  { page: 'storage-key.html', due: ['w localStorage.k'], never: ['w sessionStorage.none'] },
+  { page: 'storage-key.html', due: ['w localStorage.k', 'w localStorage.hidden', 'w localStorage.later'], never: ['w sessionStorage.none'] },
   {
     page: 'storage-properties.html',
     due: [
@@ -116,6 +116,11 @@ exports.cases = [
     never: ['inline x-card#card filled'],
     races: ['after'],
     losses: [/^dispatches that a parse step .* called/],
+  },
+  {
+    page: 'custom-form.html', // the browser looks for what forms call only at elements of forms
+    due: ['parse x-field plain', 'w disabled', 'parse x-field#field plain', 'w #field', 'w connected', 'w associated', 'exec script', 'r associated', 'r disabled', 'r connected', 'r never'],
+    races: [],
   },
   // the definition comes before the element, or it upgrades it
   { page: 'custom-async.html', due: ['parse script async', 'parse x-box#box plain', 'exec script', 'r made'], races: ['made'] },

@@ -47,11 +47,11 @@ exports.cases = [
   { page: 'modules-apart.html', due: ['timer', 'r total of store', 'r last', 'timer', 'w total of store', 'w last'],
     never: ['w scratch', 'r fixed', 'r scratch'], races: ['last', 'total of store'] },
 
-  { page: 'named-element-missing.html', due: ['reply', 'r panel', 'r #panel', 'timer', 'w #panel'], races: ['#panel'] },
+  { page: 'named-element-missing.html', due: ['dcl', 'r panel', 'r #panel', 'timer', 'w #panel'], races: ['#panel'] },
   {
     page: 'named-element-missing.html',
     words: ['--depth', 'globals'],
-    due: ['reply', 'r panel', 'r #panel', 'timer', 'w #panel'],
+    due: ['dcl', 'r panel', 'r #panel', 'timer', 'w #panel'],
     races: ['#panel'],
   },
   { page: 'module-imports.html', due: ['timer', 'r total', 'r last', 'timer', 'w total', 'w last'], never: ['r fixed', 'r add', 'r sum'], races: ['last', 'total'] },

@@ -106,20 +106,22 @@ exports.cases = [
   },
   {
     page: 'when-defined.html',
-    due: ['reply', 'run reply of fetch', 'w config', 'w rest', 'inline what settled the promise settled', 'on what settled the promise', 'back', 'r config', 'w late',
+    due: ['dcl', 'run defines', 'w config', 'w rest', 'inline what settled the promise settled', 'on what settled the promise', 'back', 'r config', 'w late',
       'timer', 'inline promise reactions then', 'run what settled the promise', 'run uses', 'r config', 'r rest', 'r late'],
     races: ['late'],
   },
   {
     page: 'message-unheard.html',
-    due: ['timer', 'w sent', 'post', 'post', 'message', 'inline ? message', 'run got', 'r told', 'r sent', 'message', 'inline ? message', 'run heard', 'r told', 'r sent'],
+    due: ['timer', 'w sent', 'post', 'post', 'message', 'inline ? message', 'run got', 'r told', 'r sent'],
+    besides: [['timer', 'w sent', 'post', 'post', 'message', 'inline ? message', 'run heard', 'r told', 'r sent']],
     races: ['told'],
   },
   {
     page: 'message-unheard.html',
     version: 2,
-    due: ['timer', 'w sent', 'fire ? message', 'run got', 'r told', 'r sent', 'fire ? message', 'run heard', 'r told', 'r sent'],
-    races: ['seen', 'told'],
+    due: ['timer', 'w sent', 'fire ? message', 'run got', 'r told', 'r sent'],
+    besides: [['timer', 'w sent', 'fire ? message', 'run heard', 'r told', 'r sent']],
+    races: ['told'],
   },
   { page: 'message-refused.html', due: ['timer', 'w sent', 'post', 'message', 'inline ? message', 'run got', 'r sent'] },
   {

@@ -1,0 +1,102 @@
+// The dispatches that are not over, as a stack: which of them end before something else can be written.
+
+import { Set } from '../core/taken.js';
+import { Lines } from './lines.js';
+
+/** At most this many inline dispatches are open (docs/format.md). */
+const MOST_OPEN = 256;
+/** Events in which a script can dispatch another one. */
+const MAY_DISPATCH = new Set(['exec', 'timer', 'tick', 'handler', 'close']);
+
+class OpenDispatches extends Lines {
+  /**
+   * @param {import('../types').Natives} natives
+   * @param {import('../types').Send} send
+   */
+  constructor(natives, send) {
+    super(send);
+    this.natives = natives;
+    /**
+     * What is on the stack, outermost first: 'script', 'callback', 'handler', 'job' or 'call' (of the browser).
+     * @type {string[]}
+     */
+    this.contexts = [];
+    /** The browser's task, as far as it is seen: events of one task have one number. */
+    this.task = 0;
+    /** @type {import('../types').Dispatch[]} */
+    this.dispatches = [];
+  }
+
+  /** Whether the format allows an inline dispatch in the running event. */
+  mayDispatch() {
+    return MAY_DISPATCH.has(this.running.kind) && this.dispatches.length < MOST_OPEN;
+  }
+
+  /** The innermost dispatch that is not over, or undefined. */
+  top() {
+    const { dispatches } = this;
+    return dispatches.length ? dispatches[dispatches.length - 1] : undefined;
+  }
+
+  /**
+   * Notes a dispatch whose begin is written.
+   * @param {import('../types').NewDispatch} given
+   * @returns {import('../types').Dispatch} the same object
+   */
+  push(given) {
+    const dispatch = /** @type {import('../types').Dispatch} */ (given);
+    dispatch.depth = this.contexts.length;
+    dispatch.active = 0;
+    dispatch.isClosed = false;
+    dispatch.lastTime = this.natives.now();
+    dispatch.task = this.task;
+    this.dispatches[this.dispatches.length] = dispatch;
+    return dispatch;
+  }
+
+  /** Writes the end of a dispatch. It stays on the stack: the caller removes it (`finishTop`). */
+  close(/** @type {import('../types').Dispatch} */ dispatch) {
+    if (dispatch.isClosed) return;
+    dispatch.isClosed = true;
+    if (dispatch.event) this.endedEvents.add(dispatch.event);
+    this.begin(`close ${dispatch.number}`, 'close');
+    this.noteInside(dispatch);
+    this.running.awaits = dispatch.awaits;
+    if (dispatch.whenClosed) dispatch.whenClosed();
+  }
+
+  /** The top dispatch is over. */
+  finishTop() {
+    const dispatch = this.top();
+    if (!dispatch) return;
+    this.close(dispatch);
+    this.dispatches.length--;
+    const { suspended } = dispatch;
+    if (!dispatch.isInline || !suspended) return;
+    this.begin(`back ${dispatch.number}`, suspended.kind);
+    this.running = suspended;
+  }
+
+  /** Dispatches that running code called, and that have returned to it, are over. */
+  finishReturned() {
+    for (let top = this.top(); top && top.isInline && !top.active; top = this.top()) {
+      if (!this.contexts.length || this.contexts.length > top.depth) return;
+      this.finishTop();
+    }
+  }
+
+  /**
+   * All dispatches above a number are over, as a call that may have made them returns.
+   * @param {number} height
+   */
+  finishAbove(height) {
+    for (let top = this.top(); top && this.dispatches.length > height && top.isInline && !top.active; top = this.top()) this.finishTop();
+  }
+
+  /** All dispatches are over whose handlers do not run. */
+  finishAll() {
+    for (let top = this.top(); top && !top.active; top = this.top()) this.finishTop();
+  }
+}
+
+export { MOST_OPEN, OpenDispatches };
