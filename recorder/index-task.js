@@ -84,8 +84,8 @@ async function list({ traces: given, args }) {
   const status = isFailing ? STATUS.race : STATUS.ok;
   writeLists(listing, judged, options, { page: '', status });
   if (options.html) writeIndex(listing, judged, '', options.html);
-  const { problems, notSeen, leftOut, unmarked, ofLibraries } = plainListing(listing, { page: '', status, files: traces, folder: null });
-  return { format: 1, isFailing, traces, views: traces.map((trace) => besides(trace, '.html')), problems, notSeen, leftOut, unmarked, ofLibraries };
+  const { problems, notSeen, leftOut, notComplete, unmarked, ofLibraries } = plainListing(listing, { page: '', status, files: traces, folder: null });
+  return { format: 1, isFailing, traces, views: traces.map((trace) => besides(trace, '.html')), problems, notSeen, leftOut, notComplete, unmarked, ofLibraries };
 }
 
 /**

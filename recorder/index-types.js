@@ -31,9 +31,10 @@
  *   replay?: {race: number, verdict: string, differs: boolean, effect?: string, sentence?: string, words: string}}} Problem
  */
 /**
- * A list of races: `isFailing` if a problem is new. `leftOut`, `unmarked` and `ofLibraries` have an item for each trace (docs/ci.md, "JSON").
+ * A list of races: `isFailing` if a problem is new. `leftOut`, `notComplete`, `unmarked` and `ofLibraries` have an item for each trace (docs/ci.md,
+ * "JSON").
  * @typedef {{format: 1, isFailing: boolean, traces: string[], views: string[], problems: Problem[], notSeen: {name: string, words: string}[],
- *   leftOut: {location: string, words: string, accesses: number, pairs: number}[][], unmarked: unknown[][],
+ *   leftOut: {location: string, words: string, accesses: number, pairs: number}[][], notComplete: string[][], unmarked: unknown[][],
  *   ofLibraries: ({accesses: number, objects: number}|null)[]}} Report
  */
 /**

@@ -11,7 +11,7 @@ const { useProgram } = require('./races/program.js');
 
 /**
  * @typedef {{program: ReturnType<import('./races/program.js').programFacts>, command: 'er_suite'|'er_page', known: string|null, isWhole: boolean,
- *   isLinkedAll: boolean}} Start `isLinkedAll`: each view has all paths
+ *   isLinkedAll: boolean, hearsSignals: boolean}} Start `isLinkedAll`: each view has all paths; `hearsSignals`: no signal ends the process while it is busy
  * @typedef {{number: number, file: string}} Task
  * @typedef {{facts: import('./list/loads-run.js').LoadFacts, load: import('./list/types').Load}} Stored
  * @typedef {{number: number, status: number, stored?: Stored, fault?: string}} Answer `fault` is why the call ends with the status
@@ -19,11 +19,12 @@ const { useProgram } = require('./races/program.js');
 
 class LoadJudge {
   /** @param {Start} start */
-  constructor({ program, command, known, isWhole, isLinkedAll }) {
+  constructor({ program, command, known, isWhole, isLinkedAll, hearsSignals }) {
     useProgram(program);
     this.command = command;
     this.known = known ? Known.readFile(known, true) : null;
     this.runs = new LoadRuns(isWhole);
+    this.hearsSignals = hearsSignals;
     this.isLinked = isLinkedAll ? null : (/** @type {string} */ name) => !this.runs.seen.has(name);
     /** @type {Promise<unknown>} */
     this.last = Promise.resolve();
@@ -42,7 +43,8 @@ class LoadJudge {
 
   /** @param {Promise<unknown>} last @param {string} file */
   async judgeAfter(last, file) {
-    const { view, status } = await judgeAndView(file, this.command, { known: this.known, isLinked: this.isLinked });
+    const { known, isLinked, hearsSignals } = this;
+    const { view, status } = await judgeAndView(file, this.command, { known, isLinked, hearsSignals });
     await last;
     if (!view) return { status };
     /** @type {import('./list/types').Names & {load?: import('./list/types').Load}} */

@@ -26,8 +26,12 @@ const { besides } = require('./view.js');
  * @typedef {{file: string, run: import('./list/loads-run.js').LoadRun, load: Load}} Judged
  */
 /**
+ * `isStopped` is set by a signal: then no other load is analyzed, and those that were are listed.
+ * @typedef {{isStopped: boolean}} Stopping
+ */
+/**
  * Where loads are listed: `folder` gets index.html without --html. `replay` runs problems of the list again, and returns a status.
- * @typedef {{command: 'er_suite'|'er_page', folder: string, page: string, replay?: (listing: LoadsListing, judged: Judged[]) => Promise<number>}} Place
+ * @typedef {{command: 'er_suite'|'er_page', folder: string, page: string, stopping?: Stopping, replay?: (listing: LoadsListing, judged: Judged[]) => Promise<number>}} Place
  */
 
 /** So many traces are analyzed at once, and are in memory. */
@@ -44,11 +48,12 @@ const OF_DRIVER = /while nothing recorded ran/;
  * @param {'er_suite'|'er_page'} command
  * @param {Known|null} known
  * @param {{isJson: boolean}} options
+ * @param {Stopping} [stopping] without it, a signal ends the process
  * @returns {Promise<{judged: Judged[], failed: number}>} `failed` is the status of the first load that was not analyzed
  */
-async function judgeLoads(files, command, known, { isJson }) {
+async function judgeLoads(files, command, known, { isJson }, stopping) {
   await askAhead(files);
-  const start = { program: programFacts(), command, known: known && known.file, isWhole: isJson, isLinkedAll: files.length <= MOST_LINKED };
+  const start = { program: programFacts(), command, known: known && known.file, isWhole: isJson, isLinkedAll: files.length <= MOST_LINKED, hearsSignals: !!stopping };
   const isAlone = files.length <= MOST_ALONE || !answersAtOnce();
   const judges = isAlone ? null : new LoadJudges(start);
   const alone = new LoadJudge(start);
@@ -58,6 +63,7 @@ async function judgeLoads(files, command, known, { isJson }) {
   /** @type {Promise<number>[]} */
   const statuses = [];
   const judgeNext = async (/** @type {string} */ file, /** @type {number} */ k) => {
+    if (stopping?.isStopped) return STATUS.stopped;
     const { stored, status } = await (judges ? judges.judge(k, file) : alone.judge(file));
     await statuses[k - 1]; // loads join the list in order
     if (stored) judged.push({ file, run: runs.take(stored.facts), load: stored.load });
@@ -68,7 +74,7 @@ async function judgeLoads(files, command, known, { isJson }) {
       statuses[k] = judgeNext(file, k);
       return statuses[k];
     });
-    return { judged, failed: all.find((status) => status) || STATUS.ok };
+    return { judged, failed: stopping?.isStopped ? STATUS.stopped : all.find((status) => status) || STATUS.ok };
   } finally {
     await judges?.end();
   }
@@ -160,10 +166,10 @@ function writeLists(listing, judged, options, { page, status }) {
  * @param {ListOptions} options
  * @param {Place} place
  */
-async function listLoads(judged, failed, known, options, { command, folder, page, replay }) {
+async function listLoads(judged, failed, known, options, { command, folder, page, stopping, replay }) {
   const listing = listingOf(judged, known, options, folder);
   const status = failed || (listing.failing().length ? STATUS.race : STATUS.ok);
-  const replayed = replay ? await replay(listing, judged) : STATUS.ok;
+  const replayed = replay && !stopping?.isStopped ? await replay(listing, judged) : STATUS.ok;
   printErrors(judged.map(({ load }) => load));
   if (command === 'er_suite') printLosses(judged.map(({ load }) => load)); // er_page has printed them
   tellLines(listing, options);
@@ -183,9 +189,10 @@ async function listLoads(judged, failed, known, options, { command, folder, page
  * @param {Place} place
  */
 async function reportLoads(files, known, options, place) {
-  const { judged, failed } = await phase('analyzing the page loads and writing their views', () => judgeLoads(files, place.command, known, options));
+  const { judged, failed } = await phase('analyzing the page loads and writing their views', () => judgeLoads(files, place.command, known, options, place.stopping));
+  if (place.stopping?.isStopped) printError(`${place.command}: stopped: the list has ${judged.length} of ${files.length} page loads`);
+  else if (judged.length && failed) printError(`${place.command}: ${files.length - judged.length} of ${files.length} page loads could not be analyzed`);
   if (!judged.length) return failed;
-  if (failed) printError(`${place.command}: ${files.length - judged.length} of ${files.length} page loads could not be analyzed`);
   return phase('listing the races', () => atSignalsMercy(() => listLoads(judged, failed, known, options, place)));
 }
 

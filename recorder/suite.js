@@ -21,14 +21,30 @@ const { SuiteReplays } = require('./suite-replays.js');
 /** Lines of a recorder's log that say nothing to a reader. */
 const QUIET_LINE = /^er_browser: (?:recording|\d+ page loads recorded)$|^ +at /;
 
-/** @type {SuiteReplays|null} those that are under way */
-let replays = null;
+/** What a signal ends: that for which this command waits or works now, once. Then it goes on with what there is. */
+class Ending {
+  isStopped = false;
+  /** @type {'wait'|'work'|'over'} */
+  next = 'wait';
+  /** @type {SuiteReplays|null} */
+  replays = null;
+  /** @type {() => void} */
+  endWait = () => {};
+  /** @type {Promise<boolean>} whether there was time to wait: never */
+  waitEnds = new Promise((resolve) => { this.endWait = () => resolve(false); });
 
-/** The first signal ends the replays, and what they have found is printed. */
-function stop() {
-  if (replays && !replays.isStopped) replays.stop();
-  else endAsking(STATUS.stopped);
+  /** A signal came. */
+  stop() {
+    const { next, replays } = this;
+    if (replays && !replays.isStopped) return replays.stop();
+    if (replays || next === 'over') return endAsking(STATUS.stopped);
+    if (next === 'wait') this.endWait();
+    else this.isStopped = true;
+    this.next = next === 'wait' ? 'work' : 'over';
+  }
 }
+
+const ending = new Ending();
 
 /**
  * Prints what recorders have written to their logs, except how much they have recorded.
@@ -46,7 +62,7 @@ function printLogs(folder) {
  * @returns {Promise<string[]>} the traces in it, once all recorders have written them
  */
 async function waitForTraces(folder) {
-  if (!await waitForWriters(folder)) printError('er_suite: a recorder still writes: the list has what it has written so far; call er_suite again later for the rest');
+  if (!await Promise.race([waitForWriters(folder), ending.waitEnds])) printError('er_suite: a recorder still writes: the list has what it has written so far; call er_suite again later for the rest');
   printLogs(folder);
   return tracesIn(folder);
 }
@@ -58,6 +74,7 @@ async function waitForTraces(folder) {
 async function judgeFolders(folders, options) {
   const known = Known.of(options);
   const traces = await Promise.all(folders.map(waitForTraces));
+  if (ending.next === 'wait') ending.next = 'work';
   const page = folders.join(' ');
   const files = traces.flat();
   if (!files.length) {
@@ -67,10 +84,10 @@ async function judgeFolders(folders, options) {
   traces.forEach((some, k) => { if (!some.length) printError(`er_suite: no page load was recorded in ${folders[k]}`); });
   const [folder] = folders;
   const replay = (/** @type {LoadsListing} */ listing, /** @type {Judged[]} */ judged) => {
-    replays = new SuiteReplays(listing, judged, options, folder);
-    return replays.run();
+    ending.replays = new SuiteReplays(listing, judged, options, folder);
+    return ending.replays.run();
   };
-  return reportLoads(files, known, options, { command: 'er_suite', folder, page, ...options.replayWith ? { replay } : {} });
+  return reportLoads(files, known, options, { command: 'er_suite', folder, page, stopping: ending, ...options.replayWith && { replay } });
 }
 
 /** Whether races can be replayed: what is held back for one is found with several questions to the analyzer. */
@@ -89,7 +106,7 @@ async function main(args) {
   const wrong = folders.find((folder) => !fs.statSync(folder, { throwIfNoEntry: false })?.isDirectory());
   if (wrong !== undefined) throw new UsageFault(`there is no folder ${wrong}`);
   if (programState() === 'missing' || (options.replayWith && !canReplay())) return STATUS.noProgram;
-  return stoppable(stop, () => judgeFolders(folders, options));
+  return stoppable(() => ending.stop(), () => judgeFolders(folders, options));
 }
 
 runCommand('er_suite', main);

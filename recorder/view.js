@@ -13,7 +13,6 @@ const { Listing } = require('./list/listing.js');
 const { Problems } = require('./list/problems.js');
 const { parseArguments, UsageFault } = require('./options/parse.js');
 const { atSignalsMercy } = require('./phase.js');
-const { Actions } = require('./races/actions.js');
 const { linksBetween } = require('./races/links.js');
 const { endAsking, isProved, programState } = require('./races/program.js');
 const { judgeWithin } = require('./races/within-limits.js');
@@ -33,8 +32,9 @@ const { why } = require('./view/why.js');
  */
 /**
  * How a view is made: with the file of known races; `isLinkedLater` if its links are queried meanwhile, as when the page is run again; `isLinked` if links are
- * queried only for the problems for which it is true, as in a list of many loads.
- * @typedef {{known?: Known|null, isLinkedLater?: boolean, isLinked?: ((name: string) => boolean)|null}} ViewOptions
+ * queried only for the problems for which it is true, as in a list of many loads; `hearsSignals` if a signal reaches the handlers of this process, and does not
+ * end it.
+ * @typedef {{known?: Known|null, isLinkedLater?: boolean, isLinked?: ((name: string) => boolean)|null, hearsSignals?: boolean}} ViewOptions
  */
 
 /** Of a trace with more actions it is not queried why these are ordered: each query takes as long as the report, seconds. */
@@ -73,11 +73,12 @@ const doNow = (work) => work();
  * @param {import('./races/types').Report} report
  * @param {ViewOptions} options
  */
-async function writeView(traceFile, report, { known = null, isLinkedLater = false, isLinked = null }) {
+async function writeView(traceFile, report, { known = null, isLinkedLater = false, isLinked = null, hearsSignals = false }) {
   const text = fs.readFileSync(traceFile, 'utf8');
   const names = readNames(traceFile);
-  const busy = isLinkedLater ? doNow : atSignalsMercy; // a browser that runs for a replay ends only by a handler
-  const { model, problems } = busy(() => ({ model: new Model(report, names, new Actions(text.replace(/end\n$/, ''))), problems: new Problems(text, names, report) }));
+  const busy = isLinkedLater || hearsSignals ? doNow : atSignalsMercy; // a browser that runs for a replay ends only by a handler
+  const problems = busy(() => new Problems(text, names, report));
+  const model = busy(() => new Model(report, names, problems.words.actions));
   const pairs = isLinked ? model.pairsOf(problems.list.filter(({ name }) => isLinked(name)).map(({ first }) => first)) : model.pairsToExplain();
   const queried = report.actions <= MOST_TO_QUERY ? linksBetween(traceFile, pairs) : Promise.resolve([]);
   const links = isLinkedLater ? [] : await queried;
@@ -87,7 +88,7 @@ async function writeView(traceFile, report, { known = null, isLinkedLater = fals
   const trace = quoted(traceFile);
   const commands = { viewer: called('er_view'), trace: traceFile, command: `${called('er_view')} ${trace}`, report: `${called('er_cli')} < ${trace}` };
   /** @type {Shown} */
-  const shown = { ...busy(() => model.build(links || [], ordered)), leftOut: problems.leftOut, ofLibraries: problems.ofLibraries, isUnproved: !isProved(), lacksLinks: !links, ...commands };
+  const shown = { ...busy(() => model.build(links || [], ordered)), leftOut: problems.leftOut, ofLibraries: problems.ofLibraries, notComplete: problems.notComplete, isUnproved: !isProved(), lacksLinks: !links, ...commands };
   busy(() => writePage(traceFile, shown));
   const linked = queried.then((all) => ({ ...shown, links: (all || []).slice(0, MOST_LINKS), lacksLinks: !all }));
   linked.catch(() => {}); // its fault is that of the command that waits for it

@@ -3,6 +3,8 @@
 
 /** Control characters, line ends, what changes the direction of a text, and halves of characters. */
 const COMMANDS = /[\u0000-\u001f\u007f-\u009f\u061c\u200e\u200f\u2028-\u202e\u2066-\u2069]|\p{Cs}/gu;
+/** A text that has none of them, as most have. */
+const PLAIN = /^[ -~]*$/;
 /** JSON escapes the others itself, and its line ends are its own. */
 const OF_JSON = /[\u007f-\u009f\u061c\u200e\u200f\u2028-\u202e\u2066-\u2069]/g;
 /** More than the longest name of the format. */
@@ -12,7 +14,10 @@ const LONGEST = 260;
  * Each command as `\u{1b}`.
  * @param {unknown} text
  */
-const withoutCommands = (text) => String(text).replace(COMMANDS, (sign) => `\\u{${/** @type {number} */ (sign.codePointAt(0)).toString(16)}}`);
+function withoutCommands(text) {
+  const given = String(text);
+  return PLAIN.test(given) ? given : given.replace(COMMANDS, (sign) => `\\u{${/** @type {number} */ (sign.codePointAt(0)).toString(16)}}`);
+}
 
 /** @param {unknown} text */
 function shown(text) {

@@ -6,6 +6,7 @@ const { quote } = require('./marks/quote.js');
 const { IDLE } = require('./marks/helpers.js');
 const { mayWait } = require('./syntax/children.js');
 const { importsOf, exportsOf, sourcesOf } = require('./syntax/imports.js');
+const { libraryParts } = require('./syntax/library-parts.js');
 const { parse, faultOf } = require('./syntax/parse.js');
 const { topScope } = require('./syntax/scopes.js');
 const { CallMarks } = require('./insert/call-marks.js');
@@ -165,7 +166,10 @@ function editsOf(code, options, program) {
  */
 function instrument(code, options) {
   try {
-    return { edits: editsOf(code, options, parse(code, options.kind)) };
+    const program = parse(code, options.kind);
+    const edits = editsOf(code, options, program);
+    if (options.library) for (const { start, end, name } of libraryParts(code, program)) options.library(start, end, name);
+    return { edits };
   } catch (error) {
     const fault = faultOf(error, code);
     if (!fault) throw error;

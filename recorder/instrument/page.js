@@ -85,6 +85,7 @@ function inPage(options, text, start) {
     ...options,
     site: (/** @type {number} */ offset, /** @type {any} */ about) => options.site(place(offset), about?.object ? { ...about, object: about.object.map(place) } : about),
     named: (/** @type {number} */ from, /** @type {number} */ to, /** @type {string} */ name) => options.named?.(place(from), place(to), name),
+    library: (/** @type {number} */ from, /** @type {number} */ to, /** @type {string} */ name) => options.library?.(place(from), place(to), name),
   };
 }
 

@@ -34,8 +34,8 @@ function plainRace(problems, race, run, folder) {
   };
 }
 
-/** @param {Listing} listing @param {Listed} problem @param {{failing: Set<Listed>, lines: Set<Listed>}} sets @param {Folder|null} folder */
-function plainProblem(listing, problem, { failing, lines }, folder) {
+/** @param {Listing} listing @param {Listed} problem @param {number} index @param {{failing: Set<Listed>, lines: Set<Listed>}} sets @param {Folder|null} folder */
+function plainProblem(listing, problem, index, { failing, lines }, folder) {
   const { name, look, words, isKnown, runs, orders, seen } = problem;
   const names = [...seen].map(([one, { runs: inRuns, orders: own }]) => ({ name: one, runs: inRuns, bothOrders: own === BOTH_ORDERS }));
   const races = listing.runs.flatMap((run, k) => (listing.problemOf(k, name)?.races || []).map((race) => plainRace(run, race, k, folder)));
@@ -46,7 +46,7 @@ function plainProblem(listing, problem, { failing, lines }, folder) {
     seen: look.seen,
     words,
     summary: listing.summaryOf(problem),
-    rank: { number: listing.problems.indexOf(problem) + 1, reason: listing.rankOf(problem).reason },
+    rank: { number: index + 1, reason: listing.rankOf(problem).reason },
     isKnown,
     fails: failing.has(problem),
     hasLine: lines.has(problem),
@@ -79,8 +79,9 @@ function plainListing(listing, { page, status, files, folder, loads }) {
     ...(loads ? { loads } : {}),
     leftOut: listing.runs.map(({ leftOut }) => leftOut),
     ofLibraries: listing.runs.map(({ ofLibraries }) => ofLibraries),
+    notComplete: listing.runs.map(({ notComplete }) => notComplete),
     unmarked: listing.runs.map(({ unmarked }) => unmarked),
-    problems: listing.problems.map((problem) => plainProblem(listing, problem, sets, folder)),
+    problems: listing.problems.map((problem, index) => plainProblem(listing, problem, index, sets, folder)),
     notSeen: listing.notSeen(),
   };
 }

@@ -9,7 +9,7 @@ const { test } = require('node:test');
 const { Known, KnownFault } = require('./known.js');
 const { Listing } = require('./listing.js');
 const { Problems } = require('./problems.js');
-const { linesOf } = require('./outputs.js');
+const { linesOf, totalsOf } = require('./outputs.js');
 const { plainListing } = require('./json.js');
 const { sarifOf } = require('./sarif.js');
 const { writeWhole, WriteFault } = require('../common/whole-file.js');
@@ -127,6 +127,19 @@ test('SARIF has a rule for each kind, and a result for each problem', async () =
 });
 
 const hasSarifClasses = fs.existsSync('/usr/lib/python3/dist-packages/sarif_om');
+
+test('a recording that is not complete, in each output', async () => {
+  const { text, report } = await judgeLines(['parse 0 1 async', 'parse 0 2 async', 'exec 1', 'w var 0 x', 'exec 2', 'w var 0 x']);
+  const [whole, cut] = [{}, { notComplete: ['the time of 3 s was over before the page was quiet'] }].map((facts) => new Problems(text, { ...NAMES, ...facts }, report));
+  const facts = { page: 'page.html', status: 1, files: [], folder: null };
+  assert.doesNotMatch(totalsOf(new Listing([whole], null)), /not complete/);
+  assert.match(totalsOf(new Listing([cut], null)), /, in a recording that is not complete$/);
+  assert.match(totalsOf(new Listing([whole, cut], null)), /, 1 of 2 recordings are not complete$/);
+  assert.deepStrictEqual(plainListing(new Listing([whole, cut], null), facts).notComplete, [[], cut.notComplete]);
+  assert.strictEqual(sarifOf(new Listing([whole], null), facts).runs[0].invocations, undefined);
+  const [invocation] = sarifOf(new Listing([cut], null), facts).runs[0].invocations || [];
+  assert.deepStrictEqual([invocation.executionSuccessful, invocation.toolExecutionNotifications[0].message.text], [false, `The recording is not complete: ${cut.notComplete}`]);
+});
 
 test('SARIF as the standard has it', { skip: hasSarifClasses ? false : 'python3-sarif-python-om is not installed' }, async () => {
   const one = await run({ more: ['y', 'z'] });

@@ -38,6 +38,9 @@ function orderOf([first, second]) {
   return first < second ? 1 : 2;
 }
 
+/** @param {string[]} sides those of a race, which has two */
+const inOrder = ([first, second]) => (first <= second ? [first, second] : [second, first]);
+
 class LastingNames extends Keys {
   /** @param {string} text a trace @param {Names} names */
   constructor(text, names) {
@@ -49,6 +52,8 @@ class LastingNames extends Keys {
      * @type {Map<number, string>}
      */
     this.sites = new Map();
+    /** @type {Map<number, Map<string, number>>} by action, the line of its first access to each location */
+    this.firsts = new Map();
     /** @type {Map<number, string>} by action */
     this.details = new Map();
     /** @type {Map<string, string>} by location */
@@ -111,7 +116,7 @@ class LastingNames extends Keys {
    * @param {Side} side
    */
   placeOfSide({ location, mode, line }) {
-    return location.startsWith('slot') && mode === 'r' ? '' : this.place(this.names.places[line]);
+    return location.startsWith('slot') && mode === 'r' ? '' : this.place(this.placeInName(line));
   }
 
   /**
@@ -152,11 +157,24 @@ class LastingNames extends Keys {
    * @param {Side} side
    */
   firstLine({ action, location, line }) {
-    const own = [`r ${location}`, `w ${location}`];
-    for (let k = this.actions.list[action].line; k < line; k++) {
-      if (own.includes(this.actions.lines[k - 1])) return k;
+    return found(this.firsts, action, () => this.firstLines(action)).get(location) ?? line;
+  }
+
+  /**
+   * The lines of an action's first accesses, by location.
+   * @param {number} action
+   */
+  firstLines(action) {
+    const { list, lines } = this.actions;
+    /** @type {Map<string, number>} */
+    const firsts = new Map();
+    const end = list[action + 1]?.line ?? lines.length + 1;
+    for (let k = list[action].line; k < end; k++) {
+      const text = lines[k - 1];
+      const location = text.slice('w '.length);
+      if (/^[rw] /.test(text) && !firsts.has(location)) firsts.set(location, k);
     }
-    return line;
+    return firsts;
   }
 
   /** @param {Side} side */
@@ -169,7 +187,7 @@ class LastingNames extends Keys {
    * @param {Race} race @returns {Side[]}
    */
   sidesOf({ location, modes, actions, lines }) {
-    return [0, 1].map((k) => ({ location, mode: modes[k], action: actions[k], line: lines[k] }));
+    return [0, 1].map((k) => this.asDone({ location, mode: modes[k], action: actions[k], line: lines[k] }));
   }
 
   /**
@@ -196,11 +214,11 @@ class LastingNames extends Keys {
     const sides = this.sidesOf(race);
     const sites = sides.map((side) => this.siteOf(side));
     const where = found(this.wheres, race.location, () => withoutNumbers(this.where(race.location)));
-    const whole = [race.location.split(' ')[0], where, ...[...sites].sort()].join('\n');
+    const whole = [race.location.slice(0, race.location.indexOf(' ')), where, ...inOrder(sites)].join('\n');
     const problem = found(this.problems, whole, () => hashed(whole, LENGTH));
     const details = sides.map((side, k) => `${sites[k]} ${this.detailsOf(side)}`);
     const location = found(this.locations, race.location, () => withoutLongNumbers(this.location(race.location, 'w')));
-    const own = hashed([location, ...[...details].sort()].join('\n'), LENGTH_OF_RACE);
+    const own = hashed([location, ...inOrder(details)].join('\n'), LENGTH_OF_RACE);
     return { problem, name: `${problem}.${own}`, sites, order: orderOf(sites), ownOrder: orderOf(details) };
   }
 }

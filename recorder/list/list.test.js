@@ -72,6 +72,31 @@ test('a problem of an object has one name in both orders, and all items of an ar
   assert.deepStrictEqual(list.list.map(({ races }) => races.length), [3]);
 });
 
+test('a library that is a part of a file changes no name: the place is that of the code that calls it', async () => {
+  const lines = ['parse 0 1 plain', 'parse 0 2 inline', 'exec 2', 'set 1 0', 'fire 1 1 click', 'r slot 1 click', 'close 1', 'timer 1', 'on 2', 'w slot 1 click'];
+  /** @type {(place: import('./types').Place, more?: Given) => Given} */
+  const facts = (place, more = {}) => ({ ...TIMER_FACTS, places: { 5: [1, 3, 1], 10: place, 11: place }, handlers: { 2: { type: 'click', place } }, ...more });
+  const before = await problemsOf(lines, facts([1, 1, 1]));
+  const part = { ...NAMES.files[1], isPart: true, isLibrary: true };
+  const after = await problemsOf(lines, facts([1, 3, 1], { files: [...NAMES.files, part], ways: { 10: [2, 1, 1], 11: [2, 1, 1] } }));
+  assert.strictEqual(before.list.length, 1);
+  assert.deepStrictEqual(after.ofRaces.map(({ name }) => name), before.ofRaces.map(({ name }) => name));
+  assert.match(linesOf(new Listing([after], null))[0], /app\.3f9a2b71\.js:3/);
+});
+
+test('what a key changes has one name in the event of the key and in that of the change', async () => {
+  const key = ['fire 1 2 keydown', 'w var 1000002 value', 'r slot 2 keydown', 'run 1 0 1', 'close 1', 'inline 2 4 input', 'w var 1000002 value', 'close 2', 'back 2'];
+  const lines = ['parse 0 2 plain', 'parse 0 3 inline', 'exec 3', 'set 1 0', 'new 0 4 plain', 'timer 1', 'r var 1000002 value', 'on 1', 'w slot 2 keydown', ...key];
+  const elements = { 2: { tag: 'textarea', id: 't' }, 3: { tag: 'script' }, 4: { standsFor: 2, tag: 'textarea', id: 't' } };
+  /** @type {Given} */
+  const facts = { elements, handlers: { 1: { type: 'keydown', target: 2, place: [1, 1, 1] } }, dispatches: { 1: { type: 'keydown', act: 1000 } }, places: { 8: [1, 2, 1] }, timeouts: { 1: { place: [1, 1, 1] } } };
+  const typed = await problemsOf(lines, { ...facts, typed: { 12: true } });
+  const without = await problemsOf(lines.filter((line, k) => !/^(?:run|on)|^w slot/.test(line) && k !== 10), { ...facts, places: { 8: [1, 2, 1] } });
+  const ofField = (/** @type {Problems} */ { list }) => list.filter(({ words }) => words.includes('value'));
+  assert.deepStrictEqual([ofField(typed).length, ofField(without).length], [1, 1]);
+  assert.strictEqual(ofField(typed)[0].name, ofField(without)[0].name);
+});
+
 test('problems at one location are one line, but where their names are asked for', async () => {
   const lines = ['parse 0 2 inline', 'exec 2', 'set 1 9', 'set 2 5', 'set 3 0', 'timer 3', 'w var 0 count', 'timer 2', 'w var 0 count', 'timer 1', 'w var 0 count'];
   /** @type {Given['places']} */

@@ -32,15 +32,15 @@ const accessOf = (line, action) => `${line} ${action}`;
  * What is stored of a load: plain data, which another process can send. `counts` says how many races each problem without a group has; `shown` is by the
  * accesses of the race, `said` by the name of the problem.
  * @typedef {{report: {races: Race[], groups: {race: number, size: number}[]}, ofRaces: NamedRace[], leads: number[], list: Problem[], counts: Map<string, number>,
- *   leftOut: Problems['leftOut'], ofLibraries: Problems['ofLibraries'], unmarked: Problems['unmarked'], shown: Map<string, Shown>, said: Map<string, Said>,
- *   names: {files: {address: string}[], documents: {0: {address: string}}, page: string}}} LoadFacts
+ *   leftOut: Problems['leftOut'], ofLibraries: Problems['ofLibraries'], notComplete: string[], unmarked: Problems['unmarked'], shown: Map<string, Shown>,
+ *   said: Map<string, Said>, names: {files: {address: string}[], documents: {0: {address: string}}, page: string}}} LoadFacts
  * @typedef {{name: string, problem: string, order: number, ownOrder: number, look: Problem['look']}} NamedRace
  */
 
 /** The load in the place of `Problems`: it has the members that `Listing`, JSON, SARIF and JUnit read. */
 class LoadRun {
   /** @param {LoadFacts} facts */
-  constructor({ report, ofRaces, leads, list, counts, leftOut, ofLibraries, unmarked, shown, said, names }) {
+  constructor({ report, ofRaces, leads, list, counts, leftOut, ofLibraries, notComplete, unmarked, shown, said, names }) {
     this.report = report;
     this.ofRaces = ofRaces;
     this.leads = leads;
@@ -48,6 +48,7 @@ class LoadRun {
     this.counts = counts;
     this.leftOut = leftOut;
     this.ofLibraries = ofLibraries;
+    this.notComplete = notComplete;
     this.unmarked = unmarked;
     this.shown = shown;
     this.said = said;
@@ -195,7 +196,7 @@ class LoadRuns {
    * @returns {LoadFacts}
    */
   storedOf(problems, kept, inWords, named) {
-    const { report, ofRaces, leads, list, names, leftOut, ofLibraries, unmarked } = problems;
+    const { report, ofRaces, leads, list, names, leftOut, ofLibraries, notComplete, unmarked } = problems;
     const copy = (/** @type {string} */ text) => this.copy(text);
     /** @type {Numbers} */
     const numbers = new Map(kept.map((race, k) => [race, k]));
@@ -215,6 +216,7 @@ class LoadRuns {
       counts: new Map(list.filter(({ groups }) => !groups.length).map(({ name, races }) => [copy(name), races.length])),
       leftOut,
       ofLibraries,
+      notComplete: notComplete.map(copy),
       unmarked,
       shown: new Map([...new Set(inWords)].map((race) => [report.races[race].lines.join(' '), shownOf(problems, race, copy)])),
       said: saidOf(problems, named, copy),

@@ -12,8 +12,8 @@ const { detailOf, lookOf } = require('./patterns/table.js');
  * @typedef {import('./types').Race} Race
  */
 
-/** @param {Race} race */
-const pairOf = ({ actions }) => actions.join(' ');
+/** @param {Race} race @param {string} modes */
+const pairOf = ({ actions }, modes) => `${actions.join(' ')} ${modes}`;
 
 /**
  * The form fields of elements: what a user types or chooses.
@@ -35,19 +35,34 @@ class Looks {
     this.actions = words.actions;
     this.accesses = new Accesses(names, words.actions, words.sources);
     this.userActs = new UserActs(names, words.actions.list);
-    /** @type {Map<string, Race[]>} */
-    this.ofPairs = new Map();
-    for (const race of report.races) this.addToPair(race);
+    /**
+     * By two actions and their modes: the first race of flags, and the first one at another location.
+     * @type {Map<string, Race[]>}
+     */
+    this.flags = new Map();
+    for (const race of report.races) this.noteFlag(race);
     /** @type {Map<string, {line: number, delay: string, first: number}>} the line, the delay and the first tick of each interval */
     this.intervals = new Map();
     this.readIntervals(names);
+    /** @type {Map<string, number>} by dispatch and handler, the first action that runs it */
+    this.runs = new Map();
+    for (const { number, words: [word, dispatch, , handler] } of this.actions.list) {
+      if (word === 'run' && !this.runs.has(`${dispatch} ${handler}`)) this.runs.set(`${dispatch} ${handler}`, number);
+    }
+    /** @type {Map<number, boolean>} by the action of a run, whether it did nothing that the trace has but reads */
+    this.idle = new Map();
   }
 
-  /** @param {Race} race */
-  addToPair(race) {
-    const known = this.ofPairs.get(pairOf(race));
-    if (known) known.push(race);
-    else this.ofPairs.set(pairOf(race), [race]);
+  /**
+   * Notes a race of flags, if there are not two of its actions and modes.
+   * @param {Race} race
+   */
+  noteFlag(race) {
+    if ((race.modes !== 'rw' && race.modes !== 'wr') || !this.accesses.isFlag(race)) return;
+    const key = pairOf(race, race.modes);
+    const known = this.flags.get(key);
+    if (!known) this.flags.set(key, [race]);
+    else if (known.length === 1 && known[0].location !== race.location) known.push(race);
   }
 
   /** @param {import('./types').Names} names */
@@ -94,12 +109,22 @@ class Looks {
    * @param {string} handler
    */
   isIdle(number, handler) {
+    const run = this.runs.get(`${this.actions.list[number].words[1]} ${handler}`) ?? -1;
+    if (run <= number) return false;
+    let isOne = this.idle.get(run);
+    if (isOne === undefined) this.idle.set(run, isOne = this.hasOnlyReads(run));
+    return isOne;
+  }
+
+  /**
+   * Whether a run of a handler did nothing that the trace has but reads.
+   * @param {number} run its action
+   */
+  hasOnlyReads(run) {
     const { list, lines } = this.actions;
-    const [, dispatch] = list[number].words;
-    const run = list.findIndex(({ words }, k) => k > number && words[0] === 'run' && words[1] === dispatch && words[3] === handler);
-    if (run < 0 || !list[run + 1]) return false;
-    const isOver = ['run', 'close'].includes(list[run + 1].words[0]) && list[run + 1].words[1] === dispatch;
-    return isOver && lines.slice(list[run].line, list[run + 1].line - 1).every((line) => line.startsWith('r '));
+    const next = list[run + 1];
+    if (!next || !['run', 'close'].includes(next.words[0]) || next.words[1] !== list[run].words[1]) return false;
+    return lines.slice(list[run].line, next.line - 1).every((line) => line.startsWith('r '));
   }
 
   /**
@@ -152,11 +177,9 @@ class Looks {
    * @param {Race} race
    */
   flag(race) {
-    if (race.modes !== 'rw' && race.modes !== 'wr') return null;
-    const writer = race.modes.indexOf('w');
-    if (!this.accesses.isFlag(race)) return null;
-    const isOther = (/** @type {Race} */ one) => one.location !== race.location && one.modes[1 - writer] === 'w' && one.modes[writer] === 'r';
-    const other = (this.ofPairs.get(pairOf(race)) || []).find((one) => isOther(one) && this.accesses.isFlag(one));
+    if ((race.modes !== 'rw' && race.modes !== 'wr') || !this.accesses.isFlag(race)) return null;
+    const turned = race.modes === 'rw' ? 'wr' : 'rw';
+    const other = this.flags.get(pairOf(race, turned))?.find((one) => one.location !== race.location);
     return other ? lookOf('flag', `a flag that both sides ask: each sets one and reads the other's, ${this.words.location(other.location).text}`) : null;
   }
 
@@ -170,12 +193,11 @@ class Looks {
     const [read, write] = [lines[k], lines[1 - k]];
     if (k < 0 || accesses.kept[read] || isNothing(accesses.values[write]) || !accesses.isEmptyBefore(write, location)) return null;
     const value = accesses.values[read];
-    if (accesses.isWrittenBefore(location, actions[k], read) || accesses.isOfCache(read, location)) return null;
+    if (accesses.isWrittenBefore(location, actions[k], read) || accesses.isOfCache(read, actions[k], location)) return null;
     const what = location.startsWith('elem') ? 'a look-up before the element is there' : 'a use before the definition';
     const detail = detailOf('undefined', location.split(' ')[0], '');
     if (k === 1) return accesses.isEmpty(value, location) ? null : lookOf('undefined', `${what}: here it was there, and in the other order nothing is found`, detail);
-    const isWrittenBetween = () => accesses.of(location).some(({ line, isWrite }) => isWrite && line > read && line < write);
-    const hasFound = value === undefined ? isWrittenBetween() : !accesses.isEmpty(value, location);
+    const hasFound = value === undefined ? accesses.isWrittenBetween(location, read, write) : !accesses.isEmpty(value, location);
     return hasFound ? null : lookOf('undefined', `${what}: here nothing was found`, detail);
   }
 

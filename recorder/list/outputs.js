@@ -52,7 +52,7 @@ function knownLines(listing) {
 }
 
 /**
- * The last line of all: how many problems there are by section, how many are known, and what replays found.
+ * The last line of all: how many problems there are by section, how many are known, what replays found, and whether the recordings lack something.
  * @param {Listing} listing
  */
 function totalsOf(listing) {
@@ -65,7 +65,14 @@ function totalsOf(listing) {
   const onlyHandlers = differing.filter(({ differences = [] }) => differences.length && differences.every(({ kind }) => kind === 'event')).length;
   const only = onlyHandlers ? ` (${onlyHandlers === differing.length ? 'only' : `${onlyHandlers} only`} in which handlers run)` : '';
   return [`${told.length} problem${told.length === 1 ? '' : 's'}${counts.length ? ` (${counts.join('; ')})` : ''}`, ...(known ? [`${known} known`] : []),
-    ...(verdicts.length ? [`${differing.length} of ${verdicts.length} differ in the other order${only}`] : [])].join(', ');
+    ...(verdicts.length ? [`${differing.length} of ${verdicts.length} differ in the other order${only}`] : []), ...incompleteInWords(listing)].join(', ');
+}
+
+/** @param {Listing} listing */
+function incompleteInWords({ runs }) {
+  const count = runs.filter(({ notComplete }) => notComplete.length).length;
+  if (!count) return [];
+  return [runs.length === 1 ? 'in a recording that is not complete' : `${count} of ${runs.length} recordings are not complete`];
 }
 
 /**

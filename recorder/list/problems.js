@@ -43,6 +43,8 @@ class Problems {
     this.leftOut = (names.leftOut || []).map(({ location, accesses, pairs }) => ({ location, words: `"${this.words.location(location).text}"`, accesses, pairs }));
     /** What only libraries touch, counted: it is left out of the trace. */
     this.ofLibraries = names.ofLibraries || null;
+    /** What the recording lacks of what was to be recorded, in words. */
+    this.notComplete = names.notComplete || [];
     /** The scripts and handler attributes that were recorded without marks, and why. */
     this.unmarked = names.unmarked || [];
   }

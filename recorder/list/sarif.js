@@ -113,6 +113,16 @@ function version() {
 }
 
 /**
+ * What the recordings lack, if they lack something.
+ * @param {Listing} listing
+ */
+function invocationsOf({ runs }) {
+  const lines = runs.flatMap(({ notComplete }) => notComplete);
+  const notices = lines.map((text) => ({ level: 'warning', message: { text: `The recording is not complete: ${text}` } }));
+  return lines.length ? { invocations: [{ executionSuccessful: false, toolExecutionNotifications: notices }] } : {};
+}
+
+/**
  * @param {Listing} listing
  * @param {SarifFacts} facts
  */
@@ -121,7 +131,7 @@ function sarifOf(listing, facts) {
   return {
     $schema: SCHEMA,
     version: '2.1.0',
-    runs: [{ tool: { driver }, columnKind: 'utf16CodeUnits', results: listing.lines.map((problem) => result(listing, problem, facts)) }],
+    runs: [{ tool: { driver }, ...invocationsOf(listing), columnKind: 'utf16CodeUnits', results: listing.lines.map((problem) => result(listing, problem, facts)) }],
   };
 }
 

@@ -27,6 +27,7 @@ export interface SourceFile {
   text?: string;
   lines?: { [line: string]: string };
   isLibrary?: boolean;
+  isPart?: boolean;
 }
 
 /** What is known of a thing of the trace: each kind has some of these members. */
@@ -89,12 +90,16 @@ export interface Names {
   objects?: { [number: string]: ObjectFacts };
   functions?: { [place: string]: string };
   places: { [line: string]: Place };
+  ways?: { [line: string]: Place };
   values?: { [line: string]: string };
   befores?: { [line: string]: string };
   counts?: { [line: string]: boolean };
   kept?: { [line: string]: boolean };
+  typed?: { [line: string]: boolean };
   leftOut?: LeftOut[];
   ofLibraries?: CountOfLibraries;
+  /** What the recording lacks of what was to be recorded, in words. */
+  notComplete?: string[];
   /** The scripts and handler attributes that were recorded without marks, and why. */
   unmarked?: unknown[];
 }

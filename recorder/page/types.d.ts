@@ -166,6 +166,8 @@ export interface NewDispatch {
   awaits?: Page;
   /** Events that a rule puts before it. */
   comesAfter?: TraceEvent[];
+  /** The start of a key that can change the field at which it is pressed. */
+  pressed?: Moment;
   /** Actions after which its handlers come, the reason, and the events that have been written for them. */
   moments?: Moments | null;
   why?: string;

@@ -41,7 +41,7 @@ class Actions {
      * @type {Map<string, number>}
      */
     this.suspended = new Map();
-    this.lines.forEach((line, k) => k > 0 && this.read(line.split(' '), k + 1));
+    this.lines.forEach((line, k) => k > 0 && line[1] !== ' ' && this.read(line.split(' '), k + 1)); // accesses are the only records of one letter
   }
 
   /**

@@ -59,11 +59,30 @@ class Keys extends NamedRun {
    * The key of an access, by which another run has it too.
    * @param {{location: string, mode: string, action: number, line: number}} access
    */
-  access({ location, mode, action, line }) {
+  access(access) {
+    const { location, mode, action, line } = this.asDone(access);
     if (isByValue(location)) return `access ${this.location(location, mode)} | ${this.action(action)}`;
     const isLookUp = location.startsWith('slot') && mode === 'r';
-    const place = isLookUp ? '' : this.place(this.names.places[line]);
+    const place = isLookUp ? '' : this.place(this.placeInName(line));
     return `${mode} ${this.location(location, mode)} | ${this.action(action)} | ${place}`;
+  }
+
+  /**
+   * An access where it is done: the write of a field in the event of a key is that of the `input` event that follows.
+   * @template {{location: string, action: number, line: number}} T
+   * @param {T} access
+   * @returns {T}
+   */
+  asDone(access) {
+    if (!this.names.typed?.[access.line]) return access;
+    const { list, lines } = this.actions;
+    const text = `w ${access.location}`;
+    for (const { number, line, words } of list.slice(access.action + 1)) {
+      if (words[0] !== 'inline' || words[3] !== 'input') continue;
+      const own = lines.indexOf(text, line) + 1;
+      if (own && own < (list[number + 1]?.line ?? Infinity)) return { ...access, action: number, line: own };
+    }
+    return access;
   }
 
   /**

@@ -55,13 +55,14 @@ class NamedRun {
   readLines() {
     let action = -1;
     this.actions.lines.forEach((line, k) => {
+      if (line[1] === ' ') return; // an access
       if (this.actions.list[action + 1]?.line === k + 1) action++;
       const words = line.split(' ');
       if (words[0] === 'parse' || words[0] === 'new') this.declareElement(words, k + 1, action);
       if (!DECLARES.has(words[0])) return;
       const key = `${words[0]} ${words[1]}`;
       const what = words[0] === 'on' ? this.names.handlers[words[1]] || {} : {};
-      const known = `${words[0]} ${what.type || ''} ${what.function || ''} ${this.place(this.names.places[k + 1])}`;
+      const known = `${words[0]} ${what.type || ''} ${what.function || ''} ${this.place(this.placeInName(k + 1))}`;
       this.declared.set(key, this.counted(known + this.asker(action)));
     });
   }
@@ -84,7 +85,7 @@ class NamedRun {
     if (kind === 'frame') this.documents.set(inner, element);
     if (facts.standsFor) return;
     const source = (facts.source || '').replace(/[?#].*$/, '');
-    const known = [facts.tag, facts.id, facts.field, source, this.document(document), this.place(facts.place || this.names.places[line])];
+    const known = [facts.tag, facts.id, facts.field, source, this.document(document), this.place(this.placeInName(line, facts))];
     const asker = word === 'new' && facts.tag ? this.asker(action) : '';
     this.elements.set(element, this.counted(known.map((one) => one || '').join(' ') + asker));
   }
@@ -107,6 +108,17 @@ class NamedRun {
    */
   place(place) {
     return place ? `${this.names.files[place[0]]?.address}:${place[1]}:${place[2]}` : '';
+  }
+
+  /**
+   * The place of a line, or of a thing, in a name: if it came by way of a library that is a part of a file, that of the library. Names are older than the
+   * search for such libraries, and stay.
+   * @param {number} line
+   * @param {{place?: Place, way?: Place}} facts
+   */
+  placeInName(line, facts = {}) {
+    const { place, way } = facts.place ? facts : { place: this.names.places[line], way: this.names.ways?.[line] };
+    return way && this.names.files[way[0]]?.isPart ? way : place;
   }
 
   /**

@@ -26,6 +26,8 @@ class SourceText {
     this.names = names;
     /** @type {Map<number, {[line: number]: string}>} */
     this.texts = new Map();
+    /** @type {Map<string, string>} a place is that of many accesses: its text, by file, line and column */
+    this.ofPlaces = new Map();
   }
 
   /**
@@ -74,6 +76,17 @@ class SourceText {
    * @param {Place} place
    */
   at(place) {
+    const key = place.join(':');
+    let text = this.ofPlaces.get(key);
+    if (text === undefined) this.ofPlaces.set(key, text = this.textAt(place));
+    return text;
+  }
+
+  /**
+   * The text at a place, found anew.
+   * @param {Place} place
+   */
+  textAt(place) {
     const [file, line, column] = place;
     const text = this.linesOf(file)[line] || '';
     const rest = text.slice(column - 1, column - 1 + LONGEST_REST);

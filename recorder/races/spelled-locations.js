@@ -24,8 +24,9 @@ const nameOf = (kind, spelled) => (kind === 'slot' ? spelled.replace(/\/\d+$/, '
  * @param {string} location
  */
 function partsOf(location) {
-  const [kind, number, name] = location.split(' ');
-  return { kind, number: Number(number), name };
+  const afterKind = location.indexOf(' ');
+  const afterNumber = location.indexOf(' ', afterKind + 1);
+  return { kind: location.slice(0, afterKind), number: Number(location.slice(afterKind + 1, afterNumber)), name: location.slice(afterNumber + 1) };
 }
 
 /**

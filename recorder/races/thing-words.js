@@ -160,6 +160,7 @@ class ThingWords {
    * @param {string} name
    */
   unescape(name) {
+    if (!name.includes('%')) return shown(name);
     const bytes = name.replace(/%([0-9A-F]{2})/g, (whole, digits) => String.fromCharCode(parseInt(digits, 16)));
     return shown(Buffer.from(bytes, 'latin1').toString('utf8'));
   }

@@ -45,6 +45,8 @@ export interface FileFacts {
   /** Of a long file only the lines around its places, by their numbers. */
   lines?: { [line: number]: string };
   isLibrary?: boolean;
+  /** Whether it stands for a library in a file with other code. */
+  isPart?: boolean;
 }
 
 export interface ElementFacts {
@@ -54,6 +56,7 @@ export interface ElementFacts {
   source?: string;
   loads?: string;
   place?: Place;
+  way?: Place;
   document?: number;
   /** The number of the element for which this one is a stand-in. */
   standsFor?: number;
@@ -118,7 +121,9 @@ export interface NamesOfTrace {
   functions?: { [place: string]: string };
   /** By the number of the line. */
   places: { [line: string]: Place };
+  ways?: { [line: string]: Place };
   kept?: { [line: string]: boolean };
+  typed?: { [line: string]: boolean };
 }
 
 /** What `Keys.identify` gives of an action: its key, and which of the actions with this key it is, from 1. */

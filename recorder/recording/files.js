@@ -20,6 +20,7 @@ const { originOf } = require('./origin.js');
  * @property {import('../texts/sources.js').Sources} sources
  * @property {{picks: object[]}|null} [user]
  * @property {() => object} [facts] what is saved about a page load of a test suite
+ * @property {() => string[]} [lacks] what it lacks of what was to be recorded
  */
 
 /** @param {string} traceFile */
@@ -68,7 +69,8 @@ function writeFiles(recorded, options, traceFile) {
   const load = recorded.facts ? { load: recorded.facts() } : {};
   const unmarked = recorded.sources.unmarked.list;
   const tooMuch = large.length ? { leftOut: large } : {};
-  const facts = { page: recorded.given, trace: path.basename(traceFile), recording, ...load, ofLibraries: accesses.libraries(), ...tooMuch, unmarked };
+  const lacks = recorded.lacks?.() || [];
+  const facts = { page: recorded.given, trace: path.basename(traceFile), recording, ...load, ofLibraries: accesses.libraries(), ...tooMuch, ...lacks.length ? { notComplete: lacks } : {}, unmarked };
   writeWhole(namesFile(traceFile), names.toJson(facts));
   const lines = accesses.lines();
   for (const { location, accesses: count, pairs } of large) lines.push(`${location}, over the analyzer's limits, left out: ${count} accesses, ${pairs} pairs`);

@@ -202,6 +202,12 @@ class Recorder extends Session {
     return `the time of ${this.options.time} s was over before ${missing}${left.length ? `; not done: ${left.join(', ')}` : ''}`;
   }
 
+  /** What the recording lacks of what was to be recorded, in words. */
+  lacks() {
+    const failures = this.options.keepsGoing ? [] : this.acts.failures();
+    return [...failures.map((line) => `not done: ${line}`), ...[this.cut()].filter(Boolean)];
+  }
+
   losses() {
     return [...super.losses(), ...this.windows ? [`windows that the page opened, closed at once: ${this.windows}`] : []];
   }

@@ -2,13 +2,12 @@
 // One thing that a run of a replay holds back.
 
 const { HOLD_NAME } = require('../browser/content-policy.js');
+const { inAnyRun } = require('../common/request-address.js');
 
 /** @typedef {import('./steering.js').Paused} Paused */
 
 /** @param {string} type */
 const isReply = (type) => type === 'XHR' || type === 'Fetch';
-/** @param {string} address */
-const withoutHash = (address) => address.replace(/#.*$/, '');
 
 class Hold {
   /**
@@ -71,7 +70,7 @@ class Hold {
   meets({ request, resourceType, redirectedRequestId }) {
     const { means, address, isReply: isOfCode, nth } = this.cause;
     if (means !== 'response' || this.isReleased || redirectedRequestId) return false;
-    if (withoutHash(request.url) !== address || isReply(resourceType) !== isOfCode) return false;
+    if (inAnyRun(request.url) !== inAnyRun(address || '') || isReply(resourceType) !== isOfCode) return false;
     this.met++;
     return this.met === nth;
   }

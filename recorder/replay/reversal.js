@@ -2,6 +2,7 @@
 // Whether the two accesses of a race came in the other order in a run, and if not, why.
 
 const { called } = require('../common/called.js');
+const { inAnyRun } = require('../common/request-address.js');
 const { judgeWithin } = require('../races/within-limits.js');
 
 /** @typedef {import('./types').FurtherRun} FurtherRun */
@@ -62,7 +63,8 @@ function countedIn(recorded, run, { cause, sides: [side], isLoose }) {
   const keys = isLoose ? run.keys.loose() : run.keys;
   const there = keys.find(side) || keys.findAction(side);
   const causes = there ? recorded.causesIn(run).of(there.action) : [];
-  const found = causes.find((one) => one.means === cause.means && one.word === cause.word && one.place === cause.place && one.address === cause.address);
+  const isOfAddress = (/** @type {import('./types').Cause} */ { address }) => address === cause.address || inAnyRun(address || '') === inAnyRun(cause.address || '');
+  const found = causes.find((one) => one.means === cause.means && one.word === cause.word && one.place === cause.place && isOfAddress(one));
   const isSame = !found || (found.nth === cause.nth && found.way === cause.way && found.event?.nth === cause.event?.nth);
   return isSame ? null : { ...found, action: cause.action, words: cause.words };
 }

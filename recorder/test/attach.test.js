@@ -3,7 +3,9 @@
 
 const assert = require('node:assert');
 const { spawn } = require('node:child_process');
+const { createHash } = require('node:crypto');
 const fs = require('node:fs');
+const http = require('node:http');
 const net = require('node:net');
 const path = require('node:path');
 const { after, before, test } = require('node:test');
@@ -144,22 +146,39 @@ test('another page in its place, a second recorder, a driver that loads nothing,
   await end();
 });
 
-test('a page of this machine can send requests to another port of it', LIMIT, async () => {
-  const other = await serveFolder(path.join(TOP, 'examples', 'shop'));
+/** A server that takes sockets, and answers requests with nothing. */
+async function serveSockets() {
+  const sockets = http.createServer((request, response) => response.end());
+  sockets.on('upgrade', ({ headers }, socket) => {
+    const accept = createHash('sha1').update(`${headers['sec-websocket-key']}258EAFA5-E914-47DA-95CA-C5AB0DC85B11`).digest('base64');
+    socket.on('error', () => {});
+    socket.write(['HTTP/1.1 101 Switching Protocols', 'Upgrade: websocket', 'Connection: Upgrade', `Sec-WebSocket-Accept: ${accept}`, '', ''].join('\r\n'));
+  });
+  return { port: await listen(sockets), close: () => { sockets.closeAllConnections(); sockets.close(); } };
+}
+
+test('a page of this machine can send requests and open sockets to another port of it', LIMIT, async (t) => {
+  const other = await serveSockets();
+  t.after(() => other.close());
   const site = path.join(folder, 'ports');
   fs.mkdirSync(site);
-  const target = other.addressOf('http://localhost/index.html');
-  fs.writeFileSync(path.join(site, 'index.html'), `<!doctype html><title>p</title><script>fetch('${target}', { mode: 'no-cors' }).then(() => { document.title = 'came'; }, () => { document.title = 'failed'; });</script>`);
+  const script = `const told = [];
+    const tell = (text) => { told.push(text); if (told.length === 2) document.title = told.sort().join(); };
+    fetch('http://localhost:${other.port}/', { mode: 'no-cors' }).then(() => tell('came'), () => tell('failed'));
+    const socket = new WebSocket('ws://localhost:${other.port}/');
+    socket.onopen = () => tell('opened');
+    socket.onerror = () => tell('not opened');`;
+  fs.writeFileSync(path.join(site, 'index.html'), `<!doctype html><title>p</title><script>${script}</script>`);
   const own = await serveFolder(site);
+  t.after(() => own.close());
   const driven = await startDriven('ports-browser');
+  t.after(() => driven.end());
   const { recorder } = await attach(driven.port, 'ports');
   await load(driven.tab, own.addressOf('http://localhost/index.html'));
   await waitFor(async () => /came|failed/.test(await driven.tab.evaluate('document.title')), 'the answer');
-  assert.strictEqual(await driven.tab.evaluate('document.title'), 'came', recorder.said);
+  assert.strictEqual(await driven.tab.evaluate('document.title'), 'came,opened', recorder.said);
   await driven.end();
   assert.strictEqual(await recorder.ended, 0, recorder.said);
-  other.close();
-  own.close();
 });
 
 test('no browser at the port, and what is no browser', LIMIT, async () => {

@@ -118,6 +118,9 @@ test('a recording whose time was over is not complete', LIMIT, async () => {
   const races = await call('er_page', `${origin}/races`, '--time', '3');
   assert.strictEqual(races.status, 1, races.stderr);
   assert.match(races.stderr, /the recording is not complete/);
+  assert.match(races.stdout, /^\d+ problems? \(.*\), in a recording that is not complete; the view is /m);
+  const view = fs.readFileSync(path.join(folder, 'races.races', 'page.html'), 'utf8');
+  assert.match(view, /The recording is not complete, so races might be missing: the time of 3 s was over before the page was quiet/);
 });
 
 test('acts are done before the time is over, which is counted from the end of load', LIMIT, async () => {

@@ -22,6 +22,7 @@ exports.cases = [
   { page: 'race-async-parser.html', location: '#offer', worst: 'an uncaught error', differs: /error in the (recorded|other) order alone: TypeError.*text in the (recorded|other) order alone: "(Two for one|nothing)"/ },
   { page: 'race-async-async.html', location: 'theme', worst: CONTENT, isLong: true, differs: last('light', 'dark') },
   { page: 'race-reply-reply.html', location: 'shown', isLong: true, worst: CONTENT, differs: last('found for te', 'found for tea') },
+  { page: 'race-nonce.html', location: 'shown', isLong: true, worst: CONTENT, differs: last('the first', 'the second') },
   { page: 'race-timeouts.html', location: 'price', worst: CONTENT, differs: last('price 0', 'price 7') },
   { page: 'race-timeout-image.html', location: 'load of img#dot', worst: 'a lost event', differs: /lost event in the (recorded|other) order: the load of img#dot: the load handler loaded/ },
   { page: 'race-click-handler.html', words: ['--do', 'click:#buy'], location: 'click of button#buy', worst: 'a lost act', differs: /lost event in the other order: the click at button#buy: the click handler onBuy/ },

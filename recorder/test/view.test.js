@@ -150,6 +150,7 @@ test('races that were run again: what differs first, and the harmless folded', {
   await load(tab, 'again');
   /** @type {(selector: string) => Promise<string[]>} */
   const texts = (selector) => tab.evaluate(`[...document.querySelectorAll(${JSON.stringify(selector)})].map((one) => one.textContent)`);
+  await tab.evaluate("{ const order = document.getElementById('order'); order.value = 'verdict'; order.dispatchEvent(new Event('change')); }");
   assert.deepStrictEqual(await texts('details.group > summary .verdict'), ['turned: differs', 'not turned']);
   assert.deepStrictEqual(await texts('details.group > summary .effect'), ['a lost act']);
   assert.deepStrictEqual(await texts('.harmless > summary'), ['1 problem with no visible difference in the other order']);

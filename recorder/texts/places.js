@@ -2,7 +2,7 @@
 // The files of a recording, and the places in them of what marked code reports by the number of a site. Several runs of a page share them.
 
 const { isLibrary } = require('../common/library.js');
-const { OriginalFile } = require('./source.js');
+const { LibraryPart, OriginalFile } = require('./source.js');
 
 /** @typedef {import('./source.js').Place} Place */
 /** @typedef {import('./source.js').Source} Source */
@@ -31,7 +31,7 @@ function wholeAddress(name, bundle) {
 
 class Places {
   constructor() {
-    /** @type {(Source|OriginalFile)[]} */
+    /** @type {(Source|OriginalFile|LibraryPart)[]} */
     this.files = [];
     /** @type {Site[]} */
     this.sites = [];
@@ -39,7 +39,7 @@ class Places {
 
   /**
    * Adds a file. Returns its index.
-   * @param {Source|OriginalFile} file
+   * @param {Source|OriginalFile|LibraryPart} file
    */
   addFile(file) {
     return this.files.push(file) - 1;
@@ -57,20 +57,36 @@ class Places {
   }
 
   /**
-   * A place in a file, or, of a bundle with a source map, in the file that it was made from.
+   * A place in a file, or, of a bundle with a source map, in the file that it was made from. A library in a file is a file of its own.
    * @param {Source} source
    * @param {{line: number, column: number}} position
    * @returns {Place}
    */
   placeIn(source, { line, column }) {
     const original = source.map && source.map.original(line, column);
-    if (!original) return [source.index, line, column];
+    if (!original) return [this.fileAt(source, line, column), line, column];
     const index = this.originalFile(source, original.source);
     const file = this.files[index];
     /** @type {Place} */
     const place = [index, original.line, original.column];
     if (file instanceof OriginalFile) file.noteFunction(place, source.functionAt(line, column));
     return place;
+  }
+
+  /**
+   * The index of the file in which a place is: of the text, or of a library in it.
+   * @param {Source} source
+   * @param {number} line
+   * @param {number} column
+   */
+  fileAt(source, line, column) {
+    const name = source.libraries.length ? source.libraryAt(source.lines.offsetOf(line, column)) : '';
+    if (!name) return source.index;
+    const known = source.filesOfLibraries.get(name);
+    if (known !== undefined) return known;
+    const index = this.addFile(new LibraryPart(source, name));
+    source.filesOfLibraries.set(name, index);
+    return index;
   }
 
   /**
@@ -105,7 +121,7 @@ class Places {
   }
 
   /**
-   * Whether the code at a site is a library's, by the name of its file. Called for each access, so each site is looked up once.
+   * Whether the code at a site is a library's, by the name of its file or by its text. Called for each access, so each site is looked up once.
    * @param {string|undefined} place of the log: the number of a site, or a position in the browser's copy
    * @param {RegExp|null} pattern
    */
@@ -142,7 +158,7 @@ const originalAddress = (source, number) => wholeAddress(source.map?.sources[num
 function addressOfSite({ source, offset }) {
   const { line, column } = source.lines.placeOf(offset);
   const original = source.map && source.map.original(line, column);
-  return original ? originalAddress(source, original.source) : source.address;
+  return original ? originalAddress(source, original.source) : source.libraryAt(offset) || source.address;
 }
 
 module.exports = { Places };

@@ -1,8 +1,10 @@
 'use strict';
 // One text as it came from the network, with its start tags and functions, and a file that a bundle was made from.
 
+const { isLibrary } = require('../common/library.js');
 const { Lines } = require('../common/lines.js');
 const { EditedText } = require('../instrument/edits.js');
+const { LIBRARIES } = require('../options/libraries.js');
 
 /**
  * A place in a file: the file's number, and line and column from 1.
@@ -90,6 +92,10 @@ class Source {
     this.mapRead = null;
     /** @type {Map<number, number>} the numbers of the files that a bundle was made from, by their numbers in its map */
     this.originals = new Map();
+    /** @type {{start: number, end: number, name: string}[]} the libraries in it, if it is not the file of one, in their order */
+    this.libraries = [];
+    /** @type {Map<string, number>} the numbers of the files that stand for these libraries, by name */
+    this.filesOfLibraries = new Map();
     /** Its number among the files. */
     this.index = -1;
   }
@@ -114,7 +120,18 @@ class Source {
       named: wholeAtStart ? undefined : (/** @type {number} */ start, /** @type {number} */ end, /** @type {string} */ name) => {
         this.functions.push({ start: offset + start, end: offset + end, name });
       },
+      library: wholeAtStart || isLibrary(this.address, LIBRARIES) ? undefined : (/** @type {number} */ start, /** @type {number} */ end, /** @type {string} */ name) => {
+        this.libraries.push({ start: offset + start, end: offset + end, name });
+      },
     };
+  }
+
+  /**
+   * The name of the library in which an offset is, or ''.
+   * @param {number} offset
+   */
+  libraryAt(offset) {
+    return this.libraries.find(({ start, end }) => start <= offset && offset < end)?.name || '';
   }
 
   /**
@@ -218,6 +235,31 @@ class Source {
   }
 }
 
+/**
+ * A library in a text with other code, as a file of its own: it has the address and the places of the text. `library` is the name of the library's file.
+ */
+class LibraryPart {
+  /**
+   * @param {Source} source
+   * @param {string} library
+   */
+  constructor(source, library) {
+    this.source = source;
+    this.address = source.address;
+    this.text = source.text;
+    this.library = library;
+  }
+
+  /**
+   * The name of the function at a place.
+   * @param {number} line
+   * @param {number} column
+   */
+  functionAt(line, column) {
+    return this.source.functionAt(line, column);
+  }
+}
+
 /** A file that a bundle was made from. Its functions are those of the bundle. */
 class OriginalFile {
   /**
@@ -249,4 +291,4 @@ class OriginalFile {
   }
 }
 
-module.exports = { Source, OriginalFile };
+module.exports = { Source, LibraryPart, OriginalFile };

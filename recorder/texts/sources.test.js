@@ -31,3 +31,22 @@ test('each run finds places by its own copy of the page', () => {
   assert.ok(sources.placeInCopy(`${PAGE}.js`, 1, 1));
   assert.strictEqual(second.placeInCopy(`${PAGE}.js`, 1, 1), null);
 });
+
+test('a library in a file with other code is a file of its own, with the same places', () => {
+  const address = 'http://localhost/load.php?modules=jquery';
+  const made = 'function(w){C.fn=C.prototype={jquery:1};w.jQuery=C;function inside(){C.x=1}return C}';
+  const code = `f.x=1;\nimplement(${made});\nf.y=2;`;
+  const sources = new Sources('objects');
+  sources.rewriteScript(address, code);
+  const at = (/** @type {string} */ text) => sources.sites.map(({ offset }, site) => ({ offset, site })).filter(({ offset }) => code.startsWith(text, offset)).map(({ site }) => site)[0];
+  const [own, inside] = [at('x=1;\n'), at('x=1}')];
+  const places = [own, inside].map((site) => sources.placeOfSite(site));
+  assert.deepStrictEqual(places.map(([, line]) => line), [1, 2]);
+  assert.notStrictEqual(places[0][0], places[1][0]);
+  assert.deepStrictEqual(places.map(([file]) => sources.files[file].address), [address, address]);
+  assert.strictEqual(sources.functionAt(places[1]), 'inside');
+  const isLibrary = (/** @type {RegExp|null} */ pattern) => [own, inside].map((site) => sources.isLibrary(String(site), pattern));
+  assert.deepStrictEqual([isLibrary(/^jquery\.js$/), isLibrary(null), isLibrary(/^other$/)], [[false, true], [false, false], [false, false]]);
+  sources.rewriteScript('http://localhost/jquery.js', code);
+  assert.strictEqual(sources.files[sources.placeOfSite(sources.sites.length - 1)[0]].address, 'http://localhost/jquery.js');
+});

@@ -4,7 +4,7 @@
 const { fileAddress } = require('../browser/folder.js');
 const { splitLines } = require('../common/lines.js');
 
-/** @typedef {{address: string, isLibrary?: boolean, text?: string, lines?: {[line: string]: string}}} NamedFile */
+/** @typedef {{address: string, isLibrary?: boolean, isPart?: boolean, text?: string, lines?: {[line: string]: string}}} NamedFile */
 
 /** Files that are longer than this keep only the lines around their places. */
 const LONGEST_TEXT = 400000;
@@ -27,16 +27,15 @@ function linesAround(text, numbers) {
 }
 
 /**
- * @param {string} given its address
- * @param {string} text
+ * @param {{address: string, text: string, library?: string}} file `library` is set if it stands for a part of a file
  * @param {Set<number>|undefined} lines those that have a place; undefined if there is none
  * @param {boolean} isLibrary
  * @returns {NamedFile}
  */
-function namedFile(given, text, lines, isLibrary) {
+function namedFile({ address: given, text, library }, lines, isLibrary) {
   const address = fileAddress(given);
   if (!lines) return { address };
-  const known = isLibrary ? { address, isLibrary } : { address };
+  const known = { address, ...isLibrary && { isLibrary }, ...library && { isPart: true } };
   return text.length <= LONGEST_TEXT ? { ...known, text } : { ...known, lines: linesAround(text, lines) };
 }
 

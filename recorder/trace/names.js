@@ -23,7 +23,7 @@ const { namedFile } = require('./named-files.js');
 /**
  * The texts that were instrumented, as far as names need them (texts/sources.js).
  * @typedef {object} Texts
- * @property {{address: string, text: string}[]} files
+ * @property {{address: string, text: string, library?: string}[]} files `library` is the name of a library that is a part of a file
  * @property {unknown[]} sites
  * @property {{addressOf: (number: number) => string}} modules
  * @property {(site: number) => Place} placeOfSite
@@ -83,6 +83,11 @@ class Names {
      * @type {{[line: string]: true}}
      */
     this.kept = table();
+    /**
+     * The lines of writes of fields in the event of a key: the `input` event of the key does them later.
+     * @type {{[line: string]: true}}
+     */
+    this.typed = table();
     /** @type {{[number: string]: ObjectFacts}} */
     this.objects = table();
     /** @type {Map<string, any[]>} as `nextTag` keeps it */
@@ -166,7 +171,8 @@ class Names {
    * @param {[file: number, ...rest: unknown[]]} place
    */
   foreignness([file]) {
-    return foreignness(this.sources.files[file].address, this.libraries);
+    const { address, library } = this.sources.files[file];
+    return foreignness(library || address, this.libraries);
   }
 
   /**
@@ -174,10 +180,11 @@ class Names {
    * @param {SpelledEntry[]} records they begin with line 2
    */
   addRecords(records) {
-    records.forEach(({ text, place, found, stack, isKept }, k) => {
+    records.forEach(({ text, place, found, stack, isKept, isTyped }, k) => {
       const words = text.split(' ');
       if (found) this.addValue(k + 2, found);
       if (isKept) this.kept[k + 2] = true;
+      if (isTyped) this.typed[k + 2] = true;
       if (words[1] === 'var') this.addObject(Number(words[2]));
       const { own, way } = this.placesOfStack(stack);
       const known = own || this.resolve(place) || this.placeOfBegin(words);
@@ -276,7 +283,7 @@ class Names {
     /** @param {Place} place */
     const note = ([file, line]) => used.set(file, (used.get(file) || new Set()).add(line));
     [...Object.values(this.places), ...Object.values(this.ways), ...Object.values(this.objects).flatMap(({ place }) => (place ? [place] : []))].forEach(note);
-    return this.sources.files.map(({ address, text }, k) => namedFile(address, text, used.get(k), used.has(k) && this.foreignness([k]) > 0));
+    return this.sources.files.map((file, k) => namedFile(file, used.get(k), used.has(k) && this.foreignness([k]) > 0));
   }
 
   /**
@@ -293,7 +300,7 @@ class Names {
    */
   facts(files = this.sources.files.map(({ address, text }) => ({ address: fileAddress(address), text }))) {
     const functions = Object.fromEntries(Object.entries(this.functions).filter(([, name]) => name));
-    return { files, ...this.lists, objects: this.objects, functions, values: this.values, befores: this.befores, counts: this.counts, kept: this.kept, ways: this.ways, places: this.places };
+    return { files, ...this.lists, objects: this.objects, functions, values: this.values, befores: this.befores, counts: this.counts, kept: this.kept, typed: this.typed, ways: this.ways, places: this.places };
   }
 }
 

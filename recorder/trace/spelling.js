@@ -5,7 +5,7 @@
 // or wrote (page/log/values.js), and, if code requests something, the number of its stack: trace/names.js takes the first place in it outside of libraries.
 // - `early NOTE`: a note in the first action, as nothing recorded ran, or after the declaration of the frame whose document it names; `beside E NOTE`: after
 //   the declaration of element E; `into A NOTE`: at the end of action A, which may be long over: the stand-in of an event that A has queued, the handler of
-//   what requested something there.
+//   what requested something there. NOTE can be the write of a field by a key, which the key's `input` event does later.
 // - `look E TYPE`: reads of all slots of E for the type that the log ever writes.
 // - `set T DELAY DOCUMENT`: `set`, or `every` where the timeouts of another window are the ones that are compared.
 // - `ask A`, `anim A`: so in version 3; before, `every` and `tick`.
@@ -23,7 +23,7 @@ const { foreignTimeouts } = require('./spelling/clocks.js');
 const { LegalTrace } = require('./spelling/legal.js');
 const { placeNotes } = require('./spelling/notes.js');
 
-/** @typedef {import('./intake.js').Entry & {isKept?: boolean, why?: string}} SpelledEntry a record with what is known of it (trace/accesses.js) */
+/** @typedef {import('./intake.js').Entry & {isKept?: boolean, isTyped?: boolean, why?: string}} SpelledEntry a record with what is known of it (trace/accesses.js) */
 
 const NEWEST_VERSION = 3;
 

@@ -59,6 +59,14 @@ function unproved({ isUnproved, lacksLinks, command }) {
 }
 
 /**
+ * What the recording lacks of what was to be recorded.
+ * @param {ViewModel} model
+ */
+function notComplete({ notComplete: lines = [] }) {
+  return lines.length ? `<p class="left-out">The recording is not complete, so races might be missing: ${escapeText(lines.join('; '))}.</p>\n` : '';
+}
+
+/**
  * What was left out by choice.
  * @param {ViewModel} model
  */
@@ -105,7 +113,7 @@ function renderPage(model) {
 <body>
 <h1>Races of ${escapeText(model.page)}</h1>
 <p class="counts">${escapeText(counts(model))}</p>
-${unproved(model)}${notShown(model)}${leftOut(model)}${ofLibraries(model)}<form>
+${unproved(model)}${notComplete(model)}${notShown(model)}${leftOut(model)}${ofLibraries(model)}<form>
 <label>Kind <select id="kind">${KINDS}</select></label>
 <label>Text <input id="text" type="search" placeholder="a name, a file, a handler"></label>
 <label>Order <select id="order">${options(model.replays ? ORDERS_OF_REPLAYS : ORDERS)}</select></label>

@@ -94,6 +94,8 @@ export interface ViewModel {
   excerpts: { [key: string]: Excerpt };
   leftOut: (LeftOut & { words: string })[];
   ofLibraries: CountOfLibraries | null;
+  /** What the recording lacks of what was to be recorded, in words. */
+  notComplete?: string[];
   /** Whether the analyzer was not built, so that something without a proof answered. */
   isUnproved: boolean;
   /** Whether the links between actions are left for later. */

@@ -4,7 +4,8 @@
 const { withoutCommands } = require('../../common/shown.js');
 const { policyWithMarks, hasTypes, holdAt, isOfIntegrity } = require('../content-policy.js');
 const { readText } = require('../text.js');
-const { valueOf, withoutHash } = require('./paused.js');
+const { withoutHash } = require('../../common/request-address.js');
+const { valueOf } = require('./paused.js');
 
 /**
  * @typedef {import('./paused.js').Paused} Paused

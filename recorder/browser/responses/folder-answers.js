@@ -2,7 +2,7 @@
 // Answers requests for files of the folder that is served. No such request goes on to the network, whatever fails here.
 
 const { isKept } = require('./kept-answers.js');
-const { withoutHash } = require('./paused.js');
+const { withoutHash } = require('../../common/request-address.js');
 
 /** @typedef {import('./paused.js').Paused} Paused */
 

@@ -1,7 +1,7 @@
 'use strict';
 // What a recorded run received, kept for its replays: each of these gets the same bytes after the same time, and no server gets the request again.
 
-const { withoutHash } = require('./paused.js');
+const { inAnyRun } = require('../../common/request-address.js');
 
 /**
  * @typedef {import('./paused.js').Paused} Paused
@@ -21,7 +21,7 @@ const KEPT_TYPES = new Set(['Document', 'Script', 'Stylesheet', 'Image', 'Font',
 const OWN_EFFECT = /^(set-cookie|clear-site-data|refresh|content-range)$/i;
 
 /** @param {Paused} event */
-const keyOf = ({ request: { method, url }, resourceType }) => `${method} ${resourceType} ${withoutHash(url)}`;
+const keyOf = ({ request: { method, url }, resourceType }) => `${method} ${resourceType} ${inAnyRun(url)}`;
 
 /**
  * Whether an answer to a request is kept.

@@ -37,13 +37,10 @@
 /** @param {Paused} event */
 const isResponse = (event) => event.responseStatusCode !== undefined || event.responseErrorReason !== undefined;
 
-/** @param {string} address */
-const withoutHash = (address) => address.replace(/#.*$/, '');
-
 /**
  * @param {Header[]|undefined} headers
  * @param {string} wanted in lower case
  */
 const valueOf = (headers, wanted) => (headers || []).find(({ name }) => name.toLowerCase() === wanted)?.value || '';
 
-module.exports = { isResponse, withoutHash, valueOf };
+module.exports = { isResponse, valueOf };

@@ -211,6 +211,8 @@ export interface Options {
   numberOfModule?(name: string): number | undefined;
   /** Called for each function that has a name. */
   named?(start: number, end: number, name: string): void;
+  /** Called for each part of the code that is a known library, with the name that its file would have. */
+  library?(start: number, end: number, name: string): void;
   /** The type of the event of a handler. */
   type?: string;
 }

@@ -51,6 +51,21 @@ function remembered(find) {
   };
 }
 
+/**
+ * How many items at the start of a list come before something; no item after these does.
+ * @template T
+ * @param {T[]} list @param {(one: T) => boolean} isBefore
+ */
+function countBefore(list, isBefore) {
+  let [low, high] = [0, list.length];
+  while (low < high) {
+    const middle = (low + high) >> 1;
+    if (isBefore(list[middle])) low = middle + 1;
+    else high = middle;
+  }
+  return low;
+}
+
 class Accesses {
   /**
    * @param {import('../types').Names} names
@@ -66,8 +81,12 @@ class Accesses {
     this.sources = sources;
     /** @type {Map<string, Access[]>} by location, in the order of the trace */
     this.byLocation = new Map();
-    /** @type {Map<string, Access[]>} by action and location */
-    this.byAction = new Map();
+    /** @type {Map<string, number[]>} the lines of the writes by location, in the order of the trace */
+    this.writes = new Map();
+    /** @type {Map<string, Access[]>} reads with a known place, by location and place */
+    this.readsAt = new Map();
+    /** @type {Map<string, boolean>} whether a read at a place is that of a cache, by location and place */
+    this.caches = new Map();
     /**
      * Locations that are ever written with a known value.
      * @type {Set<string>}
@@ -75,7 +94,6 @@ class Accesses {
     this.seen = new Set();
     // An access is in many races: what its line or its location says is found once.
     this.isEmptyBefore = remembered(this.isEmptyBefore.bind(this));
-    this.isOfCache = remembered(this.isOfCache.bind(this));
     this.isUpdate = remembered(this.isUpdate.bind(this));
     this.isScratch = remembered(this.isScratch.bind(this));
     this.readLines(actions);
@@ -93,7 +111,8 @@ class Accesses {
       const location = text.slice(2);
       const access = { line: k + 1, action, isWrite: text[0] === 'w' };
       addTo(this.byLocation, location, access);
-      addTo(this.byAction, `${action} ${location}`, access);
+      if (access.isWrite) addTo(this.writes, location, access.line);
+      else if (this.places[k + 1]) addTo(this.readsAt, this.keyOfPlace(location, k + 1), access);
       if (access.isWrite && this.values[k + 1] && this.values[k + 1] !== '?') this.seen.add(location);
     });
   }
@@ -107,11 +126,23 @@ class Accesses {
   }
 
   /**
+   * A location with the place of an access to it.
+   * @param {string} location @param {number} line
+   */
+  keyOfPlace(location, line) {
+    return `${location} ${this.places[line]}`;
+  }
+
+  /**
    * The accesses of an action to a location.
    * @param {string} location @param {number} action
    */
   inAction(location, action) {
-    return this.byAction.get(`${action} ${location}`) || [];
+    const all = this.of(location);
+    const first = countBefore(all, (one) => one.action < action);
+    let end = first;
+    while (all[end]?.action === action) end++;
+    return all.slice(first, end);
   }
 
   // ---- values
@@ -131,8 +162,9 @@ class Accesses {
   isEmptyBefore(line, location) {
     if (this.befores[line] !== undefined) return this.isEmpty(this.befores[line], location);
     if (isOfObject(location)) return false;
-    const before = this.of(location).filter((one) => one.isWrite && one.line < line).pop();
-    return !before || this.isEmpty(this.values[before.line], location);
+    const writes = this.writes.get(location) || [];
+    const before = writes[countBefore(writes, (one) => one < line) - 1];
+    return before === undefined || this.isEmpty(this.values[before], location);
   }
 
   /**
@@ -201,17 +233,34 @@ class Accesses {
   }
 
   /**
+   * Whether a location is written between two lines.
+   * @param {string} location @param {number} from @param {number} to
+   */
+  isWrittenBetween(location, from, to) {
+    const writes = this.writes.get(location) || [];
+    return countBefore(writes, (one) => one < to) > countBefore(writes, (one) => one <= from);
+  }
+
+  /**
    * Whether a read is that of a cache: if it finds nothing, the same action writes a value. This is known where it happened, in this action or, at the
    * same place of the code, in another one.
-   * @param {number} line @param {string} location
+   * @param {number} line @param {number} action of the read @param {string} location
    */
-  isOfCache(line, location) {
-    const all = this.of(location);
-    const place = this.places[line];
-    const reads = all.filter((one) => !one.isWrite && (one.line === line || (place && String(this.places[one.line]) === String(place))));
-    const isFilled = (/** @type {Access} */ read) => this.inAction(location, read.action).some((one) => one.isWrite && one.line > read.line
-      && (this.values[read.line] === undefined ? this.isEmptyBefore(one.line, location) : this.isEmpty(this.values[read.line], location)));
-    return reads.some(isFilled);
+  isOfCache(line, action, location) {
+    if (!this.places[line]) return this.isFilled({ line, action, isWrite: false }, location);
+    const key = this.keyOfPlace(location, line);
+    let isOne = this.caches.get(key);
+    if (isOne === undefined) this.caches.set(key, isOne = (this.readsAt.get(key) || []).some((read) => this.isFilled(read, location)));
+    return isOne;
+  }
+
+  /**
+   * Whether a read finds nothing, and its action then writes a value.
+   * @param {Access} read @param {string} location
+   */
+  isFilled({ line, action }, location) {
+    return this.inAction(location, action).some((one) => one.isWrite && one.line > line
+      && (this.values[line] === undefined ? this.isEmptyBefore(one.line, location) : this.isEmpty(this.values[line], location)));
   }
 
   /**

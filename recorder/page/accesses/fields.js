@@ -1,11 +1,12 @@
 // The values of form fields, cookies and storage: variables of objects of their own. Of storage not seen: `length`, `key(n)`, `clear()`, and with
 // `--depth globals` accesses without a method.
 
-import { each } from '../core/lists.js';
+import { each, findItem } from '../core/lists.js';
 import { replaceGetter, replaceMethod, replaceProperty } from '../core/replacing.js';
 import { settings } from '../core/settings.js';
 import { sliceOf } from '../core/strings.js';
 import { Object, String, apply } from '../core/taken.js';
+import { isElement } from '../core/things.js';
 import { spellName } from '../log/spelling.js';
 import { Forms } from './forms.js';
 
@@ -20,6 +21,8 @@ const FIELD_PROPERTIES = [
 /** @type {{[name: string]: string}} */
 const STORAGE_CALLS = { getItem: 'r', setItem: 'w', removeItem: 'w' };
 const LONGEST_KEY = 80;
+/** Fields in which a key changes the text whatever handlers do, unless they keep it from doing so. */
+const CHANGEABLE = ':is(input, textarea):read-write:not([maxlength])';
 
 class Fields {
   /** @param {import('../types').Page} page */
@@ -125,12 +128,26 @@ class Fields {
   }
 
   /**
-   * The user's change of a field belongs to the start of its `input` event.
+   * A key is pressed at a field that the user can change: what its handlers do is not needed for the change.
+   * @param {import('../types').Dispatch} dispatch which begins
+   */
+  noteKey(dispatch) {
+    const { event, target, isInline } = dispatch;
+    if (isInline || event?.type !== 'keydown' || !event.isTrusted || !isElement(target)) return;
+    if (apply(this.page.natives.matches, target, [CHANGEABLE])) dispatch.pressed = this.recording.lastMoment();
+  }
+
+  /**
+   * The user's change of a field belongs to the start of its `input` event. If handlers of its key have run, it is a write of the key's own event too: without
+   * them the field would have changed as well, so it does not come after the code that registered them.
    * @param {Event} event
    * @param {any} target any target of events
    */
   writeInput(event, target) {
     if (!event.isTrusted || event.type !== 'input' || target.nodeType !== 1) return;
+    const { dispatches } = this.recording;
+    const key = findItem(dispatches, (one) => one.pressed !== undefined && one.target === target);
+    if (key && findItem(dispatches, ({ group = -1 }) => group >= 0)) this.recording.noteIn(key.pressed, `w ${this.location(target, 'value')}`);
     this.recording.accessNow('w', this.location(target, 'value'), '');
     if (target.type === 'checkbox' || target.type === 'radio') this.recording.accessNow('w', this.location(target, 'checked'), '');
     each(this.forms.radiosBeside(target), (radio) => this.recording.accessNow('w', this.location(radio, 'checked'), ''));

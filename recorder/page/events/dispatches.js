@@ -78,6 +78,7 @@ class Dispatches {
     if (event.isTrusted && hasConsequences(event.type)) recording.watchTask();
     page.tree.writeLate();
     this.readSlots(path.length ? path : [target], event.type);
+    page.fields.noteKey(dispatch);
     page.fields.writeInput(event, target);
     page.fields.watchReset(dispatch);
     page.addresses.watch(dispatch, path);

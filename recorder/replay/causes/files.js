@@ -2,6 +2,7 @@
 // Responses, and waits of the parser, that a replay can hold back.
 
 const { Lines } = require('../../common/lines.js');
+const { inAnyRun } = require('../../common/request-address.js');
 
 /** @typedef {import('./run-facts.js').Action} Action */
 /** @typedef {import('../types').Cause} Cause */
@@ -53,7 +54,7 @@ class Files {
     const { method = '', url } = requests[request] || {};
     if (/^(EventSource|WebSocket|FileReader|IDB)/.test(method) || !url) return null;
     const sends = this.run.keys.actions.lines.map((line) => /^send (\d+)$/.exec(line)?.[1] || '').filter(Boolean);
-    const same = sends.filter((one) => requests[one]?.url === url);
+    const same = sends.filter((one) => inAnyRun(requests[one]?.url || '') === inAnyRun(url));
     const first = this.run.first((words) => words[0] === 'reply' && words[2] === request);
     return first ? this.response(url, true, same.indexOf(request) + 1, first.number, this.run.words.reply(request).replace(/^the reply to /, '')) : null;
   }
@@ -79,7 +80,7 @@ class Files {
    * @param {string} loads
    */
   orderOfLoad(element, loads) {
-    const all = [...this.run.keys.elements.keys()].filter((one) => this.run.names.elements[one]?.loads === loads);
+    const all = [...this.run.keys.elements.keys()].filter((one) => inAnyRun(this.run.names.elements[one]?.loads || '') === inAnyRun(loads));
     return Math.max(all.indexOf(element), 0) + 1;
   }
 

@@ -130,6 +130,31 @@ exports.cases = [
     races: ['value of input#field'],
   },
   {
+    page: 'typed-late-handler.html',
+    words: ['--do', 'wait:300', '--do', 'type:#text:xy'],
+    due: [
+      'timer', 'r value of textarea#text', 'on pressed', 'fire textarea#text keydown', 'w value of textarea#text', 'inline textarea#text keypress', 'run pressed',
+      'inline textarea#text input', 'w value of textarea#text',
+    ],
+    races: ['value of textarea#text', 'keypress of textarea#text'],
+  },
+  {
+    page: 'typed-late-focus.html',
+    words: ['--do', 'wait:300', '--do', 'type:#locked:a', '--do', 'type:#full:c', '--do', 'press:#mover:b'],
+    due: [
+      'fire textarea#locked keydown', 'run unlock', 'inline textarea#locked input', 'w value of textarea#locked', 'fire input#full keydown', 'run clear',
+      'inline input#full input', 'w value of input#full', 'fire button#mover keydown', 'run move', 'inline input#second input', 'w value of input#second',
+    ],
+    races: ['keydown of textarea#locked', 'keydown of input#full', 'keydown of button#mover'],
+  },
+  {
+    page: 'typed-kept-back.html',
+    words: ['--do', 'wait:300', '--do', 'type:#text:a'],
+    due: ['timer', 'r value of textarea#text', 'on pressed', 'fire textarea#text keydown', 'run pressed'],
+    never: ['w value of textarea#text'],
+    races: ['keydown of textarea#text'],
+  },
+  {
     page: 'address.html',
     words: ['--do', 'click:#link'],
     due: [

@@ -131,7 +131,8 @@ function isLine(text) {
   const tokens = text.split(' ');
   const length = PREFIXES.get(tokens[0]);
   if (length === undefined) return fits(LINE_SHAPES, tokens);
-  return (length === 1 || number(tokens[1] || '')) && fits(NOTE_SHAPES, tokens.slice(length));
+  const isOfAction = tokens[0] === 'into' && tokens[2] === 'w' && fits(LINE_SHAPES, tokens.slice(length));
+  return (length === 1 || number(tokens[1] || '')) && (isOfAction || fits(NOTE_SHAPES, tokens.slice(length)));
 }
 
 module.exports = { isRecord, isLine, isNumber: number };

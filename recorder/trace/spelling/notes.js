@@ -4,7 +4,7 @@
 
 const { BEGINS, wordOf } = require('../intake.js');
 
-/** @typedef {import('../intake.js').Entry} Entry */
+/** @typedef {import('../intake.js').Entry & {isTyped?: boolean}} Entry */
 
 /** The document of the page itself, which its first record declares. */
 const PAGE = '0';
@@ -52,7 +52,7 @@ class MovedNotes {
       if (words[1] === 'new' && words[2] !== PAGE) addTo(this.beside, `frame ${words[2]}`, note);
       else this.early.push(note);
     } else if (words[0] === 'beside') addTo(this.beside, words[1], { ...entry, text: words.slice(2).join(' ') });
-    else if (words[0] === 'into') addTo(this.into, words[1], { ...entry, text: words.slice(2).join(' ') });
+    else if (words[0] === 'into') addTo(this.into, words[1], { ...entry, text: words.slice(2).join(' '), ...words[2] === 'w' && { isTyped: true } });
     else this.rest.push(entry);
   }
 

@@ -1,0 +1,16 @@
+'use strict';
+// Which addresses are those of one request in two runs of a page.
+
+/** The time of a run in a query, in seconds or milliseconds, as jQuery's `cache: false` adds it: these are times from 2017 to 2096. */
+const TIME = /(?<!\d)(?:1[5-9]|[23]\d)\d{8}(?:\d{3})?(?!\d)/g;
+
+/** @param {string} address */
+const withoutHash = (address) => address.replace(/#.*$/, '');
+
+/**
+ * An address as another run of the page requests it: without the fragment, and with another time in the query.
+ * @param {string} address
+ */
+const inAnyRun = (address) => withoutHash(address).replace(/\?.*$/, (query) => query.replace(TIME, '*'));
+
+module.exports = { withoutHash, inAnyRun };
