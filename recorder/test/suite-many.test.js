@@ -63,13 +63,27 @@ test('a trace that is refused: the others are listed; a view that cannot be writ
   assert.match(unwritten.stderr, /load-0003\.html.* cannot be written/);
 });
 
-test('Ctrl-C ends all processes', LIMIT, async () => {
-  const traces = makeLoads('stopped', 200);
+/** Starts the list of many loads. Returns the command and the processes that analyze them. */
+async function startMany() {
+  const traces = path.join(folder, 'stopped');
+  if (!fs.existsSync(traces)) makeLoads('stopped', 200);
   const command = start(SUITE, [traces]);
   const children = () => fs.readdirSync('/proc').filter((pid) => /^\d+$/.test(pid) && isJudgeOf(pid, Number(command.pid)));
   for (let k = 0; k < 300 && !children().length; k++) await sleep(50);
   const judges = children();
   assert.ok(judges.length > 0);
+  return { command, judges };
+}
+
+test('a process that is killed', LIMIT, async () => {
+  const { command, judges: [judge] } = await startMany();
+  process.kill(Number(judge), 'SIGKILL');
+  assert.strictEqual(await command.ended, 5, command.said);
+  assert.match(command.said, /a process that analyzes page loads failed: it ended with SIGKILL/);
+});
+
+test('Ctrl-C ends all processes', LIMIT, async () => {
+  const { command, judges } = await startMany();
   command.kill('SIGINT');
   assert.strictEqual(await command.ended, 130, command.said);
   for (let k = 0; k < 100 && judges.some((pid) => fs.existsSync(`/proc/${pid}`)); k++) await sleep(50);
