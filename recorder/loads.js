@@ -138,10 +138,10 @@ function writeIndex(listing, judged, folder, html) {
  * @param {Judged[]} judged
  * @param {Known|null} known
  * @param {ListOptions} options
- * @param {string} folder from which the list names the views
+ * @param {string} folder from which the list names the views, each with the name of its test
  */
 function listingOf(judged, known, options, folder) {
-  const views = judged.map(({ file }) => path.relative(folder, besides(file, '.html')));
+  const views = judged.map(({ file, load }) => `${path.relative(folder, besides(file, '.html'))}${load.test?.name ? ` (${load.test.name})` : ''}`);
   return new LoadsListing(judged.map(({ run }) => run), known, options, views);
 }
 

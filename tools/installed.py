@@ -20,7 +20,8 @@ COMP_WORDS=(er_page "$@") COMP_CWORD=$#
 _er_page
 printf '%s\\n' "${COMPREPLY[@]}"
 """
-MODULE = "console.log(require('eventracer/package.json').version, Object.keys(require('eventracer')).sort().join(' '))"
+MODULE = ("const { version, types } = require('eventracer/package.json');"
+          "console.log(version, require('fs').existsSync(`/usr/share/nodejs/eventracer/${types}`), Object.keys(require('eventracer')).sort().join(' '))")
 OPTION = re.compile(r"--[a-z][a-z-]*")
 TRACES = len(glob.glob(f"{TOP}/examples/*.trace"))
 EACH_TRACE = """
@@ -81,9 +82,9 @@ class Installed:
         yield "bash completes a value", None if offered == ["globals", "objects"] else offered
 
     def check_module(self):
-        """The interface for programs has the package's version."""
+        """The interface for programs has the package's version, and TypeScript's declarations."""
         status, output, fault = self.run("node", "-e", MODULE, NODE_PATH="/usr/share/nodejs")  # where Debian's Node looks without it
-        due = f"{self.version.split('~')[0]}.0 EventRacerError attach judge list record replay"
+        due = f"{self.version.split('~')[0]}.0 true EventRacerError attach judge list record replay"
         yield "require('eventracer')", None if status == 0 and output.strip() == due else (status, output, fault)
 
     def check_options(self):

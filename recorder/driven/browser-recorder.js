@@ -13,6 +13,7 @@ const { ownNames, pageScript } = require('../recording/page-script.js');
 const { allowLocalNetwork } = require('../browser/local-network.js');
 const { HoldScripts } = require('../browser/responses/hold-scripts.js');
 const { withoutCredentials } = require('../common/address.js');
+const { Pause } = require('./pause.js');
 const { Paused } = require('./paused.js');
 const { sleep } = require('../common/time.js');
 
@@ -66,6 +67,7 @@ class BrowserRecorder {
     this.written = 0;
     this.hasFacts = false;
     this.paused = new Paused(browser);
+    this.pause = new Pause();
     /** @type {NodeJS.Timeout|undefined} */
     this.timer = undefined;
     /** Recordings are written one after the other. */
@@ -145,6 +147,7 @@ class BrowserRecorder {
    */
   async pass(event, sessionId) {
     if (sessionId && !this.sessions.has(sessionId)) return;
+    this.pause.note();
     this.paused.note(/** @type {import('./paused.js').PausedEvent} */ (event), sessionId);
     const tab = sessionId ? this.sessions.get(sessionId) : this.tabs.get(event.frameId) || await this.tabAt(event.frameId);
     const isResponse = event.responseStatusCode !== undefined || event.responseErrorReason !== undefined;
@@ -288,7 +291,8 @@ class BrowserRecorder {
    * @param {LoadOfPage} load
    */
   write(load) {
-    this.writing = this.writing.then(() => load.write()).catch((fault) => this.complain(`a page load is not recorded: ${complaints.faultInWords(fault)}`)).then(() => {
+    const since = Date.now();
+    this.writing = this.writing.then(() => this.pause.wait(since)).then(() => load.write()).catch((fault) => this.complain(`a page load is not recorded: ${complaints.faultInWords(fault)}`)).then(() => {
       if (load.isOver && this.loads.delete(load) && load.hasTrace()) this.written++;
     });
   }
@@ -296,6 +300,7 @@ class BrowserRecorder {
   /** The browser has ended. */
   async finish() {
     clearInterval(this.timer);
+    this.pause.end();
     for (const load of this.loads) if (!load.isOver) this.endLoad(load, 'the browser ended');
     await this.writing;
   }

@@ -113,7 +113,7 @@ test('several folders are one list, with JUnit XML, and a page that stands witho
   const [xml, html] = [path.join(folder, 'suite.xml'), path.join(folder, 'html')];
   const { status, stdout, stderr } = await suite(traces, other, `${traces}/`, '--junit', xml, '--html', html);
   assert.strictEqual(status, 1, stderr);
-  assert.match(stdout, /seen in 4 of 12 loads.*: \S+\.html$/m);
+  assert.match(stdout, /seen in 4 of 12 loads.*: \S+\.html \(pipe\)$/m);
   assert.match(stdout, /12 page loads, .*html\/index\.html$/m);
   assert.match(fs.readFileSync(xml, 'utf8'), /<testsuites name="EventRacer" tests="\d+" failures="[1-9]\d*"/);
   const links = [...fs.readFileSync(path.join(html, 'index.html'), 'utf8').matchAll(/href="([^"]*)"/g)].map(([, link]) => decodeURIComponent(link));
