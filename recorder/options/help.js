@@ -21,7 +21,8 @@ const USER_AND_NETWORK = `User and network:
   --avoid REGEX     texts and names of what --clicks avoids, or "none" (delete, log out,
                     quit, reset, stop and others)
   --slow MS         delay each file by up to MS milliseconds, the same in each run
-  --time SECONDS    stop SECONDS after the end of load; use what came until then (30)
+  --time SECONDS    stop if load takes longer than SECONDS, and SECONDS after its end; use
+                    what came until then (30)
   --root DIR        folder to serve if URL is a file (the file's own folder)
   --fallback FILE   file in the served folder, as index.html, that answers for paths
                     without a file: the routes of a single-page application
