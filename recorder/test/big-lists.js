@@ -1,6 +1,6 @@
 #!/usr/bin/env node
 'use strict';
-// big-lists.js [--races N] [--into FILE] [SHAPE..]: what the list and the view of generated traces of N races (250,000) cost (big-traces.js): processor time,
+// big-lists.js [--races N] [--times N] [--into FILE] [SHAPE..]: what the list and the view of generated traces of N races (250,000) cost (big-traces.js): processor time,
 // with that of the analyzer apart, the page's bytes, and how long Chromium takes to open it. --into writes the table.
 
 const { spawnSync } = require('node:child_process');
@@ -24,7 +24,7 @@ const SIZE = { width: 1100, height: 800 };
 /** As recorder/start gives it. */
 const HEAP = '--max-old-space-size=4096';
 const MEGABYTE = 1e6;
-/** Of several times, the smallest is that with the least other work. */
+/** Of so many times the smallest is that with the least other work. */
 const TIMES = 3;
 
 /**
@@ -80,16 +80,16 @@ async function timeToOpen(browser, file) {
  * @param {Chromium} browser
  * @param {string} folder
  * @param {string} shape
- * @param {number} races
+ * @param {{races: number, times: number}} how
  */
-async function measure(browser, folder, shape, races) {
+async function measure(browser, folder, shape, { races, times }) {
   const base = path.join(folder, shape);
   const { lines, names } = SHAPES[shape].make(races);
   fs.writeFileSync(`${base}.trace`, ['webtrace 3', ...lines, 'end', ''].join('\n'));
   fs.writeFileSync(`${base}.names.json`, JSON.stringify(names));
   const made = [];
   const opened = [];
-  for (let k = 0; k < TIMES; k++) {
+  for (let k = 0; k < times; k++) {
     made.push(runApart(`${base}.trace`));
     opened.push(await timeToOpen(browser, `${base}.html`));
   }
@@ -105,7 +105,7 @@ async function main(words) {
   if (words[0] === '--one') return listAndView(words[1]);
   const left = [...words];
   const take = (/** @type {string} */ name) => (left.includes(name) ? left.splice(left.indexOf(name), 2)[1] : null);
-  const [races, into] = [Number(take('--races') || RACES), take('--into')];
+  const [races, times, into] = [Number(take('--races') || RACES), Number(take('--times') || TIMES), take('--into')];
   const shapes = left.length ? left : Object.keys(SHAPES);
   const folder = temporaryFolder('big-lists');
   const loads = [os.loadavg()[0]];
@@ -113,14 +113,14 @@ async function main(words) {
   const rows = [];
   try {
     for (const shape of shapes) {
-      rows.push(await measure(browser, folder, shape, races));
+      rows.push(await measure(browser, folder, shape, { races, times }));
       console.log(rows[rows.length - 1].join(' | '));
     }
   } finally {
     await browser.close();
   }
   loads.push(os.loadavg()[0]);
-  const note = `By \`recorder/test/big-lists.js\`, with ${os.cpus().length} processors at a load of ${loads.map((one) => one.toFixed(1)).join(' to ')}. Each is the best of ${TIMES}. `
+  const note = `By \`recorder/test/big-lists.js\`, with ${os.cpus().length} processors at a load of ${loads.map((one) => one.toFixed(1)).join(' to ')}. ${times > 1 ? `Each is the best of ${times}. ` : ''}`
     + 'Node: processor time of the list and the view, without the analyzer. Opens: until Chromium has drawn the page.';
   const text = `${note}\n\n${tableOf(HEAD, rows)}\n\n${shapes.map((shape) => `- ${shape}: ${SHAPES[shape].says}`).join('\n')}`;
   if (into) writeSection(into, `Traces of ${races.toLocaleString('en')} races`, text, 'Lists and views of many races');

@@ -181,4 +181,6 @@ exports.cases = [
       'send', 'reply', 'w head', 'close', 'reply', 'w items', 'close',
     ],
   },
+  // what cannot happen and is listed all the same (docs/lost.md)
+  { page: 'barrier.html', due: ['timer', 'w second', 'timer', 'w first', 'r second'], races: ['left', 'second'] },
 ];
