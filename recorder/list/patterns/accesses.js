@@ -81,10 +81,10 @@ class Accesses {
     this.sources = sources;
     /** @type {Map<string, Access[]>} by location, in the order of the trace */
     this.byLocation = new Map();
-    /** @type {Map<string, number[]>} the lines of the writes by location, in the order of the trace */
+    /** @type {Map<string, number[]>} the lines of the writes by location, in the order of the trace, once they are asked for */
     this.writes = new Map();
-    /** @type {Map<string, Access[]>} reads with a known place, by location and place */
-    this.readsAt = new Map();
+    /** @type {Map<string, Map<string, Access[]>>} reads by location and place, once they are asked for */
+    this.reads = new Map();
     /** @type {Map<string, boolean>} whether a read at a place is that of a cache, by location and place */
     this.caches = new Map();
     /**
@@ -111,8 +111,6 @@ class Accesses {
       const location = text.slice(2);
       const access = { line: k + 1, action, isWrite: text[0] === 'w' };
       addTo(this.byLocation, location, access);
-      if (access.isWrite) addTo(this.writes, location, access.line);
-      else if (this.places[k + 1]) addTo(this.readsAt, this.keyOfPlace(location, k + 1), access);
       if (access.isWrite && this.values[k + 1] && this.values[k + 1] !== '?') this.seen.add(location);
     });
   }
@@ -126,11 +124,26 @@ class Accesses {
   }
 
   /**
-   * A location with the place of an access to it.
-   * @param {string} location @param {number} line
+   * The lines of the writes to a location.
+   * @param {string} location
    */
-  keyOfPlace(location, line) {
-    return `${location} ${this.places[line]}`;
+  writesOf(location) {
+    let lines = this.writes.get(location);
+    if (!lines) this.writes.set(location, lines = this.of(location).filter(({ isWrite }) => isWrite).map(({ line }) => line));
+    return lines;
+  }
+
+  /**
+   * The reads of a location at a place of the code.
+   * @param {string} location @param {string} place
+   */
+  readsAt(location, place) {
+    let byPlace = this.reads.get(location);
+    if (!byPlace) {
+      this.reads.set(location, byPlace = new Map());
+      for (const one of this.of(location)) if (!one.isWrite) addTo(byPlace, String(this.places[one.line]), one);
+    }
+    return byPlace.get(place) || [];
   }
 
   /**
@@ -162,7 +175,7 @@ class Accesses {
   isEmptyBefore(line, location) {
     if (this.befores[line] !== undefined) return this.isEmpty(this.befores[line], location);
     if (isOfObject(location)) return false;
-    const writes = this.writes.get(location) || [];
+    const writes = this.writesOf(location);
     const before = writes[countBefore(writes, (one) => one < line) - 1];
     return before === undefined || this.isEmpty(this.values[before], location);
   }
@@ -237,7 +250,7 @@ class Accesses {
    * @param {string} location @param {number} from @param {number} to
    */
   isWrittenBetween(location, from, to) {
-    const writes = this.writes.get(location) || [];
+    const writes = this.writesOf(location);
     return countBefore(writes, (one) => one < to) > countBefore(writes, (one) => one <= from);
   }
 
@@ -248,9 +261,10 @@ class Accesses {
    */
   isOfCache(line, action, location) {
     if (!this.places[line]) return this.isFilled({ line, action, isWrite: false }, location);
-    const key = this.keyOfPlace(location, line);
+    const place = String(this.places[line]);
+    const key = `${location} ${place}`;
     let isOne = this.caches.get(key);
-    if (isOne === undefined) this.caches.set(key, isOne = (this.readsAt.get(key) || []).some((read) => this.isFilled(read, location)));
+    if (isOne === undefined) this.caches.set(key, isOne = this.readsAt(location, place).some((read) => this.isFilled(read, location)));
     return isOne;
   }
 
