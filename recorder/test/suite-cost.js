@@ -73,7 +73,7 @@ function write(pairs) {
   const loads = pairs.map(({ within }) => within.loads);
   writePart('A suite with and without the recorder', `By \`recorder/test/suite-cost.js\`, on ${os.cpus().length} processors with a load of ${os.loadavg()[2].toFixed(1)}.
 
-Twenty small tests with Selenium and three browsers, over the shop of examples/, dokuwiki and fossil (\`drivers/small_suite.py\`), alternately without and with \`er_browser\`, which recorded ${Math.min(...loads)} to ${Math.max(...loads)} page loads in each run. With it, a run took ${span(ratios)} times as long (median, least and most).
+Twenty small tests with Selenium and three browsers, over the shop of examples/, dokuwiki and fossil (\`drivers/small_suite.py\`), alternately without and with \`er_browser\`, which recorded ${[...new Set([Math.min(...loads), Math.max(...loads)])].join(' to ')} page loads in each run. With it, a run took ${span(ratios)} times as long (median, least and most).
 
 | Browser | Runs | Tests | Failed | Seconds a run |
 |---|---|---|---|---|
