@@ -52,14 +52,14 @@ class Media {
    */
   noteLoading(element) {
     const moment = this.recording.moment();
-    if (moment) this.loading.set(element, { moment });
+    if (moment) this.loading.set(element, { moment, isOfSeveral: true });
     else this.loading.delete(element);
   }
 
   /** @param {HTMLMediaElement} element */
   notePlaying(element) {
     const moment = this.recording.moment();
-    if (moment) this.playing.set(element, { moment });
+    if (moment) this.playing.set(element, { moment, isOfSeveral: true });
     else this.playing.delete(element);
   }
 
@@ -105,7 +105,7 @@ class Media {
    * @param {HTMLMediaElement} element
    */
   loadingOf(element) {
-    if (!this.loading.has(element)) this.loading.set(element, { moment: null });
+    if (!this.loading.has(element)) this.loading.set(element, { moment: null, isOfSeveral: true });
     return this.loading.get(element);
   }
 

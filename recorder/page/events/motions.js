@@ -23,7 +23,7 @@ const FRAGMENT = 11;
 /** @typedef {import('./queued.js').Cause} Cause */
 /**
  * Changes of an element by one event: whether one was of its class or style, and whether other events changed it too.
- * @typedef {Cause & {moment: Moment, time: number, isOfStyle: boolean, isMixed: boolean}} Change
+ * @typedef {{moment: Moment, time: number, isOfStyle: boolean, isMixed: boolean}} Change
  */
 
 class Motions {
@@ -42,10 +42,15 @@ class Motions {
      */
     this.came = new WeakMap();
     /**
-     * By element, and by `nameOfMotion`: the change that started the motion.
+     * By element, and by `nameOfMotion`: what started the motion. Two motions of one change have no order.
      * @type {WeakMap<Element, Map<string, Cause>>}
      */
     this.started = new WeakMap();
+    /**
+     * The events of starts that are noted: a dispatch notes its event, and so does the listener at the document, which hears it if no handler does.
+     * @type {WeakMap<MotionEvent, boolean>}
+     */
+    this.heard = new WeakMap();
   }
 
   /** Whether the page has handlers of motions. */
@@ -97,7 +102,7 @@ class Motions {
    * The change that starts a motion of an element: its own, or that of an ancestor. Undefined if several events changed attributes there, or if the element
    * came just before: which one it was is not known.
    * @param {MotionEvent} event
-   * @returns {Cause|undefined}
+   * @returns {Change|undefined}
    */
   changeAround({ target: element, animationName }) {
     /** @type {Change|undefined} */
@@ -128,10 +133,12 @@ class Motions {
    * @param {MotionEvent} event
    */
   noteStart(event) {
+    if (this.heard.has(event)) return;
+    this.heard.set(event, true);
     const change = this.changeAround(event);
     const started = this.started.get(event.target) || new Map();
     this.started.set(event.target, started);
-    if (change) started.set(nameOfMotion(event), change);
+    if (change) started.set(nameOfMotion(event), { moment: change.moment, isOfSeveral: true });
     else started.delete(nameOfMotion(event));
   }
 

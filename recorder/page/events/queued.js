@@ -20,8 +20,8 @@ const FRAMES_OF_A_CALL = 3;
 /** @typedef {import('../types').TraceEvent} TraceEvent */
 /**
  * What has caused events: the action (null: the element's declaration), the number of the element that stands for it in them, the end of the last of
- * them, and what has caused an event that always comes before.
- * @typedef {{moment: Moment|null, standIn?: number, last?: Moment, before?: Cause|null}} Cause
+ * them, and what has caused an event that always comes before. If it causes events of several types, the last one is of a type in `IN_ORDER`.
+ * @typedef {{moment: Moment|null, standIn?: number, last?: Moment, before?: Cause|null, isOfSeveral?: boolean}} Cause
  */
 /**
  * An expected event, of a type or of any (null).
@@ -44,11 +44,11 @@ class Queued {
      */
     this.noted = new WeakMap();
     /**
-     * Moments after which microtasks ran and might have left rejected promises, and the one whose `unhandledrejection` events come next.
+     * Moments after which microtasks ran and might have left rejected promises, and the cause of the `unhandledrejection` events that come next.
      * @type {Moment[]}
      */
     this.ran = [];
-    /** @type {Moment|undefined} */
+    /** @type {Cause|undefined} */
     this.rejecting = undefined;
   }
 
@@ -166,7 +166,7 @@ class Queued {
     this.recording.begin(`fire ${number} ${cause.standIn} ${spellName(event.type)}`, 'begin', undefined, [moment && moment.event]);
     if (IN_ORDER.has(event.type)) this.keepOrder(dispatch, cause, cause.last);
     else if (cause.before) this.keepOrder(dispatch, cause, cause.before.last);
-    else dispatch.whenClosed = () => { cause.last = this.recording.lastMoment(); };
+    else if (!cause.isOfSeveral) dispatch.whenClosed = () => { cause.last = this.recording.lastMoment(); };
     joins.tellOf(dispatch);
     return true;
   }
@@ -193,15 +193,19 @@ class Queued {
   noteJobs(event) {
     if (!this.page.capturing.listened.has('unhandledrejection') || this.ran[this.ran.length - 1]?.event === event) return;
     this.ran[this.ran.length] = this.recording.lastMoment();
-    this.page.natives.postBeforeRejections(() => { this.rejecting = takeFirst(this.ran); });
+    this.page.natives.postBeforeRejections(() => {
+      const moment = takeFirst(this.ran);
+      this.rejecting = moment && { moment };
+    });
   }
 
   /**
+   * All of one moment are of one task, in the order of the rejections: they have one stand-in element (rule 17).
    * @param {Event} event
    * @returns {Cause|undefined}
    */
   rejectionOf({ type }) {
-    return type === 'unhandledrejection' && this.rejecting ? { moment: this.rejecting } : undefined;
+    return type === 'unhandledrejection' ? this.rejecting : undefined;
   }
 }
 

@@ -2,7 +2,7 @@
 
 import { each, joined } from '../core/lists.js';
 import { replaceGetter, replaceMethod } from '../core/replacing.js';
-import { WeakMap, apply } from '../core/taken.js';
+import { Set, WeakMap, apply } from '../core/taken.js';
 import { isPlainObject } from '../core/things.js';
 import { nameOfFunction } from '../log/values.js';
 
@@ -21,6 +21,8 @@ const CALLBACKS = [
   ['DataTransferItem', 'getAsString', [0]],
 ];
 
+/** Those that return a promise which is settled after the callback. */
+const PROMISES = new Set(['postTask', 'request']);
 /** The promises of a view transition. */
 const OF_TRANSITION = ['updateCallbackDone', 'ready', 'finished'];
 
@@ -64,6 +66,7 @@ class Callbacks {
       const asked = callbacks.recording.isOver ? null : callbacks.wrapWords(name, words, indices, property);
       const result = apply(native, this, words);
       if (asked && name === 'startViewTransition') callbacks.transitions.set(result, asked.ends);
+      if (asked && PROMISES.has(name)) callbacks.page.promises.several.set(result, asked.ends);
       return result;
     });
   }

@@ -210,6 +210,11 @@ exports.cases = [
   // ---- callbacks and observers
   { page: 'intersection-twice.html', due: ['fire promise reactions IntersectionObserver-1', 'w times', 'fire promise reactions IntersectionObserver-1', 'w times'], races: [] },
   { page: 'observe-later.html', due: ['timer', 'w settings', 'fire promise reactions ResizeObserver-1', 'run the call of observe()', 'run resized', 'r settings'], races: [] },
+  {
+    page: 'callback-promises.html', // nothing orders the two callbacks of a kind
+    due: ['tick', 'run postTask', 'run isPosted', 'r posted', 'w last', 'tick', 'run request', 'run isHeld', 'r held', 'w last'],
+    races: ['last'],
+  },
   { page: 'callbacks.html', due: ['w asked', 'every 0', 'every 0', 'tick', 'w seen'], races: [] },
   { page: 'locks.html', due: ['every 0', 'tick', 'w last', 'tick', 'w last'], races: ['last'] },
   {
@@ -253,6 +258,11 @@ exports.cases = [
       'fire window unhandledrejection', 'r second'],
     races: ['last'],
   },
+  {
+    page: 'rejections-of-one.html',
+    due: ['timer', 'new window plain', 'fire window unhandledrejection', 'w last', 'close', 'fire window unhandledrejection', 'w last'],
+    races: [],
+  },
   { page: 'toggles.html', due: ['set 5', 'set 1', 'set 0', 'w isShown', 'new div#over plain', 'fire div#over toggle', 'run toggle'], never: ['fire dialog#dialog cancel'], races: [] },
   {
     page: 'storage-event.html',
@@ -273,6 +283,12 @@ exports.cases = [
       'on the event before', 'fire audio#sound canplay', 'run the event before', 'run ready', 'r seconds', 'inline button click', 'w asked', 'new audio#sound plain',
       'fire audio#sound play', 'run begins', 'r asked', 'close', 'on the event before', 'fire audio#sound ended', 'run the event before', 'run over', 'r isPlaying'],
     races: ['click of button'],
+  },
+  { page: 'motions-of-one.html', due: ['timer', 'fire p#first transitionend', 'w last', 'fire p#second transitionend', 'w last'], never: ['on the event before'], races: ['last'] },
+  {
+    page: 'media-in-order.html',
+    due: ['fire audio#sound loadstart', 'w started', 'on the event before', 'fire audio#sound loadeddata', 'run the event before', 'r started'],
+    races: ['got'],
   },
   {
     page: 'media-unordered.html',
