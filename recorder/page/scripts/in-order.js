@@ -2,10 +2,14 @@
 
 import { Map } from '../core/taken.js';
 
+/** So many scripts are looked at for one that is always inserted before another. */
+const MOST_LOOKED_AT = 100;
+
 /** @typedef {import('../types').Moment} Moment */
 /**
- * A script that was inserted: by which event, the one before it if that is always before, and the ends of its run and load event.
- * @typedef {{maker: import('../types').TraceEvent, before: Inserted|null, ends: Moment[]}} Inserted
+ * A script that was inserted: by which event, the one inserted before it, the last one that is always inserted before it, and the ends of its run and load
+ * event.
+ * @typedef {{maker: import('../types').TraceEvent, previous: Inserted|null, before: Inserted|null, ends: Moment[]}} Inserted
  */
 
 class InOrder {
@@ -26,10 +30,22 @@ class InOrder {
    */
   note(element, number) {
     if (/** @type {HTMLScriptElement} */ (element).async !== false) return;
-    const { recording, last } = this;
-    const isAfter = last && (last.maker === recording.running || recording.isBeforeRunning(last.maker));
-    this.last = { maker: recording.running, before: isAfter ? last : null, ends: [] };
+    this.last = { maker: this.recording.running, previous: this.last, before: this.lastBefore(), ends: [] };
     this.scripts.set(number, this.last);
+  }
+
+  /**
+   * The last script that is inserted before the running event, or by it, in any run of the page.
+   * @returns {Inserted|null}
+   */
+  lastBefore() {
+    const { recording } = this;
+    let one = this.last;
+    for (let left = MOST_LOOKED_AT; one && left > 0; left--) {
+      if (one.maker === recording.running || recording.isBeforeRunning(one.maker)) return one;
+      one = one.previous;
+    }
+    return null;
   }
 
   /**

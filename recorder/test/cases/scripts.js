@@ -144,6 +144,11 @@ exports.cases = [
     ],
   },
   {
+    page: 'scripts-in-order-between.html',
+    due: ['exec script', 'w ready', 'on the end of a script', 'exec script', 'r status', 'exec script', 'run the end of a script', 'r ready'],
+    races: ['seen'],
+  },
+  {
     page: 'scripts-in-order-late.html', // a handler has declared them before
     due: [
       'timer', 'on loaded', 'new script async', 'on loaded', 'new script async', 'exec script', 'w ready', 'on the end of a script', 'eload script', 'exec script',
