@@ -86,12 +86,12 @@ class Kinds {
   }
 
   /**
-   * The kind of a script element that the parser made.
+   * The kind of a script element that the parser made. One with an empty source never runs, and nothing waits for its error.
    * @param {Element} element
    */
   ofStaticScript(element) {
     const type = this.scriptType(element);
-    if (!type) return 'plain';
+    if (!type || (element.namespaceURI === HTML_NAMESPACE && this.attribute(element, 'src') === '')) return 'plain';
     if (type === 'module') return this.has(element, 'async') ? 'async' : 'defer';
     if (!this.hasSource(element)) return 'inline';
     if (this.has(element, 'async')) return 'async';

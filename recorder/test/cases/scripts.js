@@ -112,6 +112,12 @@ exports.cases = [
     ],
   },
   {
+    page: 'script-empty-source.html', // nothing waits for its error
+    due: ['parse script plain', 'parse script plain', 'parse script plain', 'parse script sync', 'exec script', 'w ready', 'exec script', 'w late'],
+    besides: [['eload script', 'w ofModule'], ['eload script', 'w ofDeferred'], ['eload script', 'w ofBlocking']],
+    races: ['late'],
+  },
+  {
     page: 'script-fails.html',
     due: [
       'parse script sync', 'exec script', 'inline script error', 'run error', 'w failed', 'close', 'back', 'parse p#text plain', 'exec script', 'r failed',
@@ -145,8 +151,8 @@ exports.cases = [
   },
   {
     page: 'scripts-in-order-between.html',
-    due: ['exec script', 'w ready', 'on the end of a script', 'exec script', 'r status', 'exec script', 'run the end of a script', 'r ready'],
-    races: ['seen'],
+    due: ['exec script', 'w ready', 'on the end of a script', 'exec script', 'w seen', 'exec script', 'run the end of a script', 'r ready'],
+    races: ['content of head', 'seen'],
   },
   {
     page: 'scripts-in-order-late.html', // a handler has declared them before
