@@ -33,18 +33,19 @@ const { commitOf } = require('./measured-pages.js');
  */
 
 /**
- * What a line has besides what the tool found.
- * @typedef {{page: string, name: string, commit: string, seconds: number, failure?: string}} PageFacts
+ * What a line has besides what the tool found. The commits are those at which the page was recorded.
+ * @typedef {{page: string, name: string, commits: string[], seconds: number, failure?: string}} PageFacts
  */
 
 /**
- * How a page is measured: by which tool with which words, and whether a line of an earlier call is enough.
+ * How a page is measured: by which tool with which words, whether a line of an earlier call is enough, and whether recordings of earlier calls stay.
  * @template {object} T
  * @typedef {object} Measuring
  * @property {string} tool
  * @property {string} file of the lines
  * @property {string[]} words
  * @property {(line: T) => boolean} isEnough
+ * @property {boolean} goesOn
  * @property {(line: T) => string} inWords
  */
 
@@ -117,7 +118,7 @@ async function measureOne(entry, { folder, minutes }, { tool, words }) {
   const given = [HEAP, tool, ...words, '--corpus', folder, '--only', entry.page];
   const { status, stdout, stderr } = await run(process.execPath, given, { longest, timeout: longest + LAST_CHANCE, killSignal: 'SIGKILL' });
   const seconds = (Date.now() - begin) / 1000;
-  const known = { page: entry.page, name: nameOf(entry), commit: commitOf(), seconds };
+  const known = { page: entry.page, name: nameOf(entry), commits: [commitOf()], seconds };
   if (status === 0) return { ...known, ...JSON.parse(stdout) };
   const why = seconds * 1000 >= longest ? `not done after ${minutes} minutes` : `status ${status}: ${faultOf(stderr)}`;
   return /** @type {T & PageFacts} */ (/** @type {unknown} */ ({ ...known, failure: why }));
@@ -137,11 +138,12 @@ async function measureCorpus(over, only, measuring) {
   const lines = () => /** @type {(T & PageFacts)[]} */ (/** @type {unknown} */ (readLines(file)));
   const left = entriesLeft(entries, lines(), measuring.isEnough, over.isAgain);
   let count = entries.length - left.length;
+  const earlier = new Map(measuring.goesOn ? lines().map(({ page, commits }) => [page, commits]) : []);
   const lane = async () => {
     for (let entry = left.shift(); entry; entry = left.shift()) {
       while (over.pause && fs.existsSync(over.pause)) await sleep(POLL);
       const line = await measureOne(entry, over, measuring);
-      appendLine(file, line);
+      appendLine(file, { ...line, commits: [...new Set([...earlier.get(entry.page) || [], ...line.commits])] });
       const told = line.failure === undefined ? measuring.inWords(line) : `failed: ${line.failure}`;
       console.log(withoutCommands(`${++count} of ${entries.length}: ${line.name}: ${told}; ${Math.round(line.seconds)} s`));
     }
@@ -152,12 +154,12 @@ async function measureCorpus(over, only, measuring) {
 }
 
 /**
- * At which commits the pages were measured, for the end of a sentence.
- * @param {{name: string, commit?: string}[]} lines
+ * At which commits the pages were recorded, for the end of a sentence.
+ * @param {{name: string, commits?: string[]}[]} lines
  */
 function commitsOf(lines) {
-  const commits = [...new Set(lines.flatMap(({ commit }) => commit || []))].sort();
-  return commits.length ? `, at commit ${commits.join(' and ')}` : '';
+  const commits = [...new Set(lines.flatMap((line) => line.commits || []))].sort();
+  return commits.length ? `, of recordings made at commit ${commits.join(' and ')}` : '';
 }
 
 module.exports = { takeCorpus, pageOfCorpus, measureCorpus, entriesLeft, commitsOf };

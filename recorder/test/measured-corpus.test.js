@@ -47,7 +47,7 @@ test('a page is recorded as the evaluation records it', () => {
 
 test('pages are left that have no line, or one of fewer recordings, and with --again those that failed', () => {
   const entries = ['a', 'b', 'c', 'd'].map((page) => ({ page }));
-  const line = (/** @type {string} */ page, /** @type {object} */ more) => ({ page, name: page, commit: '', seconds: 1, times: 3, ...more });
+  const line = (/** @type {string} */ page, /** @type {object} */ more) => ({ page, name: page, commits: [], seconds: 1, times: 3, ...more });
   const lines = [line('a', {}), line('b', { times: 2 }), line('c', { failure: 'x' })];
   const left = (/** @type {boolean} */ isAgain) => entriesLeft(entries, lines, ({ times }) => times >= 3, isAgain).map(({ page }) => page);
   assert.deepStrictEqual([left(false), left(true)], [['b', 'd'], ['b', 'c', 'd']]);
@@ -61,13 +61,16 @@ test('a page that fails or takes too long is a line, and the others go on; anoth
   const only = readCorpus([]).filter((one, k, all) => all.filter(({ package: name }) => name === one.package).length === 3)[0].package;
   const over = { folder, lanes: 1, minutes: 1 / 60, isAgain: false, pause: null, only: null };
   /** @type {import('./measured-corpus.js').Measuring<{found: string}>} */
-  const measuring = { tool: path.join(folder, 'tool.js'), file: 'lines.jsonl', words: [seen, 'it'], isEnough: () => true, inWords: ({ found }) => found };
+  const measuring = { tool: path.join(folder, 'tool.js'), file: 'lines.jsonl', words: [seen, 'it'], isEnough: () => true, goesOn: true, inWords: ({ found }) => found };
   const lines = await measureCorpus(over, [only], measuring);
   const [first, second, third] = [0, 1, 2].map((k) => lines.find(({ page }) => page === fs.readFileSync(path.join(seen, String(k)), 'utf8')));
   assert.deepStrictEqual([first?.found, first?.failure, second?.failure, third?.failure], ['it', undefined, 'status 1: Error: no such thing', 'not done after 0.016666666666666666 minutes']);
   assert.deepStrictEqual(await measureCorpus(over, [only], measuring), lines);
   assert.strictEqual(fs.readdirSync(seen).length, 3);
-  assert.match(commitsOf(lines), /^, at commit [0-9a-f]{8}$/);
+  assert.match(commitsOf(lines), /^, of recordings made at commit [0-9a-f]{8}$/);
+  fs.writeFileSync(path.join(folder, 'lines.jsonl'), lines.map((line) => `${JSON.stringify({ ...line, commits: ['earlier'] })}\n`).join(''));
+  const again = await measureCorpus({ ...over, isAgain: true }, [only], measuring);
+  assert.deepStrictEqual(again.map(({ commits }) => commits.length).sort(), [1, 2, 2]);
 });
 
 test('orders: sums of all pages, and a row for a page that has something to explain', () => {

@@ -165,7 +165,7 @@ function takeHow(left, over) {
  */
 function measureOverCorpus(over, only, { times, folder, shown }) {
   /** @type {import('./measured-corpus.js').Measuring<OrdersLine>} */
-  const measuring = { tool: __filename, file: 'orders.jsonl', words: [...shown, '--traces', folder], isEnough: (line) => line.times >= times, inWords };
+  const measuring = { tool: __filename, file: 'orders.jsonl', words: [...shown, '--traces', folder], isEnough: (line) => line.times >= times, goesOn: true, inWords };
   return measureCorpus(over, only, measuring);
 }
 

@@ -94,7 +94,7 @@ async function main(words) {
     process.stdout.write(JSON.stringify(lineOf(await compareTimeline(pageOfCorpus(over)))));
     return 0;
   }
-  const lines = over ? await measureCorpus(over, left, { tool: __filename, file: 'timeline.jsonl', words: [], isEnough: () => true, inWords }) : await measurePages(pagesOf(left));
+  const lines = over ? await measureCorpus(over, left, { tool: __filename, file: 'timeline.jsonl', words: [], isEnough: () => true, goesOn: false, inWords }) : await measurePages(pagesOf(left));
   const table = over ? sumTables(lines) : tableOfKinds(lines);
   console.log(`\n${table}`);
   const heading = `The browser's timeline${over ? ' on the pages of the evaluation' : ''}`;
