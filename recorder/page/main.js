@@ -8,7 +8,7 @@ import { Object, Reflect, apply } from './core/taken.js';
 import { helpersOf } from './helpers/helpers.js';
 import { idleHelpers } from './helpers/idle.js';
 import { Recording } from './recording/recording.js';
-import { stampActions } from './recording/stamps.js';
+import { stampActions, stampOwn } from './recording/stamps.js';
 import { numberOfFrame, recordingOfParent } from './frames.js';
 import { Page } from './page.js';
 
@@ -67,6 +67,7 @@ function startRecorder(window, send, maker) {
   const isTop = window.parent === window;
   if (settings.fixed) fixChance(window, settings.fixed);
   const recording = isTop ? new Recording(natives, send) : recordingOfParent(window);
+  if (recording && settings.stamps) stampOwn(window, natives);
   if (recording && isTop && settings.stamps) stampActions(window, recording);
   if (recording && !isTop && !recording.contexts.length) recording.startTask();
   const number = isTop ? 0 : recording ? numberOfFrame(window, recording, true) : -1;

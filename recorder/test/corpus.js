@@ -189,6 +189,6 @@ async function main(words) {
   return 0;
 }
 
-module.exports = { entriesLeft, folderOf, recordingsIn };
+module.exports = { readCorpus, entriesLeft, folderOf, recordingsIn };
 
 if (require.main === module) main(process.argv.slice(2)).then((status) => { process.exitCode = status; });

@@ -163,8 +163,8 @@ test('a flow that logs in and goes on: each load of its own, one list of all, an
   const steps = loginSteps({ type: 'click', selectors: ['#route'], assertedEvents: [{ type: 'navigation' }] }, { type: 'navigate', url: `${origin}/shop` }, { type: 'click', selectors: ['#add'] });
   const { status, stdout, stderr } = await call('er_page', '--flow', flowOf('shop', ...steps), '--header', `X-Token: ${SECRET}-token`);
   assert.strictEqual(status, 1, stderr);
-  assert.match(stdout, /seen in 1 of 3 loads: flow-002-\S+-home\.html$/m);
-  assert.match(stdout, /seen in 1 of 3 loads: flow-003-\S+-shop\.html$/m);
+  assert.match(stdout, /seen in 1 of 3 loads: flow-002-\S+-home\.html \(shop\.json\)$/m);
+  assert.match(stdout, /seen in 1 of 3 loads: flow-003-\S+-shop\.html \(shop\.json\)$/m);
   assert.match(stdout, /^shop\.races: 3 page loads, index\.html$/m);
   assert.match(stderr, /^er_page: load 3, http:.*\/shop: \d+ actions$/m);
   assert.ok(tokens.length > 4 && tokens.every((one) => one === `${SECRET}-token`), tokens.join(' '));

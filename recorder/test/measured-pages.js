@@ -9,7 +9,7 @@ const TOP = path.join(__dirname, '..', '..');
 const PAGES = path.join(__dirname, 'pages');
 
 /**
- * @typedef {{name: string, page: string, words: string[]}} MeasuredPage
+ * @typedef {{name: string, page: string, words: string[], file?: string}} MeasuredPage `file` begins the names of its files, in place of its name
  * @typedef {{times: number, seed: number, into: string|null, pages: MeasuredPage[]}} Measured
  */
 
@@ -33,17 +33,32 @@ function pageOf(given) {
 const isThere = ({ page }) => /^https?:/.test(page) || fs.existsSync(page.replace(/\?.*$/, ''));
 
 /**
- * `[--times N] [--seed N] [--into FILE] PAGE..`; `packaged` stands for all packages of packaged.json.
+ * Takes `[--times N] [--seed N] [--into FILE]` out of the words of a call.
+ * @param {string[]} left
+ */
+function takeOptions(left) {
+  const take = (/** @type {string} */ name) => (left.includes(name) ? left.splice(left.indexOf(name), 2)[1] : null);
+  return { times: Number(take('--times') || 8), seed: Number(take('--seed') || 1), into: take('--into') };
+}
+
+/**
+ * The pages that are there; `packaged` stands for all packages of packaged.json.
+ * @param {string[]} words
+ */
+function pagesOf(words) {
+  const all = words.flatMap((word) => (word === 'packaged' ? packaged().map((one) => one.package) : [word])).map(pageOf);
+  for (const one of all.filter((page) => !isThere(page))) console.log(`${one.name}: not installed`);
+  return all.filter(isThere);
+}
+
+/**
+ * `[--times N] [--seed N] [--into FILE] PAGE..`
  * @param {string[]} words
  * @returns {Measured}
  */
 function measuredOf(words) {
   const left = [...words];
-  const take = (/** @type {string} */ name) => (left.includes(name) ? left.splice(left.indexOf(name), 2)[1] : null);
-  const options = { times: Number(take('--times') || 8), seed: Number(take('--seed') || 1), into: take('--into') };
-  const all = left.flatMap((word) => (word === 'packaged' ? packaged().map((one) => one.package) : [word])).map(pageOf);
-  for (const one of all.filter((page) => !isThere(page))) console.log(`${one.name}: not installed`);
-  return { ...options, pages: all.filter(isThere) };
+  return { ...takeOptions(left), pages: pagesOf(left) };
 }
 
 const row = (/** @type {(string|number)[]} */ cells) => `| ${cells.join(' | ')} |`;
@@ -54,11 +69,10 @@ const row = (/** @type {(string|number)[]} */ cells) => `| ${cells.join(' | ')} 
  */
 const tableOf = (head, rows) => [row(head), `|${'---|'.repeat(head.length)}`, ...rows.map(row)].join('\n');
 
+const commitOf = () => execFileSync('git', ['-C', TOP, 'rev-parse', '--short=8', 'HEAD'], { encoding: 'utf8' }).trim();
+
 /** The commit and the date, as the first line of a file of docs/measured/ has them. */
-function commitAndDate() {
-  const git = (/** @type {string[]} */ ...words) => execFileSync('git', ['-C', TOP, ...words], { encoding: 'utf8' }).trim();
-  return `Commit ${git('rev-parse', '--short=8', 'HEAD')}, ${new Date().toISOString().slice(0, 10)}`;
-}
+const commitAndDate = () => `Commit ${commitOf()}, ${new Date().toISOString().slice(0, 10)}`;
 
 /**
  * Puts a section into a file: in place of its own with this heading, or at the end. The file's first line is its title.
@@ -75,4 +89,4 @@ function writeSection(file, heading, text, title = 'Orders in a real browser') {
   fs.writeFileSync(file, `# ${title} (${commitAndDate()})\n\n${all}\n`);
 }
 
-module.exports = { measuredOf, pageOf, tableOf, writeSection };
+module.exports = { measuredOf, takeOptions, pagesOf, pageOf, commitOf, tableOf, writeSection };

@@ -3,7 +3,8 @@
 // orders.js [--times N] [--seed N] [--into FILE] [--traces FOLDER] [--read] [--plain] [--keep] PAGE..: records each page N times (8), the first time as it is, then
 // with other seeds of --chaos (--plain: none), and compares the orders of conflicting accesses with the rules. A pair that came in both orders and that
 // the rules order in some run is an error of the rules, of the recorder or of the names here: it is printed, and the status is 1. With --keep all
-// accesses are compared. A PAGE is a package of packaged.json (`packaged`: all), a file of pages/, a file or an address.
+// accesses are compared. A PAGE is a package of packaged.json (`packaged`: all), a file of pages/, a file or an address. With --corpus FOLDER the pages are
+// those of the evaluation (measured-corpus.js has the options); recordings of earlier calls stay, so that one with a greater N only makes those that lack.
 
 const fs = require('node:fs');
 const path = require('node:path');
@@ -13,17 +14,23 @@ const { namesFile, writeFiles } = require('../recording/files.js');
 const { parseOptions } = require('../recording/options.js');
 const { Recorder } = require('../recording/recorder.js');
 const { temporaryFolder } = require('./cleanup.js');
-const { measuredOf, tableOf, writeSection } = require('./measured-pages.js');
+const { takeCorpus, pageOfCorpus, measureCorpus, commitsOf } = require('./measured-corpus.js');
+const { takeOptions, pagesOf, tableOf, writeSection } = require('./measured-pages.js');
 const { RunPairs, compareRuns } = require('./orders-pairs.js');
 const { reasonsOfActions } = require('./orders-actions.js');
 const { reasonsOf } = require('./orders-reasons.js');
+const { HEAD, lineOf, rowOf, inWords, isBroken, sumTables } = require('./orders-tables.js');
 
 /** @typedef {import('./measured-pages.js').MeasuredPage} MeasuredPage */
-/** @typedef {{times: number, seed: number, folder: string, words: string[], isPlain?: boolean, isRead?: boolean}} How */
+/** @typedef {import('./measured-corpus.js').OverCorpus} OverCorpus */
+/** @typedef {import('./orders-tables.js').OrdersLine} OrdersLine */
+/**
+ * How pages are recorded: `isRead`: not at all; `goesOn`: only those runs that are not there.
+ * @typedef {{times: number, seed: number, folder: string, words: string[], isPlain?: boolean, isRead?: boolean, goesOn?: boolean}} How
+ */
 
 const SIZE = { width: 1100, height: 800 };
-const HEAD = ['Page', 'Runs', 'Pairs', 'One order, ordered', 'Both orders, listed', 'Both orders, ordered in some run', 'of these by a rule that another run breaks', 'not decided', 'One order, listed', 'Left out: one name for several',
-  'Actions in both orders', 'looked at', 'steps of rules that another run breaks'];
+const LEAST_RUNS = 2;
 /** @type {{[kind: string]: number}} */
 const MOST_PRINTED = { broken: 20, undecided: 5, lacking: 3 };
 
@@ -46,7 +53,13 @@ async function recordRun(browser, page, run, how) {
  * @param {number} run
  * @param {How} how
  */
-const fileOf = ({ name }, run, { folder }) => path.join(folder, `${name.replace(/\W+/g, '-')}.${run}.trace`);
+const fileOf = ({ name, file = name.replace(/\W+/g, '-') }, run, { folder }) => path.join(folder, `${file}.${run}.trace`);
+
+/**
+ * Whether a recording is there with its names, which are written after it.
+ * @param {string} file
+ */
+const isRecorded = (file) => fs.existsSync(file) && fs.existsSync(namesFile(file));
 
 /** @param {string} file of a trace, which is analyzed */
 async function readRun(file) {
@@ -56,16 +69,22 @@ async function readRun(file) {
 }
 
 /**
+ * Records a page several times. Returns why the recordings failed that did.
  * @param {MeasuredPage} page
  * @param {How} how
  */
 async function recordRuns(page, how) {
+  const runs = Array.from({ length: how.times }, (_, run) => run).filter((run) => !(how.goesOn && isRecorded(fileOf(page, run, how))));
+  /** @type {string[]} */
+  const failures = [];
+  if (!runs.length) return failures;
   const browser = await Chromium.launch(SIZE);
   try {
-    for (let run = 0; run < how.times; run++) await recordRun(browser, page, run, how);
+    for (const run of runs) await recordRun(browser, page, run, how).catch((fault) => { failures.push(`run ${run}: ${fault.message || fault}`); });
   } finally {
     await browser.close();
   }
+  return failures;
 }
 
 /**
@@ -73,69 +92,98 @@ async function recordRuns(page, how) {
  * @param {How} how
  */
 async function compareOrders(page, how) {
-  if (!how.isRead) await recordRuns(page, how);
-  const files = Array.from({ length: how.times }, (_, run) => fileOf(page, run, how)).filter((file) => fs.existsSync(file));
+  const failures = how.isRead ? [] : await recordRuns(page, how);
+  const files = Array.from({ length: how.times }, (_, run) => fileOf(page, run, how)).filter(isRecorded);
+  if (files.length < LEAST_RUNS) throw new Error(failures[0] || `${files.length} recordings`);
   /** @type {{file: string, pairs: RunPairs}[]} */
   const runs = [];
   for (const file of files) runs.push(await readRun(file));
   const compared = compareRuns(runs.map(({ pairs }) => pairs));
-  return { name: page.name, runs, ...compared, reasons: await reasonsOf(runs, compared.orderedBoth), actions: await reasonsOfActions(runs) };
+  return { name: page.name, runs, failures, ...compared, reasons: await reasonsOf(runs, compared.orderedBoth), actions: await reasonsOfActions(runs) };
 }
-
-/** @typedef {Awaited<ReturnType<typeof compareOrders>>} Compared */
 
 /**
  * Prints why a pair that the rules order came the other way round, once for all its locations.
- * @param {Compared['reasons'][number]} reason
+ * @param {import('./orders-tables.js').ToldReason} reason
  */
 function printReason({ kind, text, count, words }) {
   console.log(`  ${kind}: ${text} (${count} locations)`);
   words.forEach((line) => console.log(`    ${line}`));
 }
 
-/** @param {Compared} compared */
-const rowOf = ({ name, runs, orderedOnce, listedBoth, orderedBoth, reasons, listedOnce, several, leftOut, isCut, actions }) => [
-  name, runs.length, `${orderedOnce.length + listedBoth.length + orderedBoth.length + listedOnce.length}${isCut ? ' (cut)' : ''}`, orderedOnce.length, listedBoth.length,
-  orderedBoth.length, ...['broken', 'undecided'].map((kind) => reasons.filter((one) => one.kind === kind).reduce((sum, { count }) => sum + count, 0)), listedOnce.length, several + leftOut,
-  actions.reversed, actions.looked, actions.reasons.filter(({ kind }) => kind === 'broken').length,
-];
-
-/** @param {Compared} compared */
-function printPage(compared) {
-  const cells = rowOf(compared);
-  console.log(`${cells[0]}: ${HEAD.slice(1).map((name, k) => `${name.toLowerCase()} ${cells[k + 1]}`).join('; ')}`);
+/** @param {OrdersLine} line */
+function printPage(line) {
+  console.log(`${line.name}: ${inWords(line)}`);
+  for (const failure of line.failures) console.log(`  not recorded: ${failure}`);
   for (const kind of ['broken', 'undecided', 'lacking']) {
-    const own = compared.reasons.filter((one) => one.kind === kind);
+    const own = line.reasons.filter((one) => one.kind === kind);
     own.slice(0, MOST_PRINTED[kind]).forEach(printReason);
     if (own.length > MOST_PRINTED[kind]) console.log(`  ${kind}: ${own.length - MOST_PRINTED[kind]} more`);
   }
-  for (const { kind, text, count } of compared.actions.reasons) {
-    if (kind === 'broken') console.log(`  broken, of actions: ${text} (${count} pairs)`);
-  }
+  for (const { text, count } of line.actions.reasons) console.log(`  broken, of actions: ${text} (${count} pairs)`);
 }
 
-/** @param {string[]} words */
-async function main(words) {
-  const left = [...words];
-  const flag = (/** @type {string} */ name) => left.includes(name) && left.splice(left.indexOf(name), 1).length > 0;
-  const folder = left.includes('--traces') ? left.splice(left.indexOf('--traces'), 2)[1] : temporaryFolder('orders');
-  const [isPlain, isRead, keeps] = [flag('--plain'), flag('--read'), flag('--keep')];
-  const { pages, times, seed, into } = measuredOf(left);
-  fs.mkdirSync(folder, { recursive: true });
-  /** @type {Compared[]} */
+/**
+ * @param {MeasuredPage[]} pages
+ * @param {How} how
+ */
+async function measurePages(pages, how) {
+  /** @type {OrdersLine[]} */
   const all = [];
   for (const page of pages) {
     try {
-      all.push(await compareOrders(page, { times, seed, folder, isPlain, isRead, words: keeps ? ['--keep'] : [] }));
+      all.push(lineOf(await compareOrders(page, how), how.times));
       printPage(all[all.length - 1]);
     } catch (fault) {
       console.log(`${page.name}: left out: ${fault instanceof Error ? fault.message : fault}`);
     }
   }
-  const table = tableOf(HEAD, all.map(rowOf));
+  return all;
+}
+
+/**
+ * Takes what a call says out of its words, except its pages.
+ * @param {string[]} left
+ * @param {OverCorpus|null} over
+ */
+function takeHow(left, over) {
+  const flag = (/** @type {string} */ name) => left.includes(name) && left.splice(left.indexOf(name), 1).length > 0;
+  const traces = left.includes('--traces') ? left.splice(left.indexOf('--traces'), 2)[1] : null;
+  const [isPlain, isRead, keeps] = [flag('--plain'), flag('--read'), flag('--keep')];
+  const { times, seed, into } = takeOptions(left);
+  const folder = traces || (over ? path.join(over.folder, 'orders') : temporaryFolder('orders'));
+  fs.mkdirSync(folder, { recursive: true });
+  const shown = ['--times', String(times), '--seed', String(seed), ...isPlain ? ['--plain'] : [], ...isRead ? ['--read'] : [], ...keeps ? ['--keep'] : []];
+  return { times, seed, folder, isPlain, isRead, goesOn: over !== null, words: keeps ? ['--keep'] : [], into, shown };
+}
+
+/**
+ * The pages of the evaluation that are not done.
+ * @param {OverCorpus} over
+ * @param {string[]} only
+ * @param {ReturnType<typeof takeHow>} how
+ */
+function measureOverCorpus(over, only, { times, folder, shown }) {
+  /** @type {import('./measured-corpus.js').Measuring<OrdersLine>} */
+  const measuring = { tool: __filename, file: 'orders.jsonl', words: [...shown, '--traces', folder], isEnough: (line) => line.times >= times, goesOn: true, inWords };
+  return measureCorpus(over, only, measuring);
+}
+
+/** @param {string[]} words */
+async function main(words) {
+  const left = [...words];
+  const over = takeCorpus(left);
+  const how = takeHow(left, over);
+  if (over?.only) {
+    process.stdout.write(JSON.stringify(lineOf(await compareOrders(pageOfCorpus(over), how), how.times)));
+    return 0;
+  }
+  const lines = over ? await measureOverCorpus(over, left, how) : await measurePages(pagesOf(left), how);
+  const table = over ? sumTables(lines) : tableOf(HEAD, lines.map(rowOf));
   console.log(`\n${table}`);
-  if (into) writeSection(into, 'Orders', `By \`recorder/test/orders.js --times ${times} --seed ${seed}${isPlain ? ' --plain' : ''}${isRead ? ' --read' : ''}${keeps ? ' --keep' : ''}\`.\n\n${table}`);
-  return all.some(({ reasons, actions }) => [...reasons, ...actions.reasons].some(({ kind }) => kind === 'broken')) ? 1 : 0;
+  const call = `\`recorder/test/orders.js ${[...over ? ['--corpus', 'FOLDER'] : [], ...how.shown].join(' ')}\``;
+  if (how.into) writeSection(how.into, over ? 'Orders on the pages of the evaluation' : 'Orders', `By ${call}${over ? commitsOf(lines) : ''}.\n\n${table}`);
+  return lines.some(isBroken) ? 1 : 0;
 }
 
 module.exports = { compareOrders };

@@ -29,7 +29,7 @@ test('--chaos: what the standard orders stays in order, and a page does not noti
   }
 });
 
-for (const page of ['timer.html', 'messages.html', 'module.html']) {
+for (const page of ['timer.html', 'messages.html', 'module.html', 'declared-twice.html']) {
   test(`${page}: each call into script is in an action`, LIMIT, async () => {
     const { kinds, missing } = await compareTimeline(pageOf(page));
     assert.deepStrictEqual(missing, []);

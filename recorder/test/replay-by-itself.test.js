@@ -44,7 +44,8 @@ test('the first five races are replayed, and the server gets each request once',
   assert.strictEqual(status, 1, stderr);
   assert.match(stderr, /^Each of 5 run again in the other order, .* \(--no-replay leaves this out\):$/m);
   assert.strictEqual(JSON.parse(fs.readFileSync(replaysOf('reads'), 'utf8')).races.length, 5);
-  assert.strictEqual(stdout.match(/^ {4}replayed: /gm)?.length, 5, stdout);
+  assert.strictEqual(stdout.match(/^ {4}replayed: (?!no \()/gm)?.length, 5, stdout);
+  assert.strictEqual(stdout.match(/^ {4}replayed: no \(--most N replays more races\)$/gm)?.length, 2, stdout);
   assert.deepStrictEqual(asked.filter((one) => / \/(reads|data)$/.test(one)), ['GET /reads', 'GET /data']);
 });
 

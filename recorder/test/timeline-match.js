@@ -28,6 +28,18 @@ const AROUND = new Set(['EventDispatch', 'XHRReadyStateChange', 'XHRLoad', 'Hand
 const HANDLER = 'wrapped';
 const STAMP = /^er (begin|enter|leave|own|over) ?(.*)$/;
 
+/**
+ * The frames of the pages that the browser opens for itself, in which it shows the options of a `select` and the like: they are no part of the page, and
+ * nothing loads them.
+ * @param {TimelineEvent[]} events
+ */
+function popupsOf(events) {
+  const facts = events.flatMap(({ name, args }) => (args?.data?.frame ? [{ name, frame: String(args.data.frame), isMain: args.data.isMainFrame === true }] : []));
+  const popups = new Set(facts.filter(({ isMain }) => isMain).map(({ frame }) => frame));
+  for (const { name, frame } of facts) if (name === 'CommitLoad' || name === 'TimeStamp') popups.delete(frame);
+  return popups;
+}
+
 /** @param {TimelineEvent} event */
 const stampOf = (event) => (event.name === 'TimeStamp' ? STAMP.exec(event.args?.data?.message || '') : null);
 
@@ -45,10 +57,13 @@ class TimelineMatch {
     /** @type {Span[]} what lasts now, the outermost first */
     this.open = [];
     this.depth = 0;
+    /** @type {Span|null} a script in which nothing has begun */
+    this.empty = null;
     /** Whether the recording is over: the page goes on. */
     this.isOver = false;
     for (const event of this.ofPage(events)) this.take(event);
     this.closeUntil(Infinity);
+    this.takeEmpty(false);
   }
 
   /**
@@ -58,7 +73,8 @@ class TimelineMatch {
   ofPage(events) {
     const first = events.find(stampOf);
     if (!first) return [];
-    const own = events.filter(({ pid, tid, ph, name }) => pid === first.pid && tid === first.tid && (ph === 'X' || name === 'TimeStamp'));
+    const popups = popupsOf(events);
+    const own = events.filter(({ pid, tid, ph, name, args }) => pid === first.pid && tid === first.tid && (ph === 'X' || name === 'TimeStamp') && !popups.has(args?.data?.frame));
     return own.sort((a, b) => a.ts - b.ts || (b.dur || 0) - (a.dur || 0));
   }
 
@@ -77,7 +93,7 @@ class TimelineMatch {
   takeStamp(word, rest) {
     if (word === 'enter') this.depth++;
     if (word === 'leave') this.depth = Number(rest);
-    if (word === 'over') this.isOver = true;
+    if (word === 'over') this.takeOver();
     if (word === 'begin') this.takeBegin(rest);
     for (const span of this.open) {
       if (word === 'enter') span.hasEntered = true;
@@ -85,12 +101,35 @@ class TimelineMatch {
     }
   }
 
+  takeOver() {
+    this.takeEmpty(false);
+    this.isOver = true;
+  }
+
   /** @param {string} line */
   takeBegin(line) {
     const [word] = line.split(' ');
     const within = EVENTS[/** @type {keyof EVENTS} */ (word)];
     this.begun.push(line);
-    if (within) this.count(`action ${word}`, this.open.some(({ name }) => within.includes(name)), line);
+    const isOfEmpty = this.takeEmpty(word === 'exec' && /^EventDispatch (load|error)$/.test(this.around()));
+    if (within) this.count(`action ${word}`, isOfEmpty || this.open.some(({ name }) => within.includes(name)), line);
+  }
+
+  /** @param {Span} span of a script */
+  waitForEmptyRun(span) {
+    this.takeEmpty(false);
+    this.empty = span;
+  }
+
+  /**
+   * A script that cannot declare its names, as one that comes twice, runs no code: its empty run begins with its load event.
+   * @param {boolean} isThere whether this run begins now
+   */
+  takeEmpty(isThere) {
+    if (!this.empty) return false;
+    this.count(this.empty.name, isThere, this.empty.what);
+    this.empty = null;
+    return isThere;
   }
 
   /** @param {TimelineEvent} event */
@@ -122,6 +161,7 @@ class TimelineMatch {
     const { name, what, begins, hasEntered, isInside, calls } = span;
     const expected = ACTIONS[/** @type {keyof ACTIONS} */ (name)];
     if (what === HANDLER) this.count(`handler in ${this.around() || 'nothing'}`.replace(/ EventDispatch .*$/, ' EventDispatch'), hasEntered, this.around());
+    else if (name === 'EvaluateScript' && what && what !== this.recorder && !begins.length && !isInside) this.waitForEmptyRun(span);
     else if (expected && what !== this.recorder && !begins.includes('own') && (calls.length || !WITH_CALL.has(name))) {
       const kind = name === 'EvaluateScript' && !what ? `${name} without an address` : name;
       this.count(isInside ? `${kind} inside an action` : kind, isInside || begins.some((line) => expected.test(line)), what || calls[0] || '');

@@ -2,7 +2,8 @@
 'use strict';
 // timeline.js [--into FILE] PAGE..: records pages beside Chromium's own timeline, and lists the calls into script that are in no action of the recorder,
 // the actions of another kind than what the browser did, and those that are not in the trace. A PAGE is a package of packaged.json (`packaged`: all), a
-// file of pages/, a file or an address. Promise reactions are no events of this timeline.
+// file of pages/, a file or an address. With --corpus FOLDER the pages are those of the evaluation (measured-corpus.js has the options). Promise reactions
+// are no events of this timeline.
 
 const { Chromium } = require('../browser/chromium.js');
 const { parseOptions } = require('../recording/options.js');
@@ -11,12 +12,15 @@ const { Recorder } = require('../recording/recorder.js');
 const { within } = require('../common/time.js');
 const { Accesses } = require('../trace/accesses.js');
 const { Spelling, NEWEST_VERSION } = require('../trace/spelling.js');
-const { measuredOf, tableOf, writeSection } = require('./measured-pages.js');
+const { takeCorpus, pageOfCorpus, measureCorpus, commitsOf } = require('./measured-corpus.js');
+const { takeOptions, pagesOf, writeSection } = require('./measured-pages.js');
 const { TimelineMatch } = require('./timeline-match.js');
+const { lineOf, inWords, tableOfKinds, sumTables } = require('./timeline-tables.js');
 require('./cleanup.js');
 
 /** @typedef {import('./measured-pages.js').MeasuredPage} MeasuredPage */
 /** @typedef {import('./timeline-match.js').TimelineEvent} TimelineEvent */
+/** @typedef {import('./timeline-tables.js').TimelineLine} TimelineLine */
 
 const CATEGORIES = ['devtools.timeline', 'v8'];
 const LONGEST_END = 30000;
@@ -57,45 +61,46 @@ async function compareTimeline(page) {
   }
 }
 
-/** @typedef {Awaited<ReturnType<typeof compareTimeline>>} Compared */
-
-/** @param {Compared} compared */
-function printPage({ name, kinds, missing, losses }) {
-  console.log(`${name}: ${[...kinds].map(([kind, { seen, missing: none }]) => `${kind} ${seen - none.length} of ${seen}`).join('; ')}`);
-  const counts = new Map();
-  for (const { kind, place } of missing) counts.set(`${kind}: ${place}`, (counts.get(`${kind}: ${place}`) || 0) + 1);
-  for (const [what, count] of [...counts].slice(0, MOST_PLACES)) console.log(`  missing: ${what} (${count})`);
-  for (const line of losses) console.log(`  not recorded: ${line}`);
-}
-
-/** @param {Compared[]} all */
-function tableOfKinds(all) {
-  const kinds = [...new Set(all.flatMap((one) => [...one.kinds.keys()]))].sort();
-  const rows = kinds.map((kind) => {
-    const counts = all.map((one) => ({ name: one.name, seen: 0, missing: [], ...one.kinds.get(kind) }));
-    const lacking = counts.filter(({ missing }) => missing.length);
-    const sum = (/** @type {(one: typeof counts[number]) => number} */ of) => counts.reduce((total, one) => total + of(one), 0);
-    return [kind, sum(({ seen }) => seen), sum(({ missing }) => missing.length), lacking.map(({ name, missing }) => `${name} ${missing.length}`).join(', ')];
-  });
-  return tableOf(['What', 'Seen', 'Without its action', 'On'], rows);
-}
-
-/** @param {string[]} words */
-async function main(words) {
-  const { pages, into } = measuredOf(words);
-  /** @type {Compared[]} */
+/**
+ * @param {MeasuredPage[]} pages
+ */
+async function measurePages(pages) {
+  /** @type {TimelineLine[]} */
   const all = [];
   for (const page of pages) {
     try {
-      all.push(await compareTimeline(page));
+      all.push(lineOf(await compareTimeline(page)));
       printPage(all[all.length - 1]);
     } catch (fault) {
       console.log(`${page.name}: left out: ${fault instanceof Error ? fault.message : fault}`);
     }
   }
-  console.log(`\n${tableOfKinds(all)}`);
-  if (into) writeSection(into, 'The browser\'s timeline', `By \`recorder/test/timeline.js\`, of ${all.length} pages: ${all.map(({ name }) => name).join(', ')}.\n\n${tableOfKinds(all)}`);
-  return all.some(({ missing }) => missing.length) ? 1 : 0;
+  return all;
+}
+
+/** @param {TimelineLine} line */
+function printPage(line) {
+  console.log(`${line.name}: ${inWords(line)}`);
+  for (const { kind, place, count } of line.missing.slice(0, MOST_PLACES)) console.log(`  missing: ${kind}: ${place} (${count})`);
+  for (const lost of line.losses) console.log(`  not recorded: ${lost}`);
+}
+
+/** @param {string[]} words */
+async function main(words) {
+  const left = [...words];
+  const over = takeCorpus(left);
+  const { into } = takeOptions(left);
+  if (over?.only) {
+    process.stdout.write(JSON.stringify(lineOf(await compareTimeline(pageOfCorpus(over)))));
+    return 0;
+  }
+  const lines = over ? await measureCorpus(over, left, { tool: __filename, file: 'timeline.jsonl', words: [], isEnough: () => true, goesOn: false, inWords }) : await measurePages(pagesOf(left));
+  const table = over ? sumTables(lines) : tableOfKinds(lines);
+  console.log(`\n${table}`);
+  const heading = `The browser's timeline${over ? ' on the pages of the evaluation' : ''}`;
+  const pages = over ? ` --corpus FOLDER\`${commitsOf(lines)}` : `\`, of ${lines.length} pages: ${lines.map(({ name }) => name).join(', ')}`;
+  if (into) writeSection(into, heading, `By \`recorder/test/timeline.js${pages}.\n\n${table}`);
+  return lines.some((line) => line.failure === undefined && line.missing.length) ? 1 : 0;
 }
 
 module.exports = { compareTimeline };

@@ -2,13 +2,17 @@
 
 import { apply } from '../core/taken.js';
 
+/** @typedef {import('../types').PageWindow} PageWindow */
+
+/** @param {PageWindow} window */
+const stampOf = (window) => window.console.timeStamp.bind(window.console);
+
 /**
- * @param {import('../types').PageWindow} window the page's own, not that of a frame
+ * @param {PageWindow} window the page's own, not that of a frame
  * @param {import('../types').Recording} recording
  */
 function stampActions(window, recording) {
-  const { natives } = recording;
-  const stamp = window.console.timeStamp.bind(window.console);
+  const stamp = stampOf(window);
   const { begin, enter, leaveCall, finish } = recording;
   recording.begin = (line, kind, place, after) => {
     stamp(`er begin ${line}`);
@@ -26,6 +30,15 @@ function stampActions(window, recording) {
     apply(finish, recording, []);
     stamp('er over');
   };
+}
+
+/**
+ * What the recorder itself has a window call back.
+ * @param {PageWindow} window the page's own, or that of a frame
+ * @param {import('../types').Natives} natives of this window
+ */
+function stampOwn(window, natives) {
+  const stamp = stampOf(window);
   const { setTimeout, requestAnimationFrame } = natives;
   const own = (/** @type {Function} */ run) => () => {
     stamp('er own');
@@ -35,4 +48,4 @@ function stampActions(window, recording) {
   natives.requestAnimationFrame = (run) => requestAnimationFrame(own(run));
 }
 
-export { stampActions };
+export { stampActions, stampOwn };

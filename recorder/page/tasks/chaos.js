@@ -12,6 +12,9 @@ const MOST = { timeout: 60, idle: 80, message: 25 };
 /** One of so many frames is skipped, and never more than so many in a row. */
 const FRAMES = 3;
 const MOST_FRAMES = 2;
+/** Chromium runs a timeout of so many milliseconds or more up to 8 milliseconds late, then also after a shorter one that is due in between. */
+const LEAST_LENIENT = 32;
+const LENIENCE = 10;
 
 /**
  * @typedef {{delay: number, due: number, number: number}} Pending a timeout that has not run: its delay, when it is due, and the browser's number
@@ -74,7 +77,7 @@ class Chaos {
   // ---- timers
 
   /**
-   * What waits for an earlier timeout is due later by the browser's clock too: one without a delay would come before it.
+   * What waits for an earlier timeout is due later by the browser's clock too, and after its lenience: one without a delay would come before it.
    * @param {import('../types').PageWindow} window
    */
   replaceTimeout(window) {
@@ -90,7 +93,7 @@ class Chaos {
         this.forget(own.number);
         apply(callback, window, args);
       }, later, ...words);
-      own.due = this.natives.now() + later + 1;
+      own.due = this.natives.now() + later + (later < LEAST_LENIENT ? 1 : LENIENCE);
       this.timeouts[this.timeouts.length] = own;
       return own.number;
     });

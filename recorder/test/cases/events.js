@@ -86,6 +86,19 @@ exports.cases = [
       'timer', 'run one of several promises', 'run await', 'r fromShared'],
     races: ['last'],
   },
+  // The network brings the first importer first, or the second one. In the second case the race at `flag` is missing: docs/lost.md.
+  {
+    page: 'module-two-importers.html',
+    words: ['--slow', '1000'],
+    due: ['w flag', 'exec script#first', 'r flag', 'on the end of an imported module', 'exec script#second', 'run the end of an imported module'],
+    races: ['flag'],
+  },
+  {
+    page: 'module-two-importers.html',
+    words: ['--slow', '1200'],
+    due: ['w flag', 'exec script#second', 'r flag', 'on the end of an imported module', 'exec script#first', 'run the end of an imported module'],
+    races: [],
+  },
 
   // ---- what always comes in one order
   { page: 'transition-by-ancestor.html', due: ['timer', 'w state', 'new div#panel plain', 'fire div#panel transitionend', 'r state', 'w seen'], races: [] },

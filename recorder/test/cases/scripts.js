@@ -126,6 +126,8 @@ exports.cases = [
     ],
     throws: true,
   },
+  // the second script cannot declare its name, so no code of it runs
+  { page: 'declared-twice.html', due: ['exec script', 'w declared', 'inline script load', 'exec script', 'inline script load', 'run load', 'r declared', 'w seen'], throws: true },
   {
     page: 'load-waits.html',
     due: [

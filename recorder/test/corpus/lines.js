@@ -38,8 +38,9 @@ function parsed(text) {
 }
 
 /**
+ * @template {{page: string}} T
  * @param {string} file
- * @param {Partial<Line> & {page: string}} line
+ * @param {T} line
  */
 function appendLine(file, line) {
   const isCut = fs.existsSync(file) && !/(^|\n)$/.test(fs.readFileSync(file, 'utf8'));

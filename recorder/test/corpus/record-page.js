@@ -168,4 +168,4 @@ async function doAlone(entry, unpacked, options, file) {
   }
 }
 
-module.exports = { recordPage, doAlone, folderOf, recordingsIn };
+module.exports = { recordPage, doAlone, fileName, folderOf, recordingsIn };

@@ -1,0 +1,1 @@
+const declared = 1;

@@ -1,0 +1,1 @@
+globalThis.seen = globalThis.flag;
