@@ -1,4 +1,5 @@
-// Scripts that are declared before a script inserts them, as by a handler that was set, or because they were data: they start at the insertion.
+// Scripts that are declared before a script inserts them, as by a handler that was set, or because they were data: they start at the insertion. So do the
+// loads of style sheets.
 
 import { WeakSet, apply } from '../core/taken.js';
 
@@ -32,10 +33,21 @@ class Insertions {
    * @param {Element} element
    */
   noteDeclared(element) {
+    this.noteSheet(element);
     if (element.localName !== 'script' || !this.starts(element)) return;
     const { elements, inOrder, sources } = this.page;
     const isMadeHere = elements.makers.get(element) === this.recording.running;
     inOrder.note(element, isMadeHere ? elements.number(element) : sources.standIn(element, 'async', 'it was inserted').number);
+  }
+
+  /**
+   * A style sheet's link that another event has declared is inserted: it loads only now.
+   * @param {Element} element
+   */
+  noteSheet(element) {
+    const { elements, kinds, sources } = this.page;
+    if (element.localName !== 'link' || elements.makers.get(element) === this.recording.running || !this.recording.isRunning()) return;
+    if (kinds.of(element, false) === 'image') sources.standIn(element, 'image', 'it was inserted');
   }
 
   /**

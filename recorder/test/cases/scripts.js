@@ -112,6 +112,12 @@ exports.cases = [
     ],
   },
   {
+    page: 'link-inserted-later.html', // a handler has declared it before; load does not wait for it
+    due: ['parse link image', 'timer', 'w state', 'new link image'],
+    besides: [['eload link', 'run styled', 'r state', 'w flag']],
+    races: ['flag'],
+  },
+  {
     page: 'script-empty-source.html', // nothing waits for its error
     due: ['parse script plain', 'parse script plain', 'parse script plain', 'parse script sync', 'exec script', 'w ready', 'exec script', 'w late'],
     besides: [['eload script', 'w ofModule'], ['eload script', 'w ofDeferred'], ['eload script', 'w ofBlocking']],
