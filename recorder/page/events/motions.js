@@ -49,7 +49,7 @@ class Motions {
   }
 
   /** Whether the page has handlers of motions. */
-  isHeard() {
+  #isHeard() {
     const { listened } = this.page.capturing;
     return !!findItem(keysOf(FIRST_OF_MOTION), (type) => listened.has(type));
   }
@@ -68,7 +68,7 @@ class Motions {
    * @param {string} name of the attribute
    */
   noteChange(element, name) {
-    if (!this.isHeard()) return;
+    if (!this.#isHeard()) return;
     const moment = this.recording.lastMoment();
     const isOfStyle = name === 'class' || name === 'style';
     const before = this.changed.get(element);
@@ -99,7 +99,7 @@ class Motions {
    * @param {MotionEvent} event
    * @returns {Cause|undefined}
    */
-  changeAround({ target: element, animationName }) {
+  #changeAround({ target: element, animationName }) {
     /** @type {Change|undefined} */
     let found;
     for (let one = /** @type {Element|null} */ (element); one; one = parentOf(this.page.natives, one)) {
@@ -107,7 +107,7 @@ class Motions {
       if (change?.isMixed || (change && found && change.moment.event !== found.moment.event)) return undefined;
       if (!found || (!found.isOfStyle && change)) found = change;
     }
-    return found?.isOfStyle && !(animationName && this.hasJustCome(element, found)) ? found : undefined;
+    return found?.isOfStyle && !(animationName && this.#hasJustCome(element, found)) ? found : undefined;
   }
 
   /**
@@ -115,7 +115,7 @@ class Motions {
    * @param {Element} element
    * @param {Change} change
    */
-  hasJustCome(element, change) {
+  #hasJustCome(element, change) {
     for (let one = /** @type {Element|null} */ (element); one; one = parentOf(this.page.natives, one)) {
       const came = this.came.get(one);
       if (came && came.event !== change.moment.event && change.time - came.time < LONGEST_START) return true;
@@ -128,7 +128,7 @@ class Motions {
    * @param {MotionEvent} event
    */
   noteStart(event) {
-    const change = this.changeAround(event);
+    const change = this.#changeAround(event);
     const started = this.started.get(event.target) || new Map();
     this.started.set(event.target, started);
     if (change) started.set(nameOfMotion(event), change);

@@ -37,9 +37,9 @@ class InOrder {
    * @param {Inserted} inserted
    * @returns {Moment[]}
    */
-  endsBefore({ before }) {
+  #endsBefore({ before }) {
     if (!before) return [];
-    return before.ends.length ? before.ends : this.endsBefore(before);
+    return before.ends.length ? before.ends : this.#endsBefore(before);
   }
 
   /**
@@ -48,7 +48,7 @@ class InOrder {
    */
   begins(number) {
     const script = this.scripts.get(number);
-    if (script) this.page.joins.here(this.endsBefore(script), 'the end of a script');
+    if (script) this.page.joins.here(this.#endsBefore(script), 'the end of a script');
   }
 
   /**
