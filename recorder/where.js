@@ -1,7 +1,8 @@
 #!/usr/bin/env node
 'use strict';
 // where.js WORD..: prints the rows of the map (README.md) that have all these words, then the modules of the recorder that have them in their name,
-// first comment, or the names and comments of what they define. For developers. Words are compared without case, and their starts suffice.
+// first comment, or the names and comments of what they define; if no row has all words, last the rows that have most of them. For developers. Words are
+// compared without case, and their starts suffice.
 
 const fs = require('node:fs');
 const path = require('node:path');
@@ -9,7 +10,16 @@ const { print, printError } = require('./common/output.js');
 
 /** What a module defines: a function, a class, a constant, a method. */
 const DEFINITION = /^(?:async function|function|class|const| {2}(?:static |async |\*|#)*(?!if|for|while|switch|return|super)(?=[\w$#]+\([^)]*\) \{$))\s*([\w$#]+)(?:\(([^)]*)\))?/;
+/** Words for which the map and the comments have another one. */
+const SYNONYMS = {
+  clearTimeout: 'clear', clearInterval: 'clear', cancelAnimationFrame: 'clear', cancelIdleCallback: 'clear', abort: 'clear', setTimeout: 'timeout', setInterval: 'interval',
+  requestAnimationFrame: 'animation frame', requestIdleCallback: 'idle callback', frame: 'iframe', send: 'sent', merge: 'share', join: 'share', listener: 'handler',
+};
+/** A file in a row, which is named by the end of its path. */
+const FILE = /`([\w./-]+\.js)`/g;
 const MOST_ROWS = 6;
+/** So many rows that lack a word. */
+const MOST_OTHER_ROWS = 3;
 const MOST_MODULES = 12;
 const MOST_DEFINITIONS = 4;
 const MOST_LETTERS = 110;
@@ -65,13 +75,17 @@ function partsOf(text) {
 }
 
 /**
- * The start of a word in a text, or of a part of a name.
+ * The start of a word in a text, or of a part of a name; also of its synonym.
  * @param {string} word
  */
 function formOf(word) {
-  const escaped = word.replace(/[^\w]/g, '\\$&');
-  const inAnyCase = escaped.replace(/[a-z]/gi, (letter) => `[${letter.toLowerCase()}${letter.toUpperCase()}]`);
-  return new RegExp(`(?:^|[^a-zA-Z])${inAnyCase}|[a-z]${escaped[0].toUpperCase()}${escaped.slice(1)}`);
+  const synonym = Object.entries(SYNONYMS).find(([one]) => one.toLowerCase() === word.toLowerCase())?.[1];
+  const forms = [word, ...synonym ? [synonym] : []].map((one) => {
+    const escaped = one.replace(/[^\w]/g, '\\$&');
+    const inAnyCase = escaped.replace(/[a-z]/gi, (letter) => `[${letter.toLowerCase()}${letter.toUpperCase()}]`);
+    return `(?:^|[^a-zA-Z])${inAnyCase}|[a-z]${escaped[0].toUpperCase()}${escaped.slice(1)}`;
+  });
+  return new RegExp(forms.join('|'));
 }
 
 /**
@@ -93,13 +107,32 @@ function scoreOf({ name, about, definitions }, wanted) {
  */
 const hasAll = (text, words) => words.every((word) => word.test(text));
 
-/** The rows of the tables of README.md that have all words: first those that have more of them in their first cell, the question. */
-function printRows(/** @type {RegExp[]} */ wanted) {
-  const countOf = (/** @type {string} */ row) => wanted.filter((word) => word.test(row.split(' | ')[0])).length;
-  const rows = fs.readFileSync(path.join(__dirname, 'README.md'), 'utf8').split('\n').filter((line) => /^\| [^*]/.test(line) && hasAll(line, wanted))
-    .map((row) => ({ row, count: countOf(row) })).sort((one, other) => other.count - one.count);
-  for (const { row } of rows.slice(0, MOST_ROWS)) print(`README.md: ${row.slice(2, -2).replace(/`/g, '')}`);
-  return rows.length;
+/**
+ * The rows of the tables of README.md that have the most of these words: all of them, or else some. First those that have more of them in their first
+ * cell, the question.
+ * @param {RegExp[]} wanted
+ */
+function rowsWith(wanted) {
+  const countIn = (/** @type {string} */ text) => wanted.filter((word) => word.test(text)).length;
+  const rows = fs.readFileSync(path.join(__dirname, 'README.md'), 'utf8').split('\n').filter((line) => /^\| [^*]/.test(line))
+    .map((row) => ({ row, count: countIn(row), ofQuestion: countIn(row.split(' | ')[0]) }));
+  const most = Math.max(...rows.map(({ count }) => count));
+  const found = rows.filter(({ count }) => count === most).sort((one, other) => other.ofQuestion - one.ofQuestion).map(({ row }) => row);
+  return most === wanted.length ? { all: found.slice(0, MOST_ROWS), some: [] } : { all: [], some: most ? found.slice(0, MOST_OTHER_ROWS) : [] };
+}
+
+/**
+ * Prints a row with the whole path of each file.
+ * @param {string} row
+ * @param {Module[]} modules
+ */
+function printRow(row, modules) {
+  const wholeOf = (/** @type {string} */ file) => {
+    const found = modules.filter(({ name }) => name === file || (!isOfTests(name) && name.endsWith(`/${file}`)));
+    return (found.find(({ name }) => name === file) || found[0])?.name;
+  };
+  const told = row.replace(FILE, (all, file) => (wholeOf(file) ? `recorder/${wholeOf(file)}` : file));
+  print(`README.md: ${told.slice(2, -2).replace(/`/g, '')}`);
 }
 
 /**
@@ -135,13 +168,16 @@ function main(words) {
     return;
   }
   const wanted = words.map(formOf);
-  const rows = printRows(wanted);
   const modules = modulesIn(__dirname);
+  const { all, some } = rowsWith(wanted);
+  for (const row of all) printRow(row, modules);
   const found = modules.map((module) => ({ module, score: scoreOf(module, wanted) })).filter(({ score }) => score)
     .sort((one, other) => Number(isOfTests(one.module.name)) - Number(isOfTests(other.module.name)) || other.score - one.score);
   found.slice(0, MOST_MODULES).forEach(({ module }) => printModule(module, wanted));
   if (found.length > MOST_MODULES) print(`and ${found.length - MOST_MODULES} more modules: a further word leaves fewer`);
-  if (!rows && !found.length) printCode(modules, words);
+  if (some.length) print('These rows have only some of the words:');
+  for (const row of some) printRow(row, modules);
+  if (!all.length && !found.length) printCode(modules, words);
 }
 
 if (require.main === module) main(process.argv.slice(2));

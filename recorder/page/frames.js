@@ -1,4 +1,4 @@
-// The frames of a page: the documents and the numbers of what they show.
+// Frames: a frame of the same origin joins the recording of the page around it, and its document gets a number.
 
 import { findItem } from './core/lists.js';
 import { settings } from './core/settings.js';
@@ -34,13 +34,13 @@ function frameOf(window) {
  */
 function numberOfFrame(window, recording, mayPass) {
   const frame = frameOf(window);
-  const parent = frame && findItem(recording.documents, (page) => page.document === frame.ownerDocument);
-  if (!frame || !parent) return -1;
-  if (recording.contexts.length) parent.tree.collect('script');
-  parent.elements.declaredNumber(frame);
-  const source = parent.elements.has(frame, 'srcdoc') ? 'about:srcdoc' : parent.elements.attribute(frame, 'src');
+  const parentPage = frame && findItem(recording.pages, (page) => page.document === frame.ownerDocument);
+  if (!frame || !parentPage) return -1;
+  if (recording.contexts.length) parentPage.tree.collect('script');
+  parentPage.elements.declaredNumber(frame);
+  const source = parentPage.elements.has(frame, 'srcdoc') ? 'about:srcdoc' : parentPage.elements.attribute(frame, 'src');
   const isPassing = mayPass && window.location.href === 'about:blank' && !!source && source !== 'about:blank';
-  return parent.sources.numberOfInner(frame, isPassing);
+  return parentPage.sources.numberOfInner(frame, isPassing);
 }
 
 export { recordingOfParent, numberOfFrame };

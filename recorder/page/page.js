@@ -119,7 +119,7 @@ class Page {
    * The window shows another document.
    * @param {number} number
    */
-  takeDocument(number) {
+  #takeDocument(number) {
     this.number = number;
     this.document = this.window.document;
     this.loading = new Loading(this);
@@ -135,15 +135,15 @@ class Page {
   /** @param {'parser'|undefined} maker of what is in it by now */
   start(maker) {
     const { recording } = this;
-    recording.documents = keep(recording.documents, (page) => page.window !== this.window);
-    recording.documents[recording.documents.length] = this;
+    recording.pages = keep(recording.pages, (page) => page.window !== this.window);
+    recording.pages[recording.pages.length] = this;
     this.recording.elementNumbers.delete(this.window); // a frame's window stays the same object for its next page
     if (this.recording.objects) this.recording.objects.addWindow(this);
-    this.beginDocument();
+    this.#beginDocument();
     const parts = [this.chaos, this.handlers, this.onHandlers, this.capturing, this.calls, this.attributes, this.made, this.lookups, this.fields, this.causes, this.media, this.navigations, this.timers, this.callbacks,
       this.jobs, this.promises, this.observers, this.requests, this.connections, this.messages, this.reactions, this.clock, this.unseen];
     each(parts, (part) => part.start());
-    this.replaceToString();
+    this.#replaceToString();
     this.tree.start(maker);
     this.unseen.compare();
     this.recording.steering.holdLoad(this);
@@ -163,16 +163,16 @@ class Page {
     if (number < 0) return;
     if (this.loading.hasBegunLoad) recording.elementNumbers.delete(window); // its load has looked for no handlers of the next page
     this.tree.stop();
-    this.takeDocument(number);
+    this.#takeDocument(number);
     this.loading.isHeardLate = true;
-    this.beginDocument();
+    this.#beginDocument();
     this.capturing.captureAgain();
     this.tree.start('parser');
     recording.steering.holdLoad(this);
   }
 
   /** The first action of a document: a step that makes the document itself, and its window if no other document had it before. */
-  beginDocument() {
+  #beginDocument() {
     const { recording, document, elements } = this;
     elements.markDeclared(document, 'plain');
     const number = elements.number(document);
@@ -204,12 +204,12 @@ class Page {
   numberOfDocumentOf(target) {
     const owner = target.nodeType ? target.ownerDocument : null;
     if (!owner || owner === this.document) return this.number;
-    const page = findItem(this.recording.documents, (one) => one.document === owner);
+    const page = findItem(this.recording.pages, (one) => one.document === owner);
     return page ? page.number : this.number;
   }
 
   /** The page sees the texts of its functions without marks. */
-  replaceToString() {
+  #replaceToString() {
     replaceMethod(this.window.Function.prototype, 'toString', (native) => function toString() {
       return withoutMarks(apply(native, replacedFunctions.get(this) || this, []));
     });

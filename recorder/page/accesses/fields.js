@@ -34,10 +34,10 @@ class Fields {
   }
 
   start() {
-    each(FIELD_PROPERTIES, ({ 0: owner, 1: name, 2: variable }) => this.replaceField(this.page.window[owner].prototype, name, variable));
-    this.replaceOptions();
-    this.replaceCookie();
-    each(Object.keys(STORAGE_CALLS), (name) => this.replaceStorage(name));
+    each(FIELD_PROPERTIES, ({ 0: owner, 1: name, 2: variable }) => this.#replaceField(this.page.window[owner].prototype, name, variable));
+    this.#replaceOptions();
+    this.#replaceCookie();
+    each(Object.keys(STORAGE_CALLS), (name) => this.#replaceStorage(name));
   }
 
   /**
@@ -45,7 +45,7 @@ class Fields {
    * @param {Element} field
    * @param {string} variable
    */
-  location(field, variable) {
+  #location(field, variable) {
     return `var ${FIRST_FIELD + this.page.elements.number(field)} ${variable}`;
   }
 
@@ -56,9 +56,9 @@ class Fields {
    * @param {string} variable
    * @param {import('../types').Found} found
    */
-  access(mode, field, variable, found) {
+  #access(mode, field, variable, found) {
     const { recording, page } = this;
-    if (recording.isRunning() && apply(page.natives.isConnected, field, [])) recording.access(mode, this.location(field, variable), undefined, found);
+    if (recording.isRunning() && apply(page.natives.isConnected, field, [])) recording.access(mode, this.#location(field, variable), undefined, found);
   }
 
   /**
@@ -66,27 +66,27 @@ class Fields {
    * @param {string} name
    * @param {string} variable
    */
-  replaceField(owner, name, variable) {
+  #replaceField(owner, name, variable) {
     const fields = this;
     replaceProperty(owner, name, (native) => ({
       get() {
-        fields.access('r', this, variable, () => apply(native.get, this, []));
+        fields.#access('r', this, variable, () => apply(native.get, this, []));
         return apply(native.get, this, []);
       },
       set(value) {
-        fields.access('w', this, variable, () => apply(native.get, this, []));
-        if (variable === 'checked' && value) each(fields.forms.radiosBeside(this), (radio) => fields.access('w', radio, variable, () => fields.forms.contentOf(radio, variable)));
+        fields.#access('w', this, variable, () => apply(native.get, this, []));
+        if (variable === 'checked' && value) each(fields.forms.radiosBeside(this), (radio) => fields.#access('w', radio, variable, () => fields.forms.contentOf(radio, variable)));
         apply(native.set, this, [value]);
       },
     }));
   }
 
   /** What a list of options has as its value, by way of the options. */
-  replaceOptions() {
+  #replaceOptions() {
     const fields = this;
     const { HTMLOptionElement, HTMLSelectElement } = this.page.window;
     const touch = (/** @type {string} */ mode, /** @type {Element|null} */ list) => {
-      if (list) fields.access(mode, list, 'value', () => fields.forms.contentOf(list, 'value'));
+      if (list) fields.#access(mode, list, 'value', () => fields.forms.contentOf(list, 'value'));
     };
     replaceProperty(HTMLOptionElement.prototype, 'selected', (native) => ({
       get() {
@@ -112,7 +112,7 @@ class Fields {
     const { event, target } = dispatch;
     if (!event || !target || event.type !== 'reset' || !event.isTrusted || target.localName !== 'form') return;
     dispatch.whenClosed = () => {
-      if (!event.defaultPrevented) each(this.forms.fieldsOf(target), ({ 0: field, 1: variable }) => this.writeNow(field, variable));
+      if (!event.defaultPrevented) each(this.forms.fieldsOf(target), ({ 0: field, 1: variable }) => this.#writeNow(field, variable));
     };
   }
 
@@ -121,10 +121,10 @@ class Fields {
    * @param {Element} field
    * @param {string} variable
    */
-  writeNow(field, variable) {
+  #writeNow(field, variable) {
     const { recording, page } = this;
     if (!apply(page.natives.isConnected, field, [])) return;
-    recording.accessNow('w', this.location(field, variable), recording.contexts.length ? undefined : '', () => this.forms.contentOf(field, variable));
+    recording.accessNow('w', this.#location(field, variable), recording.contexts.length ? undefined : '', () => this.forms.contentOf(field, variable));
   }
 
   /**
@@ -147,13 +147,13 @@ class Fields {
     if (!event.isTrusted || event.type !== 'input' || target.nodeType !== 1) return;
     const { dispatches } = this.recording;
     const key = findItem(dispatches, (one) => one.pressed !== undefined && one.target === target);
-    if (key && findItem(dispatches, ({ group = -1 }) => group >= 0)) this.recording.noteIn(key.pressed, `w ${this.location(target, 'value')}`);
-    this.recording.accessNow('w', this.location(target, 'value'), '');
-    if (target.type === 'checkbox' || target.type === 'radio') this.recording.accessNow('w', this.location(target, 'checked'), '');
-    each(this.forms.radiosBeside(target), (radio) => this.recording.accessNow('w', this.location(radio, 'checked'), ''));
+    if (key && findItem(dispatches, ({ group = -1 }) => group >= 0)) this.recording.noteIn(key.pressed, `w ${this.#location(target, 'value')}`);
+    this.recording.accessNow('w', this.#location(target, 'value'), '');
+    if (target.type === 'checkbox' || target.type === 'radio') this.recording.accessNow('w', this.#location(target, 'checked'), '');
+    each(this.forms.radiosBeside(target), (radio) => this.recording.accessNow('w', this.#location(radio, 'checked'), ''));
   }
 
-  replaceCookie() {
+  #replaceCookie() {
     const { recording, page } = this;
     replaceProperty(page.window.Document.prototype, 'cookie', (native) => ({
       get() {
@@ -199,7 +199,7 @@ class Fields {
    * A key that is an object becomes a text once, as without the recorder.
    * @param {string} name of the method
    */
-  replaceStorage(name) {
+  #replaceStorage(name) {
     const fields = this;
     const { recording, page, getItem } = this;
     const count = name === 'setItem' ? 2 : 1;
@@ -209,7 +209,7 @@ class Fields {
       const key = String(given);
       args[0] = key;
       fields.accessItem(STORAGE_CALLS[name], this, key);
-      if (name === 'getItem' || recording.documents.length < 2) return apply(native, this, args);
+      if (name === 'getItem' || recording.pages.length < 2) return apply(native, this, args);
       const before = apply(getItem, this, [key]);
       apply(native, this, args);
       const after = apply(getItem, this, [key]);

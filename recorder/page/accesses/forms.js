@@ -65,7 +65,7 @@ class Forms {
     const name = isRadio(radio) && elements.attribute(radio, 'name');
     if (!name || !apply(natives.isConnected, radio, [])) return [];
     const form = apply(this.form, radio, []);
-    const all = form ? apply(this.elements, form, []) : this.radiosAround(radio);
+    const all = form ? apply(this.elements, form, []) : this.#radiosAround(radio);
     return keep(all, (one) => one !== radio && isRadio(one) && elements.attribute(one, 'name') === name && apply(this.form, one, []) === form);
   }
 
@@ -73,7 +73,7 @@ class Forms {
    * @param {Element} element
    * @returns {ArrayLike<any>}
    */
-  radiosAround(element) {
+  #radiosAround(element) {
     const { natives } = this.page;
     const root = apply(natives.getRootNode, element, []);
     const isDocument = apply(natives.nodeType, root, []) === DOCUMENT;
@@ -81,6 +81,7 @@ class Forms {
   }
 
   /**
+   * The `select` that an option is in.
    * @param {Element} option
    * @returns {Element|null}
    */

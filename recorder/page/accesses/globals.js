@@ -78,7 +78,7 @@ class Globals {
    * Whether the running piece of code has had this access already: most accesses of code that loops are repeated, and cost no more.
    * @param {number} site
    */
-  isRepeat(site) {
+  #isRepeat(site) {
     return this.lastPieces[site] === this.recording.pieces;
   }
 
@@ -86,7 +86,7 @@ class Globals {
    * The site has had its access in this piece of code.
    * @param {number} site
    */
-  note(site) {
+  #note(site) {
     if (site >= this.lastPieces.length) this.lastPieces = enlarged(this.lastPieces, site);
     this.lastPieces[site] = this.recording.pieces;
   }
@@ -97,13 +97,13 @@ class Globals {
    * @param {number} site
    */
   read(name, site) {
-    if (this.isRepeat(site) || !this.recording.mayAccess()) return;
+    if (this.#isRepeat(site) || !this.recording.mayAccess()) return;
     this.page.ready.look(name);
     const isVariable = !!this.propertyOf(name) || this.lexicals.has(name);
-    if (isVariable) this.note(site);
+    if (isVariable) this.#note(site);
     if (this.builtins.has(name)) return;
-    this.touch(name, READ, site);
-    if (!isVariable) this.readNamedElement(name, site);
+    this.#touch(name, READ, site);
+    if (!isVariable) this.#readNamedElement(name, site);
   }
 
   /**
@@ -112,7 +112,7 @@ class Globals {
    * @param {number} site
    */
   write(name, site) {
-    if (this.isDue(name, site)) this.touchWritten(name, site);
+    if (this.#isDue(name, site)) this.#touchWritten(name, site);
   }
 
   /**
@@ -121,9 +121,9 @@ class Globals {
    * @param {number} site
    */
   update(name, site) {
-    if (!this.isDue(name, site)) return;
-    this.touchRead(name, site);
-    this.touchWritten(name, site);
+    if (!this.#isDue(name, site)) return;
+    this.#touchRead(name, site);
+    this.#touchWritten(name, site);
   }
 
   /**
@@ -132,11 +132,11 @@ class Globals {
    * @param {number} site
    */
   count(name, site) {
-    if (!this.isDue(name, site)) return;
+    if (!this.#isDue(name, site)) return;
     const variable = this.holder?.variable(name);
     const isOnlyCounted = !!variable && !!this.recording.objects?.variables.isOnlyCounted(variable);
-    this.touchRead(name, site);
-    this.touchWritten(name, site);
+    this.#touchRead(name, site);
+    this.#touchWritten(name, site);
     if (variable && isOnlyCounted) variable.flags |= IS_COUNTED;
   }
 
@@ -144,18 +144,18 @@ class Globals {
    * @param {string} name
    * @param {number} site
    */
-  touchRead(name, site) {
-    if (this.holder) this.recording.objects?.variables.readAs(this.holder, this.holder.variable(name), site, this.valueBefore(name));
-    else this.touch(name, READ, site);
+  #touchRead(name, site) {
+    if (this.holder) this.recording.objects?.variables.readAs(this.holder, this.holder.variable(name), site, this.#valueBefore(name));
+    else this.#touch(name, READ, site);
   }
 
   /**
    * @param {string} name
    * @param {number} site
    */
-  touchWritten(name, site) {
+  #touchWritten(name, site) {
     if (this.holder) this.stage(name, site);
-    else this.touch(name, WRITE, site);
+    else this.#touch(name, WRITE, site);
   }
 
   /**
@@ -165,9 +165,9 @@ class Globals {
    * @param {unknown} value
    */
   noteValueAt(site, name, value) {
-    if (site >= this.cells.length) this.makeRoom(site);
+    if (site >= this.cells.length) this.#makeRoom(site);
     let cell = this.cells[site];
-    if (cell === undefined) cell = this.cells[site] = this.cellOf(name);
+    if (cell === undefined) cell = this.cells[site] = this.#cellOf(name);
     if (cell !== null) cell.now = value;
   }
 
@@ -175,12 +175,12 @@ class Globals {
    * Makes the list of cells long enough for a site.
    * @param {number} site
    */
-  makeRoom(site) {
+  #makeRoom(site) {
     for (let k = this.cells.length; k <= site; k++) this.cells[k] = undefined;
   }
 
   /** @param {string} name */
-  cellOf(name) {
+  #cellOf(name) {
     if (this.propertyOf(name)) return null;
     let cell = this.lexicals.get(name);
     if (cell === undefined) this.lexicals.set(name, cell = { now: /** @type {unknown} */ (MISSING) });
@@ -192,8 +192,8 @@ class Globals {
    * @param {number} site
    */
   isFirst(site) {
-    if (this.isRepeat(site) || !this.recording.mayAccess()) return false;
-    this.note(site);
+    if (this.#isRepeat(site) || !this.recording.mayAccess()) return false;
+    this.#note(site);
     return true;
   }
 
@@ -202,7 +202,7 @@ class Globals {
    * @param {string} name
    * @param {number} site
    */
-  isDue(name, site) {
+  #isDue(name, site) {
     return this.isFirst(site) && !this.builtins.has(name);
   }
 
@@ -212,7 +212,7 @@ class Globals {
    * @param {number} mode
    * @param {number} site
    */
-  touch(name, mode, site) {
+  #touch(name, mode, site) {
     if (this.holder) this.recording.objects?.variables.touchName(this.holder, name, mode, site);
     else this.recording.accessNow(mode === READ ? 'r' : 'w', this.location(name), site, () => this.valueOf(name));
   }
@@ -224,7 +224,7 @@ class Globals {
    */
   declare(name, site) {
     if (!this.holder) this.write(name, site);
-    else if (this.isDue(name, site)) this.stage(name, site);
+    else if (this.#isDue(name, site)) this.stage(name, site);
   }
 
   /**
@@ -237,11 +237,11 @@ class Globals {
     if (!holder) return;
     const variable = holder.variable(name);
     variable.flags &= ~IS_COUNTED;
-    this.recording.objects?.variables.stage(holder, variable, site, this.valueBefore(name));
+    this.recording.objects?.variables.stage(holder, variable, site, this.#valueBefore(name));
   }
 
   /** @param {string} name */
-  valueBefore(name) {
+  #valueBefore(name) {
     return this.values.has(name) ? this.values.get(name) : MISSING;
   }
 
@@ -283,7 +283,7 @@ class Globals {
    * @param {string} name
    * @param {number} site
    */
-  readNamedElement(name, site) {
+  #readNamedElement(name, site) {
     this.recording.access('r', `elem ${this.page.number} ${spellName(name)}`, site, () => this.page.elements.find(name));
   }
 }

@@ -50,16 +50,16 @@ class Imports {
    * @param {string} name
    * @returns {Export|null|undefined}
    */
-  find(number, name, depth = 0) {
+  #find(number, name, depth = 0) {
     const module = this.modules.get(number);
     if (!module || depth > MOST_HANDED_ON) return undefined;
     const own = module.own.get(name);
     if (own !== undefined) return { module, name: own };
     const other = module.others.get(name);
-    if (other) return this.find(other.module, other.name, depth + 1);
+    if (other) return this.#find(other.module, other.name, depth + 1);
     /** @type {Export|null|undefined} */
     let found = null;
-    each(module.wholes, (one) => { if (!found && name !== 'default') found = this.find(one, name, depth + 1); });
+    each(module.wholes, (one) => { if (!found && name !== 'default') found = this.#find(one, name, depth + 1); });
     return found;
   }
 
@@ -72,7 +72,7 @@ class Imports {
   read(number, name, site) {
     let found = this.found.get(site);
     if (found === undefined) {
-      found = this.find(number, name);
+      found = this.#find(number, name);
       if (found !== undefined) this.found.set(site, found);
     }
     if (!found) return;

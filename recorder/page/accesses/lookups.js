@@ -54,7 +54,7 @@ class Lookups {
     const lookups = this;
     each(LOOKUPS, ({ 0: owner, 1: names }) => each(names, (name) => {
       replaceMethod(this.page.window[owner].prototype, name, (native) => function lookUp(key) {
-        if (!lookups.recording.isOver) lookups.read(this, name, key);
+        if (!lookups.recording.isOver) lookups.#read(this, name, key);
         return apply(native, this, arguments);
       });
     }));
@@ -66,16 +66,16 @@ class Lookups {
    * @param {string} name of the method
    * @param {unknown} key
    */
-  read(root, name, key) {
-    const ids = name === 'getElementById' ? [String(key)] : this.idsOf(key);
-    if (!ids.length || !this.isInDocument(root)) return;
+  #read(root, name, key) {
+    const ids = name === 'getElementById' ? [String(key)] : this.#idsOf(key);
+    if (!ids.length || !this.#isInDocument(root)) return;
     each(ids, (id) => {
       if (id) this.recording.access('r', `elem ${this.page.number} ${spellName(id)}`, undefined, () => this.page.elements.find(id));
     });
   }
 
   /** @param {unknown} selector */
-  idsOf(selector) {
+  #idsOf(selector) {
     return typeof selector === 'string' && indexIn(selector, '#') >= 0 ? idsOfSelector(selector) : [];
   }
 
@@ -83,7 +83,7 @@ class Lookups {
    * Separate trees and shadow trees have ids of their own.
    * @param {Node} root
    */
-  isInDocument(root) {
+  #isInDocument(root) {
     const { document, natives } = this.page;
     if (root === document) return true;
     return root.ownerDocument === document && apply(natives.isConnected, root, []) && apply(natives.getRootNode, root, []) === document;

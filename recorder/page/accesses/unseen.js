@@ -28,14 +28,14 @@ class Unseen {
   start() {
     const { Object: ObjectOfPage, Reflect } = this.page.window;
     const noteAll = (/** @type {object} */ target, /** @type {{[name: string]: GivenDescriptor}} */ descriptors) => {
-      if (this.pageOf(target)) each(Object.keys(descriptors), (name) => this.noteHidden(target, name, descriptors[name]));
+      if (this.#pageOf(target)) each(Object.keys(descriptors), (name) => this.#noteHidden(target, name, descriptors[name]));
     };
     const noteOne = (/** @type {object} */ target, /** @type {unknown} */ name, /** @type {GivenDescriptor} */ descriptor) => {
-      if (this.pageOf(target)) this.noteHidden(target, name, descriptor);
+      if (this.#pageOf(target)) this.#noteHidden(target, name, descriptor);
     };
-    this.replaceDefinition(ObjectOfPage, 'defineProperty', noteOne);
-    this.replaceDefinition(Reflect, 'defineProperty', noteOne);
-    this.replaceDefinition(ObjectOfPage, 'defineProperties', noteAll);
+    this.#replaceDefinition(ObjectOfPage, 'defineProperty', noteOne);
+    this.#replaceDefinition(Reflect, 'defineProperty', noteOne);
+    this.#replaceDefinition(ObjectOfPage, 'defineProperties', noteAll);
   }
 
   /**
@@ -43,7 +43,7 @@ class Unseen {
    * @param {string} name
    * @param {(target: object, given: any, descriptor: any) => void} note the arguments are whatever the page passes
    */
-  replaceDefinition(owner, name, note) {
+  #replaceDefinition(owner, name, note) {
     replaceMethod(owner, name, (native) => function define(target, given, descriptor) {
       const result = apply(native, this, [target, given, descriptor]);
       note(target, given, descriptor);
@@ -52,8 +52,8 @@ class Unseen {
   }
 
   /** @param {object} target */
-  pageOf(target) {
-    return findItem(this.recording.documents, (one) => one.window === target);
+  #pageOf(target) {
+    return findItem(this.recording.pages, (one) => one.window === target);
   }
 
   /**
@@ -61,8 +61,8 @@ class Unseen {
    * @param {unknown} name
    * @param {GivenDescriptor} descriptor
    */
-  noteHidden(target, name, descriptor) {
-    const page = this.pageOf(target);
+  #noteHidden(target, name, descriptor) {
+    const page = this.#pageOf(target);
     if (!page || descriptor.enumerable || typeof name === 'symbol') return;
     const { hidden } = page.unseen;
     if (!hasItem(hidden, String(name))) hidden[hidden.length] = String(name);
@@ -73,23 +73,23 @@ class Unseen {
   /** Records which properties of the window have changed since the last look. Called at the end of each piece of code. */
   compare() {
     this.page.clock.look();
-    each(Object.keys(this.page.window), (name) => this.compareOne(name));
-    each(this.hidden, (name) => this.compareOne(name));
+    each(Object.keys(this.page.window), (name) => this.#compareOne(name));
+    each(this.hidden, (name) => this.#compareOne(name));
   }
 
   /** @param {string} name */
-  compareOne(name) {
-    const descriptor = this.descriptorOf(name);
+  #compareOne(name) {
+    const descriptor = this.#descriptorOf(name);
     if (!descriptor) return;
     this.page.ready.look(name);
-    this.compareValue(name, descriptor.value);
+    this.#compareValue(name, descriptor.value);
   }
 
   /**
    * The descriptor of a variable that has a value, otherwise undefined.
    * @param {string} name
    */
-  descriptorOf(name) {
+  #descriptorOf(name) {
     if (this.globals.builtins.has(name) || fits(/^\d+$/, name)) return undefined;
     const descriptor = this.globals.propertyOf(name);
     return descriptor && 'value' in descriptor ? descriptor : undefined;
@@ -104,7 +104,7 @@ class Unseen {
     this.page.clock.look();
     const { values } = this.globals;
     each(joined(Object.keys(this.page.window), this.hidden), (name) => {
-      const descriptor = this.descriptorOf(name);
+      const descriptor = this.#descriptorOf(name);
       if (!descriptor || Object.is(values.get(name), descriptor.value) || findItem(functions, ({ 0: declared }) => declared === name)) return;
       values.set(name, descriptor.value);
       this.recording.log.miss('variables that changed while nothing recorded ran');
@@ -115,12 +115,12 @@ class Unseen {
    * @param {string} name
    * @param {unknown} value
    */
-  compareValue(name, value) {
+  #compareValue(name, value) {
     const { values } = this.globals;
     const isNew = !values.has(name);
     if (!isNew && Object.is(values.get(name), value)) return;
     const isDeclaredOnly = isNew && value === undefined;
-    if (!isDeclaredOnly && this.recording.isRunning()) this.writeUnseen(name, value);
+    if (!isDeclaredOnly && this.recording.isRunning()) this.#writeUnseen(name, value);
     values.set(name, value);
   }
 
@@ -128,7 +128,7 @@ class Unseen {
    * @param {string} name
    * @param {unknown} value
    */
-  writeUnseen(name, value) {
+  #writeUnseen(name, value) {
     const { globals } = this;
     if (globals.holder) globals.stage(name, -1);
     else this.recording.accessNow('w', globals.location(name), '', digestOf(value));

@@ -31,11 +31,11 @@ class Attributes {
 
   start() {
     const { window, recording } = this.page;
-    each(SOURCES, ({ 0: owner, 1: name }) => this.replaceSource(window[owner].prototype, name));
-    this.replaceAddress();
+    each(SOURCES, ({ 0: owner, 1: name }) => this.#replaceSource(window[owner].prototype, name));
+    this.#replaceAddress();
     replaceProperty(window.HTMLScriptElement.prototype, 'integrity', () => ({ set() { recording.log.miss(INTEGRITY); } }));
-    this.replaceSetAttribute();
-    this.replaceSetAttributeOfNamespace();
+    this.#replaceSetAttribute();
+    this.#replaceSetAttributeOfNamespace();
   }
 
   // ---- what an element loads
@@ -44,17 +44,17 @@ class Attributes {
    * @param {any} owner
    * @param {string} name
    */
-  replaceSource(owner, name) {
+  #replaceSource(owner, name) {
     const attributes = this;
     replaceProperty(owner, name, (native) => ({
       set(value) {
-        attributes.aroundSource(this, () => apply(native.set, this, [value]));
+        attributes.#aroundSource(this, () => apply(native.set, this, [value]));
       },
     }));
   }
 
   /** `image.href.baseVal` of SVG. */
-  replaceAddress() {
+  #replaceAddress() {
     const attributes = this;
     const { SVGAnimatedString, SVGImageElement } = this.page.window;
     replaceGetter(SVGImageElement.prototype, 'href', (native) => function href() {
@@ -65,7 +65,7 @@ class Attributes {
     replaceProperty(SVGAnimatedString.prototype, 'baseVal', (native) => ({
       set(value) {
         const image = attributes.ofAddresses.get(this);
-        if (image) attributes.aroundSource(image, () => apply(native.set, this, [value]));
+        if (image) attributes.#aroundSource(image, () => apply(native.set, this, [value]));
         else apply(native.set, this, [value]);
       },
     }));
@@ -78,7 +78,7 @@ class Attributes {
    * @param {() => T} call
    * @returns {T}
    */
-  aroundSource(element, call) {
+  #aroundSource(element, call) {
     const { sources } = this.page;
     if (this.recording.isOver) return call();
     const loading = element.localName === 'source' ? imagesBeside(element) : [element];
@@ -90,7 +90,7 @@ class Attributes {
 
   // ---- attributes
 
-  replaceSetAttribute() {
+  #replaceSetAttribute() {
     const attributes = this;
     const { page, recording } = this;
     replaceMethod(page.window.Element.prototype, 'setAttribute', (native) => function setAttribute(name, value) {
@@ -100,7 +100,7 @@ class Attributes {
         recording.log.miss(INTEGRITY);
         return undefined;
       }
-      const result = attributes.aroundAttribute(this, key, () => apply(native, this, arguments));
+      const result = attributes.#aroundAttribute(this, key, () => apply(native, this, arguments));
       if (page.onHandlers.isHandler(key) && !recording.isOver && recording.isRunning()) {
         page.elements.declaredNumber(this);
         recording.finishReturned();
@@ -110,13 +110,13 @@ class Attributes {
     });
   }
 
-  replaceSetAttributeOfNamespace() {
+  #replaceSetAttributeOfNamespace() {
     const attributes = this;
     replaceMethod(this.page.window.Element.prototype, 'setAttributeNS', (native) => function setAttributeNS(namespace, name) {
       const set = () => apply(native, this, arguments);
       if (typeof name !== 'string') return set();
-      if (namespace === XLINK) return hasEnd(name, 'href') && attributes.isByOldAddress(this) ? attributes.aroundSource(this, set) : set();
-      return namespace === null || namespace === '' ? attributes.aroundAttribute(this, name, set) : set();
+      if (namespace === XLINK) return hasEnd(name, 'href') && attributes.#isByOldAddress(this) ? attributes.#aroundSource(this, set) : set();
+      return namespace === null || namespace === '' ? attributes.#aroundAttribute(this, name, set) : set();
     });
   }
 
@@ -124,7 +124,7 @@ class Attributes {
    * Whether an element is an image of SVG whose `xlink:href` counts.
    * @param {Element} element
    */
-  isByOldAddress(element) {
+  #isByOldAddress(element) {
     return element.localName === 'image' && !this.page.elements.has(element, 'href');
   }
 
@@ -135,9 +135,9 @@ class Attributes {
    * @param {() => T} call
    * @returns {T}
    */
-  aroundAttribute(element, name, call) {
+  #aroundAttribute(element, name, call) {
     const names = SOURCES_OF.get(element.localName);
-    return names && hasItem(names, name) ? this.aroundSource(element, call) : call();
+    return names && hasItem(names, name) ? this.#aroundSource(element, call) : call();
   }
 }
 

@@ -40,7 +40,7 @@ class Controls {
    * @param {Element} control
    * @returns {{moment: Moment|null}|null|undefined}
    */
-  known(control) {
+  #known(control) {
     return this.recording.controls.get(control);
   }
 
@@ -48,7 +48,7 @@ class Controls {
    * A user might have reached a control before: its acts get no order.
    * @param {Element} control
    */
-  forget(control) {
+  #forget(control) {
     this.recording.controls.set(control, null);
   }
 
@@ -57,7 +57,7 @@ class Controls {
    * @param {Element} control
    * @param {string} selector
    */
-  is(control, selector) {
+  #is(control, selector) {
     return apply(this.natives.matches, control, [selector]);
   }
 
@@ -70,8 +70,8 @@ class Controls {
    */
   noteAdded(element, maker) {
     if (!fits(IS_CONTROL, element.localName)) return;
-    if (this.known(element) !== undefined) this.look(element, maker);
-    else this.recording.controls.set(element, this.is(element, IS_KEPT) ? { moment: null } : null);
+    if (this.#known(element) !== undefined) this.#look(element, maker);
+    else this.recording.controls.set(element, this.#is(element, IS_KEPT) ? { moment: null } : null);
   }
 
   /**
@@ -82,11 +82,11 @@ class Controls {
    */
   noteAttribute(element, oldValue, maker) {
     if (element.localName !== 'fieldset') {
-      if (fits(IS_CONTROL, element.localName)) this.noteChange(element, oldValue === null, maker);
+      if (fits(IS_CONTROL, element.localName)) this.#noteChange(element, oldValue === null, maker);
       return;
     }
     each(apply(this.natives.querySelectorAll, element, [CONTROLS]), (control) => {
-      this.noteChange(control, oldValue === null && !this.page.elements.has(control, 'disabled'), maker);
+      this.#noteChange(control, oldValue === null && !this.page.elements.has(control, 'disabled'), maker);
     });
   }
 
@@ -96,14 +96,14 @@ class Controls {
    * @param {boolean} wasEnabled
    * @param {Maker} maker
    */
-  noteChange(control, wasEnabled, maker) {
-    if (wasEnabled && this.isWaiting(control)) this.forget(control);
-    else this.look(control, maker);
+  #noteChange(control, wasEnabled, maker) {
+    if (wasEnabled && this.#isWaiting(control)) this.#forget(control);
+    else this.#look(control, maker);
   }
 
   /** @param {Element} control */
-  isWaiting(control) {
-    const known = this.known(control);
+  #isWaiting(control) {
+    const known = this.#known(control);
     return !!known && !known.moment;
   }
 
@@ -112,9 +112,9 @@ class Controls {
    * @param {Element} control
    * @param {Maker} maker
    */
-  look(control, maker) {
-    if (!this.isWaiting(control) || this.is(control, IS_KEPT)) return;
-    if (maker !== 'script' || this.is(control, ':disabled')) this.forget(control);
+  #look(control, maker) {
+    if (!this.#isWaiting(control) || this.#is(control, IS_KEPT)) return;
+    if (maker !== 'script' || this.#is(control, ':disabled')) this.#forget(control);
     else this.recording.controls.set(control, { moment: this.recording.lastMoment() });
   }
 
@@ -125,9 +125,9 @@ class Controls {
    * @param {Event} event
    * @param {EventTarget} target
    */
-  reached(event, target) {
-    const known = ACTS.has(event.type) && this.recording.steering.isTrusted(event) && this.known(/** @type {Element} */ (target));
-    if (known && !known.moment) this.forget(/** @type {Element} */ (target)); // what enabled it was not seen
+  #reached(event, target) {
+    const known = ACTS.has(event.type) && this.recording.steering.isTrusted(event) && this.#known(/** @type {Element} */ (target));
+    if (known && !known.moment) this.#forget(/** @type {Element} */ (target)); // what enabled it was not seen
     return known ? known.moment : null;
   }
 
@@ -137,11 +137,11 @@ class Controls {
    */
   standIn(dispatch) {
     const { event, target } = dispatch;
-    const enabled = this.reached(event, target);
+    const enabled = this.#reached(event, target);
     const moments = joined(enabled ? [enabled] : [], this.page.reach.momentsOf(event, target));
     if (!moments.length) return 0;
     dispatch.comesAfter = mapped(moments, ({ event: cause }) => cause);
-    return this.standInAfter(target, moments, moments.length === (enabled ? 1 : 0));
+    return this.#standInAfter(target, moments, moments.length === (enabled ? 1 : 0));
   }
 
   /**
@@ -150,12 +150,12 @@ class Controls {
    * @param {Moment[]} moments
    * @param {boolean} isEnabling
    */
-  standInAfter(target, moments, isEnabling) {
+  #standInAfter(target, moments, isEnabling) {
     const ofTarget = this.standIns.get(target) || new Map();
     this.standIns.set(target, ofTarget);
     let key = '';
     each(moments, ({ action }) => { key += `${action} `; });
-    if (!ofTarget.has(key)) ofTarget.set(key, this.makeStandIn(target, moments, isEnabling));
+    if (!ofTarget.has(key)) ofTarget.set(key, this.#makeStandIn(target, moments, isEnabling));
     return ofTarget.get(key);
   }
 
@@ -165,7 +165,7 @@ class Controls {
    * @param {Moment[]} moments
    * @param {boolean} isEnabling
    */
-  makeStandIn(target, moments, isEnabling) {
+  #makeStandIn(target, moments, isEnabling) {
     const { recording, page } = this;
     const why = isEnabling ? ENABLED : REACHED;
     const number = page.elements.declaredNumber(target);
@@ -185,7 +185,7 @@ class Controls {
    */
   tellOf(dispatch) {
     const { event, target } = dispatch;
-    const moment = this.reached(event, target);
+    const moment = this.#reached(event, target);
     if (!moment || findItem(this.recording.dispatches, ({ comesAfter }) => comesAfter && hasItem(comesAfter, moment.event))) return;
     if (!this.page.handlers.hasOneOf(target, event.type, moment.event)) return;
     this.page.joins.here([moment], ENABLED);

@@ -140,7 +140,7 @@ class Elements {
    */
   declaredNumber(target) {
     const number = this.number(target);
-    if (!this.recording.declared.has(number)) this.declareNew(target);
+    if (!this.recording.declared.has(number)) this.#declareNew(target);
     return number;
   }
 
@@ -148,7 +148,7 @@ class Elements {
    * Writes the declaration of a target that no parser made, in the running action.
    * @param {Target} target
    */
-  declareNew(target) {
+  #declareNew(target) {
     const number = this.number(target);
     const kind = isElement(target) ? this.declaration(target, false) : 'plain';
     this.markDeclared(target, kind);
@@ -236,7 +236,7 @@ class Elements {
    * What an event of a script needs now is declared at once.
    * @param {Target} target
    */
-  declareJoining(target) {
+  #declareJoining(target) {
     const number = this.number(target);
     const found = this.joining.get(number);
     if (!found) return;
@@ -269,7 +269,7 @@ class Elements {
    */
   standIn(target, why) {
     const number = this.declaredNumber(target);
-    this.declareJoining(target);
+    this.#declareJoining(target);
     const standIn = this.recording.next('element');
     this.recording.noteBeside(number, `new ${this.page.numberOfDocumentOf(target)} ${standIn} plain`);
     this.recording.log.name('element', standIn, { standsFor: number, why });

@@ -22,7 +22,7 @@ class Inert {
   }
 
   /** Asked once a look. */
-  find() {
+  #find() {
     const { natives, page } = this;
     const root = page.document.documentElement;
     if (!root) return { isAny: false, modals: [] };
@@ -35,7 +35,7 @@ class Inert {
    * @param {Element} element
    */
   has(element) {
-    this.found = this.found || this.find();
+    this.found = this.found || this.#find();
     const { isAny, modals } = this.found;
     if (isAny && apply(this.natives.matches, element, [IS_INERT])) return true;
     return modals.length > 0 && !findItem(modals, (modal) => apply(this.natives.contains, modal, [element]));

@@ -56,7 +56,7 @@ class Loading {
    * @param {Event} event
    * @param {Target} target
    */
-  isOfDocument(event, target) {
+  #isOfDocument(event, target) {
     return event.isTrusted && (target === this.page.document || target === this.page.window);
   }
 
@@ -68,7 +68,7 @@ class Loading {
    */
   joinEnd(event, target) {
     const { moment, recording } = this;
-    if (!moment || !this.isOfDocument(event, target) || recording.contexts.length) return null;
+    if (!moment || !this.#isOfDocument(event, target) || recording.contexts.length) return null;
     const joins = hasItem(moment.end === 'dcl' ? ['DOMContentLoaded'] : ['load', 'pageshow'], event.type);
     if (!joins || moment.isClosed || recording.top() !== moment) return null;
     moment.event = event;
@@ -77,10 +77,10 @@ class Loading {
   }
 
   /** DOMContentLoaded has come before load, and no handler has run. */
-  writeUnheard() {
+  #writeUnheard() {
     const { recording, page } = this;
     const dispatch = { number: recording.next('dispatch'), group: -1, isInline: false };
-    this.beginEnd(dispatch, 'dcl');
+    this.#beginEnd(dispatch, 'dcl');
     page.dispatches.readSlots([page.document, page.window], 'DOMContentLoaded');
     recording.push(dispatch);
     recording.finishTop();
@@ -92,31 +92,31 @@ class Loading {
    */
   begin(dispatch) {
     const { event, target } = dispatch;
-    if (this.isOfDocument(event, target)) return this.beginOfDocument(dispatch);
+    if (this.#isOfDocument(event, target)) return this.#beginOfDocument(dispatch);
     if (!this.recording.steering.isTrusted(event) || target.nodeType !== 1 || isMedia(target)) return false;
-    return event.type === 'load' || event.type === 'error' ? this.beginOfElement(dispatch) : false;
+    return event.type === 'load' || event.type === 'error' ? this.#beginOfElement(dispatch) : false;
   }
 
   /** @param {EventDispatch} dispatch */
-  beginOfDocument(dispatch) {
+  #beginOfDocument(dispatch) {
     const { event } = dispatch;
     const state = this.page.document.readyState;
     const isComplete = event.type === 'readystatechange' && state === 'complete';
     if ((event.type === 'load' || isComplete) && !this.hasBegunLoad) {
-      if (this.isHeardLate && !this.hasBegunDomContentLoaded) this.writeUnheard();
-      return this.beginEnd(dispatch, 'load');
+      if (this.isHeardLate && !this.hasBegunDomContentLoaded) this.#writeUnheard();
+      return this.#beginEnd(dispatch, 'load');
     }
     const isParsed = event.type === 'readystatechange' && state === 'interactive' && !this.page.tree.pendingDeferred.size;
     const isFirst = !this.hasBegunDomContentLoaded && !this.hasBegunLoad;
-    if ((event.type === 'DOMContentLoaded' || isParsed) && isFirst) return this.beginEnd(dispatch, 'dcl');
-    return event.type === 'readystatechange' && state === 'interactive' && isFirst && this.beginParsed(dispatch);
+    if ((event.type === 'DOMContentLoaded' || isParsed) && isFirst) return this.#beginEnd(dispatch, 'dcl');
+    return event.type === 'readystatechange' && state === 'interactive' && isFirst && this.#beginParsed(dispatch);
   }
 
   /**
    * The page is parsed, and deferred scripts are to run: after all parse steps, and before these scripts.
    * @param {EventDispatch} dispatch
    */
-  beginParsed(dispatch) {
+  #beginParsed(dispatch) {
     const { recording, page } = this;
     const { elements, scripts, tree } = page;
     const standIn = recording.next('element');
@@ -124,7 +124,7 @@ class Loading {
     recording.log.name('element', standIn, { standsFor: elements.number(page.document), why: 'the end of parsing' });
     const isAfterRun = this.lastRun.number === tree.lastParsed; // else a parse step stands between
     recording.begin(`fire ${dispatch.number} ${standIn} readystatechange`, 'begin', undefined, isAfterRun ? [] : [scripts.last.event]);
-    this.comeAfter(dispatch, isAfterRun ? [this.lastRun.end] : [], 'the end of a script');
+    this.#comeAfter(dispatch, isAfterRun ? [this.lastRun.end] : [], 'the end of a script');
     dispatch.whenClosed = () => { this.parsed = [recording.lastMoment()]; };
     return true;
   }
@@ -142,7 +142,7 @@ class Loading {
     const { parsed } = this;
     this.parsed = [];
     this.page.joins.here(parsed, 'the end of parsing');
-    this.noteAfterParsing();
+    this.#noteAfterParsing();
   }
 
   /**
@@ -157,7 +157,7 @@ class Loading {
   }
 
   /** A rule puts the running event after the parsing (5, 6, 8, 10). */
-  noteAfterParsing() {
+  #noteAfterParsing() {
     const { after } = this.recording.running;
     each(this.endOfParsing(), ({ event }) => { after[after.length] = event; });
   }
@@ -168,7 +168,7 @@ class Loading {
    * @param {Moments} ends
    * @param {string} why
    */
-  comeAfter(dispatch, ends, why) {
+  #comeAfter(dispatch, ends, why) {
     dispatch.moments = ends;
     dispatch.why = why;
   }
@@ -177,17 +177,17 @@ class Loading {
    * @param {NewDispatch} dispatch
    * @param {'dcl'|'load'} end
    */
-  beginEnd(dispatch, end) {
+  #beginEnd(dispatch, end) {
     if (end === 'dcl') this.hasBegunDomContentLoaded = true;
     else this.hasBegunLoad = true;
     dispatch.end = end;
     if (end === 'dcl') {
       dispatch.awaits = this.page;
-      this.comeAfter(dispatch, joined(this.parsed, this.page.observers.takeObserved()), 'the end of parsing');
-    } else this.comeAfter(dispatch, this.awaited, 'what load waits for');
+      this.#comeAfter(dispatch, joined(this.parsed, this.page.observers.takeObserved()), 'the end of parsing');
+    } else this.#comeAfter(dispatch, this.awaited, 'what load waits for');
     this.moment = /** @type {Dispatch} */ (dispatch);
     this.recording.begin(`${end} ${dispatch.number} ${this.page.number}`, 'begin');
-    this.noteAfterParsing();
+    this.#noteAfterParsing();
     return true;
   }
 
@@ -195,18 +195,18 @@ class Loading {
    * The first `load` or `error` event of an element, or of a source that a script set later, is its `eload`.
    * @param {EventDispatch} dispatch
    */
-  beginOfElement(dispatch) {
+  #beginOfElement(dispatch) {
     const target = /** @type {Element} */ (dispatch.target);
     const { elements, sources, tree } = this.page;
     const later = sources.loads.get(target);
-    if (later?.isOver) return this.beginAgain(dispatch, later.number);
+    if (later?.isOver) return this.#beginAgain(dispatch, later.number);
     if (!later && this.loaded.has(target)) return false;
     const number = later ? later.number : elements.declaredNumber(target);
     if (later?.isFirst) later.isOver = true;
     else if (later) sources.loads.delete(target);
     else this.loaded.add(target);
     this.recording.begin(`eload ${dispatch.number} ${number}`, 'begin');
-    this.noteAwaited(dispatch, number, tree.isParsing() && tree.lastParsed === number && isEmptyFrame(target, elements));
+    this.#noteAwaited(dispatch, number, tree.isParsing() && tree.lastParsed === number && isEmptyFrame(target, elements));
     return true;
   }
 
@@ -215,7 +215,7 @@ class Loading {
    * @param {EventDispatch} dispatch
    * @param {number} standIn
    */
-  beginAgain(dispatch, standIn) {
+  #beginAgain(dispatch, standIn) {
     this.recording.begin(`fire ${dispatch.number} ${standIn} ${dispatch.event.type}`, 'begin');
     return true;
   }
@@ -245,9 +245,9 @@ class Loading {
    */
   orderLeaving(dispatch) {
     const { event, target } = dispatch;
-    const step = this.isOfDocument(event, target) ? positionOf(LEAVING, event.type) : -1;
+    const step = this.#isOfDocument(event, target) ? positionOf(LEAVING, event.type) : -1;
     if (step < 0 || this.leaving.step > step || (event.type === 'visibilitychange' && this.leaving.step < positionOf(LEAVING, 'pagehide'))) return;
-    if (step > 0) this.comeAfter(dispatch, this.leaving.ends, 'an event before');
+    if (step > 0) this.#comeAfter(dispatch, this.leaving.ends, 'an event before');
     dispatch.whenClosed = () => {
       this.leaving = { step, ends: (dispatch.group || 0) < 0 ? this.leaving.ends : [this.recording.lastMoment()] };
     };
@@ -262,7 +262,7 @@ class Loading {
    * @param {number} number
    * @param {boolean} isOfParser whether the parser goes on only after it
    */
-  noteAwaited(dispatch, number, isOfParser) {
+  #noteAwaited(dispatch, number, isOfParser) {
     const { elements, tree } = this.page;
     const isMade = elements.awaited.has(number);
     if (isMade || tree.staticLoads.has(number)) dispatch.awaits = this.page;

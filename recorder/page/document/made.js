@@ -18,22 +18,22 @@ class Made {
 
   start() {
     const { window } = this.page;
-    each(['Image', 'Audio'], (name) => replaceConstructor(window, name, (made) => this.note(made)));
-    this.replaceMaker(window.Node.prototype, 'cloneNode');
-    this.replaceMaker(window.Document.prototype, 'importNode');
-    each(['cloneContents', 'createContextualFragment'], (name) => this.replaceMaker(window.Range.prototype, name));
-    this.replaceText(window.Element.prototype);
+    each(['Image', 'Audio'], (name) => replaceConstructor(window, name, (made) => this.#note(made)));
+    this.#replaceMaker(window.Node.prototype, 'cloneNode');
+    this.#replaceMaker(window.Document.prototype, 'importNode');
+    each(['cloneContents', 'createContextualFragment'], (name) => this.#replaceMaker(window.Range.prototype, name));
+    this.#replaceText(window.Element.prototype);
   }
 
   /**
    * @param {any} owner
    * @param {string} name
    */
-  replaceMaker(owner, name) {
+  #replaceMaker(owner, name) {
     const made = this;
     replaceMethod(owner, name, (native) => function make() {
       const node = apply(native, this, arguments);
-      made.noteTree(node);
+      made.#noteTree(node);
       return node;
     });
   }
@@ -42,43 +42,43 @@ class Made {
    * A text makes elements inside of one that is in no document.
    * @param {any} owner
    */
-  replaceText(owner) {
+  #replaceText(owner) {
     const made = this;
     replaceProperty(owner, 'innerHTML', (native) => ({
       set(value) {
         apply(native.set, this, [value]);
-        made.noteInside(this);
+        made.#noteInside(this);
       },
     }));
     each(['insertAdjacentHTML', 'setHTMLUnsafe', 'setHTML'], (name) => replaceMethod(owner, name, (native) => function fill() {
       apply(native, this, arguments);
-      made.noteInside(apply(made.page.natives.parentNode, this, []) || this);
+      made.#noteInside(apply(made.page.natives.parentNode, this, []) || this);
     }));
   }
 
   /** @param {Element} element */
-  noteInside(element) {
-    if (!apply(this.page.natives.isConnected, element, [])) this.noteTree(element);
+  #noteInside(element) {
+    if (!apply(this.page.natives.isConnected, element, [])) this.#noteTree(element);
   }
 
   /**
    * What a template has, or a document that no window shows, loads nothing.
    * @param {Node} root an element or a fragment
    */
-  noteTree(root) {
+  #noteTree(root) {
     const { natives, document } = this.page;
     if (this.recording.isOver || !this.recording.isRunning() || root.ownerDocument !== document) return;
     const isTree = isElement(root);
-    if (isTree && apply(natives.matches, root, [LOADS_AT_ONCE])) this.note(root);
+    if (isTree && apply(natives.matches, root, [LOADS_AT_ONCE])) this.#note(root);
     if (!root.firstChild || (!isTree && root.nodeType !== FRAGMENT)) return;
-    each(apply(isTree ? natives.querySelectorAll : natives.querySelectorAllOfFragment, root, [LOADS_AT_ONCE]), (element) => this.note(element));
+    each(apply(isTree ? natives.querySelectorAll : natives.querySelectorAllOfFragment, root, [LOADS_AT_ONCE]), (element) => this.#note(element));
   }
 
   /**
    * Its handler attributes can run before a script inserts it.
    * @param {Element} element
    */
-  note(element) {
+  #note(element) {
     const { recording, page } = this;
     if (recording.isOver || !recording.isRunning() || element.ownerDocument !== page.document) return;
     if (recording.declared.has(page.elements.number(element))) return;

@@ -70,7 +70,7 @@ class Places {
    * @param {Element} over
    * @param {Element} element
    */
-  wasThereBefore(over, element) {
+  #wasThereBefore(over, element) {
     const first = this.times.get(over);
     const second = this.times.get(element);
     return first !== undefined && second !== undefined && first <= second;
@@ -97,13 +97,13 @@ class Places {
     const { natives } = this;
     const began = natives.now();
     this.questions++;
-    const isFound = natives.getComputedStyle(element).pointerEvents !== 'none' && this.hasPlace(element);
+    const isFound = natives.getComputedStyle(element).pointerEvents !== 'none' && this.#hasPlace(element);
     this.lookTime += natives.now() - began;
     return isFound;
   }
 
   /** @param {Element} element */
-  hasPlace(element) {
+  #hasPlace(element) {
     const { natives, page: { window } } = this;
     const style = natives.getComputedStyle(element);
     if (element.namespaceURI !== HTML_NAMESPACE || style.display === 'contents') return true;
@@ -111,7 +111,7 @@ class Places {
     if (!(box.width > 0 && box.height > 0)) return style.overflow === 'visible' && apply(natives.firstChild, element, []) !== null;
     if (style.overflow === 'visible' && element.firstElementChild) return true; // what is in it can be shown elsewhere
     if (box.right + window.scrollX <= 0 || box.bottom + window.scrollY <= 0) return false;
-    return !this.isClipped(element, box) && !this.isUnderOther(element, box) && !this.isUnderCurtain(element);
+    return !this.#isClipped(element, box) && !this.#isUnderOther(element, box) && !this.#isUnderCurtain(element);
   }
 
   /**
@@ -119,7 +119,7 @@ class Places {
    * @param {Element} element
    * @param {DOMRect} box
    */
-  isClipped(element, box) {
+  #isClipped(element, box) {
     const { natives } = this;
     for (let one = parentOf(natives, element); one && one.nodeType === 1; one = parentOf(natives, one)) {
       const { overflowX, overflowY, position } = natives.getComputedStyle(one);
@@ -137,22 +137,22 @@ class Places {
    * @param {Element} element
    * @param {DOMRect} box
    */
-  isUnderOther(element, box) {
+  #isUnderOther(element, box) {
     const { page: { window, document }, natives } = this;
     if (box.top < 0 || box.left < 0 || box.bottom > window.innerHeight || box.right > window.innerWidth) return false;
     const at = (/** @type {number[]} */ { 0: x, 1: y }) => apply(natives.elementFromPoint, document, [box.left + x * box.width, box.top + y * box.height]);
     const first = at(SPOTS[0]);
     if (!first || apply(natives.contains, element, [first]) || apply(natives.contains, first, [element])) return false;
-    const over = this.outermostOver(first, element);
-    if (!this.wasThereBefore(over, element) || !this.wasThereBefore(first, element)) return false;
-    return this.liesOver(over, box) && !findItem(SPOTS, (spot) => !apply(natives.contains, over, [at(spot)]));
+    const over = this.#outermostOver(first, element);
+    if (!this.#wasThereBefore(over, element) || !this.#wasThereBefore(first, element)) return false;
+    return this.#liesOver(over, box) && !findItem(SPOTS, (spot) => !apply(natives.contains, over, [at(spot)]));
   }
 
   /**
    * @param {Element} hit
    * @param {Element} element
    */
-  outermostOver(hit, element) {
+  #outermostOver(hit, element) {
     let over = hit;
     for (let one = /** @type {Element|null} */ (hit); one && one.nodeType === 1 && !apply(this.natives.contains, one, [element]); one = parentOf(this.natives, one)) over = one;
     return over;
@@ -163,19 +163,19 @@ class Places {
    * @param {Element} over
    * @param {DOMRect} box
    */
-  liesOver(over, box) {
+  #liesOver(over, box) {
     const { natives } = this;
     const { left, top, right, bottom } = apply(natives.getBoundingClientRect, over, []);
     if (left > box.left || top > box.top || right < box.right || bottom < box.bottom) return false;
     if (natives.getComputedStyle(over).position !== 'fixed') return true;
-    return this.fillsWindow({ left, top, right, bottom });
+    return this.#fillsWindow({ left, top, right, bottom });
   }
 
   /**
    * Whether a box fills the window, except its scroll bars.
    * @param {{left: number, top: number, right: number, bottom: number}} box
    */
-  fillsWindow({ left, top, right, bottom }) {
+  #fillsWindow({ left, top, right, bottom }) {
     const { documentElement, body, compatMode } = this.page.document;
     const { clientWidth, clientHeight } = compatMode === 'CSS1Compat' || !body ? documentElement : body;
     return left <= 0 && top <= 0 && right >= clientWidth && bottom >= clientHeight;
@@ -188,34 +188,34 @@ class Places {
    * its own is painted below each positioned element.
    * @param {Element} element
    */
-  isUnderCurtain(element) {
-    if (this.curtain === undefined) this.curtain = this.findCurtain();
+  #isUnderCurtain(element) {
+    if (this.curtain === undefined) this.curtain = this.#findCurtain();
     const { curtain, natives } = this;
-    if (!curtain || !this.wasThereBefore(curtain, element) || apply(natives.contains, curtain, [element])) return false;
-    return !this.isInLayer(element);
+    if (!curtain || !this.#wasThereBefore(curtain, element) || apply(natives.contains, curtain, [element])) return false;
+    return !this.#isInLayer(element);
   }
 
   /** @returns {Element|null} */
-  findCurtain() {
+  #findCurtain() {
     const { natives, page: { window, document } } = this;
     const at = (/** @type {number[]} */ { 0: x, 1: y }) => apply(natives.elementFromPoint, document, [x * window.innerWidth, y * window.innerHeight]);
     let curtain = at(SPOTS[0]);
     while (curtain && curtain.nodeType === 1 && natives.getComputedStyle(curtain).position !== 'fixed') curtain = parentOf(natives, curtain);
     if (!curtain || curtain.nodeType !== 1 || !(Number(natives.getComputedStyle(curtain).zIndex) >= 0 || natives.getComputedStyle(curtain).zIndex === 'auto')) return null;
-    if (!this.fillsWindow(apply(natives.getBoundingClientRect, curtain, []))) return null;
+    if (!this.#fillsWindow(apply(natives.getBoundingClientRect, curtain, []))) return null;
     if (findItem(SPOTS, (spot) => !apply(natives.contains, /** @type {Element} */ (curtain), [at(spot)]))) return null;
     const parent = parentOf(natives, curtain);
-    return parent && this.isInLayer(parent) ? null : curtain;
+    return parent && this.#isInLayer(parent) ? null : curtain;
   }
 
   /**
    * Whether an element, or one around it except the root, has a layer of its own.
    * @param {Element} element
    */
-  isInLayer(element) {
+  #isInLayer(element) {
     const { natives, page: { document } } = this;
     for (let one = /** @type {Element|null} */ (element); one && one.nodeType === 1 && one !== document.documentElement; one = parentOf(natives, one)) {
-      if (this.hasLayer(one)) return true;
+      if (this.#hasLayer(one)) return true;
     }
     return false;
   }
@@ -224,16 +224,16 @@ class Places {
    * Whether an element can be painted above others that come later in the page. In doubt it can.
    * @param {Element} element
    */
-  hasLayer(element) {
+  #hasLayer(element) {
     const style = /** @type {{[name: string]: any}} */ (this.natives.getComputedStyle(element)); // some have no type yet
-    return !!findItem(NO_LAYER, ({ 0: name, 1: value }) => style[name] !== undefined && style[name] !== value) || this.isOnTop(element);
+    return !!findItem(NO_LAYER, ({ 0: name, 1: value }) => style[name] !== undefined && style[name] !== value) || this.#isOnTop(element);
   }
 
   /**
    * Whether an element is above all others: a popover, a dialog, what fills the screen.
    * @param {Element} element
    */
-  isOnTop(element) {
+  #isOnTop(element) {
     return apply(this.natives.matches, element, [':is(dialog, [popover], :fullscreen)']);
   }
 }

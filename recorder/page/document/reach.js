@@ -82,38 +82,38 @@ class Reach {
 
   /** Code of a task begins: what can be reached now has no cause that is known. */
   lookBefore() {
-    this.look(null);
+    this.#look(null);
   }
 
   /** Code of a task, and its jobs, are over: it has shown what can be reached now, and could not be before. */
   lookAfter() {
-    this.look(this.recording.lastMoment());
+    this.#look(this.recording.lastMoment());
   }
 
   /**
    * Looks at all elements that were out of reach, and notes a moment for those that came into reach.
    * @param {Moment|null} moment
    */
-  look(moment) {
+  #look(moment) {
     const { natives } = this;
     if (!natives.checkVisibility || this.recording.isOver || !(this.waiting.size || this.fresh.length)) return;
     const began = natives.now();
     this.inert.begin();
     this.places.begin();
-    this.unfolding = moment && this.waiting.size ? this.findUnfolding() : [];
+    this.unfolding = moment && this.waiting.size ? this.#findUnfolding() : [];
     const { waiting } = this;
-    each(keysOf(waiting), (element) => this.lookAgain(element, /** @type {State} */ (waiting.get(element)), moment));
+    each(keysOf(waiting), (element) => this.#lookAgain(element, /** @type {State} */ (waiting.get(element)), moment));
     const { fresh } = this;
     this.fresh = [];
-    if (this.timeInAll <= LONGEST_IN_ALL) each(fresh, (one) => this.lookFirstAt(one, moment));
+    if (this.timeInAll <= LONGEST_IN_ALL) each(fresh, (one) => this.#lookFirstAt(one, moment));
     this.timeInAll += natives.now() - began;
-    if (this.timeInAll > LONGEST_IN_ALL && this.waiting.size) this.giveUp();
+    if (this.timeInAll > LONGEST_IN_ALL && this.waiting.size) this.#giveUp();
   }
 
   /** A page of so many hidden elements, or so many tasks: acts at what is still hidden get no order. */
-  giveUp() {
+  #giveUp() {
     this.recording.log.miss('what shows hidden elements: the page has too many of them');
-    each(keysOf(this.waiting), (element) => this.forget(element));
+    each(keysOf(this.waiting), (element) => this.#forget(element));
   }
 
   /**
@@ -121,8 +121,8 @@ class Reach {
    * @param {{element: Element, isMade: boolean}} added
    * @param {Moment|null} moment
    */
-  lookFirstAt({ element, isMade }, moment) {
-    if (isMade || !moment) this.lookFirst(element, isMade ? moment : null);
+  #lookFirstAt({ element, isMade }, moment) {
+    if (isMade || !moment) this.#lookFirst(element, isMade ? moment : null);
     else if (!this.states.has(element)) this.states.set(element, null);
   }
 
@@ -131,34 +131,34 @@ class Reach {
    * @param {Element} element
    * @param {Moment|null} moment
    */
-  lookFirst(element, moment) {
+  #lookFirst(element, moment) {
     if (this.states.has(element) || !apply(this.natives.isConnected, element, [])) return;
-    if (this.isCovered(element)) {
+    if (this.#isCovered(element)) {
       this.covered.add(element);
       return;
     }
-    const level = this.levelOf(element);
+    const level = this.#levelOf(element);
     const cause = moment && moment.event !== this.page.elements.makers.get(element) ? moment : null; // its maker is before it by a rule
     if (level === IN_REACH && !cause) return;
-    const state = { isRoot: level === HIDDEN && this.displayOf(element) === 'none', keys: undefined, pointer: undefined };
-    if (level === HIDDEN && !state.isRoot && this.displayOf(element) === 'contents') return;
+    const state = { isRoot: level === HIDDEN && this.#displayOf(element) === 'none', keys: undefined, pointer: undefined };
+    if (level === HIDDEN && !state.isRoot && this.#displayOf(element) === 'contents') return;
     this.states.set(element, state);
     if (level < IN_REACH && this.waiting.size < MOST_HIDDEN) this.waiting.set(element, state);
     else if (level < IN_REACH) this.states.set(element, null);
-    this.settle(state, level, cause);
+    this.#settle(state, level, cause);
   }
 
   /**
    * Whether it is in something without a box, whose state is its own too.
    * @param {Element} element
    */
-  isCovered(element) {
+  #isCovered(element) {
     const parent = parentOf(this.natives, element);
-    return !!parent && (this.covered.has(parent) || this.isHiddenRoot(parent));
+    return !!parent && (this.covered.has(parent) || this.#isHiddenRoot(parent));
   }
 
   /** @param {Element} element */
-  isHiddenRoot(element) {
+  #isHiddenRoot(element) {
     const state = this.states.get(element);
     return !!state && state.isRoot && state.keys === undefined;
   }
@@ -168,32 +168,32 @@ class Reach {
    * @param {State} state
    * @param {Moment|null} moment
    */
-  lookAgain(element, state, moment) {
+  #lookAgain(element, state, moment) {
     if (!apply(this.natives.isConnected, element, [])) return;
     const before = state.keys === undefined;
     if (!before && this.places.isExhausted()) {
-      this.forget(element);
+      this.#forget(element);
       return;
     }
-    const level = this.isUnfolding(element) ? IN_REACH : this.levelOf(element);
-    this.settle(state, level, moment);
+    const level = this.#isUnfolding(element) ? IN_REACH : this.#levelOf(element);
+    this.#settle(state, level, moment);
     if (level === IN_REACH) this.waiting.delete(element);
-    if (state.isRoot && before && level > HIDDEN) this.lookInside(element);
+    if (state.isRoot && before && level > HIDDEN) this.#lookInside(element);
   }
 
   /**
    * An element has a box now: what is in it is looked at for the first time.
    * @param {Element} root
    */
-  lookInside(root) {
+  #lookInside(root) {
     each(apply(this.natives.querySelectorAll, root, ['*']), (element) => {
       this.covered.delete(element);
-      if (!fits(HAS_NO_BOX, element.localName)) this.lookFirst(element, null);
+      if (!fits(HAS_NO_BOX, element.localName)) this.#lookFirst(element, null);
     });
   }
 
   /** What a transition begins to make visible: it has its old look until the next frame, and nobody but the code of this task has begun it. */
-  findUnfolding() {
+  #findUnfolding() {
     const isOfShowing = (/** @type {Transition} */ { transitionProperty, effect }) => {
       if (transitionProperty !== 'visibility' || !effect || !effect.target || this.unfolded.has(effect)) return false;
       this.unfolded.add(effect);
@@ -204,7 +204,7 @@ class Reach {
   }
 
   /** @param {Element} element */
-  isUnfolding(element) {
+  #isUnfolding(element) {
     return !!findItem(this.unfolding, ({ effect }) => effect && effect.target && apply(this.natives.contains, effect.target, [element]));
   }
 
@@ -214,7 +214,7 @@ class Reach {
    * @param {number} level
    * @param {Moment|null} moment
    */
-  settle(state, level, moment) {
+  #settle(state, level, moment) {
     if (level > HIDDEN && state.keys === undefined) state.keys = moment;
     if (level === IN_REACH && state.pointer === undefined) state.pointer = moment;
   }
@@ -222,12 +222,12 @@ class Reach {
   // ---- what the browser says
 
   /** @param {Element} element */
-  displayOf(element) {
+  #displayOf(element) {
     return this.natives.getComputedStyle(element).display;
   }
 
   /** @param {Element} element */
-  levelOf(element) {
+  #levelOf(element) {
     const { natives } = this;
     if (!apply(natives.checkVisibility, element, [ASKS_VISIBILITY]) || this.inert.has(element)) return HIDDEN;
     return this.places.isExhausted() || !this.places.isAimedAt(element) || this.places.isForPointer(element) ? IN_REACH : FOR_KEYS;
@@ -242,7 +242,7 @@ class Reach {
    * @returns {Moment[]}
    */
   momentsOf(event, target) {
-    const way = this.wayOf(event, target);
+    const way = this.#wayOf(event, target);
     if (!way) return [];
     /** @type {Moment[]} */
     const moments = [];
@@ -251,7 +251,7 @@ class Reach {
       if (state === null) break;
       if (!state || (element !== target && !state.isRoot)) continue;
       const moment = element === target ? state[way] : state.keys;
-      if (moment === undefined) this.forget(element); // it was reached all the same
+      if (moment === undefined) this.#forget(element); // it was reached all the same
       else if (moment) moments[moments.length] = moment;
     }
     return moments;
@@ -261,7 +261,7 @@ class Reach {
    * What is not known of an element by now gives no order. What is around it still does.
    * @param {Element} element
    */
-  forget(element) {
+  #forget(element) {
     const state = this.states.get(element);
     if (!state) return;
     if (state.keys === undefined) state.keys = null;
@@ -275,7 +275,7 @@ class Reach {
    * @param {Target} target
    * @returns {'pointer'|'keys'|''}
    */
-  wayOf(event, target) {
+  #wayOf(event, target) {
     if (!isElement(target) || !this.recording.steering.isTrusted(event) || fits(HAS_NO_BOX, target.localName)) return '';
     if (fits(BY_POINTER, event.type)) return event.type === 'click' && /** @type {UIEvent} */ (event).detail === 0 ? '' : 'pointer';
     if (!BY_KEYS.has(event.type) || target.localName === 'body') return '';

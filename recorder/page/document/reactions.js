@@ -31,9 +31,9 @@ class Reactions {
     const reactions = this;
     const { CustomElementRegistry, customElements } = this.page.window;
     replaceMethod(CustomElementRegistry.prototype, 'define', (native) => function define(name, constructor) {
-      const restores = reactions.recording.isOver ? [] : reactions.watch(constructor);
+      const restores = reactions.recording.isOver ? [] : reactions.#watch(constructor);
       try {
-        if (this === customElements && typeof name === 'string') reactions.noteDefinition(name);
+        if (this === customElements && typeof name === 'string') reactions.#noteDefinition(name);
         return apply(native, this, arguments);
       } finally {
         each(restores, (restore) => restore());
@@ -41,7 +41,7 @@ class Reactions {
     });
     replaceMethod(CustomElementRegistry.prototype, 'whenDefined', (native) => function whenDefined(name) {
       const promise = apply(native, this, arguments);
-      if (this === customElements && typeof name === 'string') reactions.noteAwaited(name, promise);
+      if (this === customElements && typeof name === 'string') reactions.#noteAwaited(name, promise);
       return promise;
     });
   }
@@ -53,7 +53,7 @@ class Reactions {
    * earlier reaction at it is a later microtask.
    * @param {string} name of the element that is being defined
    */
-  noteDefinition(name) {
+  #noteDefinition(name) {
     const { recording, page: { promises, jobs, natives, number, window } } = this;
     if (!promises.isSeen()) return;
     natives.queueMicrotask(() => {
@@ -71,7 +71,7 @@ class Reactions {
    * @param {string} name
    * @param {object} promise
    */
-  noteAwaited(name, promise) {
+  #noteAwaited(name, promise) {
     const { recording, page: { promises } } = this;
     const moment = this.definitions.get(name)?.moment;
     if (recording.isOver) return;
@@ -84,13 +84,13 @@ class Reactions {
    * @param {unknown} constructor
    * @returns {(() => void)[]} what puts the page's own in their places
    */
-  watch(constructor) {
+  #watch(constructor) {
     /** @type {(() => void)[]} */
     const restores = [];
     const prototype = typeof constructor === 'function' ? getOwnPropertyDescriptor(constructor, 'prototype')?.value : null;
     if (typeof prototype !== 'object' || !prototype) return restores;
     each(REACTIONS, (name) => {
-      const restore = name in prototype && this.replaceReaction(prototype, name);
+      const restore = name in prototype && this.#replaceReaction(prototype, name);
       if (restore) restores[restores.length] = restore;
     });
     return restores;
@@ -101,7 +101,7 @@ class Reactions {
    * @param {string} name
    * @returns {(() => void)|null} null if the page allows no other property there
    */
-  replaceReaction(prototype, name) {
+  #replaceReaction(prototype, name) {
     const reactions = this;
     const own = getOwnPropertyDescriptor(prototype, name);
     let isReplaced = true;
@@ -111,7 +111,7 @@ class Reactions {
     const get = () => {
       restore();
       const callback = Reflect.get(prototype, name);
-      return typeof callback === 'function' ? reactions.wrap(callback, reactions.describe(name, callback)) : callback;
+      return typeof callback === 'function' ? reactions.#wrap(callback, reactions.#describe(name, callback)) : callback;
     };
     if (own && !own.configurable) return null;
     return Reflect.defineProperty(prototype, name, { configurable: true, enumerable: !!own && own.enumerable, get }) ? restore : null;
@@ -123,7 +123,7 @@ class Reactions {
    * @param {Function} callback
    * @returns {Reaction}
    */
-  describe(name, callback) {
+  #describe(name, callback) {
     const moment = this.recording.moment();
     const isBefore = !!moment && (moment.event.blocks === this.page || moment.event.parsed === this.page.number);
     return { name, function: nameOfFunction(callback), moment, isBefore };
@@ -135,12 +135,12 @@ class Reactions {
    * @param {Reaction} reaction
    * @returns {import('../types').Method}
    */
-  wrap(callback, reaction) {
+  #wrap(callback, reaction) {
     const reactions = this;
     const { recording } = this;
     return function reacts() {
       const call = () => apply(callback, this, arguments);
-      return recording.isOver || recording.isRunning() ? call() : reactions.run(this, reaction, call);
+      return recording.isOver || recording.isRunning() ? call() : reactions.#run(this, reaction, call);
     };
   }
 
@@ -154,11 +154,11 @@ class Reactions {
    * @param {Reaction} reaction
    * @param {() => T} call
    */
-  run(element, reaction, call) {
+  #run(element, reaction, call) {
     const { recording, page } = this;
     recording.startTask();
-    const step = page.tree.isParsing() ? this.stepOf(element) : null;
-    if (!step || !reaction.isBefore) return this.runApart(element, reaction, step, call);
+    const step = page.tree.isParsing() ? this.#stepOf(element) : null;
+    if (!step || !reaction.isBefore) return this.#runApart(element, reaction, step, call);
     recording.enter('callback');
     try {
       return call();
@@ -171,7 +171,7 @@ class Reactions {
    * The step that made an element, if that has just been. Before the parser inserts the element it is a step of its own.
    * @param {Element} element
    */
-  stepOf(element) {
+  #stepOf(element) {
     const { recording, page } = this;
     const { lastStep, lastParsedElement } = page.tree;
     if (lastParsedElement === element && lastStep && recording.running === lastStep.event) return lastStep;
@@ -186,7 +186,7 @@ class Reactions {
    * @param {Moment|null} step
    * @param {() => T} call
    */
-  runApart(element, reaction, step, call) {
+  #runApart(element, reaction, step, call) {
     const { page: { dispatches, elements, jobs, joins } } = this;
     const handler = joins.registerIn(reaction.moment, { type: reaction.name, function: reaction.function });
     const place = step ? elements.standInIn(step, element, 'its reaction') : jobs.place;

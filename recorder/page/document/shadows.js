@@ -36,7 +36,7 @@ class Shadows {
   }
 
   /** The template is in an element that the parser has not closed. */
-  lookAround() {
+  #lookAround() {
     for (let at = this.page.tree.lastParsedElement; at; at = at.parentElement || /** @type {ShadowRoot} */ (apply(this.natives.getRootNode, at, [])).host) this.look(at);
   }
 
@@ -49,7 +49,7 @@ class Shadows {
   findScript(address) {
     const { document, elements, scripts, tree } = this.page;
     if (!tree.isParsing()) return undefined;
-    this.lookAround();
+    this.#lookAround();
     const last = tree.lastParsedElement;
     if (address === withoutFragment(document.URL)) return last && this.has(last) && elements.kinds.get(tree.lastParsed) === 'inline' ? last : null;
     const isIt = (/** @type {Element} */ script) => /** @type {HTMLScriptElement} */ (script).src === address && !scripts.hasRun.has(elements.number(script));

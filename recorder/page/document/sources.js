@@ -34,9 +34,9 @@ class Sources {
     if (!recording.isRunning() || !recording.declared.has(elements.number(element))) return;
     if (elements.makers.get(element) === recording.running) return;
     const isScript = element.localName === 'script';
-    if (isScript ? !this.mayStillRun(element) : fits(BY_KIND, element.localName) && this.page.kinds.of(element, false) === 'plain') return;
+    if (isScript ? !this.#mayStillRun(element) : fits(BY_KIND, element.localName) && this.page.kinds.of(element, false) === 'plain') return;
     const isFrame = fits(SHOWS_PAGE, element.localName);
-    const isFirst = fits(/^(img|input)$/, element.localName) && !this.hasSource(element);
+    const isFirst = fits(/^(img|input)$/, element.localName) && !this.#hasSource(element);
     this.standIn(element, isScript ? 'async' : isFrame ? 'frame' : 'image', 'its source was set').isFirst = isFirst;
   }
 
@@ -44,7 +44,7 @@ class Sources {
    * Whether an image can have been loaded.
    * @param {Element} element
    */
-  hasSource(element) {
+  #hasSource(element) {
     const { elements } = this;
     return elements.has(element, 'src') || elements.has(element, 'srcset') || element.parentElement?.localName === 'picture';
   }
@@ -66,7 +66,7 @@ class Sources {
     if (kind === 'async') elements.kinds.set(number, kind);
     recording.log.name('element', number, { standsFor: elements.number(element), why });
     if (inner) recording.log.name('document', inner, { frame: number });
-    this.declare(element, number, inner ? `frame ${inner}` : kind);
+    this.#declare(element, number, inner ? `frame ${inner}` : kind);
     return load;
   }
 
@@ -76,7 +76,7 @@ class Sources {
    * @param {number} number
    * @param {string} kind
    */
-  declare(element, number, kind) {
+  #declare(element, number, kind) {
     const { elements, page } = this;
     if (!page.kinds.isLazy(element)) {
       if (elements.joinsParsing(element, number, kind)) return;
@@ -89,7 +89,7 @@ class Sources {
    * A script that was empty runs once it gets a source.
    * @param {Element} element
    */
-  mayStillRun(element) {
+  #mayStillRun(element) {
     return !this.elements.has(element, 'src') && !this.page.scripts.hasRun.has(this.elements.number(element));
   }
 
@@ -124,7 +124,7 @@ class Sources {
       if (load && load.isPassing) this.loads.delete(frame); // the empty page before it has had no load event
       return first.number;
     }
-    return this.furtherDocument(frame, isPassing);
+    return this.#furtherDocument(frame, isPassing);
   }
 
   /**
@@ -132,7 +132,7 @@ class Sources {
    * @param {Element} frame
    * @param {boolean} isPassing
    */
-  furtherDocument(frame, isPassing) {
+  #furtherDocument(frame, isPassing) {
     const { recording } = this;
     const number = this.elements.declaredNumber(frame);
     const standIn = recording.next('element');

@@ -53,14 +53,14 @@ class Tree {
      */
     this.placeOfChanges = null;
     this.observer = new this.natives.MutationObserver((/** @type {MutationRecord[]} */ records) => {
-      if (!this.recording.isOver) this.handle(records, this.recording.isRunning() ? 'script' : 'parser');
+      if (!this.recording.isOver) this.#handle(records, this.recording.isRunning() ? 'script' : 'parser');
     });
   }
 
   /** @param {Maker} [maker] who made what is in the document by now */
   start(maker = 'script') {
     const { document } = this.page;
-    if (document.documentElement) this.addTree(document.documentElement, maker);
+    if (document.documentElement) this.#addTree(document.documentElement, maker);
     this.watch(document);
   }
 
@@ -85,7 +85,7 @@ class Tree {
    */
   collect(by) {
     const records = this.observer.takeRecords();
-    if (records.length) this.handle(records, by);
+    if (records.length) this.#handle(records, by);
   }
 
   /** Whether the format allows further parse steps of the document. */
@@ -97,7 +97,7 @@ class Tree {
    * @param {MutationRecord[]} records
    * @param {'script'|'parser'} by
    */
-  handle(records, by) {
+  #handle(records, by) {
     const maker = by === 'parser' && this.isParsing() ? 'parser' : 'script';
     if (by === 'parser' && maker === 'script') {
       this.late = joined(this.late, records); // the browser's own work after the parsing: it belongs to what begins next
@@ -108,7 +108,7 @@ class Tree {
       this.elements.writeJoining();
     }
     this.placeOfChanges = null;
-    each(records, (record) => this.handleOne(record, maker));
+    each(records, (record) => this.#handleOne(record, maker));
     this.texts.writeRest();
   }
 
@@ -117,17 +117,17 @@ class Tree {
     const records = this.late;
     this.late = [];
     this.placeOfChanges = '';
-    each(records, (record) => this.handleOne(record, 'browser'));
+    each(records, (record) => this.#handleOne(record, 'browser'));
   }
 
   /**
    * @param {MutationRecord} record
    * @param {Maker} maker
    */
-  handleOne(record, maker) {
-    if (this.isOfHold(record)) return;
-    if (record.type === 'childList') this.handleChildren(record, maker);
-    else if (record.type === 'attributes') this.handleAttribute(record, maker);
+  #handleOne(record, maker) {
+    if (this.#isOfHold(record)) return;
+    if (record.type === 'childList') this.#handleChildren(record, maker);
+    else if (record.type === 'attributes') this.#handleAttribute(record, maker);
     else if (maker === 'parser') this.texts.note(record, record.target);
     if (maker !== 'parser') this.noteChange(record);
   }
@@ -136,11 +136,11 @@ class Tree {
    * @param {MutationRecord} record
    * @param {Maker} maker
    */
-  handleChildren(record, maker) {
-    if (!this.page.shadows.has(record.target)) each(record.removedNodes, (node) => this.removeTree(node, maker));
+  #handleChildren(record, maker) {
+    if (!this.page.shadows.has(record.target)) each(record.removedNodes, (node) => this.#removeTree(node, maker));
     each(record.addedNodes, (node) => {
       if (maker !== 'parser') {
-        this.addTree(node, maker);
+        this.#addTree(node, maker);
         return;
       }
       this.add(node, maker);
@@ -153,11 +153,11 @@ class Tree {
    * @param {MutationRecord} record
    * @param {Maker} maker
    */
-  handleAttribute({ target, attributeName, oldValue }, maker) {
+  #handleAttribute({ target, attributeName, oldValue }, maker) {
     if (!isElement(target)) return;
     if (attributeName === 'id' && !this.page.shadows.has(target)) {
-      this.writeId(oldValue, maker);
-      this.writeId(this.elements.idOf(target), maker);
+      this.#writeId(oldValue, maker);
+      this.#writeId(this.elements.idOf(target), maker);
     }
     if (attributeName === 'disabled') this.page.controls.noteAttribute(target, oldValue, maker);
     if (maker !== 'script') return;
@@ -166,7 +166,7 @@ class Tree {
   }
 
   /** A script at which a replay lets the parser wait comes and goes: the page's content is the same. */
-  isOfHold(/** @type {MutationRecord} */ { addedNodes, removedNodes }) {
+  #isOfHold(/** @type {MutationRecord} */ { addedNodes, removedNodes }) {
     const { steering } = this.recording;
     const isWithout = (/** @type {NodeList} */ nodes) => !findItem(nodes, (node) => !steering.isHold(node));
     return steering.isActive && addedNodes.length + removedNodes.length > 0 && isWithout(addedNodes) && isWithout(removedNodes);
@@ -182,15 +182,15 @@ class Tree {
    * @param {string|null} id
    * @param {Maker} maker
    */
-  writeId(id, maker) {
+  #writeId(id, maker) {
     if (!id) return;
     const isParser = maker === 'parser';
     const location = `elem ${this.page.number} ${spellName(id)}`;
-    this.recording.accessNow('w', location, isParser ? '' : this.placeOfCode(), isParser ? 'o' : () => this.elements.find(id));
+    this.recording.accessNow('w', location, isParser ? '' : this.#placeOfCode(), isParser ? 'o' : () => this.elements.find(id));
   }
 
   /** The place of the code that made the changes which are written now. */
-  placeOfCode() {
+  #placeOfCode() {
     if (this.placeOfChanges === null) this.placeOfChanges = placeOnStack();
     return this.placeOfChanges;
   }
@@ -201,17 +201,17 @@ class Tree {
    * @param {Node} node
    * @param {Maker} maker
    */
-  removeTree(node, maker) {
+  #removeTree(node, maker) {
     if (!isElement(node)) return;
-    this.writeId(this.elements.idOf(node), maker);
-    each(apply(this.natives.querySelectorAll, node, ['[id]']), (element) => this.writeId(this.elements.idOf(element), maker));
+    this.#writeId(this.elements.idOf(node), maker);
+    each(apply(this.natives.querySelectorAll, node, ['[id]']), (element) => this.#writeId(this.elements.idOf(element), maker));
   }
 
   /**
    * @param {Node} node
    * @param {Maker} maker
    */
-  addTree(node, maker) {
+  #addTree(node, maker) {
     if (!isElement(node)) return;
     this.add(node, maker);
     if (node.firstElementChild) each(apply(this.natives.querySelectorAll, node, ['*']), (element) => this.add(element, maker));
@@ -226,8 +226,8 @@ class Tree {
     if (!isElement(node) || this.recording.steering.isHold(node)) return;
     const { elements, recording, page } = this;
     if (!recording.declared.has(elements.number(node))) {
-      if (maker === 'parser') this.addParsed(node);
-      else this.addMade(node);
+      if (maker === 'parser') this.#addParsed(node);
+      else this.#addMade(node);
       page.onHandlers.readAttributes(node);
     } else {
       if (elements.idOf(node)) recording.log.name('element', elements.number(node), { id: elements.idOf(node) });
@@ -236,14 +236,14 @@ class Tree {
     page.controls.noteAdded(node, maker);
     page.reach.noteAdded(node, maker);
     page.motions.noteAdded(node);
-    if (!page.shadows.has(node)) this.writeId(elements.idOf(node), maker);
+    if (!page.shadows.has(node)) this.#writeId(elements.idOf(node), maker);
     if (maker === 'parser') page.shadows.look(node);
   }
 
   // ---- parse steps
 
   /** @param {Element} element */
-  addParsed(element) {
+  #addParsed(element) {
     const kind = this.elements.declaration(element, true);
     this.elements.markDeclared(element, kind);
     this.writeParsed(element, this.elements.number(element), kind);
@@ -282,7 +282,7 @@ class Tree {
   // ---- elements that scripts make
 
   /** Declares an element that a script made. */
-  addMade(/** @type {Element} */ element) {
+  #addMade(/** @type {Element} */ element) {
     const { elements, page } = this;
     const isWritten = page.calls.isWriting() && page.kinds.scriptType(element) !== null && elements.isBlocking(element);
     const kind = elements.declaration(element, isWritten && page.kinds.ofStaticScript(element) !== 'inline');
@@ -292,7 +292,7 @@ class Tree {
     if (element.localName === 'source' && isMedia(element.parentNode)) page.media.noteLoading(element.parentNode);
     if (elements.joinsParsing(element, number, kind)) return;
     elements.noteAwaited(element, number, kind);
-    this.recording.log.line(`new ${page.number} ${number} ${kind}`, this.placeOfCode());
+    this.recording.log.line(`new ${page.number} ${number} ${kind}`, this.#placeOfCode());
   }
 }
 

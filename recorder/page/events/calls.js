@@ -48,9 +48,9 @@ class Calls {
     const { window } = this.page;
     each(INSERTIONS, ({ 0: owner, 1: names }) => each(names, (name) => this.replaceCall(window[owner].prototype, name, true)));
     each(DISPATCHERS, ({ 0: owner, 1: names }) => each(names, (name) => this.replaceCall(window[owner].prototype, name, false)));
-    each(SETTERS, ({ 0: owner, 1: names }) => each(names, (name) => this.replaceSetter(window[owner].prototype, name)));
-    this.replaceDispatching(window.EventTarget.prototype);
-    this.replaceCreation(window.Document.prototype);
+    each(SETTERS, ({ 0: owner, 1: names }) => each(names, (name) => this.#replaceSetter(window[owner].prototype, name)));
+    this.#replaceDispatching(window.EventTarget.prototype);
+    this.#replaceCreation(window.Document.prototype);
   }
 
   /**
@@ -70,7 +70,7 @@ class Calls {
       return call();
     } finally {
       recording.finishAbove(height);
-      if (isInsertion) each(recording.documents, (document) => document.tree.collect('script'));
+      if (isInsertion) each(recording.pages, (one) => one.tree.collect('script'));
       recording.leaveCall();
     }
   }
@@ -83,7 +83,7 @@ class Calls {
    */
   replaceCall(owner, name, isInsertion) {
     const calls = this;
-    const around = isInsertion && fits(/^write(ln)?$/, name) ? (/** @type {() => any} */ call) => calls.aroundWrite(call) : (/** @type {() => any} */ call) => calls.around(call, isInsertion);
+    const around = isInsertion && fits(/^write(ln)?$/, name) ? (/** @type {() => any} */ call) => calls.#aroundWrite(call) : (/** @type {() => any} */ call) => calls.around(call, isInsertion);
     replaceMethod(owner, name, (native) => function called(...words) {
       if (isInsertion) each(words, (word) => calls.page.insertedModules.prepare(word));
       const result = around(() => apply(native, this, words));
@@ -97,7 +97,7 @@ class Calls {
    * @param {() => T} call
    * @returns {T}
    */
-  aroundWrite(call) {
+  #aroundWrite(call) {
     const outer = this.writing;
     this.writing = this.recording.contexts.length + 1;
     try {
@@ -111,7 +111,7 @@ class Calls {
    * @param {any} owner
    * @param {string} name
    */
-  replaceSetter(owner, name) {
+  #replaceSetter(owner, name) {
     const calls = this;
     replaceProperty(owner, name, (native) => ({
       set(value) {
@@ -121,7 +121,7 @@ class Calls {
   }
 
   /** @param {object} owner */
-  replaceDispatching(owner) {
+  #replaceDispatching(owner) {
     const calls = this;
     const { capturing } = this.page;
     replaceMethod(owner, 'dispatchEvent', (native) => function dispatchEvent(event) {
@@ -132,7 +132,7 @@ class Calls {
   }
 
   /** @param {any} owner */
-  replaceCreation(owner) {
+  #replaceCreation(owner) {
     const calls = this;
     const declare = (/** @type {Element} */ element) => {
       const { recording, page } = calls;

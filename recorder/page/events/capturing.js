@@ -26,12 +26,12 @@ class Capturing {
     this.captured = new Set();
     /** @type {Set<string>} */
     this.listened = new Set();
-    this.see = (/** @type {Event} */ event) => this.sight(event);
+    this.see = (/** @type {Event} */ event) => this.#sight(event);
   }
 
   start() {
     each(ALWAYS_RECORDED, (type) => this.capture(type));
-    this.captureAt('error');
+    this.#captureAt('error');
     // their causes are looked for only once the page listens (queued.js)
     apply(this.natives.addEventListener, this.page.window, ['unhandledrejection', this.see, true]);
   }
@@ -42,11 +42,11 @@ class Capturing {
    */
   capture(type) {
     this.listened.add(type);
-    this.captureAt(type);
+    this.#captureAt(type);
   }
 
   /** @param {string} type */
-  captureAt(type) {
+  #captureAt(type) {
     if (this.captured.has(type)) return;
     this.captured.add(type);
     const { window, document, motions } = this.page;
@@ -62,22 +62,22 @@ class Capturing {
   captureAgain() {
     const types = valuesOf(this.captured);
     this.captured.clear();
-    each(types, (type) => this.captureAt(type));
+    each(types, (type) => this.#captureAt(type));
   }
 
   /** @param {Event} event */
-  sight(event) {
+  #sight(event) {
     if (this.recording.isOver || this.recording.steering.keepsEvent(event)) return;
-    if (event.type === 'error') this.sightError(/** @type {ErrorEvent} */ (event));
-    else if ((event.type === 'message' && event.target !== this.page.window) || this.isOfTheRecorder(event)) return;
-    else if (!this.page.dispatches.find(event)) this.begin(event);
+    if (event.type === 'error') this.#sightError(/** @type {ErrorEvent} */ (event));
+    else if ((event.type === 'message' && event.target !== this.page.window) || this.#isOfTheRecorder(event)) return;
+    else if (!this.page.dispatches.find(event)) this.#begin(event);
   }
 
   /**
    * The recorder's own listener: no handler of the page has run yet.
    * @param {Event} event
    */
-  begin(event) {
+  #begin(event) {
     this.page.dispatches.begin(event, event.currentTarget);
   }
 
@@ -85,7 +85,7 @@ class Capturing {
    * The tab gets the focus as the recording begins, which is nothing of the page's: unless there is a handler, nothing is written of it.
    * @param {Event} event
    */
-  isOfTheRecorder({ type, target, isTrusted }) {
+  #isOfTheRecorder({ type, target, isTrusted }) {
     const { recording, page } = this;
     const isFirst = type === 'focus' && isTrusted && target === page.window && page.number === 0 && !recording.hasFocus;
     if (isFirst) recording.hasFocus = true;
@@ -104,7 +104,7 @@ class Capturing {
     const { recording, page: { dispatches, elements } } = this;
     if (recording.isOver || !recording.isRunning() || !isThing(event) || dispatches.told.delete(event)) return;
     recording.finishReturned();
-    const path = this.pathOf(target);
+    const path = this.#pathOf(target);
     each(path, (node) => elements.number(node));
     dispatches.readSlots(path, event.type);
   }
@@ -114,7 +114,7 @@ class Capturing {
    * @param {import('../types').Target} target
    * @returns {EventTarget[]}
    */
-  pathOf(target) {
+  #pathOf(target) {
     const { natives, page: { window, document } } = this;
     if (!isOfTree(target, window) || target === window) return [target];
     /** @type {EventTarget[]} */
@@ -134,36 +134,36 @@ class Capturing {
    * The error event of a script that threw comes inside its run, and the run is over then.
    * @param {ErrorEvent} event
    */
-  sightError(event) {
+  #sightError(event) {
     const { recording, page } = this;
     const isOfWindow = event.target === page.window;
     if (isOfWindow && recording.contexts[recording.contexts.length - 1] === 'script') {
-      this.endCode(event);
+      this.#endCode(event);
       recording.leaveCall();
     } else if (isOfWindow && page.modules.isRunning()) {
-      this.endCode(event);
+      this.#endCode(event);
       page.modules.close();
-    } else if ((isOfWindow || this.listened.has('error')) && !page.dispatches.find(event)) this.beginError(event, isOfWindow);
+    } else if ((isOfWindow || this.listened.has('error')) && !page.dispatches.find(event)) this.#beginError(event, isOfWindow);
   }
 
   /**
    * A script or a module has thrown: its run is over.
    * @param {ErrorEvent} event
    */
-  endCode(event) {
+  #endCode(event) {
     this.recording.endPiece();
-    this.begin(event);
+    this.#begin(event);
   }
 
   /**
    * @param {ErrorEvent} event
    * @param {boolean} isOfWindow
    */
-  beginError(event, isOfWindow) {
+  #beginError(event, isOfWindow) {
     const { recording } = this;
     const isInEvent = isOfWindow && !recording.contexts.length && (recording.isCheckpoint || this.page.scripts.runBroken(event));
     if (isInEvent) recording.enter('call');
-    this.begin(event);
+    this.#begin(event);
     if (isInEvent) recording.contexts.length--;
   }
 }

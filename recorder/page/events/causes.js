@@ -15,10 +15,10 @@ class Causes {
   }
 
   start() {
-    this.watchToggles(this.page.window);
-    this.watchFullScreen(this.page.window);
-    this.watchScrolling(this.page.window);
-    this.watchSelection(this.page.window);
+    this.#watchToggles(this.page.window);
+    this.#watchFullScreen(this.page.window);
+    this.#watchScrolling(this.page.window);
+    this.#watchSelection(this.page.window);
   }
 
   // ---- what opens and closes
@@ -27,14 +27,14 @@ class Causes {
    * The toggle events of one element are one until it comes.
    * @param {import('../types').PageWindow} window
    */
-  watchToggles(window) {
+  #watchToggles(window) {
     const { matches, hasAttribute } = this.page.natives;
     const isShown = (/** @type {Element} */ element) => apply(matches, element, [':popover-open']);
     const isOpen = (/** @type {Element} */ dialog) => apply(hasAttribute, dialog, ['open']);
     const { HTMLElement, HTMLDialogElement } = window;
-    each(['showPopover', 'hidePopover', 'togglePopover'], (name) => this.replaceOpening(HTMLElement.prototype, name, ['toggle'], isShown));
-    each(['show', 'showModal'], (name) => this.replaceOpening(HTMLDialogElement.prototype, name, ['toggle'], isOpen));
-    each(['close', 'requestClose'], (name) => this.replaceOpening(HTMLDialogElement.prototype, name, ['toggle', 'close'], isOpen));
+    each(['showPopover', 'hidePopover', 'togglePopover'], (name) => this.#replaceOpening(HTMLElement.prototype, name, ['toggle'], isShown));
+    each(['show', 'showModal'], (name) => this.#replaceOpening(HTMLDialogElement.prototype, name, ['toggle'], isOpen));
+    each(['close', 'requestClose'], (name) => this.#replaceOpening(HTMLDialogElement.prototype, name, ['toggle', 'close'], isOpen));
   }
 
   /**
@@ -43,7 +43,7 @@ class Causes {
    * @param {string[]} types what the call queues
    * @param {(element: Element) => boolean} isOpen
    */
-  replaceOpening(owner, name, types, isOpen) {
+  #replaceOpening(owner, name, types, isOpen) {
     const { queued, recording } = this;
     replaceMethod(owner, name, (native) => function change() {
       const before = isOpen(this);
@@ -69,7 +69,7 @@ class Causes {
    * An element fills the screen, or cannot, in a later frame.
    * @param {import('../types').PageWindow} window
    */
-  watchFullScreen({ Element, Document }) {
+  #watchFullScreen({ Element, Document }) {
     const { queued, recording, page } = this;
     const isOfScreen = (/** @type {Event} */ { type }) => fits(/fullscreen(change|error)$/, type);
     /** @type {(owner: object, names: string[], elementOf: (called: Element) => Element|null) => void} */
@@ -86,17 +86,17 @@ class Causes {
   // ---- scrolling
 
   /** @param {import('../types').PageWindow} window */
-  watchScrolling(window) {
+  #watchScrolling(window) {
     const causes = this;
     const { Element } = window;
     const replace = (/** @type {object} */ owner, /** @type {string} */ name) => replaceMethod(owner, name, (native) => function scroll() {
-      return causes.aroundScroll(isElement(this) ? this : null, () => apply(native, this, arguments));
+      return causes.#aroundScroll(isElement(this) ? this : null, () => apply(native, this, arguments));
     });
     each(['scroll', 'scrollTo', 'scrollBy', 'scrollIntoView', 'scrollIntoViewIfNeeded'], (name) => replace(Element.prototype, name));
     each(['scroll', 'scrollTo', 'scrollBy'], (name) => replace(window, name));
     each(['scrollTop', 'scrollLeft'], (name) => replaceProperty(Element.prototype, name, (native) => ({
       set(value) {
-        causes.aroundScroll(this, () => apply(native.set, this, [value]));
+        causes.#aroundScroll(this, () => apply(native.set, this, [value]));
       },
     })));
   }
@@ -107,17 +107,17 @@ class Causes {
    * @param {Element|null} element null: the window is scrolled
    * @param {() => T} call
    */
-  aroundScroll(element, call) {
+  #aroundScroll(element, call) {
     const { capturing: { listened }, document, natives } = this.page;
     if (this.recording.isOver || !(listened.has('scroll') || listened.has('scrollend'))) return call();
     const root = document.scrollingElement;
     /** @type {Element[]} */
     const elements = root ? [root] : [];
     for (let one = element; one && one !== root && isElement(one); one = /** @type {Element} */ (apply(natives.parentNode, one, []))) elements[elements.length] = one;
-    const before = mapped(elements, (one) => this.placeOf(one));
+    const before = mapped(elements, (one) => this.#placeOf(one));
     const result = call();
     each(elements, (one, k) => {
-      if (this.placeOf(one) === before[k]) return;
+      if (this.#placeOf(one) === before[k]) return;
       const target = one === root ? document : one;
       each(['scroll', 'scrollend'], (type) => this.queued.noteOnce(target, type, this.recording.moment()));
     });
@@ -127,21 +127,21 @@ class Causes {
   // ---- selections
 
   /** @param {import('../types').PageWindow} window */
-  watchSelection({ HTMLInputElement, HTMLTextAreaElement, Selection }) {
+  #watchSelection({ HTMLInputElement, HTMLTextAreaElement, Selection }) {
     const causes = this;
     each([HTMLInputElement.prototype, HTMLTextAreaElement.prototype], (owner) => {
       each(['select', 'setSelectionRange', 'setRangeText'], (name) => replaceMethod(owner, name, (native) => function select() {
-        return causes.aroundSelect(this, () => apply(native, this, arguments));
+        return causes.#aroundSelect(this, () => apply(native, this, arguments));
       }));
       each(['selectionStart', 'selectionEnd'], (name) => replaceProperty(owner, name, (native) => ({
         set(value) {
-          causes.aroundSelect(this, () => apply(native.set, this, [value]));
+          causes.#aroundSelect(this, () => apply(native.set, this, [value]));
         },
       })));
     });
     each(['addRange', 'collapse', 'collapseToEnd', 'collapseToStart', 'empty', 'extend', 'modify', 'removeAllRanges', 'removeRange', 'selectAllChildren',
       'setBaseAndExtent', 'setPosition'], (name) => replaceMethod(Selection.prototype, name, (native) => function select() {
-      return causes.aroundSelection(this, () => apply(native, this, arguments));
+      return causes.#aroundSelection(this, () => apply(native, this, arguments));
     }));
   }
 
@@ -150,10 +150,10 @@ class Causes {
    * @param {HTMLInputElement} field
    * @param {() => T} call
    */
-  aroundSelect(field, call) {
-    const before = this.selectedIn(field);
+  #aroundSelect(field, call) {
+    const before = this.#selectedIn(field);
     const result = call();
-    if (this.selectedIn(field) === before) return result;
+    if (this.#selectedIn(field) === before) return result;
     this.queued.noteOnce(field, 'select', this.recording.moment());
     each([field, this.page.document], (target) => this.queued.noteOnce(target, 'selectionchange', this.recording.moment()));
     return result;
@@ -164,7 +164,7 @@ class Causes {
    * @param {Selection} selection
    * @param {() => T} call
    */
-  aroundSelection(selection, call) {
+  #aroundSelection(selection, call) {
     const endsOf = () => mapped(this.page.natives.endsOfSelection, (get) => apply(get, selection, []));
     const before = endsOf();
     const result = call();
@@ -178,13 +178,13 @@ class Causes {
    * How far an element is scrolled, as a text to compare.
    * @param {Element} element
    */
-  placeOf(element) {
+  #placeOf(element) {
     const { scrollLeft, scrollTop } = this.page.natives;
     return `${apply(scrollLeft, element, [])} ${apply(scrollTop, element, [])}`;
   }
 
   /** @param {HTMLInputElement|HTMLTextAreaElement} field */
-  selectedIn(field) {
+  #selectedIn(field) {
     const { HTMLInputElement, HTMLTextAreaElement } = this.page.natives.selected;
     const { start, end } = field.localName === 'textarea' ? HTMLTextAreaElement : HTMLInputElement;
     return `${apply(start, field, [])} ${apply(end, field, [])}`;
@@ -200,7 +200,7 @@ class Causes {
   noteStorage(key, value) {
     const moment = this.recording.moment();
     if (!moment) return;
-    each(this.recording.documents, ({ window, queued, capturing }) => {
+    each(this.recording.pages, ({ window, queued, capturing }) => {
       if (window === this.page.window || !capturing.listened.has('storage')) return;
       queued.note(window, 'storage', moment, (event) => event.key === key && event.newValue === value);
     });

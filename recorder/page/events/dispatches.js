@@ -68,11 +68,11 @@ class Dispatches {
     const merged = page.loading.joinEnd(event, target);
     if (merged) return merged;
     const dispatch = /** @type {EventDispatch} */ ({ event, target, number: 0, group: -1, visit: '', isInline: false });
-    if (recording.contexts.length || this.isOfJob(event)) {
-      if (!this.beginInline(dispatch)) return null;
-    } else if (!this.beginConsequence(dispatch) && !page.loading.beginInRun(dispatch)) {
+    if (recording.contexts.length || this.#isOfJob(event)) {
+      if (!this.#beginInline(dispatch)) return null;
+    } else if (!this.#beginConsequence(dispatch) && !page.loading.beginInRun(dispatch)) {
       recording.startTask();
-      this.beginAlone(dispatch);
+      this.#beginAlone(dispatch);
     }
     recording.push(dispatch);
     if (event.isTrusted && hasConsequences(event.type)) recording.watchTask();
@@ -90,7 +90,7 @@ class Dispatches {
    * of them.
    * @param {Event} event
    */
-  isOfJob(event) {
+  #isOfJob(event) {
     if (settings.isDriven && !this.recording.isRunning()) return false;
     return !this.recording.steering.isTrusted(event) || (event.type === 'slotchange' && this.recording.isCheckpoint);
   }
@@ -99,7 +99,7 @@ class Dispatches {
    * Begins a dispatch that running code has called. Returns false if the trace cannot have it.
    * @param {EventDispatch} dispatch
    */
-  beginInline(dispatch) {
+  #beginInline(dispatch) {
     const { recording } = this;
     recording.endPiece();
     if (!recording.mayDispatch()) {
@@ -134,7 +134,7 @@ class Dispatches {
    * What the browser does by itself after the handlers of a user's event is written inside that event's close.
    * @param {EventDispatch} dispatch
    */
-  beginConsequence(dispatch) {
+  #beginConsequence(dispatch) {
     const { recording } = this;
     if (!dispatch.event.isTrusted) return false;
     const { type } = dispatch.event;
@@ -151,7 +151,7 @@ class Dispatches {
   }
 
   /** @param {EventDispatch} dispatch */
-  beginAlone(dispatch) {
+  #beginAlone(dispatch) {
     const { event, target } = dispatch;
     const { recording, page } = this;
     dispatch.number = recording.next('dispatch');
@@ -160,13 +160,13 @@ class Dispatches {
     if (request) {
       recording.begin(`reply ${dispatch.number} ${request.number}`, 'begin', undefined, [request.sender]);
       page.connections.order(dispatch, request);
-    } else if (!page.loading.begin(dispatch) && !page.messages.begin(dispatch) && !page.queued.begin(dispatch)) this.beginAt(dispatch);
+    } else if (!page.loading.begin(dispatch) && !page.messages.begin(dispatch) && !page.queued.begin(dispatch)) this.#beginAt(dispatch);
     dispatch.beginning = recording.running;
     recording.log.name('dispatch', dispatch.number, { type: event.type, act: (event.isTrusted && recording.act) || undefined });
   }
 
   /** @param {EventDispatch} dispatch */
-  beginAt(dispatch) {
+  #beginAt(dispatch) {
     const { event, target } = dispatch;
     const { recording, page } = this;
     const type = spellName(event.type);
@@ -215,11 +215,11 @@ class Dispatches {
    */
   handlerBegins(handler, event, current) {
     const { recording } = this;
-    if (recording.isOver || !event || !event.type) return this.unrecorded();
+    if (recording.isOver || !event || !event.type) return this.#unrecorded();
     const found = this.find(event);
-    if (found && !this.isOnTop(found)) return this.unrecorded();
+    if (found && !this.#isOnTop(found)) return this.#unrecorded();
     const dispatch = found || this.begin(event, current);
-    if (!dispatch) return this.unrecorded();
+    if (!dispatch) return this.#unrecorded();
     this.page.joins.tellOf(dispatch);
     dispatch.active++;
     const visit = `${event.type}:${event.eventPhase}:${this.capturers.has(handler)}:${this.page.elements.number(current)}`;
@@ -239,7 +239,7 @@ class Dispatches {
    * Whether a handler of a dispatch can run now: those that it called are over then.
    * @param {Dispatch} dispatch
    */
-  isOnTop(dispatch) {
+  #isOnTop(dispatch) {
     const { recording } = this;
     if (dispatch.isClosed) return false;
     recording.finishAbove(positionOf(recording.dispatches, dispatch) + 1);
@@ -247,7 +247,7 @@ class Dispatches {
   }
 
   /** A handler runs that is in no dispatch: `handlerEnds` leaves this call. */
-  unrecorded() {
+  #unrecorded() {
     this.recording.enter('call');
     return null;
   }

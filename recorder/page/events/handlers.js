@@ -35,11 +35,11 @@ class Handlers {
     replaceMethod(EventTarget.prototype, 'addEventListener', (native) => function addEventListener(type, listener, options) {
       const target = this ?? window;
       if (handlers.recording.isOver || !isThing(listener)) return apply(native, target, [type, listener, options]);
-      return apply(native, target, [type, handlers.wrapListener(target, String(type), /** @type {Listener} */ (listener), options), options]);
+      return apply(native, target, [type, handlers.#wrapListener(target, String(type), /** @type {Listener} */ (listener), options), options]);
     });
     replaceMethod(EventTarget.prototype, 'removeEventListener', (native) => function removeEventListener(type, listener, options) {
       const target = this ?? window;
-      return apply(native, target, [type, handlers.unwrapListener(target, String(type), listener, options), options]);
+      return apply(native, target, [type, handlers.#unwrapListener(target, String(type), listener, options), options]);
     });
   }
 
@@ -57,12 +57,12 @@ class Handlers {
   }
 
   /**
-   * Records a registration. Also for on-handlers.js.
+   * Records a registration.
    * @param {Target} target
    * @param {string} type
    * @param {unknown} given the function, as the page gives it
    * @param {boolean} isListener
-   * @returns {number} the handler
+   * @returns {number} the number of the handler
    */
   register(target, type, given, isListener) {
     const handler = this.recording.next('handler');
@@ -98,7 +98,7 @@ class Handlers {
   hasOneOf(target, type, event) {
     const { dispatches: { registrars }, onHandlers } = this.page;
     const isOfIt = (/** @type {number|undefined} */ handler) => handler !== undefined && registrars.get(handler) === event;
-    const hasListener = (/** @type {boolean} */ isCapture) => !!findItem(valuesOf(this.registrations(target, type, isCapture)), ({ handler }) => isOfIt(handler));
+    const hasListener = (/** @type {boolean} */ isCapture) => !!findItem(valuesOf(this.#registrations(target, type, isCapture)), ({ handler }) => isOfIt(handler));
     return isOfIt(onHandlers.ofProperty(target, type)) || hasListener(false) || hasListener(true);
   }
 
@@ -110,7 +110,7 @@ class Handlers {
    * @param {boolean} isCapture
    * @returns {Registered}
    */
-  registrations(target, type, isCapture) {
+  #registrations(target, type, isCapture) {
     const key = `${type}|${isCapture}`;
     const byKey = this.listeners.get(target) || new Map();
     this.listeners.set(target, byKey);
@@ -125,17 +125,17 @@ class Handlers {
    * @param {Listener} listener
    * @param {AddEventListenerOptions|undefined} options
    */
-  wrapListener(target, type, listener, options) {
+  #wrapListener(target, type, listener, options) {
     const isCapture = isCapturing(options);
-    const registered = this.registrations(target, type, isCapture);
+    const registered = this.#registrations(target, type, isCapture);
     const known = registered.get(listener);
     if (known) return known.wrapped;
     const handler = this.register(target, type, typeof listener === 'function' ? listener : listener.handleEvent, true);
     if (isCapture) this.page.dispatches.capturers.add(handler);
     const isOnce = typeof options === 'object' && options !== null && !!options.once;
-    const wrapped = this.wrapFunction(handler, target, type, listener, isOnce ? registered : null);
+    const wrapped = this.#wrapFunction(handler, target, type, listener, isOnce ? registered : null);
     registered.set(listener, { handler, wrapped });
-    this.watchSignal(target, type, handler, options, registered, listener);
+    this.#watchSignal(target, type, handler, options, registered, listener);
     return wrapped;
   }
 
@@ -147,7 +147,7 @@ class Handlers {
    * @param {Registered|null} onceIn where a listener that runs once is registered
    * @returns {import('../types').Method}
    */
-  wrapFunction(handler, target, type, listener, onceIn) {
+  #wrapFunction(handler, target, type, listener, onceIn) {
     const handlers = this;
     return function wrapped(event) {
       return handlers.page.dispatches.runHandler(handler, event, event.currentTarget, () => {
@@ -168,7 +168,7 @@ class Handlers {
    * @param {Registered} registered
    * @param {Listener} listener
    */
-  watchSignal(target, type, handler, options, registered, listener) {
+  #watchSignal(target, type, handler, options, registered, listener) {
     const signal = typeof options === 'object' && options !== null ? options.signal : null;
     if (!signal) return;
     apply(this.natives.addEventListener, signal, ['abort', () => {
@@ -183,8 +183,8 @@ class Handlers {
    * @param {Listener} listener
    * @param {AddEventListenerOptions|undefined} options
    */
-  unwrapListener(target, type, listener, options) {
-    const registered = this.registrations(target, type, isCapturing(options));
+  #unwrapListener(target, type, listener, options) {
+    const registered = this.#registrations(target, type, isCapturing(options));
     const found = registered.get(listener);
     if (!found) return listener;
     registered.delete(listener);

@@ -21,11 +21,14 @@ class Media {
     this.page = page;
     this.recording = page.recording;
     /**
-     * By element: who chose what is played, and whose call plays it.
+     * By element: who chose what is played.
      * @type {WeakMap<HTMLMediaElement, Cause>}
      */
     this.loading = new WeakMap();
-    /** @type {WeakMap<HTMLMediaElement, Cause & {hasBegun?: boolean}>} */
+    /**
+     * By element: whose call plays it, and whether its `play` event has come.
+     * @type {WeakMap<HTMLMediaElement, Cause & {hasBegun?: boolean}>}
+     */
     this.playing = new WeakMap();
     const { prototype } = page.window.HTMLMediaElement;
     this.paused = /** @type {(this: HTMLMediaElement) => boolean} */ (getOwnPropertyDescriptor(prototype, 'paused')?.get);
@@ -33,14 +36,14 @@ class Media {
 
   start() {
     const owner = this.page.window.HTMLMediaElement.prototype;
-    this.replaceSources(owner);
-    this.replacePlaying(owner);
-    this.replaceSeeking(owner);
-    CHANGES.forEach((type, name) => this.replaceChange(owner, name, type));
+    this.#replaceSources(owner);
+    this.#replacePlaying(owner);
+    this.#replaceSeeking(owner);
+    CHANGES.forEach((type, name) => this.#replaceChange(owner, name, type));
   }
 
   /** @param {HTMLMediaElement} element */
-  isPaused(element) {
+  #isPaused(element) {
     return apply(this.paused, element, []);
   }
 
@@ -57,18 +60,18 @@ class Media {
   }
 
   /** @param {HTMLMediaElement} element */
-  notePlaying(element) {
+  #notePlaying(element) {
     const moment = this.recording.moment();
     if (moment) this.playing.set(element, { moment, isOfSeveral: true });
     else this.playing.delete(element);
   }
 
   /**
-   * Expects events at a media element, whose cause is the running code.
+   * Expects events at a media element, whose cause is the running code; without a running action nothing is expected.
    * @param {HTMLMediaElement} element
    * @param {string[]} types
    */
-  note(element, ...types) {
+  #expect(element, ...types) {
     const moment = this.recording.moment();
     each(types, (type) => this.page.queued.note(element, type, moment));
   }
@@ -80,11 +83,11 @@ class Media {
    */
   causeOf(event, element) {
     const { type } = event;
-    if (type === 'timeupdate' && !this.isPaused(element)) return this.playing.get(element);
+    if (type === 'timeupdate' && !this.#isPaused(element)) return this.playing.get(element);
     const noted = this.page.queued.takeNoted(event, element);
     if (noted) return noted;
-    if (OF_PLAYING.has(type)) return this.playingOf(type, element);
-    return OF_LOADING.has(type) ? this.loadingOf(element) : undefined;
+    if (OF_PLAYING.has(type)) return this.#playingOf(type, element);
+    return OF_LOADING.has(type) ? this.#loadingOf(element) : undefined;
   }
 
   /**
@@ -92,7 +95,7 @@ class Media {
    * @param {string} type
    * @param {HTMLMediaElement} element
    */
-  playingOf(type, element) {
+  #playingOf(type, element) {
     const cause = this.playing.get(element);
     if (type !== 'play' || !cause) return cause;
     if (cause.hasBegun) this.playing.delete(element);
@@ -104,7 +107,7 @@ class Media {
    * What the page's text chose comes after the element alone.
    * @param {HTMLMediaElement} element
    */
-  loadingOf(element) {
+  #loadingOf(element) {
     if (!this.loading.has(element)) this.loading.set(element, { moment: null, isOfSeveral: true });
     return this.loading.get(element);
   }
@@ -115,7 +118,7 @@ class Media {
    * Replaces what sets a source or loads it, of an interface of media elements.
    * @param {any} owner
    */
-  replaceSources(owner) {
+  #replaceSources(owner) {
     const media = this;
     each(['src', 'srcObject'], (name) => replaceProperty(owner, name, (native) => ({
       set(value) {
@@ -130,14 +133,14 @@ class Media {
   }
 
   /** @param {any} owner */
-  replacePlaying(owner) {
+  #replacePlaying(owner) {
     const media = this;
     replaceMethod(owner, 'play', (native) => function play() {
-      if (isMedia(this) && media.isPaused(this)) media.notePlaying(this);
+      if (isMedia(this) && media.#isPaused(this)) media.#notePlaying(this);
       return apply(native, this, arguments);
     });
     replaceMethod(owner, 'pause', (native) => function pause() {
-      if (isMedia(this) && !media.isPaused(this)) media.note(this, 'timeupdate', 'pause');
+      if (isMedia(this) && !media.#isPaused(this)) media.#expect(this, 'timeupdate', 'pause');
       return apply(native, this, arguments);
     });
   }
@@ -146,10 +149,10 @@ class Media {
    * Of two calls before the end of the first there is one end.
    * @param {any} owner
    */
-  replaceSeeking(owner) {
+  #replaceSeeking(owner) {
     const media = this;
     const seek = (/** @type {HTMLMediaElement} */ element) => {
-      media.note(element, 'seeking', 'timeupdate');
+      media.#expect(element, 'seeking', 'timeupdate');
       media.page.queued.noteAgain(element, 'seeked', media.recording.moment());
     };
     replaceProperty(owner, 'currentTime', (native) => ({
@@ -165,13 +168,13 @@ class Media {
    * @param {string} name
    * @param {string} type what a change queues
    */
-  replaceChange(owner, name, type) {
+  #replaceChange(owner, name, type) {
     const media = this;
     replaceProperty(owner, name, (native) => ({
       set(value) {
         const before = apply(native.get, this, []);
         apply(native.set, this, [value]);
-        if (apply(native.get, this, []) !== before) media.note(this, type);
+        if (apply(native.get, this, []) !== before) media.#expect(this, type);
       },
     }));
   }

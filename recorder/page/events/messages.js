@@ -29,10 +29,10 @@ class Messages {
     const { window } = this.page;
     replaceMethod(window, 'postMessage', (native) => function postMessage() {
       const { 1: second } = arguments;
-      messages.postTo(messages.isForHere(second) ? [window] : [], window, arguments, () => apply(native, window, arguments));
+      messages.#postTo(messages.#isForHere(second) ? [window] : [], window, arguments, () => apply(native, window, arguments));
     });
-    this.replaceChannel(window);
-    this.replaceBroadcasts(window);
+    this.#replaceChannel(window);
+    this.#replaceBroadcasts(window);
     each(['Worker', 'SharedWorker'], (name) => replaceConstructor(window, name, () => { messages.recording.hasOtherSenders = true; }));
     if (window.ServiceWorkerContainer) {
       replaceMethod(window.ServiceWorkerContainer.prototype, 'register', (native) => function register() {
@@ -46,22 +46,22 @@ class Messages {
    * Each channel of a name gets the messages of the others.
    * @param {PageWindow} window
    */
-  replaceBroadcasts(window) {
+  #replaceBroadcasts(window) {
     const messages = this;
     const { channels } = this.recording;
     if (!window.BroadcastChannel) return;
     replaceConstructor(window, 'BroadcastChannel', (made) => {
       channels[channels.length] = made;
-      messages.listen(made);
+      messages.#listen(made);
     });
     replaceMethod(window.BroadcastChannel.prototype, 'postMessage', (native) => function postMessage() {
       const others = keep(channels, (one) => one !== this && one.name === this.name);
-      messages.postTo(others, this.name, [], () => apply(native, this, arguments));
+      messages.#postTo(others, this.name, [], () => apply(native, this, arguments));
     });
   }
 
   /** @param {PageWindow} window */
-  replaceChannel(window) {
+  #replaceChannel(window) {
     const messages = this;
     const { peers } = this.recording;
     const Native = window.MessageChannel;
@@ -69,7 +69,7 @@ class Messages {
       const channel = new Native();
       peers.set(channel.port1, channel.port2);
       peers.set(channel.port2, channel.port1);
-      each([channel.port1, channel.port2], (port) => messages.listen(port));
+      each([channel.port1, channel.port2], (port) => messages.#listen(port));
       return channel;
     }
     putConstructor(window, 'MessageChannel', MessageChannel);
@@ -79,7 +79,7 @@ class Messages {
     });
     replaceMethod(window.MessagePort.prototype, 'postMessage', (native) => function postMessage() {
       const peer = peers.get(this);
-      messages.postTo(peer ? [peer] : [], peer, arguments, () => apply(native, this, arguments));
+      messages.#postTo(peer ? [peer] : [], peer, arguments, () => apply(native, this, arguments));
     });
   }
 
@@ -99,7 +99,7 @@ class Messages {
    * Whether a message comes to this window that is posted to it for some origin.
    * @param {unknown} second the second argument of the call: the origin, or an object that has it
    */
-  isForHere(second) {
+  #isForHere(second) {
     const wanted = isPlainObject(second) ? second.targetOrigin : second;
     if (typeof wanted !== 'string' || wanted === '*' || wanted === '/') return true;
     try {
@@ -116,13 +116,13 @@ class Messages {
    * @param {ArrayLike<any>} words the arguments of the call, if ports can go with it
    * @param {() => void} send
    */
-  postTo(receivers, line, words, send) {
+  #postTo(receivers, line, words, send) {
     const { recording } = this;
     /** @type {import('../types').Held|undefined} */
     let hold;
     /** @type {import('../types').PostedMessage[]} */
     const added = [];
-    each(receivers, (receiver) => { hold = this.post(receiver, words, added) || hold; });
+    each(receivers, (receiver) => { hold = this.#post(receiver, words, added) || hold; });
     recording.steering.post(hold, line, () => {
       try {
         send();
@@ -140,7 +140,7 @@ class Messages {
    * @param {import('../types').PostedMessage[]} added gets the message
    * @returns {import('../types').Held|undefined} what holds the message back in a replay
    */
-  post(receiver, words, added) {
+  #post(receiver, words, added) {
     const { recording } = this;
     if (recording.isOver) return undefined;
     const message = recording.next('message');
@@ -161,9 +161,9 @@ class Messages {
    * Hears each message that comes to a port or a channel, before the page does, and also those to which nobody listens.
    * @param {EventTarget} receiver
    */
-  listen(receiver) {
+  #listen(receiver) {
     apply(this.page.natives.addEventListener, receiver, ['message', (/** @type {MessageEvent} */ event) => {
-      if (event.isTrusted) this.note(event, receiver);
+      if (event.isTrusted) this.#note(event, receiver);
     }, true]);
   }
 
@@ -172,7 +172,7 @@ class Messages {
    * @param {MessageEvent} event
    * @param {EventTarget} receiver
    */
-  note(event, receiver) {
+  #note(event, receiver) {
     const { recording } = this;
     if (recording.isOver || recording.arrived.has(event)) return;
     if (recording.hasOtherSenders && hasItem(recording.channels, receiver)) return;
@@ -181,15 +181,18 @@ class Messages {
     if (!posted) return;
     recording.arrived.set(event, posted);
     const { ports } = event;
-    each(posted.ports, (port, k) => this.move(port, ports[k]));
+    each(posted.ports, (port, k) => this.#move(port, ports[k]));
   }
 
-  /** @param {EventDispatch} dispatch */
+  /**
+   * Begins the dispatch of a message whose sender is recorded. Returns whether it is one.
+   * @param {EventDispatch} dispatch
+   */
   begin(dispatch) {
     const { target } = dispatch;
     const event = /** @type {MessageEvent} */ (dispatch.event);
-    if (event.type !== 'message' || !this.recording.steering.isTrusted(event) || this.isForeign(event)) return false;
-    if (target === this.page.window) this.note(event, target);
+    if (event.type !== 'message' || !this.recording.steering.isTrusted(event) || this.#isForeign(event)) return false;
+    if (target === this.page.window) this.#note(event, target);
     const posted = this.recording.arrived.get(event);
     if (!posted) return false;
     const { message, standIn, sender } = posted;
@@ -207,7 +210,7 @@ class Messages {
    * @param {Event} event
    * @returns {Window|null}
    */
-  sourceOf(event) {
+  #sourceOf(event) {
     return /** @type {Window|null} */ (apply(this.page.natives.source, /** @type {MessageEvent} */ (event), []));
   }
 
@@ -215,8 +218,8 @@ class Messages {
    * Whether a page of another origin has posted a message, whose call is not seen.
    * @param {Event} event
    */
-  isForeign(event) {
-    const source = this.sourceOf(event);
+  #isForeign(event) {
+    const source = this.#sourceOf(event);
     return !!source && documentOf(/** @type {PageWindow} */ (source)) === null;
   }
 
@@ -228,8 +231,8 @@ class Messages {
    */
   causeOf(event, target) {
     const { page } = this;
-    if (event.type !== 'message' || /** @type {unknown} */ (target) !== page.window || !this.isForeign(event)) return undefined;
-    const source = this.sourceOf(event);
+    if (event.type !== 'message' || /** @type {unknown} */ (target) !== page.window || !this.#isForeign(event)) return undefined;
+    const source = this.#sourceOf(event);
     const frames = /** @type {HTMLIFrameElement[]} */ (/** @type {unknown} */ (apply(page.natives.querySelectorAll, page.document.documentElement, ['iframe'])));
     const frame = findItem(frames, (one) => apply(page.natives.contentWindow, one, []) === source);
     if (!frame) return undefined;
@@ -243,7 +246,7 @@ class Messages {
    * @param {MessagePort} port
    * @param {MessagePort|undefined} arrived
    */
-  move(port, arrived) {
+  #move(port, arrived) {
     const { peers, posted } = this.recording;
     const peer = peers.get(port);
     if (!peer || !arrived || arrived === port) return;
@@ -251,7 +254,7 @@ class Messages {
     peers.set(peer, arrived);
     const waiting = posted.get(port);
     if (waiting) posted.set(arrived, waiting);
-    this.listen(arrived);
+    this.#listen(arrived);
   }
 }
 

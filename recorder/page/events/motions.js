@@ -54,7 +54,7 @@ class Motions {
   }
 
   /** Whether the page has handlers of motions. */
-  isHeard() {
+  #isHeard() {
     const { listened } = this.page.capturing;
     return !!findItem(keysOf(FIRST_OF_MOTION), (type) => listened.has(type));
   }
@@ -73,7 +73,7 @@ class Motions {
    * @param {string} name of the attribute
    */
   noteChange(element, name) {
-    if (!this.isHeard()) return;
+    if (!this.#isHeard()) return;
     const moment = this.recording.lastMoment();
     const isOfStyle = name === 'class' || name === 'style';
     const before = this.changed.get(element);
@@ -104,7 +104,7 @@ class Motions {
    * @param {MotionEvent} event
    * @returns {Change|undefined}
    */
-  changeAround({ target: element, animationName }) {
+  #changeAround({ target: element, animationName }) {
     /** @type {Change|undefined} */
     let found;
     for (let one = /** @type {Element|null} */ (element); one; one = parentOf(this.page.natives, one)) {
@@ -112,7 +112,7 @@ class Motions {
       if (change?.isMixed || (change && found && change.moment.event !== found.moment.event)) return undefined;
       if (!found || (!found.isOfStyle && change)) found = change;
     }
-    return found?.isOfStyle && !(animationName && this.hasJustCome(element, found)) ? found : undefined;
+    return found?.isOfStyle && !(animationName && this.#hasJustCome(element, found)) ? found : undefined;
   }
 
   /**
@@ -120,7 +120,7 @@ class Motions {
    * @param {Element} element
    * @param {Change} change
    */
-  hasJustCome(element, change) {
+  #hasJustCome(element, change) {
     for (let one = /** @type {Element|null} */ (element); one; one = parentOf(this.page.natives, one)) {
       const came = this.came.get(one);
       if (came && came.event !== change.moment.event && change.time - came.time < LONGEST_START) return true;
@@ -135,7 +135,7 @@ class Motions {
   noteStart(event) {
     if (this.heard.has(event)) return;
     this.heard.set(event, true);
-    const change = this.changeAround(event);
+    const change = this.#changeAround(event);
     const started = this.started.get(event.target) || new Map();
     this.started.set(event.target, started);
     if (change) started.set(nameOfMotion(event), { moment: change.moment, isOfSeveral: true });

@@ -27,13 +27,13 @@ class Navigations {
   start() {
     const { window, natives } = this.page;
     if (!window.navigation) return;
-    this.replaceSteps(window);
-    apply(natives.addEventListener, window.navigation, ['navigate', (/** @type {NavigateEvent} */ event) => this.noteNavigation(event)]);
-    this.replaceIntercept(window.NavigateEvent.prototype);
+    this.#replaceSteps(window);
+    apply(natives.addEventListener, window.navigation, ['navigate', (/** @type {NavigateEvent} */ event) => this.#noteNavigation(event)]);
+    this.#replaceIntercept(window.NavigateEvent.prototype);
   }
 
   /** @param {PageWindow} window */
-  replaceSteps(window) {
+  #replaceSteps(window) {
     const { steps, recording } = this;
     each(['back', 'forward', 'go'], (name) => replaceMethod(window.History.prototype, name, (native) => function step(delta) {
       const { canGoBack, canGoForward } = window.navigation;
@@ -45,7 +45,7 @@ class Navigations {
   }
 
   /** @param {NavigateEvent} event */
-  noteNavigation({ navigationType, hashChange, destination }) {
+  #noteNavigation({ navigationType, hashChange, destination }) {
     if (this.recording.isOver) return;
     const { window, queued } = this.page;
     const isStep = navigationType === 'traverse';
@@ -59,12 +59,12 @@ class Navigations {
   // ---- what a page does in place of a navigation
 
   /** @param {any} owner */
-  replaceIntercept(owner) {
+  #replaceIntercept(owner) {
     const navigations = this;
     replaceMethod(owner, 'intercept', (native) => function intercept(...words) {
       const { 0: options } = words;
       const isSeen = !navigations.recording.isOver && isPlainObject(options) && typeof options.handler === 'function';
-      if (isSeen) words[0] = { ...options, handler: navigations.wrap(this, options.handler) };
+      if (isSeen) words[0] = { ...options, handler: navigations.#wrap(this, options.handler) };
       return apply(native, this, words);
     });
   }
@@ -75,7 +75,7 @@ class Navigations {
    * @param {Function} callback
    * @returns {import('../types').Method}
    */
-  wrap(event, callback) {
+  #wrap(event, callback) {
     const navigations = this;
     const { recording, page: { window: { navigation }, jobs, dispatches, queued, promises } } = this;
     const handler = jobs.registerJob(callback, 'intercept');
@@ -86,7 +86,7 @@ class Navigations {
       const run = () => {
         const expected = queued.note(navigation, null, recording.moment(), isEnd);
         const result = call();
-        if (expected && promises.isPlain(result)) navigations.moveToEnd(expected, result);
+        if (expected && promises.isPlain(result)) navigations.#moveToEnd(expected, result);
         return result;
       };
       return recording.contexts.length ? run() : dispatches.runHandler(handler, event, navigation, run);
@@ -98,7 +98,7 @@ class Navigations {
    * @param {import('./queued.js').Expected} expected
    * @param {object} promise
    */
-  moveToEnd(expected, promise) {
+  #moveToEnd(expected, promise) {
     const settled = () => { expected.moment = this.recording.moment() || expected.moment; };
     apply(this.page.natives.then, promise, [settled, settled]);
   }

@@ -47,7 +47,7 @@ class OnHandlers {
     const { window } = this.page;
     const owners = mapped(keep(settings.handlerOwners, (name) => window[name]), (name) => window[name].prototype);
     each(joined([window], owners), (owner) => {
-      each(keep(Object.getOwnPropertyNames(owner), (name) => fits(/^on[a-z]/, name)), (name) => this.replaceProperty(owner, name));
+      each(keep(Object.getOwnPropertyNames(owner), (name) => fits(/^on[a-z]/, name)), (name) => this.#replaceProperty(owner, name));
     });
   }
 
@@ -57,7 +57,7 @@ class OnHandlers {
    * @param {string} type
    * @returns {Target}
    */
-  slotTarget(target, type) {
+  #slotTarget(target, type) {
     const isBody = target.nodeType === 1 && (target.localName === 'body' || target.localName === 'frameset');
     return isBody && OF_WINDOW.has(type) ? this.page.window : target;
   }
@@ -77,7 +77,7 @@ class OnHandlers {
    * @param {object} owner
    * @param {string} name
    */
-  replaceProperty(owner, name) {
+  #replaceProperty(owner, name) {
     const onHandlers = this;
     const { handlers, recording, page: { window } } = this;
     const type = sliceOf(name, 2);
@@ -85,12 +85,12 @@ class OnHandlers {
       get() {
         const target = this ?? window;
         const value = apply(native.get, target, []);
-        if (target !== owner || owner === window) recording.access('r', handlers.slot(onHandlers.slotTarget(target, type), type));
+        if (target !== owner || owner === window) recording.access('r', handlers.slot(onHandlers.#slotTarget(target, type), type));
         return (value && onHandlers.originals.get(value)) || value;
       },
       set(value) {
         const target = this ?? window;
-        apply(native.set, target, [recording.isOver ? value : onHandlers.assign(target, type, value)]);
+        apply(native.set, target, [recording.isOver ? value : onHandlers.#assign(target, type, value)]);
       },
     }));
   }
@@ -101,9 +101,9 @@ class OnHandlers {
    * @param {string} type
    * @param {unknown} value
    */
-  assign(target, type, value) {
-    const owner = this.slotTarget(target, type);
-    this.attributesOf(owner).delete(type);
+  #assign(target, type, value) {
+    const owner = this.#slotTarget(target, type);
+    this.#attributesOf(owner).delete(type);
     const properties = this.ofProperties.get(owner) || new Map();
     this.ofProperties.set(owner, properties);
     properties.delete(type);
@@ -114,7 +114,7 @@ class OnHandlers {
     if (type === 'message') this.page.messages.noteStart(owner);
     const handler = this.handlers.register(owner, type, value, false);
     properties.set(type, handler);
-    const wrapped = this.wrap(handler, value);
+    const wrapped = this.#wrap(handler, value);
     this.originals.set(wrapped, value);
     return wrapped;
   }
@@ -125,7 +125,7 @@ class OnHandlers {
    * @param {Function} value
    * @returns {Method}
    */
-  wrap(handler, value) {
+  #wrap(handler, value) {
     const { dispatches, window } = this.page;
     return function wrapped(event) {
       const current = event && event.currentTarget !== undefined ? event : window.event;
@@ -159,7 +159,7 @@ class OnHandlers {
    * The handlers in the attributes of a target, by type.
    * @param {Target} owner
    */
-  attributesOf(owner) {
+  #attributesOf(owner) {
     const known = this.ofAttributes.get(owner) || new Map();
     this.ofAttributes.set(owner, known);
     return known;
@@ -173,13 +173,13 @@ class OnHandlers {
    */
   registerAttribute(element, type, text) {
     const { handlers, recording } = this;
-    const owner = this.slotTarget(element, type);
-    const known = this.attributesOf(owner).get(type);
+    const owner = this.#slotTarget(element, type);
+    const known = this.#attributesOf(owner).get(type);
     if (known && known.text === text) return;
     const handler = recording.next('handler');
-    const marked = fits(MARKED, text) ? text : this.markText(type, text);
+    const marked = fits(MARKED, text) ? text : this.#markText(type, text);
     if (marked !== text) recording.log.miss('handler attributes that scripts set, without what they read');
-    this.attributesOf(owner).set(type, { handler, text: marked });
+    this.#attributesOf(owner).set(type, { handler, text: marked });
     recording.log.line(`on ${handler}`);
     recording.accessNow('w', handlers.slot(owner, type), '');
     handlers.nameHandler(handler, owner, type);
@@ -191,7 +191,7 @@ class OnHandlers {
    * @param {string} type
    * @param {string} text
    */
-  markText(type, text) {
+  #markText(type, text) {
     return markIn(text, `__er.handlerBegins(this,event,${JSON.stringify(type)});try{`) + text + markIn(text, '\n}finally{__er.handlerEnds()}');
   }
 
@@ -203,11 +203,11 @@ class OnHandlers {
    */
   attributeBegins(element, event, type) {
     const current = event && event.type ? event : this.page.window.event;
-    const owner = this.slotTarget(element, type);
-    let found = this.attributesOf(owner).get(type);
+    const owner = this.#slotTarget(element, type);
+    let found = this.#attributesOf(owner).get(type);
     if (!found) {
       found = { handler: this.recording.next('handler'), text: '' };
-      this.attributesOf(owner).set(type, found);
+      this.#attributesOf(owner).set(type, found);
       this.recording.log.line(`early on ${found.handler}`);
     }
     return this.page.dispatches.handlerBegins(found.handler, current, (current && current.currentTarget) || element);

@@ -79,7 +79,7 @@ class Queued {
     if (this.recording.isOver || !moment) return undefined;
     const list = this.waiting.get(target) || [];
     this.waiting.set(target, list);
-    const noted = { type, moment, isIt, before: this.lastOf(target, type) };
+    const noted = { type, moment, isIt, before: this.#lastOf(target, type) };
     list[list.length] = noted;
     const ofTarget = this.noted.get(target) || new Map();
     this.noted.set(target, ofTarget);
@@ -95,7 +95,7 @@ class Queued {
    * @param {string|null} type
    * @returns {Cause|null}
    */
-  lastOf(target, type) {
+  #lastOf(target, type) {
     const last = this.noted.get(target)?.get(type);
     return last?.moment && this.recording.isBeforeRunning(last.moment.event) ? last : null;
   }
@@ -134,10 +134,10 @@ class Queued {
    * @param {Target} target
    * @returns {Cause|undefined}
    */
-  take(event, target) {
+  #take(event, target) {
     if (FIRST_OF_MOTION.has(event.type)) return this.page.motions.causeOf(/** @type {import('./motions.js').MotionEvent} */ (event), target);
     if (isMedia(target)) return this.page.media.causeOf(event, target);
-    return this.takeNoted(event, target) || this.rejectionOf(event) || this.page.messages.causeOf(event, target);
+    return this.takeNoted(event, target) || this.#rejectionOf(event) || this.page.messages.causeOf(event, target);
   }
 
   /**
@@ -158,14 +158,14 @@ class Queued {
    */
   begin(dispatch) {
     const { event, target, number } = dispatch;
-    const cause = this.recording.steering.isTrusted(event) && this.take(event, target);
+    const cause = this.recording.steering.isTrusted(event) && this.#take(event, target);
     if (!cause) return false;
     const { elements, joins } = this.page;
     const { moment } = cause;
     cause.standIn = cause.standIn || (moment ? elements.standInIn(moment, target, 'its cause') : elements.standIn(target, 'what it loads'));
     this.recording.begin(`fire ${number} ${cause.standIn} ${spellName(event.type)}`, 'begin', undefined, [moment && moment.event]);
-    if (IN_ORDER.has(event.type)) this.keepOrder(dispatch, cause, cause.last);
-    else if (cause.before) this.keepOrder(dispatch, cause, cause.before.last);
+    if (IN_ORDER.has(event.type)) this.#keepOrder(dispatch, cause, cause.last);
+    else if (cause.before) this.#keepOrder(dispatch, cause, cause.before.last);
     else if (!cause.isOfSeveral) dispatch.whenClosed = () => { cause.last = this.recording.lastMoment(); };
     joins.tellOf(dispatch);
     return true;
@@ -177,7 +177,7 @@ class Queued {
    * @param {Cause} cause
    * @param {Moment|undefined} last the end of the event before
    */
-  keepOrder(dispatch, cause, last) {
+  #keepOrder(dispatch, cause, last) {
     dispatch.moments = [last];
     dispatch.why = 'the event before';
     dispatch.whenClosed = () => { cause.last = this.recording.lastMoment(); };
@@ -204,7 +204,7 @@ class Queued {
    * @param {Event} event
    * @returns {Cause|undefined}
    */
-  rejectionOf({ type }) {
+  #rejectionOf({ type }) {
     return type === 'unhandledrejection' ? this.rejecting : undefined;
   }
 }

@@ -31,8 +31,8 @@ class Collections {
     const known = kinds.holders.get(object);
     if (known !== undefined && known.kind >= LEFT_OUT) return;
     switch (known === undefined ? kinds.kindOf(object) : known.kind) {
-      case LIST: this.callList(kinds.hold(object, site), name, site); break;
-      case MAP: case SET: this.callMap(kinds.hold(object, site), name, site); break;
+      case LIST: this.#callList(kinds.hold(object, site), name, site); break;
+      case MAP: case SET: this.#callMap(kinds.hold(object, site), name, site); break;
       case TREE: objects.trees.call(kinds.hold(object, site), name, site); break;
       case CLASSES: if (known !== undefined) objects.trees.accessPart(known, object, name, 'r', site); break;
       case PLAIN: objects.properties.read(object, name, site); break;
@@ -51,7 +51,7 @@ class Collections {
     const holder = this.kinds.holders.get(object);
     if (holder === undefined) return;
     if (holder.kind === TREE) this.objects.trees.accessAttribute(holder, key, method, site);
-    else if ((holder.kind === MAP || holder.kind === SET) && !hasOwn(object, method)) this.accessMapKey(holder, key, site, method);
+    else if ((holder.kind === MAP || holder.kind === SET) && !hasOwn(object, method)) this.#accessMapKey(holder, key, site, method);
   }
 
   // ---- arrays
@@ -79,20 +79,20 @@ class Collections {
    * @param {string} name
    * @param {number} site
    */
-  callList(holder, name, site) {
+  #callList(holder, name, site) {
     if (hasOwn(holder.object, name)) this.variables.touchName(holder, name, READ, site);
     else if (name === 'push') this.variables.touchName(holder, ITEMS, WRITE, site);
     else if (CHANGES_ALL.has(name)) {
-      this.readItems(holder, site);
+      this.#readItems(holder, site);
       this.variables.touchName(holder, ITEMS, WRITE, site);
-    } else if (name in Array.prototype) this.readItems(holder, site);
+    } else if (name in Array.prototype) this.#readItems(holder, site);
   }
 
   /**
    * @param {import('../types').Holder} holder
    * @param {number} site
    */
-  readItems(holder, site) {
+  #readItems(holder, site) {
     this.variables.touchName(holder, ITEMS, READ, site);
     for (let one = holder.first; one !== null; one = one.next) {
       if (typeof one.name === 'number' || one.name === OTHER_ITEMS) this.variables.touch(holder, one, READ, site);
@@ -106,12 +106,12 @@ class Collections {
    * @param {string} name
    * @param {number} site
    */
-  callMap(holder, name, site) {
+  #callMap(holder, name, site) {
     if (hasOwn(holder.object, name)) return;
     if (name === 'clear') {
       this.variables.touchName(holder, NAMES, WRITE, site);
       for (let one = holder.first; one !== null; one = one.next) this.variables.touch(holder, one, WRITE, site);
-    } else if (READS_MAP.has(name)) this.readMap(holder, site);
+    } else if (READS_MAP.has(name)) this.#readMap(holder, site);
   }
 
   /**
@@ -119,7 +119,7 @@ class Collections {
    * @param {import('../types').Holder} holder
    * @param {number} site
    */
-  readMap(holder, site) {
+  #readMap(holder, site) {
     this.variables.touchName(holder, NAMES, READ, site);
     let left = MOST_SPREAD;
     for (let one = holder.first; one !== null && left > 0; one = one.next, left--) this.variables.touch(holder, one, READ, site);
@@ -131,7 +131,7 @@ class Collections {
    * @param {number} site
    * @param {string} method
    */
-  accessMapKey(holder, key, site, method) {
+  #accessMapKey(holder, key, site, method) {
     const name = this.objectNames.ofKey(key);
     if (name === null) return;
     if (READS_KEY.has(method)) {
@@ -152,9 +152,9 @@ class Collections {
    */
   enumerate(object, site) {
     const holder = this.kinds.hold(object, site);
-    if (holder.kind === LIST) this.readItems(holder, site);
+    if (holder.kind === LIST) this.#readItems(holder, site);
     else if (holder.kind === PLAIN) this.variables.touchName(holder, NAMES, READ, site);
-    else if (holder.kind === STORAGE) this.readEach(object, site);
+    else if (holder.kind === STORAGE) this.#readEach(object, site);
   }
 
   /**
@@ -164,8 +164,8 @@ class Collections {
    */
   iterate(object, site) {
     const holder = this.kinds.hold(object, site);
-    if (holder.kind === LIST) this.readItems(holder, site);
-    else if (holder.kind === MAP || holder.kind === SET) this.readMap(holder, site);
+    if (holder.kind === LIST) this.#readItems(holder, site);
+    else if (holder.kind === MAP || holder.kind === SET) this.#readMap(holder, site);
   }
 
   /**
@@ -175,11 +175,11 @@ class Collections {
    */
   spread(object, site) {
     const holder = this.kinds.hold(object, site);
-    if (holder.kind === LIST) this.readItems(holder, site);
-    else if (holder.kind === STORAGE) this.readEach(object, site);
+    if (holder.kind === LIST) this.#readItems(holder, site);
+    else if (holder.kind === STORAGE) this.#readEach(object, site);
     if (holder.kind !== PLAIN) return;
     this.variables.touchName(holder, NAMES, READ, site);
-    this.eachName(object, (name) => this.objects.properties.read(object, name, site));
+    this.#eachName(object, (name) => this.objects.properties.read(object, name, site));
   }
 
   /**
@@ -187,8 +187,8 @@ class Collections {
    * @param {object} object
    * @param {number} site
    */
-  readEach(object, site) {
-    this.eachName(object, (name) => this.objects.properties.access(object, name, 'r', site));
+  #readEach(object, site) {
+    this.#eachName(object, (name) => this.objects.properties.access(object, name, 'r', site));
   }
 
   /**
@@ -199,14 +199,14 @@ class Collections {
    */
   assign(target, object, site) {
     this.spread(object, site);
-    if (typeof target === 'object' && target !== null) this.eachName(object, (name) => this.objects.properties.access(target, name, 'w', site));
+    if (typeof target === 'object' && target !== null) this.#eachName(object, (name) => this.objects.properties.access(target, name, 'w', site));
   }
 
   /**
    * @param {object} object
    * @param {(name: string) => void} visit
    */
-  eachName(object, visit) {
+  #eachName(object, visit) {
     const names = Object.keys(object);
     for (let k = 0; k < names.length && k < MOST_SPREAD; k++) visit(names[k]);
   }

@@ -124,6 +124,7 @@ class Holder {
     return variable;
   }
 
+  /** A table of the variables in the list. */
   variablesByName() {
     /** @type {Map<import('../types').VariableName, Variable>} */
     const byName = new Map();

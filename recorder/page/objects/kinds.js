@@ -33,19 +33,19 @@ class Kinds {
    * @param {import('../types').Page} page
    */
   addWindow({ window }) {
-    this.addBuiltin(window.Object.prototype, PLAIN);
-    this.addBuiltin(window.Node.prototype, TREE);
-    this.addBuiltin(window.Map.prototype, MAP);
-    this.addBuiltin(window.Set.prototype, SET);
-    this.addBuiltin(window.Storage.prototype, STORAGE);
-    this.watchProxies(window);
+    this.#addBuiltin(window.Object.prototype, PLAIN);
+    this.#addBuiltin(window.Node.prototype, TREE);
+    this.#addBuiltin(window.Map.prototype, MAP);
+    this.#addBuiltin(window.Set.prototype, SET);
+    this.#addBuiltin(window.Storage.prototype, STORAGE);
+    this.#watchProxies(window);
   }
 
   /**
    * @param {object} prototype
    * @param {number} makes
    */
-  addBuiltin(prototype, makes) {
+  #addBuiltin(prototype, makes) {
     const holder = new Builtin(makes);
     this.holders.set(prototype, holder);
     return holder;
@@ -55,7 +55,7 @@ class Kinds {
    * A look at a proxy would run the page's code, so each is known from its making on.
    * @param {import('../types').PageWindow} window
    */
-  watchProxies(window) {
+  #watchProxies(window) {
     const { holders } = this;
     const proxy = new Holder(LEFT_OUT, 0, null);
     const Native = window.Proxy;
@@ -85,14 +85,14 @@ class Kinds {
     const known = this.holders.get(object);
     if (known !== undefined) return known;
     const maker = getOwnPropertyDescriptor(object, 'constructor');
-    const isOfBrowser = maker ? typeof maker.value === 'function' && this.isNative(maker.value) : isIterator(object);
+    const isOfBrowser = maker ? typeof maker.value === 'function' && this.#isNative(maker.value) : isIterator(object);
     if (!isOfBrowser) return this.hold(object, -1);
     const up = getPrototypeOf(object);
-    return this.addBuiltin(object, up === null ? PLAIN : madeBy(this.holdPrototype(up)));
+    return this.#addBuiltin(object, up === null ? PLAIN : madeBy(this.holdPrototype(up)));
   }
 
   /** @param {Function} maker */
-  isNative(maker) {
+  #isNative(maker) {
     const holder = this.holders.get(maker);
     if (holder !== undefined && holder.kind === LEFT_OUT) return false;
     return replacedFunctions.has(maker) || sliceOf(apply(functionText, maker, []), -NATIVE_TEXT.length) === NATIVE_TEXT;
@@ -111,7 +111,7 @@ class Kinds {
     for (let depth = 0; at !== null && depth < LONGEST_PROTOTYPE_CHAIN; depth++) {
       const holder = this.holdPrototype(at);
       if (holder.kind === LEFT_OUT) return PLAIN; // a proxy is asked nothing
-      if (holder.kind === BUILTIN) return this.isMade(object, madeBy(holder)) ? madeBy(holder) : PLAIN;
+      if (holder.kind === BUILTIN) return this.#isMade(object, madeBy(holder)) ? madeBy(holder) : PLAIN;
       at = getPrototypeOf(at);
     }
     return PLAIN;
@@ -122,7 +122,7 @@ class Kinds {
    * @param {object} object
    * @param {number} kind
    */
-  isMade(object, kind) {
+  #isMade(object, kind) {
     if (kind === TREE) return this.objects.trees.isNode(object);
     return kind !== STORAGE || this.objects.properties.fieldsOf(object) !== undefined;
   }

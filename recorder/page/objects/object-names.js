@@ -46,7 +46,7 @@ class ObjectNames {
    * @param {import('../types').Holder} holder
    */
   write(holder) {
-    this.recording.log.name('object', holder.number, this.facts(holder));
+    this.recording.log.name('object', holder.number, this.#facts(holder));
   }
 
   /**
@@ -63,11 +63,11 @@ class ObjectNames {
    * @param {import('../types').Holder} holder
    * @returns {import('../types').Facts}
    */
-  facts({ kind, site, object }) {
+  #facts({ kind, site, object }) {
     if (kind === SCOPE) return { site };
     if (kind === LIST) return { site, made: 'array' };
-    if (typeof object === 'function') return { site, made: 'function', name: this.ownText(object, 'name') };
-    const name = this.nameOfMaker(object);
+    if (typeof object === 'function') return { site, made: 'function', name: this.#ownText(object, 'name') };
+    const name = this.#nameOfMaker(object);
     return { site, made: name && name !== 'Object' ? name : 'object' };
   }
 
@@ -75,18 +75,18 @@ class ObjectNames {
    * The name of the class or the constructor that made an object.
    * @param {object} object
    */
-  nameOfMaker(object) {
+  #nameOfMaker(object) {
     const prototype = getPrototypeOf(object);
     if (prototype === null || this.kinds.holders.get(prototype)?.kind === LEFT_OUT) return undefined;
     const maker = getOwnPropertyDescriptor(prototype, 'constructor');
-    return maker && typeof maker.value === 'function' ? this.ownText(maker.value, 'name') : undefined;
+    return maker && typeof maker.value === 'function' ? this.#ownText(maker.value, 'name') : undefined;
   }
 
   /**
    * @param {object} object
    * @param {string} name
    */
-  ownText(object, name) {
+  #ownText(object, name) {
     if (this.kinds.isLeftOut(object)) return undefined;
     const found = getOwnPropertyDescriptor(object, name);
     return found && typeof found.value === 'string' && found.value ? sliceOf(found.value, 0, LONGEST_TOLD) : undefined;
@@ -97,13 +97,13 @@ class ObjectNames {
    * @param {unknown} key
    */
   ofKey(key) {
-    if (isThing(key)) return this.kinds.isLeftOut(key) ? null : `[object ${this.keyNumber(key)}]`;
+    if (isThing(key)) return this.kinds.isLeftOut(key) ? null : `[object ${this.#keyNumber(key)}]`;
     if (typeof key === 'symbol') return null;
     return typeof key === 'string' ? `[${sliceOf(key, 0, LONGEST_TOLD)}]` : `[${String(key)}]`;
   }
 
   /** @param {object} key */
-  keyNumber(key) {
+  #keyNumber(key) {
     let number = this.keys.get(key);
     if (number === undefined) this.keys.set(key, number = this.recording.next('key'));
     return number;

@@ -49,6 +49,7 @@ class Objects {
     this.recording.startPiece();
   }
 
+  /** The sites forget what they have met, because another piece of code starts. */
   forget() {
     this.sites.forget();
   }

@@ -39,8 +39,8 @@ class Patterns {
    * @param {Shape} shape
    */
   takeApart(object, site, shape) {
-    if (shape[0] === '[') this.takeItems(object, site, shape);
-    else this.takeProperties(object, site, shape);
+    if (shape[0] === '[') this.#takeItems(object, site, shape);
+    else this.#takeProperties(object, site, shape);
   }
 
   /**
@@ -48,7 +48,7 @@ class Patterns {
    * @param {number} site
    * @param {Shape} shape
    */
-  takeItems(object, site, shape) {
+  #takeItems(object, site, shape) {
     if (!isArray(object) || shape[shape.length - 1] === '...') {
       this.collections.iterate(object, site);
       return;
@@ -56,7 +56,7 @@ class Patterns {
     for (let k = 1; k < shape.length; k++) {
       const inner = shape[k];
       if (inner !== null) this.properties.access(object, k - 1, 'r', site);
-      if (isArray(inner)) this.takeInner(object, k - 1, site, inner);
+      if (isArray(inner)) this.#takeInner(object, k - 1, site, inner);
     }
   }
 
@@ -65,13 +65,13 @@ class Patterns {
    * @param {number} site
    * @param {Shape} shape
    */
-  takeProperties(object, site, shape) {
+  #takeProperties(object, site, shape) {
     for (let k = 1; k < shape.length; k += 2) {
       const name = /** @type {string} */ (shape[k]);
       const inner = shape[k + 1];
       if (name === '...') this.collections.spread(object, site);
       else this.properties.access(object, name, 'r', site);
-      if (isArray(inner)) this.takeInner(object, name, site, inner);
+      if (isArray(inner)) this.#takeInner(object, name, site, inner);
     }
   }
 
@@ -81,7 +81,7 @@ class Patterns {
    * @param {number} site
    * @param {Shape} shape
    */
-  takeInner(object, name, site, shape) {
+  #takeInner(object, name, site, shape) {
     const found = getOwnPropertyDescriptor(object, name);
     const value = found && found.value;
     if (isThing(value) && !this.kinds.isLeftOut(value)) this.takeApart(value, site, shape);
@@ -95,7 +95,7 @@ class Patterns {
    */
   takeEach(object, site, shape) {
     this.collections.iterate(object, site);
-    for (let k = 0; isArray(object) && k < object.length && k < MOST_SPREAD; k++) this.takeInner(object, k, site, shape);
+    for (let k = 0; isArray(object) && k < object.length && k < MOST_SPREAD; k++) this.#takeInner(object, k, site, shape);
   }
 }
 

@@ -39,9 +39,9 @@ class Properties {
       case BYTES: if (typeof name === 'number') variables.touchModes(kinds.hold(object, site), WHOLE, modes, site); break;
       case TREE: this.objects.trees.access(object, name, modes, site); break;
       case STYLE: case CLASSES: case DATA: if (known !== undefined) this.objects.trees.accessPart(known, object, name, modes, site); break;
-      case STORAGE: this.accessStorage(kinds.hold(object, site), `${name}`, modes, site); break;
-      case WINDOW: if (known !== undefined) this.accessWindow(known.object, name, modes, site); break;
-      default: this.accessPlain(object, typeof name === 'number' ? `${name}` : name, modes, site);
+      case STORAGE: this.#accessStorage(kinds.hold(object, site), `${name}`, modes, site); break;
+      case WINDOW: if (known !== undefined) this.#accessWindow(known.object, name, modes, site); break;
+      default: this.#accessPlain(object, typeof name === 'number' ? `${name}` : name, modes, site);
     }
   }
 
@@ -52,15 +52,15 @@ class Properties {
    * @param {import('../types').Modes} modes
    * @param {number} site
    */
-  accessPlain(object, name, modes, site) {
+  #accessPlain(object, name, modes, site) {
     if (modes === 'r') {
       this.read(object, name, site);
       return;
     }
     const holder = this.kinds.hold(object, site);
-    if (modes === 'U' && this.count(holder, object, name, site)) return;
+    if (modes === 'U' && this.#count(holder, object, name, site)) return;
     if (modes === 'u' || modes === 'U') this.read(object, name, site);
-    this.write(holder, object, name, site);
+    this.#write(holder, object, name, site);
     if (modes === 'd') this.variables.touchName(holder, NAMES, WRITE, site);
   }
 
@@ -70,7 +70,7 @@ class Properties {
    * @param {import('../types').Modes} modes
    * @param {number} site
    */
-  accessWindow(page, name, modes, site) {
+  #accessWindow(page, name, modes, site) {
     const text = `${name}`;
     if (fits(/^\d+$/, text)) return; // a frame
     if (modes === 'r') page.globals.read(text, site);
@@ -84,7 +84,7 @@ class Properties {
    * @param {object} object
    */
   fieldsOf(object) {
-    return findItem(this.recording.documents, ({ fields }) => fields.areaOf(object) !== '')?.fields;
+    return findItem(this.recording.pages, ({ fields }) => fields.areaOf(object) !== '')?.fields;
   }
 
   /**
@@ -94,9 +94,9 @@ class Properties {
    * @param {import('../types').Modes} modes
    * @param {number} site
    */
-  accessStorage({ object }, name, modes, site) {
+  #accessStorage({ object }, name, modes, site) {
     const fields = this.fieldsOf(object);
-    if (!fields || this.isInherited(object, name)) return;
+    if (!fields || this.#isInherited(object, name)) return;
     if (modes !== 'w' && modes !== 'd') fields.accessItem('r', object, name, site);
     if (modes !== 'r') fields.accessItem('w', object, name, site);
   }
@@ -106,7 +106,7 @@ class Properties {
    * @param {object} object
    * @param {string} name
    */
-  isInherited(object, name) {
+  #isInherited(object, name) {
     let at = getPrototypeOf(object);
     for (let depth = 0; at !== null && depth < LONGEST_PROTOTYPE_CHAIN; depth++) {
       if (this.kinds.holders.get(at)?.kind === LEFT_OUT || hasOwn(at, name)) return true;
@@ -129,14 +129,14 @@ class Properties {
       const holder = depth === 0 ? kinds.holders.get(at) : kinds.holdPrototype(at);
       if (holder !== undefined && holder.kind === LEFT_OUT) return;
       if (hasOwn(at, name)) {
-        if (holder === undefined || holder.kind !== BUILTIN) this.readOwn(holder || kinds.hold(at, site), at, name, site);
+        if (holder === undefined || holder.kind !== BUILTIN) this.#readOwn(holder || kinds.hold(at, site), at, name, site);
         return;
       }
       const gone = holder === undefined ? null : holder.find(name);
       if (holder !== undefined && gone !== null && !(gone.flags & IS_LEFT_OUT)) this.variables.touch(holder, gone, READ, site);
       at = getPrototypeOf(at);
     }
-    this.readMissing(object, name, site);
+    this.#readMissing(object, name, site);
   }
 
   /**
@@ -146,8 +146,8 @@ class Properties {
    * @param {import('../types').VariableName} name
    * @param {number} site
    */
-  readOwn(holder, object, name, site) {
-    const variable = this.ownVariable(holder, object, name, site);
+  #readOwn(holder, object, name, site) {
+    const variable = this.#ownVariable(holder, object, name, site);
     if (!(variable.flags & IS_LEFT_OUT)) this.variables.touch(holder, variable, READ, site);
   }
 
@@ -158,8 +158,8 @@ class Properties {
    * @param {import('../types').VariableName} name
    * @param {number} site
    */
-  count(holder, object, name, site) {
-    const variable = hasOwn(object, name) ? this.ownVariable(holder, object, name, site) : null;
+  #count(holder, object, name, site) {
+    const variable = hasOwn(object, name) ? this.#ownVariable(holder, object, name, site) : null;
     if (variable === null || variable.flags & IS_LEFT_OUT) return false;
     this.variables.count(holder, variable, site);
     return true;
@@ -172,7 +172,7 @@ class Properties {
    * @param {import('../types').VariableName} name
    * @param {number} site
    */
-  ownVariable(holder, object, name, site) {
+  #ownVariable(holder, object, name, site) {
     if (holder.site < 0) this.kinds.noteSite(holder, site);
     const known = holder.find(name);
     if (known !== null) return known;
@@ -187,7 +187,7 @@ class Properties {
    * @param {import('../types').VariableName} name
    * @param {number} site
    */
-  readMissing(object, name, site) {
+  #readMissing(object, name, site) {
     /** @type {object|null} */
     let at = object;
     for (let depth = 0; at !== null && depth < LONGEST_PROTOTYPE_CHAIN; depth++) {
@@ -206,18 +206,18 @@ class Properties {
    * @param {import('../types').VariableName} name
    * @param {number} site
    */
-  write(holder, object, name, site) {
+  #write(holder, object, name, site) {
     let variable = holder.find(name);
     const isNew = !hasOwn(object, name);
     if (variable === null) {
-      const isCode = isNew ? this.hasSetter(object, name) : isAccessor(object, name);
+      const isCode = isNew ? this.#hasSetter(object, name) : isAccessor(object, name);
       if (isCode && isNew) return;
       variable = holder.add(name);
       if (isCode) variable.flags |= IS_LEFT_OUT;
     }
     if (variable.flags & IS_LEFT_OUT) return;
     this.variables.touch(holder, variable, WRITE, site);
-    if (isNew) this.noteNewName(holder, site);
+    if (isNew) this.#noteNewName(holder, site);
   }
 
   /**
@@ -225,7 +225,7 @@ class Properties {
    * @param {import('../types').Holder} holder
    * @param {number} site
    */
-  noteNewName(holder, site) {
+  #noteNewName(holder, site) {
     if (keepsAll || holder.since !== this.recording.actions || holder.find(NAMES) !== null) this.variables.touchName(holder, NAMES, WRITE, site);
     else if (holder.namesSite < 0) holder.namesSite = site;
   }
@@ -235,7 +235,7 @@ class Properties {
    * @param {object} object
    * @param {import('../types').VariableName} name
    */
-  hasSetter(object, name) {
+  #hasSetter(object, name) {
     let at = getPrototypeOf(object);
     for (let depth = 0; at !== null && depth < LONGEST_PROTOTYPE_CHAIN; depth++) {
       const holder = this.kinds.holders.get(at);

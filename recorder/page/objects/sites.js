@@ -62,7 +62,7 @@ class Sites {
    * Makes the lists long enough for a site.
    * @param {number} site
    */
-  makeRoom(site) {
+  #makeRoom(site) {
     for (let k = this.objects.length; k <= site; k++) {
       this.objects[k] = null;
       this.keys[k] = null;
@@ -83,8 +83,8 @@ class Sites {
   isDue(object, site) {
     const { recording } = this;
     if (!isThing(object) || this.fullIn[site] === recording.pieces || !recording.mayAccess()) return false;
-    if (site >= this.objects.length) this.makeRoom(site);
-    if (this.isTooMany(site)) {
+    if (site >= this.objects.length) this.#makeRoom(site);
+    if (this.#isTooMany(site)) {
       this.fullIn[site] = recording.pieces;
       return false;
     }
@@ -97,7 +97,7 @@ class Sites {
   }
 
   /** @param {number} site */
-  isTooMany(site) {
+  #isTooMany(site) {
     const { actions, log } = this.recording;
     if (this.countedIn[site] !== actions) {
       this.countedIn[site] = actions;

@@ -107,8 +107,8 @@ class Trees {
   access(node, name, modes, site) {
     if (this.notePart(node, name, site)) return;
     const shown = typeof name === 'string' && node.nodeType === 1 ? SHOWN[name] || null : null;
-    if (shown !== null) this.touch(this.kinds.hold(node, site), shown, modes, site);
-    else if (modes === 'r') this.readOwn(node, name, site);
+    if (shown !== null) this.#touch(this.kinds.hold(node, site), shown, modes, site);
+    else if (modes === 'r') this.#readOwn(node, name, site);
     else if (hasOwn(node, name) ? !isAccessor(node, name) : !(name in node)) this.variables.touchModes(this.kinds.hold(node, site), `${name}`, modes, site);
   }
 
@@ -119,7 +119,7 @@ class Trees {
    * @param {import('../types').Modes} modes
    * @param {number} site
    */
-  touch(holder, name, modes, site) {
+  #touch(holder, name, modes, site) {
     variableOfTree(holder, name);
     this.variables.touchModes(holder, name, modes, site);
   }
@@ -130,7 +130,7 @@ class Trees {
    * @param {import('../types').VariableName} name
    * @param {number} site
    */
-  readOwn(node, name, site) {
+  #readOwn(node, name, site) {
     if (hasOwn(node, name)) {
       if (!isAccessor(node, name)) this.variables.touchName(this.kinds.hold(node, site), `${name}`, READ, site);
       return;
@@ -169,10 +169,10 @@ class Trees {
     if (typeof name !== 'string') return;
     const owner = this.kinds.hold(node, site);
     if (kind === CLASSES) {
-      if (READS_CLASSES.has(name)) this.touch(owner, 'class', 'r', site);
-    } else if (kind === DATA) this.touch(owner, nameOfData(name), modes, site);
-    else if (name === 'cssText') this.touch(owner, 'style', modes, site);
-    else if (name in part && !NO_STYLES[name]) this.touch(owner, `style.${name}`, modes, site);
+      if (READS_CLASSES.has(name)) this.#touch(owner, 'class', 'r', site);
+    } else if (kind === DATA) this.#touch(owner, nameOfData(name), modes, site);
+    else if (name === 'cssText') this.#touch(owner, 'style', modes, site);
+    else if (name in part && !NO_STYLES[name]) this.#touch(owner, `style.${name}`, modes, site);
   }
 
   /**
@@ -183,8 +183,8 @@ class Trees {
    */
   call(holder, name, site) {
     if (holder.object.nodeType !== 1) return;
-    if (CHANGES_CONTENT.has(name)) this.touch(holder, CONTENT, 'w', site);
-    else if (READS_CONTENT.has(name)) this.touch(holder, CONTENT, 'r', site);
+    if (CHANGES_CONTENT.has(name)) this.#touch(holder, CONTENT, 'w', site);
+    else if (READS_CONTENT.has(name)) this.#touch(holder, CONTENT, 'r', site);
   }
 
   /**
@@ -195,7 +195,7 @@ class Trees {
    * @param {number} site
    */
   accessAttribute(holder, key, method, site) {
-    if (typeof key === 'string' && !isOther(key)) this.touch(holder, lowerCase(key), READS_ATTRIBUTE.has(method) ? 'r' : 'w', site);
+    if (typeof key === 'string' && !isOther(key)) this.#touch(holder, lowerCase(key), READS_ATTRIBUTE.has(method) ? 'r' : 'w', site);
   }
 
   /**
@@ -219,9 +219,9 @@ class Trees {
    */
   noteChange({ target, type, attributeName, oldValue }) {
     if (type === 'characterData' && this.recording.ownTexts.delete(target)) return; // what the recorder did (page/scripts/scripts.js)
-    if (type === 'childList') this.write(target, CONTENT, UNKNOWN);
-    else if (type === 'characterData') this.write(target.parentNode, CONTENT, UNKNOWN);
-    else if (attributeName !== null && !isOther(attributeName)) this.write(target, attributeName, oldValue);
+    if (type === 'childList') this.#write(target, CONTENT, UNKNOWN);
+    else if (type === 'characterData') this.#write(target.parentNode, CONTENT, UNKNOWN);
+    else if (attributeName !== null && !isOther(attributeName)) this.#write(target, attributeName, oldValue);
   }
 
   /**
@@ -230,7 +230,7 @@ class Trees {
    * @param {string|null} name
    * @param {unknown} before
    */
-  write(node, name, before) {
+  #write(node, name, before) {
     if (!node || name === null || node.nodeType !== 1 || !this.recording.hasBegun) return;
     const holder = this.kinds.hold(node, -1);
     this.variables.stage(holder, variableOfTree(holder, name), -1, before);

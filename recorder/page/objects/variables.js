@@ -87,11 +87,11 @@ class Variables {
     const { actions } = this.recording;
     variable.flags &= ~IS_COUNTED;
     if (mode === WRITE) {
-      if (variable.lastWrite !== actions) this.stage(holder, variable, site, this.valueOf(holder, variable));
+      if (variable.lastWrite !== actions) this.stage(holder, variable, site, this.#valueOf(holder, variable));
     } else if (variable.lastWrite === actions) {
       if (keepsAll) this.waiting.keep(holder, variable, 'r', site, ' own');
     } else if (variable.lastRead !== actions) {
-      this.read(holder, variable, site, this.valueOf(holder, variable));
+      this.#read(holder, variable, site, this.#valueOf(holder, variable));
     }
   }
 
@@ -105,7 +105,7 @@ class Variables {
   readAs(holder, variable, site, value) {
     const { actions } = this.recording;
     if (variable.lastWrite === actions) this.touch(holder, variable, READ, site);
-    else if (variable.lastRead !== actions) this.read(holder, variable, site, value);
+    else if (variable.lastRead !== actions) this.#read(holder, variable, site, value);
   }
 
   /**
@@ -115,7 +115,7 @@ class Variables {
    * @param {number} site
    * @param {unknown} value
    */
-  read(holder, variable, site, value) {
+  #read(holder, variable, site, value) {
     const { actions } = this.recording;
     variable.lastRead = actions;
     variable.flags |= IS_READ;
@@ -161,7 +161,7 @@ class Variables {
    * @param {import('../types').Variable} variable
    * @returns {unknown}
    */
-  valueOf({ kind, object }, { name }) {
+  #valueOf({ kind, object }, { name }) {
     if (kind === WINDOW) return object.globals.valueOf(name);
     if (kind === TREE) return this.objects.trees.valueOf(object, name);
     if (typeof name === 'string' ? kind !== PLAIN || name[0] === '(' || name[0] === '#' : kind !== LIST) return UNKNOWN;
@@ -179,8 +179,8 @@ class Variables {
   settleWrites() {
     const { staged } = this;
     for (let k = 0; k < staged.length; k += OF_STAGED) {
-      const after = staged[k].kind === SCOPE ? staged[k + AFTER] : this.valueOf(staged[k], staged[k + 1]);
-      this.settleWrite(staged[k], staged[k + 1], staged[k + 2], staged[k + 3], after);
+      const after = staged[k].kind === SCOPE ? staged[k + AFTER] : this.#valueOf(staged[k], staged[k + 1]);
+      this.#settleWrite(staged[k], staged[k + 1], staged[k + 2], staged[k + 3], after);
     }
     staged.length = 0;
   }
@@ -192,7 +192,7 @@ class Variables {
    * @param {unknown} before
    * @param {unknown} after
    */
-  settleWrite(holder, variable, site, before, after) {
+  #settleWrite(holder, variable, site, before, after) {
     const { actions } = this.recording;
     if (holder.kind === WINDOW) holder.object.globals.noteValue(variable.name, after);
     const isKept = isSame(holder, before, after);

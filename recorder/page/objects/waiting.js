@@ -38,7 +38,7 @@ class Waiting {
    */
   settle(holder, variable, access, site, after, before) {
     if (variable.flags & MAY_RACE) {
-      this.write(variable, access, site, after, before);
+      this.#write(variable, access, site, after, before);
       return;
     }
     if (variable.firstAccess === 0) {
@@ -48,9 +48,9 @@ class Waiting {
       variable.firstBefore = before;
     } else {
       if (actionOf(variable.firstAccess) !== actionOf(access)) variable.flags |= IS_SHARED;
-      if (!this.wait(variable, access, site, after, before)) return;
+      if (!this.#wait(variable, access, site, after, before)) return;
     }
-    if (mayRace(holder, variable)) this.writeAll(holder, variable);
+    if (mayRace(holder, variable)) this.#writeAll(holder, variable);
   }
 
   /**
@@ -61,7 +61,7 @@ class Waiting {
    * @param {unknown} after
    * @param {unknown} before
    */
-  wait(variable, access, site, after, before) {
+  #wait(variable, access, site, after, before) {
     if (variable.waiting === null) {
       variable.waiting = [access, site, after, before];
       return true;
@@ -84,13 +84,13 @@ class Waiting {
    * @param {import('../types').Holder} holder
    * @param {import('../types').Variable} variable
    */
-  writeAll(holder, variable) {
+  #writeAll(holder, variable) {
     const { waiting } = variable;
     variable.waiting = null;
     variable.flags |= MAY_RACE;
-    this.declare(holder, variable);
-    this.write(variable, variable.firstAccess, variable.firstSite, variable.firstAfter, variable.firstBefore);
-    for (let k = 0; waiting !== null && k < waiting.length; k += OF_WAITING) this.write(variable, waiting[k], waiting[k + 1], waiting[k + 2], waiting[k + 3]);
+    this.#declare(holder, variable);
+    this.#write(variable, variable.firstAccess, variable.firstSite, variable.firstAfter, variable.firstBefore);
+    for (let k = 0; waiting !== null && k < waiting.length; k += OF_WAITING) this.#write(variable, waiting[k], waiting[k + 1], waiting[k + 2], waiting[k + 3]);
   }
 
   /**
@@ -98,7 +98,7 @@ class Waiting {
    * @param {import('../types').Holder} holder
    * @param {import('../types').Variable} variable
    */
-  declare(holder, variable) {
+  #declare(holder, variable) {
     if (variable.line) return;
     variable.line = ++this.lines;
     const { log } = this.recording;
@@ -113,7 +113,7 @@ class Waiting {
    * @param {unknown} after
    * @param {unknown} before
    */
-  write(variable, access, site, after, before) {
+  #write(variable, access, site, after, before) {
     this.recording.log.line(`in ${actionOf(access)} ${'rwkw'[modeOf(access)]} ${variable.line}`, site < 0 ? undefined : site, foundOf(modeOf(access), after, before));
   }
 
@@ -127,7 +127,7 @@ class Waiting {
    * @param {number} site
    */
   keep(holder, variable, mode, site, why = '') {
-    this.declare(holder, variable);
+    this.#declare(holder, variable);
     this.recording.log.line(`all ${mode} ${variable.line}${why}`, site < 0 ? undefined : site);
   }
 

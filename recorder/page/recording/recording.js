@@ -132,11 +132,11 @@ class Recording extends OpenDispatches {
     this.nesting = 0;
     this.task++;
     this.finishAll();
-    each(this.documents, ({ elements, tree }) => {
+    each(this.pages, ({ elements, tree }) => {
       elements.writeJoining();
       tree.collect('parser');
     });
-    each(this.documents, (document) => document.lookForNextDocument());
+    each(this.pages, (page) => page.lookForNextDocument());
     this.log.sendIfDue(this.natives.now());
   }
 
@@ -151,9 +151,9 @@ class Recording extends OpenDispatches {
    * @param {import('../scripts/scripts.js').FunctionOfScript[]} functions those of a script, which are there before it begins
    */
   enter(kind, functions = []) {
-    if (!this.contexts.length && !this.isCheckpoint && !this.isOver) each(this.documents, ({ reach }) => reach.lookBefore());
+    if (!this.contexts.length && !this.isCheckpoint && !this.isOver) each(this.pages, ({ reach }) => reach.lookBefore());
     if ((settings.isDriven || this.hasUnseenCode) && !this.isRunning()) {
-      each(this.documents, (document) => document.unseen.takeOver(functions));
+      each(this.pages, (page) => page.unseen.takeOver(functions));
     }
     this.contexts[this.contexts.length] = kind;
   }
@@ -175,7 +175,7 @@ class Recording extends OpenDispatches {
   endPiece() {
     if (this.isOver) return;
     this.finishReturned();
-    each(this.documents, ({ tree, unseen }) => {
+    each(this.pages, ({ tree, unseen }) => {
       tree.collect('script');
       unseen.compare();
     });
@@ -185,12 +185,13 @@ class Recording extends OpenDispatches {
   /** No code is on the stack: the microtasks of the running event run now. */
   startCheckpoint() {
     this.turns = TURNS_OF_A_CHECKPOINT;
-    if (this.tellsRejections) each(this.documents, ({ queued }) => queued.noteJobs(this.running));
+    if (this.tellsRejections) each(this.pages, ({ queued }) => queued.noteJobs(this.running));
     if (this.isCheckpoint) return;
     this.isCheckpoint = true;
     this.natives.queueMicrotask(() => this.turn());
   }
 
+  /** One turn of the queue of microtasks. */
   turn() {
     if (!this.isCheckpoint) return;
     this.turns--;
@@ -199,8 +200,8 @@ class Recording extends OpenDispatches {
       this.natives.queueMicrotask(() => this.turn());
       return;
     }
-    each(this.documents, ({ tree }) => tree.collect('script'));
-    each(this.documents, ({ reach }) => reach.lookAfter());
+    each(this.pages, ({ tree }) => tree.collect('script'));
+    each(this.pages, ({ reach }) => reach.lookAfter());
     this.isCheckpoint = false;
   }
 

@@ -5,8 +5,11 @@ import { Set, WeakMap, WeakSet } from '../core/taken.js';
 
 class Shared {
   constructor() {
-    /** @type {import('../types').Page[]} */
-    this.documents = [];
+    /**
+     * The pages that are recorded now, those of frames too: `Page.start` adds each.
+     * @type {import('../types').Page[]}
+     */
+    this.pages = [];
     /** @type {WeakMap<object, number>} */
     this.elementNumbers = new WeakMap();
     /** @type {Set<number>} */

@@ -78,7 +78,7 @@ class Steering {
    * @param {import('../types').Held} hold
    * @param {import('../types').Waiting} one
    */
-  keep(hold, one) {
+  #keep(hold, one) {
     if (!hold.waiting.length) this.log?.name('held', hold.id, {});
     hold.waiting[hold.waiting.length] = one;
   }
@@ -94,7 +94,7 @@ class Steering {
     if (!hold) return run;
     return (...args) => {
       if (hold.isLet) apply(run, undefined, args);
-      else if (!hold.waiting.length) this.keep(hold, { go: () => again(unlessCleared(hold, run)) });
+      else if (!hold.waiting.length) this.#keep(hold, { go: () => again(unlessCleared(hold, run)) });
     };
   }
 
@@ -141,7 +141,7 @@ class Steering {
   post(hold, receiver, send) {
     const before = findItem(this.holds, ({ waiting }) => findItem(waiting, (one) => one.receiver === receiver));
     const holding = before || hold;
-    if (holding) this.keep(holding, { receiver, go: send });
+    if (holding) this.#keep(holding, { receiver, go: send });
     else send();
   }
 
@@ -177,10 +177,10 @@ class Steering {
     const hold = this.asks('on');
     if (hold?.event && !hold.target) {
       hold.target = target;
-      this.listen(target, hold.event.type);
+      this.#listen(target, hold.event.type);
     }
     const own = findItem(this.holds, (one) => one.target === target && !one.isLet);
-    if (own && own.event?.type !== type) this.listen(target, type); // later events of the target wait until it is released
+    if (own && own.event?.type !== type) this.#listen(target, type); // later events of the target wait until it is released
   }
 
   /**
@@ -188,7 +188,7 @@ class Steering {
    * @param {EventTarget} target
    * @param {string} type
    */
-  listen(target, type) {
+  #listen(target, type) {
     apply(this.natives.addEventListener, target, [type, (/** @type {Event} */ event) => { this.keepsEvent(event); }, true]);
   }
 
@@ -199,12 +199,12 @@ class Steering {
   keepsEvent(event) {
     if (!this.holds.length || !event.isTrusted) return false;
     if (this.seen.has(event)) return false;
-    const hold = findItem(this.holds, (one) => !one.isLet && this.isHeldBy(one, event));
+    const hold = findItem(this.holds, (one) => !one.isLet && this.#isHeldBy(one, event));
     this.seen.add(event);
     const { target } = event;
     if (!hold || !target) return false;
     event.stopImmediatePropagation();
-    this.keep(hold, { target, go: () => this.release(target, event) });
+    this.#keep(hold, { target, go: () => this.#release(target, event) });
     return true;
   }
 
@@ -212,11 +212,11 @@ class Steering {
    * @param {import('../types').Held} hold
    * @param {Event} event
    */
-  isHeldBy(hold, event) {
+  #isHeldBy(hold, event) {
     if (!hold.event) return false;
     const { type, nth, tag } = hold.event;
     if (hold.waiting.length && event.target === hold.waiting[0].target) return true;
-    const isOfTarget = tag ? this.isElement(hold.event, event.target) : event.target === hold.target;
+    const isOfTarget = tag ? this.#isElement(hold.event, event.target) : event.target === hold.target;
     if (event.type !== type || !isOfTarget) return false;
     hold.met++;
     return hold.met === nth;
@@ -226,7 +226,7 @@ class Steering {
    * @param {{tag?: string, id?: string, source?: string}} wanted
    * @param {any} target any target of events
    */
-  isElement({ tag, id, source }, target) {
+  #isElement({ tag, id, source }, target) {
     const { getAttribute } = this.natives;
     if (!target || target.nodeType !== 1) return false;
     if (target.localName !== tag || (apply(getAttribute, target, ['id']) || '') !== id) return false;
@@ -238,7 +238,7 @@ class Steering {
    * @param {EventTarget} target
    * @param {Event} event
    */
-  release(target, event) {
+  #release(target, event) {
     const { dispatchEvent, initEvent } = this.natives;
     this.released.add(event);
     apply(initEvent, event, [event.type, event.bubbles, event.cancelable]); // it is stopped no more
@@ -252,7 +252,7 @@ class Steering {
    */
   observed(hold, run) {
     if (!hold || hold.isLet) run();
-    else this.keep(hold, { go: run });
+    else this.#keep(hold, { go: run });
   }
 
   /**
@@ -269,7 +269,7 @@ class Steering {
     const again = () => {
       if (!hold.isLet) apply(this.natives.addEventListener, apply(this.natives.count, store, []), ['success', again]);
     };
-    this.keep(hold, { go() {} });
+    this.#keep(hold, { go() {} });
     again();
   }
 

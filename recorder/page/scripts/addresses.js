@@ -26,7 +26,7 @@ class Addresses {
    * @param {Element} element
    * @param {string} name
    */
-  codeOf(element, name) {
+  #codeOf(element, name) {
     return settings.codeOfAddress(apply(this.page.natives.getAttribute, element, [name]) || '', decodeURIComponent, PATTERNS);
   }
 
@@ -36,7 +36,7 @@ class Addresses {
    * @param {string} name of the attribute
    */
   mark(element, name) {
-    const code = this.codeOf(element, name);
+    const code = this.#codeOf(element, name);
     if (!code || fits(IS_MARKED, code)) return;
     const marked = markIn(code, '__er.addressBegins();try{') + code + markIn(code, '\n}finally{__er.addressEnds()}');
     apply(this.page.natives.setAttribute, element, [name, `javascript:${encodeURIComponent(marked)}`]);
@@ -49,12 +49,12 @@ class Addresses {
    * @param {EventTarget[]} path
    * @returns {{element: Element, name: string}|null}
    */
-  find({ type, submitter }, target, path) {
-    if (type === 'submit' && submitter && this.codeOf(submitter, 'formaction')) return { element: submitter, name: 'formaction' };
-    if (type === 'submit') return isElement(target) && this.codeOf(target, 'action') ? { element: target, name: 'action' } : null;
-    const isLink = (/** @type {unknown} */ node) => isElement(node) && node.localName === 'a' && (this.codeOf(node, 'href') || this.codeOf(node, 'xlink:href'));
+  #find({ type, submitter }, target, path) {
+    if (type === 'submit' && submitter && this.#codeOf(submitter, 'formaction')) return { element: submitter, name: 'formaction' };
+    if (type === 'submit') return isElement(target) && this.#codeOf(target, 'action') ? { element: target, name: 'action' } : null;
+    const isLink = (/** @type {unknown} */ node) => isElement(node) && node.localName === 'a' && (this.#codeOf(node, 'href') || this.#codeOf(node, 'xlink:href'));
     const link = /** @type {Element|undefined} */ (findItem(path, isLink));
-    return link ? { element: link, name: this.codeOf(link, 'href') ? 'href' : 'xlink:href' } : null;
+    return link ? { element: link, name: this.#codeOf(link, 'href') ? 'href' : 'xlink:href' } : null;
   }
 
   /**
@@ -65,7 +65,7 @@ class Addresses {
   watch(dispatch, path) {
     const { event, target } = dispatch;
     if (event.type !== 'click' && event.type !== 'submit') return;
-    const found = this.find(event, target, path);
+    const found = this.#find(event, target, path);
     if (!found) return;
     this.mark(found.element, found.name);
     dispatch.whenClosed = () => {

@@ -30,7 +30,7 @@ class InOrder {
    */
   note(element, number) {
     if (/** @type {HTMLScriptElement} */ (element).async !== false) return;
-    this.last = { maker: this.recording.running, previous: this.last, before: this.lastBefore(), ends: [] };
+    this.last = { maker: this.recording.running, previous: this.last, before: this.#lastBefore(), ends: [] };
     this.scripts.set(number, this.last);
   }
 
@@ -38,7 +38,7 @@ class InOrder {
    * The last script that is inserted before the running event, or by it, in any run of the page.
    * @returns {Inserted|null}
    */
-  lastBefore() {
+  #lastBefore() {
     const { recording } = this;
     let one = this.last;
     for (let left = MOST_LOOKED_AT; one && left > 0; left--) {
@@ -53,9 +53,9 @@ class InOrder {
    * @param {Inserted} inserted
    * @returns {Moment[]}
    */
-  endsBefore({ before }) {
+  #endsBefore({ before }) {
     if (!before) return [];
-    return before.ends.length ? before.ends : this.endsBefore(before);
+    return before.ends.length ? before.ends : this.#endsBefore(before);
   }
 
   /**
@@ -64,7 +64,7 @@ class InOrder {
    */
   begins(number) {
     const script = this.scripts.get(number);
-    if (script) this.page.joins.here(this.endsBefore(script), 'the end of a script');
+    if (script) this.page.joins.here(this.#endsBefore(script), 'the end of a script');
   }
 
   /**

@@ -23,7 +23,7 @@ class InsertedModules {
    * @param {unknown} node
    */
   prepare(node) {
-    if (!isElement(node) || node.localName !== 'script' || this.recording.isOver || !this.isInlineModule(node)) return;
+    if (!isElement(node) || node.localName !== 'script' || this.recording.isOver || !this.#isInlineModule(node)) return;
     const { data, firstChild, isConnected } = this.page.natives;
     const text = /** @type {Text|null} */ (apply(firstChild, node, []));
     if (!text || text.nodeType !== TEXT || text.nextSibling) return;
@@ -38,7 +38,7 @@ class InsertedModules {
    * Whether an element is one that has not started.
    * @param {Element} element
    */
-  isInlineModule(element) {
+  #isInlineModule(element) {
     const { document, elements, insertions, kinds, tree } = this.page;
     const hasStarted = insertions.started.has(element) || tree.staticScripts.has(elements.number(element));
     return !hasStarted && element.ownerDocument === document && kinds.scriptType(element) === 'module' && !kinds.hasSource(element);

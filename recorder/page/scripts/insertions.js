@@ -33,7 +33,7 @@ class Insertions {
    * @param {Element} element
    */
   noteDeclared(element) {
-    this.noteSheet(element);
+    this.#noteSheet(element);
     if (element.localName !== 'script' || !this.starts(element)) return;
     const { elements, inOrder, sources } = this.page;
     const isMadeHere = elements.makers.get(element) === this.recording.running;
@@ -44,7 +44,7 @@ class Insertions {
    * A style sheet's link that another event has declared is inserted: it loads only now.
    * @param {Element} element
    */
-  noteSheet(element) {
+  #noteSheet(element) {
     const { elements, kinds, sources } = this.page;
     if (element.localName !== 'link' || elements.makers.get(element) === this.recording.running || !this.recording.isRunning()) return;
     if (kinds.of(element, false) === 'image') sources.standIn(element, 'image', 'it was inserted');

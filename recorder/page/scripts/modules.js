@@ -49,20 +49,20 @@ class Modules {
    */
   begins(address, site, sources = []) {
     if (this.recording.isOver) return;
-    const running = this.runNow(site);
-    const element = this.find(address, site);
-    if (element && !running.element) this.tellElement(element, running);
-    this.tellAsked(address, running);
-    this.page.joins.here(this.endsOf(sources, address), 'the end of an imported module');
+    const running = this.#runNow(site);
+    const element = this.#find(address, site);
+    if (element && !running.element) this.#tellElement(element, running);
+    this.#tellAsked(address, running);
+    this.page.joins.here(this.#endsOf(sources, address), 'the end of an imported module');
   }
 
   /** @param {number} [site] */
-  runNow(site) {
+  #runNow(site) {
     const { recording } = this;
     const run = recording.moduleRun;
     const isSameTurn = run && recording.isRunning() && recording.running === run.event;
     const waiting = !isSameTurn && !recording.contexts.length && recording.isCheckpoint && takeFirst(this.waiting);
-    const running = waiting ? this.goesOnWith(waiting, site) : run && isSameTurn ? run : this.beginRun(site);
+    const running = waiting ? this.#goesOnWith(waiting, site) : run && isSameTurn ? run : this.#beginRun(site);
     if (!recording.contexts.length) recording.enter('callback');
     return running;
   }
@@ -74,8 +74,8 @@ class Modules {
   beginsInserted(script) {
     const { recording } = this;
     if (recording.isOver) return;
-    const running = this.runNow();
-    if (!running.element) this.tellElement(script, running);
+    const running = this.#runNow();
+    if (!running.element) this.#tellElement(script, running);
     this.page.natives.queueMicrotask(() => { if (recording.moduleRun === running) this.close(); });
   }
 
@@ -84,18 +84,18 @@ class Modules {
    * @param {string[]} sources
    * @param {string} address of what imports them
    */
-  endsOf(sources, address) {
+  #endsOf(sources, address) {
     /** @type {Moment[]} */
     const ends = [];
     each(sources, (source) => {
-      const end = this.ended.get(this.resolve(source, address));
+      const end = this.ended.get(this.#resolve(source, address));
       if (end) ends[ends.length] = end;
     });
     return ends;
   }
 
   /** @param {number} [site] */
-  beginRun(site) {
+  #beginRun(site) {
     const { recording } = this;
     recording.startTask();
     const number = recording.next('module run');
@@ -123,7 +123,7 @@ class Modules {
    * @param {ModuleRun} run
    * @param {number} [site]
    */
-  goesOnWith(run, site) {
+  #goesOnWith(run, site) {
     const { recording } = this;
     this.page.jobs.goesOn({ v: null, site, moment: run.moment, others: run.ends, why: 'the end of an imported module' });
     const further = { ...run, event: recording.running };
@@ -135,7 +135,7 @@ class Modules {
    * @param {HTMLScriptElement} element
    * @param {ModuleRun} run
    */
-  tellElement(element, run) {
+  #tellElement(element, run) {
     const { recording } = this;
     const { elements, scripts } = this.page;
     scripts.showOwnText(element);
@@ -156,12 +156,12 @@ class Modules {
    * @param {number} site
    * @returns {HTMLScriptElement|undefined}
    */
-  find(address, site) {
+  #find(address, site) {
     const { document, natives, scripts, elements } = this.page;
     const found = apply(natives.querySelectorAll, document.documentElement, ['script[type="module" i]']);
     return findItem(/** @type {NodeListOf<HTMLScriptElement>} */ (found), (script) => {
       if (scripts.hasRun.has(elements.number(script))) return false;
-      return script.src ? script.src === address : this.hasSite(script.textContent || '', site);
+      return script.src ? script.src === address : this.#hasSite(script.textContent || '', site);
     });
   }
 
@@ -170,7 +170,7 @@ class Modules {
    * @param {string} text
    * @param {number} site
    */
-  hasSite(text, site) {
+  #hasSite(text, site) {
     return indexIn(text, `import.meta.url,${site})`) >= 0 || indexIn(text, `import.meta.url,${site},`) >= 0;
   }
 
@@ -184,7 +184,7 @@ class Modules {
     if (!moment) return;
     const run = recording.moduleRun;
     each(joined([run], this.waiting), (one) => { if (one) one.ends[one.ends.length] = moment; });
-    this.noteEnd(address, recording.mayDispatch() ? recording.point(this.page.number) : moment);
+    this.#noteEnd(address, recording.mayDispatch() ? recording.point(this.page.number) : moment);
     if (run && recording.running === run.event && (run.element || run.asked === address)) this.close();
   }
 
@@ -193,7 +193,7 @@ class Modules {
    * @param {string} address
    * @param {Moment} end
    */
-  noteEnd(address, end) {
+  #noteEnd(address, end) {
     const imported = this.imports.get(address);
     if (imported) imported.moments[imported.moments.length] = end;
     this.ended.set(address, end);
@@ -225,7 +225,7 @@ class Modules {
     const { recording } = this;
     this.lastImport = null;
     if (!recording.isRunning() || typeof specifier !== 'string') return specifier;
-    const address = this.resolve(specifier, base);
+    const address = this.#resolve(specifier, base);
     const interval = recording.next('interval');
     recording.note(`every ${interval} 0`, site);
     recording.log.line(`asked ${interval} ${address ? 'known' : 'unknown'}`);
@@ -254,7 +254,7 @@ class Modules {
    * @param {string} specifier
    * @param {string} [base]
    */
-  resolve(specifier, base) {
+  #resolve(specifier, base) {
     if (!fits(/^(\.{0,2}\/|[a-z][a-z+.-]*:)/i, specifier)) return '';
     const script = base || fileOnStack() || this.page.document.baseURI;
     try {
@@ -269,7 +269,7 @@ class Modules {
    * @param {string} address
    * @param {ModuleRun} run
    */
-  tellAsked(address, run) {
+  #tellAsked(address, run) {
     const known = this.imports.get(address);
     const asked = known && takeFirst(known.asked);
     if (!asked || run.element || run.asked) return;

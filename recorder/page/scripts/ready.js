@@ -28,25 +28,25 @@ class Ready {
   look(name) {
     if (!NAMES_OF_LIBRARY.has(name)) return;
     const library = this.page.globals.valueOf(LIBRARY);
-    if (typeof library !== 'function' || !this.isOfWindow(library)) return;
+    if (typeof library !== 'function' || !this.#isOfWindow(library)) return;
     const methods = getOwnPropertyDescriptor(library, 'fn')?.value;
-    if (typeof methods !== 'object' || methods === null || this.isProxy(methods) || this.seen.has(methods)) return;
+    if (typeof methods !== 'object' || methods === null || this.#isProxy(methods) || this.seen.has(methods)) return;
     const found = getOwnPropertyDescriptor(methods, 'ready');
     if (typeof found?.value !== 'function') return;
     this.seen.add(methods);
-    if (found.configurable) this.replace(methods);
+    if (found.configurable) this.#replace(methods);
   }
 
   /**
    * A page's jQuery in a variable of its frame waits for the page.
    * @param {Function} library
    */
-  isOfWindow(library) {
-    return !this.isProxy(library) && getPrototypeOf(library) === this.functions;
+  #isOfWindow(library) {
+    return !this.#isProxy(library) && getPrototypeOf(library) === this.functions;
   }
 
   /** @param {object} object */
-  isProxy(object) {
+  #isProxy(object) {
     const { objects } = this.recording;
     return objects !== null && objects.kinds.isLeftOut(object);
   }
@@ -55,13 +55,13 @@ class Ready {
    * A jQuery waits for the document that the window showed when it came: the frame's next page may get it with the window.
    * @param {{ready?: Function}} methods
    */
-  replace(methods) {
+  #replace(methods) {
     const asked = this;
     const { document } = this.page;
     replaceMethod(methods, 'ready', (own) => function ready(callback) {
       if (asked.recording.isOver || typeof callback !== 'function') return apply(own, this, arguments);
       const words = joined(arguments);
-      words[0] = asked.wrap(callback, document);
+      words[0] = asked.#wrap(callback, document);
       asked.running++;
       try {
         return apply(own, this, words);
@@ -78,19 +78,19 @@ class Ready {
    * @param {Document} document for which its jQuery waits
    * @returns {import('../types').Method}
    */
-  wrap(callback, document) {
+  #wrap(callback, document) {
     const asked = this;
     /** @type {import('../types').Method} */
     const run = function run() {
-      if (asked.running === 0 && document === asked.page.document) asked.comeAfterParsing();
+      if (asked.running === 0 && document === asked.page.document) asked.#comeAfterParsing();
       return apply(callback, this, arguments);
     };
-    if (!this.isProxy(callback)) showAs(run, callback);
+    if (!this.#isProxy(callback)) showAs(run, callback);
     return run;
   }
 
   /** A timeout that runs such a callback is jQuery's own; another event is the page's, or has its order by a rule. */
-  comeAfterParsing() {
+  #comeAfterParsing() {
     const { recording, page } = this;
     if (recording.isOver || recording.running.kind !== 'timer') return;
     const ends = page.loading.endOfParsing();

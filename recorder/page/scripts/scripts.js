@@ -43,24 +43,24 @@ class Scripts {
     if (recording.isOver) return;
     const isInside = contexts.length > 0 && contexts[contexts.length - 1] !== 'script';
     if (element ? isInside : contexts[contexts.length - 1] === 'call') {
-      this.beginInside(functions);
+      this.#beginInside(functions);
       return;
     }
     const address = element ? '' : fileOnStack();
-    const script = element || this.findHidden(address);
+    const script = element || this.#findHidden(address);
     if (script === undefined) {
       page.modules.begins(address, site);
       return;
     }
     if (script && !element) this.showOwnText(script);
     recording.startTask();
-    this.writeRun(script, script ? this.runnable(script) : page.tree.addHiddenScript(), site);
+    this.#writeRun(script, script ? this.runnable(script) : page.tree.addHiddenScript(), site);
     recording.enter('script', functions);
-    this.declareFunctions(functions);
+    this.#declareFunctions(functions);
   }
 
   /** @param {FunctionOfScript[]} functions */
-  declareFunctions(functions) {
+  #declareFunctions(functions) {
     each(functions, ({ 0: name, 1: place }) => this.page.globals.declare(name, place));
   }
 
@@ -69,7 +69,7 @@ class Scripts {
    * @param {string} address
    * @returns {Element|null|undefined} null: one in a closed tree; undefined: no script but a module
    */
-  findHidden(address) {
+  #findHidden(address) {
     const { recording, page } = this;
     if (recording.contexts.length) return undefined;
     recording.startTask();
@@ -97,7 +97,7 @@ class Scripts {
    * @param {number} number
    * @param {number} [site]
    */
-  writeRun(element, number, site) {
+  #writeRun(element, number, site) {
     const { recording, page } = this;
     const kind = page.elements.kinds.get(number);
     this.hasRun.add(number);
@@ -125,9 +125,9 @@ class Scripts {
    * A script that a script inserts or writes runs inside the running action.
    * @param {FunctionOfScript[]} functions
    */
-  beginInside(functions) {
+  #beginInside(functions) {
     this.recording.enter('script');
-    this.declareFunctions(functions);
+    this.#declareFunctions(functions);
   }
 
   /** Called by the marks at the end of a script. */
@@ -138,7 +138,7 @@ class Scripts {
       this.page.modules.ends(fileOnStack());
       return;
     }
-    if (recording.contexts.length === 1 && recording.running === this.last.event) this.noteEnd(this.last.number);
+    if (recording.contexts.length === 1 && recording.running === this.last.event) this.#noteEnd(this.last.number);
     recording.leave();
   }
 
@@ -146,7 +146,7 @@ class Scripts {
    * The run of a script element is over, also of one that failed.
    * @param {number} number
    */
-  noteEnd(number) {
+  #noteEnd(number) {
     const { elements, inOrder, loading } = this.page;
     inOrder.ends(number);
     if (fits(/^(inline|sync)$/, elements.kinds.get(number) || '')) loading.noteRunOf(number);
@@ -176,7 +176,7 @@ class Scripts {
     const source = sources.loads.get(element);
     if (source && !this.hasRun.has(source.number)) return source.number;
     const isScript = fits(/^(inline|sync|defer|async)$/, kind);
-    const why = isScript && !this.hasRun.has(number) ? this.whyTooLate(number, kind) : 'it had run, or was no script when it was made';
+    const why = isScript && !this.hasRun.has(number) ? this.#whyTooLate(number, kind) : 'it had run, or was no script when it was made';
     if (!why) return number;
     const standIn = recording.next('element');
     elements.kinds.set(standIn, 'async');
@@ -191,7 +191,7 @@ class Scripts {
    * @param {number} number
    * @param {string} kind
    */
-  whyTooLate(number, kind) {
+  #whyTooLate(number, kind) {
     const { tree, loading } = this.page;
     if (!tree.staticScripts.has(number)) return '';
     if (loading.hasBegunLoad) return 'it ran after load';
@@ -224,8 +224,8 @@ class Scripts {
     const number = elements.number(element);
     const kind = elements.kinds.get(number) || '';
     const isDue = tree.staticScripts.has(number) && kind !== 'async' && !this.hasRun.has(number);
-    if (!isDue || this.whyTooLate(number, kind)) return false;
-    this.writeRun(element, number);
+    if (!isDue || this.#whyTooLate(number, kind)) return false;
+    this.#writeRun(element, number);
     return true;
   }
 
@@ -233,12 +233,12 @@ class Scripts {
    * The same for a script that the browser could not parse and that nothing waits for: its load event comes after the error.
    * @param {Element} element
    */
-  runEmptyLate(element) {
+  #runEmptyLate(element) {
     const { elements, recording, sources } = this.page;
     const number = sources.loads.get(element)?.number || elements.number(element);
     const isAsync = number !== elements.number(element) || elements.kinds.get(number) === 'async';
-    if (!isAsync || !recording.declared.has(elements.number(element)) || this.hasRun.has(number) || this.whyTooLate(number, 'async')) return false;
-    this.writeRun(element, number);
+    if (!isAsync || !recording.declared.has(elements.number(element)) || this.hasRun.has(number) || this.#whyTooLate(number, 'async')) return false;
+    this.#writeRun(element, number);
     return true;
   }
 
@@ -255,7 +255,7 @@ class Scripts {
     /** @type {ArrayLike<Element>} */
     const scripts = isInline ? [last] : apply(natives.querySelectorAll, document.documentElement, ['script[src]']);
     const script = findItem(scripts, (one) => (isInline || /** @type {HTMLScriptElement} */ (one).src === filename) && !this.hasRun.has(elements.number(one)));
-    return !!script && (this.runEmpty(script) || this.runEmptyLate(script));
+    return !!script && (this.runEmpty(script) || this.#runEmptyLate(script));
   }
 }
 

@@ -47,9 +47,9 @@ class Callbacks {
   start() {
     const { window } = this.page;
     each(CALLBACKS, ({ 0: owner, 1: name, 2: indices, 3: property }) => {
-      if (window[owner]) this.replaceCall(window[owner].prototype, name, indices, property);
+      if (window[owner]) this.#replaceCall(window[owner].prototype, name, indices, property);
     });
-    if (window.ViewTransition) each(OF_TRANSITION, (name) => this.replacePromise(window.ViewTransition.prototype, name));
+    if (window.ViewTransition) each(OF_TRANSITION, (name) => this.#replacePromise(window.ViewTransition.prototype, name));
   }
 
   /**
@@ -59,11 +59,11 @@ class Callbacks {
    * @param {number[]} indices
    * @param {string|undefined} property
    */
-  replaceCall(owner, name, indices, property) {
+  #replaceCall(owner, name, indices, property) {
     const callbacks = this;
     replaceMethod(owner, name, (native) => function ask() {
       const words = joined(arguments);
-      const asked = callbacks.recording.isOver ? null : callbacks.wrapWords(name, words, indices, property);
+      const asked = callbacks.recording.isOver ? null : callbacks.#wrapWords(name, words, indices, property);
       const result = apply(native, this, words);
       if (asked && name === 'startViewTransition') callbacks.transitions.set(result, asked.ends);
       if (asked && PROMISES.has(name)) callbacks.page.promises.several.set(result, asked.ends);
@@ -76,7 +76,7 @@ class Callbacks {
    * @param {any} owner
    * @param {string} name
    */
-  replacePromise(owner, name) {
+  #replacePromise(owner, name) {
     const callbacks = this;
     replaceGetter(owner, name, (native) => function get() {
       const promise = apply(native, this, []);
@@ -94,12 +94,12 @@ class Callbacks {
    * @param {string|undefined} property
    * @returns {Asked|null}
    */
-  wrapWords(name, words, indices, property) {
+  #wrapWords(name, words, indices, property) {
     /** @type {Asked[]} */
     const asked = [];
     const wrap = (/** @type {Function} */ callback) => {
-      if (!asked.length) asked[0] = this.ask(name, callback);
-      return this.wrap(asked[0], callback);
+      if (!asked.length) asked[0] = this.#ask(name, callback);
+      return this.#wrap(asked[0], callback);
     };
     each(indices, (index) => {
       const word = words[index];
@@ -115,7 +115,7 @@ class Callbacks {
    * @param {Function} callback
    * @returns {Asked}
    */
-  ask(name, callback) {
+  #ask(name, callback) {
     const { recording } = this;
     const number = recording.next('interval');
     recording.noteAsking(`every ${number} 0`);
@@ -130,7 +130,7 @@ class Callbacks {
    * @param {Function} callback
    * @returns {import('../types').Method}
    */
-  wrap({ number, event, ends }, callback) {
+  #wrap({ number, event, ends }, callback) {
     const { recording } = this;
     return function called() {
       if (recording.isOver || recording.contexts.length) return apply(callback, this, arguments);

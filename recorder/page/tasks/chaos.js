@@ -45,20 +45,20 @@ class Chaos {
   start() {
     if (settings.chaos === null) return;
     const { window } = this.page;
-    this.replaceTimeout(window);
-    this.replaceInterval(window);
-    each(['requestAnimationFrame', 'webkitRequestAnimationFrame'], (name) => this.replaceFrame(window, name));
-    each(['cancelAnimationFrame', 'webkitCancelAnimationFrame'], (name) => this.replaceCancelling(window, name, this.frames));
-    this.replaceIdle(window);
-    this.replaceCancelling(window, 'cancelIdleCallback', this.idles);
-    this.replacePosting(window);
+    this.#replaceTimeout(window);
+    this.#replaceInterval(window);
+    each(['requestAnimationFrame', 'webkitRequestAnimationFrame'], (name) => this.#replaceFrame(window, name));
+    each(['cancelAnimationFrame', 'webkitCancelAnimationFrame'], (name) => this.#replaceCancelling(window, name, this.frames));
+    this.#replaceIdle(window);
+    this.#replaceCancelling(window, 'cancelIdleCallback', this.idles);
+    this.#replacePosting(window);
   }
 
   /**
    * A number from 0 up to 1 for the next of a kind, the same in each run with the seed.
    * @param {string} kind
    */
-  next(kind) {
+  #next(kind) {
     this.counts[kind]++;
     let value = (Number(settings.chaos) * 2654435761 + this.counts[kind] * 40503 + kind.length * 977 + this.page.number * 7919) >>> 0;
     value = Math.imul(value ^ (value >>> 16), 2246822507);
@@ -70,8 +70,8 @@ class Chaos {
    * For how many milliseconds the next of a kind is held back.
    * @param {'timeout'|'idle'|'message'} kind
    */
-  amount(kind) {
-    return Math.max(0, Math.round((this.next(kind) * 2 - 1) * MOST[kind]));
+  #amount(kind) {
+    return Math.max(0, Math.round((this.#next(kind) * 2 - 1) * MOST[kind]));
   }
 
   // ---- timers
@@ -80,17 +80,17 @@ class Chaos {
    * What waits for an earlier timeout is due later by the browser's clock too, and after its lenience: one without a delay would come before it.
    * @param {import('../types').PageWindow} window
    */
-  replaceTimeout(window) {
+  #replaceTimeout(window) {
     replaceMethod(window, 'setTimeout', (native) => (callback, given, ...words) => {
       if (typeof callback !== 'function') return native.call(window, callback, given, ...words);
-      const delay = this.delayOf(given);
+      const delay = this.#delayOf(given);
       const begin = this.natives.now();
-      let due = begin + delay + this.amount('timeout');
+      let due = begin + delay + this.#amount('timeout');
       each(this.timeouts, (one) => { if (one.delay <= delay) due = Math.max(due, one.due, begin + 1); });
       const later = Math.ceil(due - begin);
       const own = { delay, due: 0, number: 0 };
       own.number = native.call(window, (/** @type {unknown[]} */ ...args) => {
-        this.forget(own.number);
+        this.#forget(own.number);
         apply(callback, window, args);
       }, later, ...words);
       own.due = this.natives.now() + later + (later < LEAST_LENIENT ? 1 : LENIENCE);
@@ -98,7 +98,7 @@ class Chaos {
       return own.number;
     });
     each(['clearTimeout', 'clearInterval'], (name) => replaceMethod(window, name, (native) => (...words) => {
-      this.forget(words[0]);
+      this.#forget(words[0]);
       return native.apply(window, words);
     }));
   }
@@ -107,7 +107,7 @@ class Chaos {
    * A timeout runs, or is cleared.
    * @param {unknown} number as the page gives it
    */
-  forget(number) {
+  #forget(number) {
     const given = typeof number === 'string' ? Number(number) : number;
     this.timeouts = keep(this.timeouts, (one) => one.number !== given);
   }
@@ -116,7 +116,7 @@ class Chaos {
    * The delay that the standard compares.
    * @param {unknown} given
    */
-  delayOf(given) {
+  #delayOf(given) {
     const { timers } = this.page;
     return timers.clamped(timers.delay(given));
   }
@@ -125,10 +125,10 @@ class Chaos {
    * An interval is not held back, but its turns do not come before timeouts that were set earlier and have no greater delay.
    * @param {import('../types').PageWindow} window
    */
-  replaceInterval(window) {
+  #replaceInterval(window) {
     replaceMethod(window, 'setInterval', (native) => (callback, given, ...words) => {
       if (typeof callback !== 'function') return native.call(window, callback, given, ...words);
-      const delay = this.delayOf(given);
+      const delay = this.#delayOf(given);
       let before = keep(this.timeouts, (one) => one.delay <= delay);
       const turn = (/** @type {unknown[]} */ ...args) => {
         before = keep(before, (one) => hasItem(this.timeouts, one));
@@ -145,21 +145,21 @@ class Chaos {
    * @param {import('../types').PageWindow} window
    * @param {string} name
    */
-  replaceFrame(window, name) {
+  #replaceFrame(window, name) {
     replaceMethod(window, name, (native) => (callback, ...rest) => {
       if (typeof callback !== 'function') return native.call(window, callback, ...rest);
-      return this.requested(this.frames, (again) => native.call(window, (/** @type {number} */ time) => {
-        if (this.skipsFrame(time)) again();
+      return this.#requested(this.frames, (again) => native.call(window, (/** @type {number} */ time) => {
+        if (this.#skipsFrame(time)) again();
         else callback(time);
       }));
     });
   }
 
   /** @param {number} time */
-  skipsFrame(time) {
+  #skipsFrame(time) {
     const { frame } = this;
     if (time !== frame.time) {
-      const isSkipped = frame.inRow < MOST_FRAMES && this.next('frame') * FRAMES < 1;
+      const isSkipped = frame.inRow < MOST_FRAMES && this.#next('frame') * FRAMES < 1;
       this.frame = { time, isSkipped, inRow: isSkipped ? frame.inRow + 1 : 0 };
     }
     return this.frame.isSkipped;
@@ -170,7 +170,7 @@ class Chaos {
    * @param {Map<number, Request>} requests
    * @param {(again: () => void) => number} request
    */
-  requested(requests, request) {
+  #requested(requests, request) {
     const one = { number: 0 };
     const again = () => { one.number = request(again); };
     again();
@@ -184,7 +184,7 @@ class Chaos {
    * @param {string} name
    * @param {Map<number, Request>} requests
    */
-  replaceCancelling(window, name, requests) {
+  #replaceCancelling(window, name, requests) {
     replaceMethod(window, name, (native) => (...words) => {
       const one = requests.get(words[0]);
       if (one && requests === this.idles) this.waitingIdles = keep(this.waitingIdles, (idle) => idle !== one);
@@ -196,10 +196,10 @@ class Chaos {
    * Idle callbacks without a time by which they have to come.
    * @param {import('../types').PageWindow} window
    */
-  replaceIdle(window) {
+  #replaceIdle(window) {
     replaceMethod(window, 'requestIdleCallback', (native) => (callback, ...rest) => {
       if (typeof callback !== 'function' || rest.length) return native.call(window, callback, ...rest);
-      const own = { number: 0, until: this.natives.now() + this.amount('idle') };
+      const own = { number: 0, until: this.natives.now() + this.#amount('idle') };
       const call = (/** @type {unknown} */ deadline) => {
         if (this.natives.now() < own.until || this.waitingIdles[0] !== own) {
           own.number = native.call(window, call);
@@ -221,21 +221,21 @@ class Chaos {
    * Messages without ports or buffers that go along are copied at once, as the browser does, and posted later.
    * @param {import('../types').PageWindow} window
    */
-  replacePosting(window) {
+  #replacePosting(window) {
     const chaos = this;
     const copy = window.structuredClone.bind(window);
     const { origin } = window;
     const isPlain = (/** @type {unknown} */ target) => target === undefined || target === '*' || target === '/' || target === origin;
     replaceMethod(window, 'postMessage', (native) => function postMessage(...words) {
       const mayWait = words.length === 1 || (words.length === 2 && isPlain(words[1]));
-      return chaos.post(window, mayWait, words, (given) => native.apply(window, given), copy);
+      return chaos.#post(window, mayWait, words, (given) => native.apply(window, given), copy);
     });
     const ports = window.MessagePort.prototype;
     replaceMethod(ports, 'postMessage', (native) => function postMessage(...words) {
-      return chaos.post(this, words.length === 1, words, (given) => native.apply(this, given), copy);
+      return chaos.#post(this, words.length === 1, words, (given) => native.apply(this, given), copy);
     });
     replaceMethod(ports, 'close', (native) => function close() {
-      chaos.postAll();
+      chaos.#postAll();
       return native.call(this);
     });
   }
@@ -248,22 +248,22 @@ class Chaos {
    * @param {(words: unknown[]) => unknown} send
    * @param {(value: unknown) => unknown} copy
    */
-  post(from, mayWait, words, send, copy) {
-    const wait = mayWait ? this.amount('message') : 0;
+  #post(from, mayWait, words, send, copy) {
+    const wait = mayWait ? this.#amount('message') : 0;
     const queue = findItem(this.queues, (one) => one.from === from);
-    if (!mayWait) this.postAll(); // also the messages of a port that goes along
+    if (!mayWait) this.#postAll(); // also the messages of a port that goes along
     if (!mayWait || (!queue && !wait)) return send(words);
     /** @type {unknown} */
     let message;
     try {
       message = copy(words[0]);
     } catch { // the browser's own function throws the error that the page expects
-      this.postAll();
+      this.#postAll();
       return send(words);
     }
     const later = () => { send([message, ...words.slice(1)]); };
     if (queue) queue.posts[queue.posts.length] = later;
-    else this.wait({ from, posts: [later] }, wait);
+    else this.#wait({ from, posts: [later] }, wait);
     return undefined;
   }
 
@@ -272,19 +272,19 @@ class Chaos {
    * @param {Queue} queue
    * @param {number} wait
    */
-  wait(queue, wait) {
+  #wait(queue, wait) {
     this.queues[this.queues.length] = queue;
-    this.natives.setTimeout(() => { if (hasItem(this.queues, queue)) this.postQueue(queue); }, wait);
+    this.natives.setTimeout(() => { if (hasItem(this.queues, queue)) this.#postQueue(queue); }, wait);
   }
 
   /** @param {Queue} queue */
-  postQueue(queue) {
+  #postQueue(queue) {
     this.queues = keep(this.queues, (one) => one !== queue);
     each(queue.posts, (post) => post());
   }
 
-  postAll() {
-    each(this.queues, (queue) => this.postQueue(queue));
+  #postAll() {
+    each(this.queues, (queue) => this.#postQueue(queue));
   }
 }
 

@@ -14,11 +14,11 @@ class Clock {
   }
 
   start() {
-    this.own = [this.current(NAMES[0]), this.current(NAMES[1])];
+    this.own = [this.#current(NAMES[0]), this.#current(NAMES[1])];
   }
 
   /** @param {string} name */
-  current(name) {
+  #current(name) {
     const descriptor = this.page.globals.propertyOf(name);
     return descriptor && 'value' in descriptor ? descriptor.value : descriptor?.get;
   }
@@ -27,7 +27,7 @@ class Clock {
   look() {
     if (this.isOther || !this.own.length) return;
     const { 0: timeout, 1: date } = this.own;
-    this.isOther = this.current(NAMES[0]) !== timeout && this.current(NAMES[1]) !== date;
+    this.isOther = this.#current(NAMES[0]) !== timeout && this.#current(NAMES[1]) !== date;
     if (this.isOther) this.page.recording.log.miss(OTHER_CLOCK);
   }
 }

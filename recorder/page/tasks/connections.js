@@ -34,10 +34,10 @@ class Connections {
   start() {
     const { window } = this.page;
     each(CONNECTIONS, (name) => replaceConstructor(window, name, (made, words) => {
-      this.ask(made, { method: name, address: sliceOf(String(words[0]), 0, 200) });
+      this.#ask(made, { method: name, address: sliceOf(String(words[0]), 0, 200) });
     }));
-    this.replaceCalls(READERS, (target) => target);
-    this.replaceCalls(ASKERS, (target, result) => result);
+    this.#replaceCalls(READERS, (target) => target);
+    this.#replaceCalls(ASKERS, (target, result) => result);
   }
 
   /**
@@ -46,7 +46,7 @@ class Connections {
    * @param {import('../types').Facts & {address?: string}} facts
    * @param {''|'transaction'|'request'} [of] what it is of a database
    */
-  ask(target, facts, of = '') {
+  #ask(target, facts, of = '') {
     if (this.recording.isOver || !target) return;
     const { dispatches, requests } = this.page;
     const request = requests.send(facts);
@@ -58,7 +58,7 @@ class Connections {
    * The request that a database's transaction is, for a request in it.
    * @param {any} result
    */
-  transactionOf(result) {
+  #transactionOf(result) {
     const transaction = result && result.source && result.transaction;
     return transaction ? this.page.dispatches.requests.get(transaction)?.number : undefined;
   }
@@ -70,7 +70,7 @@ class Connections {
    * @param {import('./requests.js').Request} request
    */
   order(dispatch, request) {
-    const queue = this.queueOf(dispatch.target, request);
+    const queue = this.#queueOf(dispatch.target, request);
     if (!queue) return;
     request.queue = queue;
     const { target } = dispatch;
@@ -84,7 +84,7 @@ class Connections {
    * @param {EventTarget & {transaction?: object|null}} target
    * @param {import('./requests.js').Request} request
    */
-  queueOf(target, request) {
+  #queueOf(target, request) {
     if (!request.database) return undefined;
     const transaction = request.database === 'transaction' ? target : target.transaction;
     if (!transaction) return request.queue;
@@ -97,14 +97,14 @@ class Connections {
    * @param {[owner: string, names: string[]][]} owners
    * @param {(target: any, result: any) => EventTarget|null} answering where the events come
    */
-  replaceCalls(owners, answering) {
+  #replaceCalls(owners, answering) {
     const connections = this;
     each(keep(owners, ({ 0: owner }) => this.page.window[owner]), ({ 0: owner, 1: names }) => {
       each(names, (name) => replaceMethod(this.page.window[owner].prototype, name, (native) => function ask() {
         if (name === 'transaction') connections.recording.steering.holdStores(this, arguments[0]);
         const result = apply(native, this, arguments);
         const of = result === undefined ? '' : name === 'transaction' ? 'transaction' : 'request';
-        connections.ask(answering(this, result), { method: `${owner}.${name}`, of: connections.transactionOf(result) }, of);
+        connections.#ask(answering(this, result), { method: `${owner}.${name}`, of: connections.#transactionOf(result) }, of);
         return result;
       }));
     });

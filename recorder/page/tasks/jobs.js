@@ -44,7 +44,7 @@ class Jobs {
    * The actions that a job comes after, beside the one that asked for it and the one in which it runs.
    * @param {Asked} asked
    */
-  othersOf({ v: promise, others }) {
+  #othersOf({ v: promise, others }) {
     return joined(this.page.promises.momentsOf(promise), others);
   }
 
@@ -52,8 +52,8 @@ class Jobs {
    * Whether no rule puts all of these before the running event.
    * @param {Asked} asked
    */
-  lacksOrder(asked) {
-    return this.page.joins.needed(joined([asked.moment], this.othersOf(asked))).length > 0 && this.recording.mayDispatch();
+  #lacksOrder(asked) {
+    return this.page.joins.needed(joined([asked.moment], this.#othersOf(asked))).length > 0 && this.recording.mayDispatch();
   }
 
   // ---- jobs that are functions
@@ -105,12 +105,12 @@ class Jobs {
   run(handler, asked, call) {
     const { recording } = this;
     if (recording.isOver) return call();
-    if (recording.contexts.length) return this.runHere('call', call);
+    if (recording.contexts.length) return this.#runHere('call', call);
     this.endContinuation();
-    if (!recording.isCheckpoint || this.loneOf(asked)) return this.runAsHandler(this.beginLone(asked), handler, asked, call);
+    if (!recording.isCheckpoint || this.#loneOf(asked)) return this.runAsHandler(this.#beginLone(asked), handler, asked, call);
     this.page.promises.noteFirst(asked);
-    if (!this.lacksOrder(asked)) return this.runHere('job', call);
-    return this.runAsHandler(this.beginInline('a promise reaction'), handler, asked, call);
+    if (!this.#lacksOrder(asked)) return this.#runHere('job', call);
+    return this.runAsHandler(this.#beginInline('a promise reaction'), handler, asked, call);
   }
 
   /**
@@ -119,7 +119,7 @@ class Jobs {
    * @param {'job'|'call'} kind
    * @param {() => T} call
    */
-  runHere(kind, call) {
+  #runHere(kind, call) {
     const { recording } = this;
     recording.turns = TURNS_OF_A_CHECKPOINT;
     recording.enter(kind);
@@ -141,7 +141,7 @@ class Jobs {
    */
   runAsHandler(dispatch, handler, asked, call) {
     const { recording } = this;
-    this.beginHandler(dispatch, handler, asked);
+    this.#beginHandler(dispatch, handler, asked);
     dispatch.active = 1;
     recording.enter('handler');
     try {
@@ -158,7 +158,7 @@ class Jobs {
    * Begins a dispatch inside of the running event, whose handlers are reactions.
    * @param {string} why
    */
-  beginInline(why) {
+  #beginInline(why) {
     this.recording.running.hasLateJobs = true;
     return this.page.joins.beginInline('then', { standsFor: this.place, why });
   }
@@ -169,11 +169,11 @@ class Jobs {
    * @param {number} handler
    * @param {Asked} asked
    */
-  beginHandler(dispatch, handler, asked) {
+  #beginHandler(dispatch, handler, asked) {
     const { recording, page } = this;
     const asker = asked.moment && asked.moment.event;
     dispatch.beginning = dispatch.beginning || recording.running;
-    const others = keep(this.othersOf(asked), (moment) => !!moment && moment.event !== asker);
+    const others = keep(this.#othersOf(asked), (moment) => !!moment && moment.event !== asker);
     const told = page.joins.tell(dispatch, others, asked.why || page.promises.whyOf(asked.v));
     if (told.length) dispatch.hasJoined = true;
     recording.begin(`run ${dispatch.number} ${told.length ? 1 : 0} ${handler}`, 'handler', undefined, joined([dispatch.beginning, asker], told));
@@ -187,10 +187,10 @@ class Jobs {
    * @param {Asked} asked
    * @returns {Dispatch|null}
    */
-  loneOf(asked) {
+  #loneOf(asked) {
     const top = this.recording.top();
     if (!top || top.isClosed || top.hasJoined || !asked.v || top.promise !== asked.v) return null;
-    return this.page.joins.needed(this.othersOf(asked)).length ? null : top;
+    return this.page.joins.needed(this.#othersOf(asked)).length ? null : top;
   }
 
   /**
@@ -198,8 +198,8 @@ class Jobs {
    * @param {Asked} asked
    * @returns {Dispatch}
    */
-  beginLone(asked) {
-    const known = this.loneOf(asked);
+  #beginLone(asked) {
+    const known = this.#loneOf(asked);
     if (known) return known;
     const dispatch = this.page.dispatches.beginPlain(this.place, `then-${this.recording.next('lone job')}`);
     dispatch.promise = asked.v;
@@ -210,7 +210,7 @@ class Jobs {
   /** Code runs that nothing recorded has called, as the constructor of a custom element for the parser: it is an event of its own, in no order. */
   beginUnseen() {
     const dispatch = this.page.dispatches.beginPlain(this.place, `code-${this.recording.next('lone job')}`);
-    this.beginHandler(dispatch, this.page.joins.registerIn(null, { type: 'code whose caller is not seen' }), { v: null, moment: null });
+    this.#beginHandler(dispatch, this.page.joins.registerIn(null, { type: 'code whose caller is not seen' }), { v: null, moment: null });
   }
 
   // ---- await
@@ -224,21 +224,21 @@ class Jobs {
     if (!asked || recording.isOver || recording.contexts.length) return;
     this.endContinuation();
     recording.turns = TURNS_OF_A_CHECKPOINT;
-    const isAlone = !recording.isCheckpoint || !!this.loneOf(asked);
+    const isAlone = !recording.isCheckpoint || !!this.#loneOf(asked);
     if (!isAlone) this.page.promises.noteFirst(asked);
-    if (!isAlone && !this.lacksOrder(asked)) return;
+    if (!isAlone && !this.#lacksOrder(asked)) return;
     if (recording.isCheckpoint) recording.endPiece();
-    const dispatch = isAlone ? this.beginLone(asked) : this.beginInline('what stands behind an await');
-    this.beginHandler(dispatch, this.page.joins.registerIn(asked.moment, { type: 'await' }, asked.site), asked);
+    const dispatch = isAlone ? this.#beginLone(asked) : this.#beginInline('what stands behind an await');
+    this.#beginHandler(dispatch, this.page.joins.registerIn(asked.moment, { type: 'await' }, asked.site), asked);
     recording.startCheckpoint();
-    if (!isAlone) this.watchEnd(dispatch);
+    if (!isAlone) this.#watchEnd(dispatch);
   }
 
   /**
    * Jobs that were waiting when the code went on run after it, and are not part of it.
    * @param {Dispatch} dispatch
    */
-  watchEnd(dispatch) {
+  #watchEnd(dispatch) {
     dispatch.isContinuation = true;
     this.natives.queueMicrotask(() => { if (this.recording.top() === dispatch) this.endContinuation(); });
   }

@@ -45,24 +45,24 @@ class Observers {
   start() {
     const { window } = this.page;
     each(keep(OBSERVERS, (name) => window[name]), (name) => {
-      this.replaceObserver(window, name);
-      this.replaceObserve(window[name].prototype);
+      this.#replaceObserver(window, name);
+      this.#replaceObserve(window[name].prototype);
     });
-    this.replaceRegistry(window);
+    this.#replaceRegistry(window);
   }
 
   /**
    * @param {PageWindow} window
    * @param {string} name
    */
-  replaceObserver(window, name) {
+  #replaceObserver(window, name) {
     const observers = this;
     const Native = window[name];
     /** @type {(this: unknown, callback: unknown, ...rest: unknown[]) => unknown} */
     const Observer = function Observer(callback, ...rest) {
       if (!new.target) return apply(Native, undefined, [callback]); // which throws
-      const about = typeof callback === 'function' && !observers.recording.isOver ? observers.describe(name, callback) : null;
-      const made = Reflect.construct(Native, joined([about ? observers.wrap(about, /** @type {Function} */ (callback)) : callback], rest), new.target !== Observer ? new.target : Native);
+      const about = typeof callback === 'function' && !observers.recording.isOver ? observers.#describe(name, callback) : null;
+      const made = Reflect.construct(Native, joined([about ? observers.#wrap(about, /** @type {Function} */ (callback)) : callback], rest), new.target !== Observer ? new.target : Native);
       if (about) observers.known.set(made, about);
       return made;
     };
@@ -74,14 +74,14 @@ class Observers {
    * @param {string} name
    * @param {Function} callback
    */
-  describe(name, callback) {
+  #describe(name, callback) {
     const { jobs } = this.page;
     const handler = jobs.registerJob(callback, name);
     return { name, handler, asked: jobs.ask(null), type: '', told: [], hold: this.recording.steering.asks('on') };
   }
 
   /** @param {any} owner */
-  replaceObserve(owner) {
+  #replaceObserve(owner) {
     const observers = this;
     replaceMethod(owner, 'observe', (native) => function observe(target) {
       const about = observers.known.get(this);
@@ -97,16 +97,16 @@ class Observers {
    * @param {Function} callback
    * @returns {import('../types').Method}
    */
-  wrap(about, callback) {
+  #wrap(about, callback) {
     const observers = this;
     const { jobs, dispatches } = this.page;
     return function observed(entries, ...words) {
       const call = () => apply(callback, this, joined([entries], words));
       const { recording } = observers;
       if (recording.isOver) return call();
-      const asked = { ...about.asked, others: observers.toldOf(about, entries), why: 'the call of observe()' };
+      const asked = { ...about.asked, others: observers.#toldOf(about, entries), why: 'the call of observe()' };
       if (about.name === 'MutationObserver') {
-        return recording.contexts.length || recording.isCheckpoint ? jobs.run(about.handler, asked, call) : observers.runAfterStep(about, entries, asked, call);
+        return recording.contexts.length || recording.isCheckpoint ? jobs.run(about.handler, asked, call) : observers.#runAfterStep(about, entries, asked, call);
       }
       about.type = about.type || `${about.name}-${recording.next('observer')}`;
       return recording.steering.observed(about.hold, () => jobs.runAsHandler(dispatches.beginPlain(jobs.place, about.type), about.handler, asked, call));
@@ -122,7 +122,7 @@ class Observers {
    * @param {import('./jobs.js').Asked} asked
    * @param {() => T} call
    */
-  runAfterStep(about, entries, asked, call) {
+  #runAfterStep(about, entries, asked, call) {
     const { recording, page: { tree, elements, dispatches, jobs } } = this;
     recording.startTask();
     const { 0: first } = entries;
@@ -143,7 +143,7 @@ class Observers {
    * @param {About} about
    * @param {any[]} entries those of an observer: their members differ
    */
-  toldOf({ name, told }, entries) {
+  #toldOf({ name, told }, entries) {
     const { contains } = this.page.natives;
     const isOf = (/** @type {any} */ target) => (/** @type {{target: any}} */ { target: of }) => of === target || (name === 'MutationObserver' && apply(contains, target, [of]));
     /** @type {Moment[]} */
@@ -160,14 +160,14 @@ class Observers {
    * A callback comes after the call that registered what is gone: the registry holds the moment of that beside the page's value.
    * @param {PageWindow} window
    */
-  replaceRegistry(window) {
+  #replaceRegistry(window) {
     const observers = this;
     const Native = window.FinalizationRegistry;
     /** @type {(this: unknown, callback: unknown) => unknown} */
     const FinalizationRegistry = function FinalizationRegistry(callback) {
       if (!new.target) return apply(Native, undefined, [callback]); // which throws
       const isSeen = typeof callback === 'function' && !observers.recording.isOver;
-      return Reflect.construct(Native, [isSeen ? observers.wrapCleanup(callback) : callback], new.target !== FinalizationRegistry ? new.target : Native);
+      return Reflect.construct(Native, [isSeen ? observers.#wrapCleanup(callback) : callback], new.target !== FinalizationRegistry ? new.target : Native);
     };
     putConstructor(window, 'FinalizationRegistry', FinalizationRegistry);
     replaceMethod(Native.prototype, 'register', (native) => function register(target, value, ...token) {
@@ -180,9 +180,9 @@ class Observers {
    * @param {Function} callback
    * @returns {import('../types').Method}
    */
-  wrapCleanup(callback) {
+  #wrapCleanup(callback) {
     const observers = this;
-    const about = this.describe('FinalizationRegistry', callback);
+    const about = this.#describe('FinalizationRegistry', callback);
     return function cleanUp(held) {
       const { recording, page: { dispatches, jobs } } = observers;
       const call = () => apply(callback, this, [held instanceof Held ? held.value : held]);

@@ -47,9 +47,9 @@ class Promises {
 
   start() {
     const { window } = this.page;
-    this.replaceThen(window);
-    this.replaceQueueing(window);
-    each(SEVERAL, (name) => this.replaceSeveral(window.Promise, name));
+    this.#replaceThen(window);
+    this.#replaceQueueing(window);
+    each(SEVERAL, (name) => this.#replaceSeveral(window.Promise, name));
   }
 
   /** Whether jobs are recorded now. */
@@ -58,14 +58,14 @@ class Promises {
   }
 
   /** @param {import('../types').PageWindow} window */
-  replaceThen(window) {
+  #replaceThen(window) {
     const promises = this;
     const { jobs } = this.page;
     replaceMethod(window.Promise.prototype, 'then', (native) => function then(fulfilled, rejected) {
       if (!promises.isSeen()) return apply(native, this, [fulfilled, rejected]);
       if (promises.making && isNativeFunction(fulfilled) && isNativeFunction(rejected)) {
         const before = promises.momentsOf(this);
-        return apply(native, this, [promises.watch(promises.making, fulfilled, true, before), promises.watch(promises.making, rejected, false, before)]);
+        return apply(native, this, [promises.#watch(promises.making, fulfilled, true, before), promises.#watch(promises.making, rejected, false, before)]);
       }
       const asked = jobs.ask(this);
       const made = apply(native, this, [jobs.wrap(fulfilled, asked), jobs.wrap(rejected, asked)]);
@@ -75,7 +75,7 @@ class Promises {
   }
 
   /** @param {import('../types').PageWindow} window */
-  replaceQueueing(window) {
+  #replaceQueueing(window) {
     const promises = this;
     const { jobs } = this.page;
     replaceMethod(window, 'queueMicrotask', (native) => function queueMicrotask(callback) {
@@ -90,7 +90,7 @@ class Promises {
    * @param {object} owner
    * @param {string} name
    */
-  replaceSeveral(owner, name) {
+  #replaceSeveral(owner, name) {
     const promises = this;
     const { recording } = this;
     replaceMethod(owner, name, (native) => function several() {
@@ -116,10 +116,10 @@ class Promises {
    * @param {(Moment|null)[]} before what settled it before that
    * @returns {import('../types').Method}
    */
-  watch(made, callback, isFulfilled, before) {
+  #watch(made, callback, isFulfilled, before) {
     const promises = this;
     return function settled() {
-      promises.noteSettled(made, isFulfilled, before);
+      promises.#noteSettled(made, isFulfilled, before);
       return apply(callback, this, arguments);
     };
   }
@@ -129,7 +129,7 @@ class Promises {
    * @param {boolean} isFulfilled
    * @param {(Moment|null)[]} before
    */
-  noteSettled(made, isFulfilled, before) {
+  #noteSettled(made, isFulfilled, before) {
     const { recording } = this;
     if (recording.isOver) return;
     this.page.jobs.endContinuation();
@@ -145,8 +145,8 @@ class Promises {
    * @returns {(Moment|null)[]}
    */
   momentsOf(promise) {
-    const several = this.severalOf(promise);
-    const settled = this.settledIn(promise);
+    const several = this.#severalOf(promise);
+    const settled = this.#settledIn(promise);
     return joined(several && !several.isByOne ? several.moments : [], settled ? [settled] : []);
   }
 
@@ -155,7 +155,7 @@ class Promises {
    * @param {unknown} promise
    */
   whyOf(promise) {
-    const several = this.severalOf(promise);
+    const several = this.#severalOf(promise);
     return several ? several.why || 'one of several promises' : 'what settled the promise';
   }
 
@@ -166,7 +166,7 @@ class Promises {
    * @param {unknown} promise
    * @returns {Moment|null}
    */
-  settledIn(promise) {
+  #settledIn(promise) {
     let at = promise;
     for (let depth = 0; depth < MOST_LINKS && isThing(at); depth++) {
       const known = this.settled.get(at);
@@ -196,10 +196,10 @@ class Promises {
    */
   noteMade({ v: promise, moment, makes: made }, result) {
     const { recording } = this;
-    const several = this.severalOf(promise);
+    const several = this.#severalOf(promise);
     if (several && several.asker && several.asker === moment?.event) several.moments[several.moments.length] = recording.lastMoment();
     if (!made || recording.isOver || !recording.isCheckpoint || recording.contexts.length) return;
-    if (this.isPromise(result)) this.settled.set(made, { by: result });
+    if (this.#isPromise(result)) this.settled.set(made, { by: result });
     else if (!isThing(result) && recording.mayDispatch()) this.settled.set(made, recording.point(this.page.number));
   }
 
@@ -208,7 +208,7 @@ class Promises {
    * @param {unknown} given
    * @returns {given is object}
    */
-  isPromise(given) {
+  #isPromise(given) {
     const { objects } = this.recording;
     return isThing(given) && objects !== null && !objects.kinds.isLeftOut(given) && getPrototypeOf(given) === this.prototype;
   }
@@ -220,11 +220,11 @@ class Promises {
    */
   isPlain(given) {
     const maker = getOwnPropertyDescriptor(this.prototype, 'constructor');
-    return this.isPromise(given) && !hasOwn(given, 'constructor') && maker?.value === this.page.natives.promise;
+    return this.#isPromise(given) && !hasOwn(given, 'constructor') && maker?.value === this.page.natives.promise;
   }
 
   /** @param {unknown} promise */
-  severalOf(promise) {
+  #severalOf(promise) {
     return typeof promise === 'object' && promise !== null ? this.several.get(promise) : undefined;
   }
 }

@@ -35,8 +35,8 @@ class Requests {
 
   start() {
     const { window } = this.page;
-    this.replaceXhr(window.XMLHttpRequest.prototype);
-    this.replaceFetch(window);
+    this.#replaceXhr(window.XMLHttpRequest.prototype);
+    this.#replaceFetch(window);
   }
 
   /**
@@ -47,7 +47,7 @@ class Requests {
   send(facts) {
     const number = this.recording.next('request');
     this.recording.noteAsking(`send ${number}`);
-    this.recording.log.name('request', number, { ...facts, url: this.whole(facts?.address) });
+    this.recording.log.name('request', number, { ...facts, url: this.#whole(facts?.address) });
     return { number, sender: this.recording.isRunning() ? this.recording.running : null };
   }
 
@@ -55,7 +55,7 @@ class Requests {
    * The whole address of what is asked for.
    * @param {string|undefined} address
    */
-  whole(address) {
+  #whole(address) {
     if (address === undefined) return undefined;
     try {
       return withoutFragment(new this.natives.URL(address, this.page.document.baseURI).href);
@@ -65,7 +65,7 @@ class Requests {
   }
 
   /** @param {any} owner */
-  replaceXhr(owner) {
+  #replaceXhr(owner) {
     const requests = this;
     const { calls, dispatches } = this.page;
     calls.replaceCall(owner, 'abort', false);
@@ -84,26 +84,26 @@ class Requests {
   }
 
   /** @param {PageWindow} window */
-  replaceFetch(window) {
+  #replaceFetch(window) {
     const requests = this;
     const { recording } = this;
     replaceMethod(window, 'fetch', (native) => function fetch(input, options) {
       if (recording.isOver) return apply(native, window, arguments);
       const address = sliceOf(String((input && input.url) || input), 0, 200);
       const request = requests.send({ method: (options && options.method) || 'GET', address });
-      return requests.settle(apply(native, window, arguments), request, requests.registerReply(), true);
+      return requests.#settle(apply(native, window, arguments), request, requests.#registerReply(), true);
     });
     each(BODY_CALLS, (name) => {
       replaceMethod(window.Response.prototype, name, (native) => function body() {
         const known = requests.responses.get(this);
         const promise = apply(native, this, arguments);
-        return known && !recording.isOver ? requests.settle(promise, known.request, known.handler, false) : promise;
+        return known && !recording.isOver ? requests.#settle(promise, known.request, known.handler, false) : promise;
       });
     });
   }
 
   /** The handler of all replies of one `fetch`: its number. */
-  registerReply() {
+  #registerReply() {
     const handler = this.recording.next('handler');
     this.recording.note(`on ${handler}`);
     this.recording.log.name('handler', handler, { type: 'reply of fetch' });
@@ -117,10 +117,10 @@ class Requests {
    * @param {number} handler
    * @param {boolean} isResponse
    */
-  settle(promise, request, handler, isResponse) {
+  #settle(promise, request, handler, isResponse) {
     /** @type {Promise<any>} */
     const settled = new this.natives.promise((resolve, reject) => {
-      const reply = (/** @type {() => void} */ call) => this.runReply(request, handler, settled, call);
+      const reply = (/** @type {() => void} */ call) => this.#runReply(request, handler, settled, call);
       apply(this.natives.then, promise, [(/** @type {any} what the page gets */ value) => {
         if (isResponse) this.responses.set(value, { request, handler });
         reply(() => resolve(value));
@@ -134,7 +134,7 @@ class Requests {
    * @param {object} promise
    * @param {() => void} call
    */
-  settleHere(promise, call) {
+  #settleHere(promise, call) {
     const { recording } = this;
     if (!recording.isOver && recording.mayDispatch()) this.page.promises.settled.set(promise, recording.point(this.page.number));
     call();
@@ -147,10 +147,10 @@ class Requests {
    * @param {object} promise what the page waits for
    * @param {() => void} call
    */
-  runReply(request, handler, promise, call) {
+  #runReply(request, handler, promise, call) {
     const { recording } = this;
     if (recording.isOver || recording.isCheckpoint) {
-      this.settleHere(promise, call);
+      this.#settleHere(promise, call);
       return;
     }
     recording.startTask();

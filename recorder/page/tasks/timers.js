@@ -34,10 +34,10 @@ class Timers {
 
   start() {
     const { window } = this.page;
-    this.replaceTimeout(window);
-    this.replaceInterval(window);
+    this.#replaceTimeout(window);
+    this.#replaceInterval(window);
     each(['requestAnimationFrame', 'webkitRequestAnimationFrame', 'requestIdleCallback'], (name) => {
-      if (window[name]) this.replaceFrame(window, name);
+      if (window[name]) this.#replaceFrame(window, name);
     });
     this.recording.steering.watchClearing(window); // clearing is no access, so a plain recording does not see it
   }
@@ -51,7 +51,7 @@ class Timers {
   }
 
   /** How deep the timer is nested in which the running code sets another one: 0 where no timer runs. */
-  nesting() {
+  #nesting() {
     const { recording } = this;
     return recording.isRunning() ? recording.nesting : 0;
   }
@@ -61,19 +61,19 @@ class Timers {
    * @param {number} delay
    */
   clamped(delay) {
-    return this.nesting() > DEEPEST_UNCLAMPED ? Math.max(delay, LEAST_OF_NESTED) : delay;
+    return this.#nesting() > DEEPEST_UNCLAMPED ? Math.max(delay, LEAST_OF_NESTED) : delay;
   }
 
   /**
    * The code of a callback; a text is run as a script is.
    * @param {unknown} callback
    */
-  callable(callback) {
+  #callable(callback) {
     if (typeof callback === 'function') return callback;
     const code = String(callback);
     this.recording.log.miss(MADE_OF_TEXT);
     const { window } = this.page;
-    return () => this.evaluate(window, code);
+    return () => this.#evaluate(window, code);
   }
 
   /**
@@ -81,7 +81,7 @@ class Timers {
    * @param {PageWindow} window
    * @param {string} code
    */
-  evaluate(window, code) {
+  #evaluate(window, code) {
     try {
       window.eval(code);
     } catch (fault) {
@@ -95,7 +95,7 @@ class Timers {
    * @param {number} number
    * @param {unknown} callback
    */
-  nameCallback(kind, number, callback) {
+  #nameCallback(kind, number, callback) {
     const name = nameOfFunction(callback);
     if (name) this.recording.log.name(kind, number, { function: name });
   }
@@ -109,7 +109,7 @@ class Timers {
    * @param {any[]} words
    * @param {{place?: InQueue|null, nesting?: number}} more `place` of a callback in a queue, `nesting`: how deep a timer is nested
    */
-  run(line, kind, asker, callback, words, { place = null, nesting = 0 }) {
+  #run(line, kind, asker, callback, words, { place = null, nesting = 0 }) {
     const { recording, page } = this;
     if (recording.isOver) return settings.standsStill ? undefined : apply(callback, page.window, words);
     recording.startTask();
@@ -132,7 +132,7 @@ class Timers {
    * A timeout is a `set` where it is requested, and a `timer` where it runs.
    * @param {PageWindow} window
    */
-  replaceTimeout(window) {
+  #replaceTimeout(window) {
     const timers = this;
     const { recording, page } = this;
     const { steering } = recording;
@@ -141,13 +141,13 @@ class Timers {
       const timeout = recording.next('timeout');
       // a setter that was not seen is no event, so the timeout gets order from nothing
       const isKnown = recording.isRunning();
-      const nesting = timers.nesting() + 1;
+      const nesting = timers.#nesting() + 1;
       recording.noteAsking(`set ${timeout} ${timers.clamped(timers.delay(delay))} ${isKnown ? page.number : 'unknown'}`);
-      timers.nameCallback('timeout', timeout, callback);
+      timers.#nameCallback('timeout', timeout, callback);
       const hold = steering.asks('set');
-      const callable = timers.callable(callback);
+      const callable = timers.#callable(callback);
       const asker = recording.running;
-      const run = steering.limited('set', () => timers.run(`timer ${timeout}`, 'timer', isKnown ? asker : null, callable, words, { nesting }));
+      const run = steering.limited('set', () => timers.#run(`timer ${timeout}`, 'timer', isKnown ? asker : null, callable, words, { nesting }));
       return steering.note(hold, window, 'timers', apply(native, window, [steering.callback(hold, run, (again) => apply(native, window, [again, 0])), delay]));
     });
   }
@@ -156,20 +156,20 @@ class Timers {
    * An interval is an `every` where it is requested, and each of its runs a `tick`.
    * @param {PageWindow} window
    */
-  replaceInterval(window) {
+  #replaceInterval(window) {
     const timers = this;
     const { recording } = this;
     const { steering } = recording;
     replaceMethod(window, 'setInterval', (native) => function setInterval(callback, delay, ...words) {
       if (recording.isOver) return apply(native, window, joined([callback, delay], words));
       const interval = recording.next('interval');
-      let nesting = timers.nesting();
+      let nesting = timers.#nesting();
       recording.noteAsking(`every ${interval} ${timers.delay(delay)}`);
       recording.log.name('interval', interval, { why: 'setInterval', function: nameOfFunction(callback) });
       const hold = steering.asks('every');
-      const callable = timers.callable(callback);
+      const callable = timers.#callable(callback);
       const asker = recording.running;
-      const run = steering.limited('every', () => timers.run(`tick ${interval}`, 'tick', asker, callable, words, { nesting: ++nesting }));
+      const run = steering.limited('every', () => timers.#run(`tick ${interval}`, 'tick', asker, callable, words, { nesting: ++nesting }));
       return steering.note(hold, window, 'timers', apply(native, window, [steering.callback(hold, run, (again) => again()), delay]));
     });
   }
@@ -178,7 +178,7 @@ class Timers {
    * Animation callbacks of one window come in the order in which they were asked for. Those of the first window have a record that says so, and which
    * would put those of two windows in order too: the other windows have none.
    */
-  placeOfFrame() {
+  #placeOfFrame() {
     const { recording, lastFrame } = this;
     if (!recording.isRunning()) return null;
     const isAfter = lastFrame && (lastFrame.asker === recording.running || recording.isBeforeRunning(lastFrame.asker));
@@ -191,7 +191,7 @@ class Timers {
    * @param {PageWindow} window
    * @param {string} name
    */
-  replaceFrame(window, name) {
+  #replaceFrame(window, name) {
     const timers = this;
     const { recording, page } = this;
     const { steering } = recording;
@@ -205,8 +205,8 @@ class Timers {
       recording.log.name('interval', number, { why: name, function: nameOfFunction(callback) });
       const hold = steering.asks(words[0]);
       const asker = recording.running;
-      const place = isQueue && !isIdle ? timers.placeOfFrame() : null;
-      const run = steering.limited(words[0], (time) => timers.run(`${words[1]} ${number}`, 'tick', asker, callback, [time], { place }));
+      const place = isQueue && !isIdle ? timers.#placeOfFrame() : null;
+      const run = steering.limited(words[0], (time) => timers.#run(`${words[1]} ${number}`, 'tick', asker, callback, [time], { place }));
       const ask = (/** @type {import('../types').Callback} */ next) => apply(native, window, joined([next], rest));
       return steering.note(hold, window, isIdle ? 'idle' : 'frames', ask(steering.callback(hold, run, ask)));
     });
