@@ -175,7 +175,7 @@ test('the members of the object are those that the document has', async () => {
   const membersOf = (/** @type {string} */ head) => tableOf(head).flatMap((row) => row.split('|')[1].split(',').map((name) => name.replace(/[` ]/g, ''))).sort();
   const plain = plainListing(new Listing([await run()], null), { page: '', status: 1, files: [], folder: null });
   assert.deepStrictEqual(Object.keys(plain).sort(), membersOf('| Member | Is |\n|---|---|\n| `races` | 1'));
-  assert.deepStrictEqual(Object.keys(plain.problems[0]).sort(), membersOf('| Member of a problem | Is |'));
+  assert.deepStrictEqual([...Object.keys(plain.problems[0]), 'replay'].sort(), membersOf('| Member of a problem | Is |')); // `replay` only if it was replayed
 });
 
 test('what was left out of the trace is told', async () => {

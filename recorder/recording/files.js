@@ -52,7 +52,7 @@ function readRun(recorded, options) {
   const { records, leftOut, cut } = keepWithin(small);
   const text = [`webtrace ${options.version}`, ...records.map((record) => record.text), 'end'].join('\n');
   const names = new Names(recorded.sources, recorded.intake.names, options.libraries);
-  names.addRecords(records);
+  names.addRecords(records, all);
   return { text: `${redactedTrace(text)}\n`, names, accesses, large, leftOut, cut, refused: spelling.refused };
 }
 

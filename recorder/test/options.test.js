@@ -6,6 +6,7 @@ const fs = require('node:fs');
 const path = require('node:path');
 const { test } = require('node:test');
 const { HELP, usageOf } = require('../options/help.js');
+const { LIBRARIES } = require('../options/libraries.js');
 const { parseCommand, parseOptions, TABLES } = require('../recording/options.js');
 const { NEWEST_VERSION } = require('../trace/spelling.js');
 
@@ -45,6 +46,11 @@ test('the options and statuses of the documents are those of the commands', () =
   assert.ok(ofHelp.size > 25, [...ofHelp].join(', '));
   assert.deepStrictEqual([...new Set(DOCUMENTS.map(documentOf).flatMap(optionsOfTables))].sort(), [...ofHelp].sort());
   assert.deepStrictEqual(statusesOfTable(), statusesOfHelp(HELP.er_page));
+});
+
+test('the libraries of the document are those of the built-in list', () => {
+  const [, names] = /The built-in list of `--libraries` is (.*?)\. \(/.exec(documentOf('using.md')) || [];
+  assert.ok(LIBRARIES.source.startsWith(`^(${names.split(', ').map((name) => name.replace(/`/g, '')).join('|')})(`), names);
 });
 
 test('the help of a command has its options and no others, in lines that fit', () => {

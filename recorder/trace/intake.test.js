@@ -97,3 +97,14 @@ test('notes after notes after notes', () => {
   const lines = ['parse 0 1 plain', ...Array.from({ length: 20000 }, (_, k) => `beside ${k + 1} new 0 ${k + 2} plain`)];
   assert.ok(traceOf(...lines).length > 100);
 });
+
+test('an element of the parser has its own tag, also if the limits leave out the steps of others', () => {
+  let count = 0;
+  /** @type {import('./names.js').Texts} */
+  const texts = { ...noTexts, nextTag: () => [0, ++count, 1] };
+  const all = [1, 2, 3].map((number) => ({ text: `parse 0 ${number} plain` }));
+  const names = new Names(texts, [1, 2, 3].map((number) => ({ kind: 'element', number, tag: 'p' })));
+  names.addRecords([all[0], all[2]], all);
+  const { places, elements } = /** @type {any} */ (names.facts());
+  assert.deepStrictEqual([{ ...places }, elements[3].place], [{ 2: [0, 1, 1], 3: [0, 3, 1] }, [0, 3, 1]]);
+});

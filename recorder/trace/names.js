@@ -178,8 +178,10 @@ class Names {
   /**
    * Takes note of the places of all lines.
    * @param {SpelledEntry[]} records they begin with line 2
+   * @param {SpelledEntry[]} all also those that the limits leave out: each element of the parser has a tag of its own
    */
-  addRecords(records) {
+  addRecords(records, all = records) {
+    all.forEach((record) => this.addElementPlace(record));
     records.forEach(({ text, place, found, stack, isKept, isTyped }, k) => {
       const words = text.split(' ');
       if (found) this.addValue(k + 2, found);
@@ -188,7 +190,6 @@ class Names {
       if (words[1] === 'var') this.addObject(Number(words[2]));
       const { own, way } = this.placesOfStack(stack);
       const known = own || this.resolve(place) || this.placeOfBegin(words);
-      if (words[0] === 'parse' && !known) this.addElementPlace(words);
       const at = known || (words[0] === 'parse' && this.lists.elements[words[2]]?.place);
       if (at) this.addPlace(k + 2, words, at, way);
     });
@@ -240,8 +241,10 @@ class Names {
     }
   }
 
-  /** @param {string[]} words */
-  addElementPlace([, document, element]) {
+  /** @param {SpelledEntry} record */
+  addElementPlace({ text, place, stack }) {
+    if (!text.startsWith('parse ') || this.placesOfStack(stack).own || this.resolve(place)) return;
+    const [, document, element] = text.split(' ');
     const facts = this.lists.elements[element];
     if (facts && facts.tag) facts.place = this.sources.nextTag(this.addressOfDocument(document), facts.tag, facts, this.tagsLeft) || undefined;
   }
