@@ -127,9 +127,11 @@ function rowsWith(wanted) {
  * @param {Module[]} modules
  */
 function printRow(row, modules) {
+  const [, folder = ''] = /^\| `([\w/]+\/)` \|/.exec(row) || [];
   const wholeOf = (/** @type {string} */ file) => {
     const found = modules.filter(({ name }) => name === file || (!isOfTests(name) && name.endsWith(`/${file}`)));
-    return (found.find(({ name }) => name === file) || found[0])?.name;
+    const own = found.find(({ name }) => name === file) || found.find(({ name }) => folder && name === folder + file);
+    return (own || (found.length === 1 ? found[0] : null))?.name;
   };
   const told = row.replace(FILE, (all, file) => (wholeOf(file) ? `recorder/${wholeOf(file)}` : file));
   print(`README.md: ${told.slice(2, -2).replace(/`/g, '')}`);

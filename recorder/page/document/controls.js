@@ -37,7 +37,6 @@ class Controls {
    * What is known of a control that was disabled ever since it came: what enabled it first, once that has been. Null of one that a user might have
    * reached before.
    * @param {Element} control
-   * @param {Element} control
    * @returns {{moment: Moment|null}|null|undefined}
    */
   #known(control) {
