@@ -70,4 +70,10 @@ function sharesOf(judged, lists) {
   return Object.fromEntries(Object.entries(shares).sort(([a], [b]) => order(a) - order(b) || (a < b ? -1 : 1)));
 }
 
-module.exports = { judgedOf, listsOf, sharesOf, HARMFUL };
+/**
+ * The second draw, of which no share is taken: each problem with its place in the list of its page as it was drawn, without replays.
+ * @returns {(Judged & {place: number})[]}
+ */
+const secondDraw = () => read(HERE, 'second-draw.json').problems;
+
+module.exports = { judgedOf, listsOf, secondDraw, sharesOf, HARMFUL };
