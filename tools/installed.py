@@ -30,7 +30,7 @@ for trace in *.trace; do
 done
 ls *.trace | wc -l >&2
 """
-FILES = ["page.html", "page.names.json", "page.report", "page.trace"]
+FILES = ["page.html", "page.names.json", "page.replay.json", "page.report", "page.trace", "replays"]
 
 
 class Installed:
