@@ -1,6 +1,7 @@
 """Copies of crates, in which the toolchain's command rt works: no run of it waits for another, and it changes nothing in the checkout.
 
-rt is called as it is. What it proves it keeps beside the toolchain, by the checksums of all that it read, so a later run in any checkout proves only what changed.
+rt is called as it is. Some versions of the toolchain (13f, not 13b) keep what is proved, by the checksums of all that was read: then a later run in any
+checkout proves only what changed.
 """
 import contextlib
 import glob
