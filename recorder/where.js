@@ -10,13 +10,16 @@ const { print, printError } = require('./common/output.js');
 
 /** What a module defines: a function, a class, a constant, a method. */
 const DEFINITION = /^(?:async function|function|class|const| {2}(?:static |async |\*|#)*(?!if|for|while|switch|return|super)(?=[\w$#]+\([^)]*\) \{$))\s*([\w$#]+)(?:\(([^)]*)\))?/;
-/** Words for which the map and the comments have another one. */
+/** Words for which the map and the comments have others. */
 const SYNONYMS = {
-  clearTimeout: 'clear', clearInterval: 'clear', cancelAnimationFrame: 'clear', cancelIdleCallback: 'clear', abort: 'clear', setTimeout: 'timeout', setInterval: 'interval',
-  requestAnimationFrame: 'animation frame', requestIdleCallback: 'idle callback', frame: 'iframe', send: 'sent', merge: 'share', join: 'share', listener: 'handler',
+  clear: 'cancel cancelled clearTimeout clearInterval cancelAnimationFrame cancelIdleCallback abort', timeout: 'setTimeout', interval: 'setInterval',
+  'animation frame': 'requestAnimationFrame', 'idle callback': 'requestIdleCallback', iframe: 'frame', sent: 'send', share: 'merge join', handler: 'listener',
+  'log-in': 'login signin auth authentication credentials session', stack: 'callstack', XHR: 'ajax', parallel: 'concurrent concurrency', known: 'baseline suppress ignore',
+  'one problem': 'dedupe duplicate', picture: 'screenshot', order: 'ordering happens-before', chaos: 'shuffle jitter', instrumented: 'transpile rewrite', types: 'typescript',
+  keys: 'keyboard', click: 'mouse tap touch', 'at rest': 'idle settle hang stuck', response: 'intercept', accesses: 'reads writes',
 };
-/** A file in a row, which is named by the end of its path. */
-const FILE = /`([\w./-]+\.js)`/g;
+/** A file or a folder in a row. */
+const FILE = /`([\w./-]+(?:\.(?:js|ts|css)|\/|\/launch))`/g;
 const MOST_ROWS = 6;
 /** So many rows that lack a word. */
 const MOST_OTHER_ROWS = 3;
@@ -75,12 +78,12 @@ function partsOf(text) {
 }
 
 /**
- * The start of a word in a text, or of a part of a name; also of its synonym.
+ * The start of a word in a text, or of a part of a name; also of its synonyms.
  * @param {string} word
  */
 function formOf(word) {
-  const synonym = Object.entries(SYNONYMS).find(([one]) => one.toLowerCase() === word.toLowerCase())?.[1];
-  const forms = [word, ...synonym ? [synonym] : []].map((one) => {
+  const synonyms = Object.entries(SYNONYMS).flatMap(([known, others]) => (others.toLowerCase().split(' ').includes(word.toLowerCase()) ? known : []));
+  const forms = [word, ...synonyms].map((one) => {
     const escaped = one.replace(/[^\w]/g, '\\$&');
     const inAnyCase = escaped.replace(/[a-z]/gi, (letter) => `[${letter.toLowerCase()}${letter.toUpperCase()}]`);
     return `(?:^|[^a-zA-Z])${inAnyCase}|[a-z]${escaped[0].toUpperCase()}${escaped.slice(1)}`;
@@ -102,6 +105,14 @@ function scoreOf({ name, about, definitions }, wanted) {
 }
 
 /**
+ * The modules that have all words, the best first, those of tests last.
+ * @param {RegExp[]} wanted
+ * @param {Module[]} modules
+ */
+const modulesWith = (wanted, modules) => modules.map((module) => ({ module, score: scoreOf(module, wanted) })).filter(({ score }) => score)
+  .sort((one, other) => Number(isOfTests(one.module.name)) - Number(isOfTests(other.module.name)) || other.score - one.score).map(({ module }) => module);
+
+/**
  * @param {string} text
  * @param {RegExp[]} words
  */
@@ -114,7 +125,7 @@ const hasAll = (text, words) => words.every((word) => word.test(text));
  */
 function rowsWith(wanted) {
   const countIn = (/** @type {string} */ text) => wanted.filter((word) => word.test(text)).length;
-  const rows = fs.readFileSync(path.join(__dirname, 'README.md'), 'utf8').split('\n').filter((line) => /^\| [^*]/.test(line))
+  const rows = fs.readFileSync(path.join(__dirname, 'README.md'), 'utf8').split('\n').filter((line, k, all) => /^\| [^*]/.test(line) && !/^\|-/.test(all[k + 1]))
     .map((row) => ({ row, count: countIn(row), ofQuestion: countIn(row.split(' | ')[0]) }));
   const most = Math.max(...rows.map(({ count }) => count));
   const found = rows.filter(({ count }) => count === most).sort((one, other) => other.ofQuestion - one.ofQuestion).map(({ row }) => row);
@@ -122,31 +133,36 @@ function rowsWith(wanted) {
 }
 
 /**
- * Prints a row with the whole path of each file.
+ * A row with the whole path of each file and folder. A name without a folder is in the folder before it in its cell, `./` is recorder/. In a row of a folder,
+ * names are those of this folder.
  * @param {string} row
- * @param {Module[]} modules
  */
-function printRow(row, modules) {
-  const [, folder = ''] = /^\| `([\w/]+\/)` \|/.exec(row) || [];
-  const wholeOf = (/** @type {string} */ file) => {
-    const found = modules.filter(({ name }) => name === file || (!isOfTests(name) && name.endsWith(`/${file}`)));
-    const own = found.find(({ name }) => name === file) || found.find(({ name }) => folder && name === folder + file);
-    return (own || (found.length === 1 ? found[0] : null))?.name;
-  };
-  const told = row.replace(FILE, (all, file) => (wholeOf(file) ? `recorder/${wholeOf(file)}` : file));
-  print(`README.md: ${told.slice(2, -2).replace(/`/g, '')}`);
+function withPaths(row) {
+  const [, own = ''] = /^\| `([\w/]+\/)` \|/.exec(row) || [];
+  let folder = own;
+  const told = row.slice(own ? row.indexOf(' | ') : 0).replace(FILE, (all, name) => {
+    const whole = [folder + name, own + name, name].map((one) => path.posix.normalize(one)).find((one) => fs.existsSync(path.join(__dirname, one)));
+    if (!whole) return all;
+    if (!own) folder = whole.replace(/[^/]*$/, '');
+    return `\`recorder/${whole}\``;
+  });
+  return own ? `| ${own}${told}` : told;
 }
 
+/** @param {string} row */
+const lineOfRow = (row) => `README.md: ${withPaths(row).slice(2, -2).replace(/`/g, '')}`;
+
 /**
+ * A module, and those of its definitions that have the most of the words.
  * @param {Module} module
  * @param {RegExp[]} wanted
  */
-function printModule({ name, about, definitions }, wanted) {
-  print(`recorder/${name}: ${cut(about, MOST_OF_COMMENT)}`);
+function linesOfModule({ name, about, definitions }, wanted) {
   const counted = definitions.map((one) => ({ one, count: wanted.filter((word) => word.test(`${one.name} ${one.comment}`)).length }));
   const most = Math.max(1, ...counted.map(({ count }) => count));
   const found = counted.filter(({ count }) => count === most).slice(0, MOST_DEFINITIONS);
-  for (const { one } of found) print(`  ${one.line}: ${one.comment ? `${one.name}: ${cut(one.comment, MOST_LETTERS)}` : `${one.name}(${one.parameters})`}`);
+  const told = found.map(({ one }) => `  ${one.line}: ${one.comment ? `${one.name}: ${cut(one.comment, MOST_LETTERS)}` : `${one.name}(${one.parameters})`}`);
+  return [`recorder/${name}: ${cut(about, MOST_OF_COMMENT)}`, ...told];
 }
 
 /**
@@ -154,12 +170,27 @@ function printModule({ name, about, definitions }, wanted) {
  * @param {Module[]} modules
  * @param {string[]} words
  */
-function printCode(modules, words) {
+function linesOfCode(modules, words) {
   const others = modules.filter(({ text }) => words.every((word) => text.includes(word)))
     .map((one) => ({ name: one.name, about: one.about, lines: one.text.split('\n').flatMap((line, k) => (words.some((word) => line.includes(word)) ? [k + 1] : [])) }))
     .sort((one, other) => other.lines.length - one.lines.length);
-  print(others.length ? 'Only the code of these modules has the words, in these lines:' : 'nothing found');
-  for (const { name, about, lines } of others.slice(0, MOST_MODULES)) print(`recorder/${name}:${lines.slice(0, MOST_DEFINITIONS).join(',')}: ${cut(about, MOST_OF_COMMENT)}`);
+  const told = others.map(({ name, about, lines }) => `recorder/${name}:${lines.slice(0, MOST_DEFINITIONS).join(',')}: ${cut(about, MOST_OF_COMMENT)}`);
+  return told.length ? ['Only the code of these modules has the words, in these lines:', ...told.slice(0, MOST_MODULES)] : ['nothing found'];
+}
+
+/**
+ * What is printed for some words.
+ * @param {string[]} words
+ * @param {Module[]} modules
+ */
+function linesFor(words, modules) {
+  const wanted = words.map(formOf);
+  const { all, some } = rowsWith(wanted);
+  const found = modulesWith(wanted, modules);
+  const lines = [...all.map(lineOfRow), ...found.slice(0, MOST_MODULES).flatMap((module) => linesOfModule(module, wanted))];
+  if (found.length > MOST_MODULES) lines.push(`and ${found.length - MOST_MODULES} more modules: a further word leaves fewer`);
+  if (some.length) lines.push('These rows have only some of the words:', ...some.map(lineOfRow));
+  return all.length || found.length ? lines : [...lines, ...linesOfCode(modules, words)];
 }
 
 /** @param {string[]} words */
@@ -169,17 +200,9 @@ function main(words) {
     process.exitCode = 2;
     return;
   }
-  const wanted = words.map(formOf);
-  const modules = modulesIn(__dirname);
-  const { all, some } = rowsWith(wanted);
-  for (const row of all) printRow(row, modules);
-  const found = modules.map((module) => ({ module, score: scoreOf(module, wanted) })).filter(({ score }) => score)
-    .sort((one, other) => Number(isOfTests(one.module.name)) - Number(isOfTests(other.module.name)) || other.score - one.score);
-  found.slice(0, MOST_MODULES).forEach(({ module }) => printModule(module, wanted));
-  if (found.length > MOST_MODULES) print(`and ${found.length - MOST_MODULES} more modules: a further word leaves fewer`);
-  if (some.length) print('These rows have only some of the words:');
-  for (const row of some) printRow(row, modules);
-  if (!all.length && !found.length) printCode(modules, words);
+  for (const line of linesFor(words, modulesIn(__dirname))) print(line);
 }
 
 if (require.main === module) main(process.argv.slice(2));
+
+module.exports = { modulesIn, modulesWith, formOf, withPaths, linesFor };

@@ -1,5 +1,5 @@
 'use strict';
-// The steps of --do.
+// The steps of --do, as `click:SELECTOR`: read and checked before anything is recorded.
 
 const { UsageFault } = require('./parse.js');
 const { whereOf } = require('./selector.js');
