@@ -14,7 +14,7 @@ const { allowLocalNetwork } = require('../browser/local-network.js');
 const { HoldScripts } = require('../browser/responses/hold-scripts.js');
 const { withoutCredentials } = require('../common/address.js');
 const { Pause } = require('./pause.js');
-const { Paused } = require('./paused.js');
+const { Paused, isPage } = require('./paused.js');
 const { sleep } = require('../common/time.js');
 
 const POLL = 250;
@@ -26,17 +26,6 @@ const ONLY_SERVICE_WORKERS = [{ type: 'service_worker' }, { exclude: true }];
 
 /** @typedef {import('./driven-tab.js').ProtocolEvent} ProtocolEvent */
 /** @typedef {import('./load.js').Load} LoadOfPage */
-
-/**
- * Whether a response becomes a page: no step to another address, no file to be saved.
- * @param {ProtocolEvent} event
- */
-function isPage({ responseStatusCode: status, responseHeaders = [] }) {
-  /** @param {string} wanted */
-  const value = (wanted) => responseHeaders.find((/** @type {{name: string}} */ { name }) => name.toLowerCase() === wanted)?.value || '';
-  const isShown = status >= 200 && status !== 204 && status !== 205 && (status < 300 || status >= 400);
-  return isShown && /html|xml/i.test(value('content-type')) && !/^attachment/i.test(value('content-disposition'));
-}
 
 class BrowserRecorder {
   /**
@@ -182,7 +171,7 @@ class BrowserRecorder {
 
   /**
    * The request of a page that can hold its response back, or for what its parser waits for.
-   * @param {any} event `Fetch.requestPaused`
+   * @param {any} event `Fetch.requestPaused`: what takes it has types of its own
    * @param {DrivenTab|undefined} tab
    */
   async passOwnRequest(event, tab) {

@@ -83,7 +83,7 @@ class FlowRecorder {
     const { viewport, ignoresCertificateErrors, userDataDir, isHeaded } = options;
     browser.start({ ...viewport || SIZE, ignoresCertificateErrors, userDataDir, isHeaded });
     await browser.hasStarted();
-    this.recorder = new BrowserRecorder(browser, this.folder, /** @type {any} */ ({ ...options, time: LONGEST_LOAD, isDriven: true }), this.complain);
+    this.recorder = new BrowserRecorder(browser, this.folder, { ...options, time: LONGEST_LOAD, isDriven: true }, this.complain);
     await this.recorder.start();
     this.tab = await Tab.open(browser, viewport || SIZE, !!userDataDir);
     await this.listen(this.tab);

@@ -19,7 +19,7 @@ const SHORTEST_PAUSE = 1000;
 const MOST_ERRORS = 100;
 
 /** @typedef {{pid: number, words: string, name?: string}} TestFacts the process that drives the browser, and the name of its test (`ER_TEST`, read in main.js) */
-/** @typedef {Parameters<typeof writeFiles>[1] & {time: number}} Options of the recording */
+/** @typedef {Parameters<typeof writeFiles>[1] & {time: number, isDriven?: boolean}} Options of the recording */
 
 /**
  * @typedef {object} LoadFacts

@@ -1,9 +1,20 @@
 'use strict';
-// Answers the requests and responses that the browser has paused, whichever session they were paused in.
+// Answers the requests and responses that the browser has paused, whichever session they were paused in, and reads which become pages.
 
 const { Tab } = require('../browser/tab.js');
 
 /** @typedef {{requestId: string}} PausedEvent */
+
+/**
+ * Whether a response becomes a page: no step to another address, no file to be saved.
+ * @param {{[name: string]: any}} event as the protocol has it
+ */
+function isPage({ responseStatusCode: status, responseHeaders = [] }) {
+  /** @param {string} wanted */
+  const value = (wanted) => responseHeaders.find((/** @type {{name: string}} */ { name }) => name.toLowerCase() === wanted)?.value || '';
+  const isShown = status >= 200 && status !== 204 && status !== 205 && (status < 300 || status >= 400);
+  return isShown && /html|xml/i.test(value('content-type')) && !/^attachment/i.test(value('content-disposition'));
+}
 
 /** For `Responses` it is the tab of a page load, of which that needs no more than to send answers. */
 class Paused extends Tab {
@@ -60,4 +71,4 @@ class Paused extends Tab {
   }
 }
 
-module.exports = { Paused };
+module.exports = { Paused, isPage };

@@ -83,7 +83,7 @@ function inPage(options, text, start) {
   const place = (/** @type {number} */ inCode) => text.placeInPage(inCode) - start;
   return {
     ...options,
-    site: (/** @type {number} */ offset, /** @type {any} */ about) => options.site(place(offset), about?.object ? { ...about, object: about.object.map(place) } : about),
+    site: (/** @type {number} */ offset, /** @type {Parameters<InstrumentOptions['site']>[1]} */ about) => options.site(place(offset), about?.object ? { ...about, object: [place(about.object[0]), place(about.object[1])] } : about),
     named: (/** @type {number} */ from, /** @type {number} */ to, /** @type {string} */ name) => options.named?.(place(from), place(to), name),
     library: (/** @type {number} */ from, /** @type {number} */ to, /** @type {string} */ name) => options.library?.(place(from), place(to), name),
   };

@@ -252,7 +252,7 @@ class LoadRuns {
    * @returns {T}
    */
   shared(data) {
-    /** @type {(value: any) => any} */
+    /** @type {(value: any) => any} whatever the data has */
     const share = (value) => {
       if (typeof value === 'string') return this.copy(value);
       if (!value || typeof value !== 'object' || this.sharedLooks.has(value)) return value;

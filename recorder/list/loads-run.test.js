@@ -23,7 +23,8 @@ const FACTS = { page: 'traces', status: 1, files: [], folder: null };
 class WholeListing extends Listing {
   /** @param {import('./listing.js').Listed} problem */
   seenInWords(problem) {
-    return LoadsListing.prototype.seenInWords.call(Object.assign(this, { views: this.runs.map((_, k) => `${k + 1}.html`) }), problem);
+    const views = this.runs.map((_, k) => `${k + 1}.html`);
+    return LoadsListing.prototype.seenInWords.call(Object.assign(Object.create(this), { views }), problem);
   }
 }
 

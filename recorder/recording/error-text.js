@@ -25,8 +25,11 @@ const FAILED_CALL = /^(\w+: )([^]+)( is not a (?:function|constructor))$/;
 /** The innermost place in an error's description: where it failed, also if other code has thrown it again. */
 const FIRST_FRAME = /^ +at (?:.* \()?(\S+):(\d+):(\d+)\)?$/m;
 
-/** @param {string} text */
-const withoutMarks = (text) => text.replace(new RegExp(MARK, 'g'), HIDDEN);
+/**
+ * A text of the browser, in which a mark is code.
+ * @param {string} text
+ */
+const withHiddenMarks = (text) => text.replace(new RegExp(MARK, 'g'), HIDDEN);
 
 /**
  * The first line of an error's description, without marks.
@@ -40,7 +43,7 @@ function messageOf(description, sources) {
   const [, address, row, column] = FIRST_FRAME.exec(description) || [];
   const place = code && address ? sources?.textAndOffset(address, Number(row), Number(column)) : null;
   const own = place ? ownCallSite(code, place) : null;
-  return own === null ? withoutMarks(line) : `${before}${own}${after}`;
+  return own === null ? withHiddenMarks(line) : `${before}${own}${after}`;
 }
 
 /**
@@ -53,7 +56,7 @@ function consoleText(values, sources) {
     if (value !== undefined) return String(value);
     return description ? messageOf(description, sources) : type;
   });
-  return withoutCommands(withoutMarks(texts.join(' ').split('\n')[0]).slice(0, LONGEST_CONSOLE));
+  return withoutCommands(withHiddenMarks(texts.join(' ').split('\n')[0]).slice(0, LONGEST_CONSOLE));
 }
 
 /**

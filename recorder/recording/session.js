@@ -37,7 +37,7 @@ const { ofRecording, ownNames, pageScript } = require('./page-script.js');
  * @property {{word: string, place: string, count: number}|null} [turns] of what keeps a page going that never rests: it goes on for as many
  * @property {KeptAnswers|null} [received] what the recorded run received: this one gets it again
  * @property {boolean} [isGuarded] whether requests are refused that may change something on a server
- * @property {(recorder: any) => Promise<void>} [whenOver] called with the recorder when the recording is over
+ * @property {(recorder: any) => Promise<void>} [whenOver] called with the recorder (any: of its own class) when the recording is over
  */
 
 /** @typedef {import('./options.js').RecordingOptions & Run} SessionOptions */
@@ -115,12 +115,9 @@ class Session {
     this.responses = /** @type {Responses|null} */ (null);
     /** The HTTP status of the page itself, or 0. */
     this.pageStatus = 0;
-    /** @type {string[]} uncaught errors */
-    this.errors = [];
-    /** @type {string[]} */
-    this.consoleErrors = [];
-    /** @type {string[]} */
-    this.dialogs = [];
+    this.errors = /** @type {string[]} uncaught ones */ ([]);
+    this.consoleErrors = /** @type {string[]} */ ([]);
+    this.dialogs = /** @type {string[]} */ ([]);
     this.windows = 0;
     /** Whether dialogs are dismissed: clicks that the seed chose may have opened them. */
     this.isDismissing = false;

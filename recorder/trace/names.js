@@ -6,6 +6,7 @@ const { foreignness } = require('../common/library.js');
 const { redactedValue } = require('../common/secrets.js');
 const { FIRST_FIELD, FIRST_MODULE, FIRST_OBJECT } = require('../common/numbers.js');
 const { jsonText } = require('../common/shown.js');
+const { LineFacts } = require('./line-facts.js');
 const { LISTS, DECLARES } = require('./name-lists.js');
 const { namedFile } = require('./named-files.js');
 
@@ -66,28 +67,6 @@ class Names {
      * @type {{[place: string]: string}}
      */
     this.functions = table();
-    /**
-     * What an access found or wrote, by its line (page/log/values.js); and what was there before a write, if that is known.
-     * @type {{[line: string]: string}}
-     */
-    this.values = table();
-    /** @type {{[line: string]: string}} */
-    this.befores = table();
-    /**
-     * The writes that count a variable up or down, with a value that nobody uses.
-     * @type {{[line: string]: true}}
-     */
-    this.counts = table();
-    /**
-     * The lines of reads that are writes of the value that was there.
-     * @type {{[line: string]: true}}
-     */
-    this.kept = table();
-    /**
-     * The lines of writes of fields in the event of a key: the `input` event of the key does them later.
-     * @type {{[line: string]: true}}
-     */
-    this.typed = table();
     /** @type {{[number: string]: ObjectFacts}} */
     this.objects = table();
     /** @type {Map<string, any[]>} as `nextTag` keeps it */
@@ -100,8 +79,7 @@ class Names {
      * @type {Map<number, Facts>}
      */
     this.told = new Map();
-    /** @type {Map<string, string>} */
-    this.written = new Map();
+    this.lines = new LineFacts();
     named.forEach((one) => this.take(one));
   }
 
@@ -112,7 +90,7 @@ class Names {
   take({ kind, number, ...facts }) {
     const list = LISTS.get(kind);
     if (kind === 'object') this.told.set(number, facts);
-    else if (kind === 'written') this.written.set(String(number), facts.value || '');
+    else if (kind === 'written') this.lines.written.set(String(number), facts.value || '');
     else if (kind === 'stack') this.stacks.set(String(number), (facts.places || '').split('\n'));
     else if (list) Object.assign(this.entry(list, String(number)), facts);
   }
@@ -182,11 +160,10 @@ class Names {
    */
   addRecords(records, all = records) {
     all.forEach((record) => this.addElementPlace(record));
-    records.forEach(({ text, place, found, stack, isKept, isTyped }, k) => {
+    records.forEach((record, k) => {
+      const { text, place, stack } = record;
       const words = text.split(' ');
-      if (found) this.addValue(k + 2, found);
-      if (isKept) this.kept[k + 2] = true;
-      if (isTyped) this.typed[k + 2] = true;
+      this.lines.take(k + 2, record);
       if (words[1] === 'var') this.addObject(Number(words[2]));
       const { own, way } = this.placesOfStack(stack);
       const known = own || this.resolve(place) || this.placeOfBegin(words);
@@ -207,18 +184,6 @@ class Names {
     if (way) this.ways[line] = way;
     const list = DECLARES.get(word);
     if (list) Object.assign(this.entry(list, number), { place }, way && { way });
-  }
-
-  /**
-   * A write is known by its number, if what it wrote comes after it; or by what it wrote, and what was there before.
-   * @param {number} line
-   * @param {string} found
-   */
-  addValue(line, found) {
-    const [value = '', before] = found[0] === '=' ? [this.written.get(found.slice(1))] : found.split('<');
-    if (value.endsWith('+')) this.counts[line] = true;
-    if (value) this.values[line] = value.replace(/\+$/, '');
-    if (before && before !== '?') this.befores[line] = before;
   }
 
   /** @param {Place} place */
@@ -303,7 +268,7 @@ class Names {
    */
   facts(files = this.sources.files.map(({ address, text }) => ({ address: fileAddress(address), text }))) {
     const functions = Object.fromEntries(Object.entries(this.functions).filter(([, name]) => name));
-    return { files, ...this.lists, objects: this.objects, functions, values: this.values, befores: this.befores, counts: this.counts, kept: this.kept, typed: this.typed, ways: this.ways, places: this.places };
+    return { files, ...this.lists, objects: this.objects, functions, ...this.lines.lists(), ways: this.ways, places: this.places };
   }
 }
 

@@ -110,7 +110,7 @@ function scrollBy(where, x, y) {
  * @param {{operator?: '>='|'=='|'<=', count?: number, visible?: boolean, attributes?: {[name: string]: string}, properties?: object}} wanted
  */
 function areThere(where, { operator = '>=', count = 1, visible, attributes = {}, properties = {} }) {
-  /** @type {(given: any, part: any) => boolean} */
+  /** @type {(given: any, part: any) => boolean} of any values */
   const has = (given, part) => (part && typeof part === 'object'
     ? !!given && Object.keys(part).every((name) => has(given[name], part[name])) : given === part);
   const found = findAll(where).filter((one) => Object.entries(attributes).every(([name, value]) => one.getAttribute(name) === value) && has(one, properties)

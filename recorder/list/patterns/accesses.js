@@ -12,10 +12,7 @@ const COUNT_BEFORE = /(?:\+\+|--)\s*(?:[\w$]+\.)*$/;
 /** So many actions write a scratch value, at least. */
 const FEWEST_WRITERS = 3;
 
-/**
- * An access in a line of the trace.
- * @typedef {{line: number, action: number, isWrite: boolean}} Access
- */
+/** @typedef {{line: number, action: number, isWrite: boolean}} Access an access in a line of the trace */
 
 /** @param {string|undefined} value */
 const isNothing = (value) => value === '-' || value === 'null';

@@ -19,7 +19,7 @@ class Forms {
     const { HTMLFormElement, HTMLInputElement, HTMLSelectElement, HTMLTextAreaElement } = page.window;
     /**
      * By the element's name.
-     * @type {{[name: string]: {[variable: string]: (this: any) => unknown}}}
+     * @type {{[name: string]: {[variable: string]: (this: any) => unknown}}} `this` is an element of that name
      */
     this.getters = {
       input: { value: getterOf(HTMLInputElement.prototype, 'value'), checked: getterOf(HTMLInputElement.prototype, 'checked') },
@@ -32,7 +32,7 @@ class Forms {
 
   /**
    * The fields of a form that have a value to reset, and the variable that it is.
-   * @param {any} form
+   * @param {any} form of a document of its own classes
    */
   fieldsOf(form) {
     /** @type {[Element, 'value'|'checked'][]} */
@@ -56,7 +56,7 @@ class Forms {
 
   /**
    * The other radio buttons of the group of one; nothing of another element.
-   * @param {any} radio
+   * @param {any} radio any element
    * @returns {Element[]}
    */
   radiosBeside(radio) {
@@ -71,7 +71,7 @@ class Forms {
 
   /**
    * @param {Element} element
-   * @returns {ArrayLike<any>}
+   * @returns {ArrayLike<any>} elements
    */
   #radiosAround(element) {
     const { natives } = this.page;

@@ -41,7 +41,7 @@ class Attributes {
   // ---- what an element loads
 
   /**
-   * @param {any} owner
+   * @param {any} owner its members differ by interface
    * @param {string} name
    */
   #replaceSource(owner, name) {

@@ -26,7 +26,7 @@ class Made {
   }
 
   /**
-   * @param {any} owner
+   * @param {any} owner its members differ by interface
    * @param {string} name
    */
   #replaceMaker(owner, name) {
@@ -40,7 +40,7 @@ class Made {
 
   /**
    * A text makes elements inside of one that is in no document.
-   * @param {any} owner
+   * @param {any} owner its members differ by interface
    */
   #replaceText(owner) {
     const made = this;

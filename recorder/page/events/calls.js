@@ -77,7 +77,7 @@ class Calls {
 
   /**
    * Puts a function of the recorder around a method that may dispatch events or change the tree. Also for tasks/requests.js.
-   * @param {any} owner
+   * @param {any} owner its members differ by interface
    * @param {string} name
    * @param {boolean} isInsertion
    */
@@ -108,7 +108,7 @@ class Calls {
   }
 
   /**
-   * @param {any} owner
+   * @param {any} owner its members differ by interface
    * @param {string} name
    */
   #replaceSetter(owner, name) {
@@ -131,7 +131,7 @@ class Calls {
     });
   }
 
-  /** @param {any} owner */
+  /** @param {any} owner its members differ by interface */
   #replaceCreation(owner) {
     const calls = this;
     const declare = (/** @type {Element} */ element) => {

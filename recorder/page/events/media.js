@@ -116,7 +116,7 @@ class Media {
 
   /**
    * Replaces what sets a source or loads it, of an interface of media elements.
-   * @param {any} owner
+   * @param {any} owner its members differ by interface
    */
   #replaceSources(owner) {
     const media = this;
@@ -132,7 +132,7 @@ class Media {
     });
   }
 
-  /** @param {any} owner */
+  /** @param {any} owner its members differ by interface */
   #replacePlaying(owner) {
     const media = this;
     replaceMethod(owner, 'play', (native) => function play() {
@@ -147,7 +147,7 @@ class Media {
 
   /**
    * Of two calls before the end of the first there is one end.
-   * @param {any} owner
+   * @param {any} owner its members differ by interface
    */
   #replaceSeeking(owner) {
     const media = this;

@@ -136,7 +136,7 @@ class Messages {
   /**
    * Records the call of `postMessage` or the like: its message is expected at the receiver.
    * @param {object} receiver
-   * @param {ArrayLike<any>} words
+   * @param {ArrayLike<any>} words whatever the page passes
    * @param {import('../types').PostedMessage[]} added gets the message
    * @returns {import('../types').Held|undefined} what holds the message back in a replay
    */

@@ -58,7 +58,7 @@ class Navigations {
 
   // ---- what a page does in place of a navigation
 
-  /** @param {any} owner */
+  /** @param {any} owner the types lack this interface */
   #replaceIntercept(owner) {
     const navigations = this;
     replaceMethod(owner, 'intercept', (native) => function intercept(...words) {

@@ -25,7 +25,7 @@ const FRAMES_OF_A_CALL = 3;
  */
 /**
  * An expected event, of a type or of any (null).
- * @typedef {Cause & {type: string|null, isIt: (event: any) => boolean}} Expected
+ * @typedef {Cause & {type: string|null, isIt: (event: any) => boolean}} Expected `isIt` knows the class of its event
  */
 
 class Queued {

@@ -69,7 +69,7 @@ class Variable {
     this.firstAfter = UNKNOWN;
     /** @type {unknown} */
     this.firstBefore = UNKNOWN;
-    /** @type {any[]|null} four entries an access (waiting.js) */
+    /** @type {any[]|null} four entries an access, of several types (waiting.js) */
     this.waiting = null;
   }
 }

@@ -21,7 +21,7 @@ class Variables {
     this.waiting = new Waiting(objects);
     /**
      * The writes of the running action: what they changed is known when it is over.
-     * @type {any[]} OF_STAGED entries a write
+     * @type {any[]} OF_STAGED entries a write, of several types
      */
     this.staged = [];
   }

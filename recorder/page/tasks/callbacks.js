@@ -54,7 +54,7 @@ class Callbacks {
 
   /**
    * Puts a function of the recorder around one that gets callbacks.
-   * @param {any} owner
+   * @param {any} owner its members differ by interface
    * @param {string} name
    * @param {number[]} indices
    * @param {string|undefined} property
@@ -73,7 +73,7 @@ class Callbacks {
 
   /**
    * What waits for a view transition comes after its callback, and after what its starter does when an earlier promise of it is settled.
-   * @param {any} owner
+   * @param {any} owner its members differ by interface
    * @param {string} name
    */
   #replacePromise(owner, name) {
@@ -89,7 +89,7 @@ class Callbacks {
   /**
    * Returns what is known of the call, or null if no argument is a function.
    * @param {string} name
-   * @param {any[]} words
+   * @param {any[]} words whatever the page passes
    * @param {number[]} indices
    * @param {string|undefined} property
    * @returns {Asked|null}

@@ -56,7 +56,7 @@ class Connections {
 
   /**
    * The request that a database's transaction is, for a request in it.
-   * @param {any} result
+   * @param {any} result whatever the call returns
    */
   #transactionOf(result) {
     const transaction = result && result.source && result.transaction;
@@ -95,7 +95,7 @@ class Connections {
 
   /**
    * @param {[owner: string, names: string[]][]} owners
-   * @param {(target: any, result: any) => EventTarget|null} answering where the events come
+   * @param {(target: any, result: any) => EventTarget|null} answering where the events come, by whatever the call returns
    */
   #replaceCalls(owners, answering) {
     const connections = this;

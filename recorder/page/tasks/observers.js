@@ -80,7 +80,7 @@ class Observers {
     return { name, handler, asked: jobs.ask(null), type: '', told: [], hold: this.recording.steering.asks('on') };
   }
 
-  /** @param {any} owner */
+  /** @param {any} owner its members differ by interface */
   #replaceObserve(owner) {
     const observers = this;
     replaceMethod(owner, 'observe', (native) => function observe(target) {

@@ -64,7 +64,7 @@ class Requests {
     }
   }
 
-  /** @param {any} owner */
+  /** @param {any} owner its members differ by interface */
   #replaceXhr(owner) {
     const requests = this;
     const { calls, dispatches } = this.page;
@@ -112,13 +112,13 @@ class Requests {
 
   /**
    * A promise that settles inside a reply, so that the reactions to it run there.
-   * @param {Promise<any>} promise
+   * @param {Promise<any>} promise of any value
    * @param {Request} request
    * @param {number} handler
    * @param {boolean} isResponse
    */
   #settle(promise, request, handler, isResponse) {
-    /** @type {Promise<any>} */
+    /** @type {Promise<any>} of any value */
     const settled = new this.natives.promise((resolve, reject) => {
       const reply = (/** @type {() => void} */ call) => this.#runReply(request, handler, settled, call);
       apply(this.natives.then, promise, [(/** @type {any} what the page gets */ value) => {

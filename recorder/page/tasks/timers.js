@@ -106,7 +106,7 @@ class Timers {
    * @param {'timer'|'tick'} kind
    * @param {TraceEvent|null} asker
    * @param {Function} callback
-   * @param {any[]} words
+   * @param {any[]} words whatever the page passes
    * @param {{place?: InQueue|null, nesting?: number}} more `place` of a callback in a queue, `nesting`: how deep a timer is nested
    */
   #run(line, kind, asker, callback, words, { place = null, nesting = 0 }) {
