@@ -12,7 +12,7 @@ function helpersOfWorld(window) {
   const nothing = () => {};
   /** @type {string[]} */
   const lines = [];
-  const recording = { actions: 1, isOver: false, mayAccess: () => true, log: { line: (/** @type {string} */ text) => lines.push(text), name() {}, miss() {} }, next: () => 1 };
+  const recording = { actions: 1, isOver: false, mayAccess: () => true, makingAction: () => 0, log: { line: (/** @type {string} */ text) => lines.push(text), name() {}, miss() {} }, next: () => 1 };
   const objects = new Objects(/** @type {import('../page/types').Recording} */ (/** @type {unknown} */ (recording))); // as far as the helpers use one
   Object.assign(objects.trees, {
     addWindow() {}, notePart: () => false, variableOf: () => null, call() {}, accessAttribute() {}, number: () => 1, isNode: () => false, valueOf: () => UNKNOWN,

@@ -10,8 +10,8 @@ const RULES = {
   bothKept: 'two writes that leave the old value',
   told: 'a write that leaves the old value, told as a read',
   closure: 'a variable of a closure that no action reads before it writes it',
-  first: 'a first value, where another race hands the object over',
-  firstLone: 'a first value, handed over by what is no race of these two actions',
+  first: 'an access to a thing by the action that made it, where another race hands the thing over',
+  firstLone: 'an access to a thing by the action that made it, handed over by what is no race of these two actions',
   parser: 'a step of the parser between two others',
   libraries: 'what only libraries touch',
   tooLarge: 'what is too large for the format',
@@ -54,7 +54,7 @@ class Comparison {
     this.ofLeft = modesOf(left.report.races);
     this.pairs = new Set(whole.report.races.filter((race) => !this.sidesOf(race).some(({ why }) => why === 'first')).map(({ actions }) => actions.join(' ')));
     this.begins = beginsOf(whole.records);
-    this.readAtAll = new Set(whole.records.filter(({ text, why }) => text.startsWith('r ') && why === undefined).map(({ text }) => text.slice(2)));
+    this.readAtAll = new Set(whole.records.filter(({ text, why }) => text.startsWith('r ') && (why === undefined || why === 'first')).map(({ text }) => text.slice(2)));
     this.steps = this.stepsOf(left.report.races);
     /** @type {{[rule in Rule]?: number}} how many races each rule leaves out */
     this.counts = {};

@@ -8,7 +8,7 @@ const { BEGINS, wordOf } = require('./intake.js');
 /**
  * @typedef {import('./intake.js').Entry & {isKept?: boolean, why?: string}} Entry
  *   `isKept` if a write that left the old value is written as a read; `why` is, in a whole recording, what a rule says of the access: `own`
- *   (a read after a write of its action), `first` (a first value), `same` (a write that leaves the old value)
+ *   (a read after a write of its action), `first` (of the action that made the thing), `same` (a write that leaves the old value)
  * @typedef {{action: number, mode: string, place?: string, found?: string, isKept: boolean}} Access
  * @typedef {{location: string, isOwn: boolean, accesses: Access[]}} Variable
  * @typedef {(place: string|undefined) => boolean} IsLibrary whether a place is in a library

@@ -79,13 +79,18 @@ class ClosureMarks extends Marks {
     const { body, params, start } = node;
     const number = this.declaration(scope, 'var', start, this.nameOfFunction(node));
     if (body.type === 'BlockStatement') {
-      const text = number + this.readsOfParameters(node);
+      const text = number + this.noteOfMade(node) + this.readsOfParameters(node);
       if (text) this.inserter.insert(startOfStatements(body), `;${text}`);
       return nothing;
     }
     if (!number) return nothing;
     this.inserter.insert(this.inserter.endOfToken(params.length ? params[params.length - 1].end : start, '=>'), `{${number}return(`);
     return () => this.inserter.insert(node.end, ')}');
+  }
+
+  /** The call that notes the object which a call by `new` makes for a function. */
+  noteOfMade(/** @type {FunctionNode} */ node) {
+    return node.usesThis && !node.isMethod && !node.async && !node.generator ? `new.target&&__er.N(this,${this.site(node.start, { object: [node.start, node.start] })});` : '';
   }
 
   /** The calls that report what the patterns of a function's parameters take of its arguments. */

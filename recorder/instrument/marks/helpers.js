@@ -11,6 +11,7 @@
 // properties.js  by a name            p reads, q writes, b reads and writes, B counts, g deletes; f writes, once the value is there
 //                by a key             k, l, j, J, h, fk: the same; o: `key in object`
 //                of `super`           sp by a name, sk by a key: both read
+//                of `new`             N notes the object that a call makes
 // scopes.js      closure variables    s makes the scope of a call; v reads, z writes, y reads and writes, Y counts
 // wholes.js      whole objects        n their names, e all properties (a spread), i all items (a loop), d what a pattern takes, c what `Object.assign` copies
 //                methods              m of arrays, maps and elements; a their first argument, if it is a key
@@ -31,7 +32,7 @@ const ANSWERS = [
   'wh uh Uh wm um fo f fk z F',
   'y Y',
 ];
-const WITHOUT_ANSWER = 'r rh rm v V s sp E as scriptBegins scriptEnds moduleBegins moduleEnds insertedModule handlerBegins handlerEnds addressBegins addressEnds';
+const WITHOUT_ANSWER = 'r rh rm v V s sp N E as scriptBegins scriptEnds moduleBegins moduleEnds insertedModule handlerBegins handlerEnds addressBegins addressEnds';
 
 /**
  * @param {string} names

@@ -71,6 +71,10 @@ interface FunctionBase extends Base {
   generator: boolean;
   /** The parameters through which the function gets the window. */
   windowNames?: Set<string>;
+  /** Whether its code, or that of an arrow in it, has `this`. */
+  usesThis?: boolean;
+  /** Whether it is a method, or a constructor of a class that extends another: a call of it has no object of its own from the start. */
+  isMethod?: boolean;
 }
 export interface FunctionDeclaration extends FunctionBase { type: 'FunctionDeclaration' }
 export interface FunctionExpression extends FunctionBase { type: 'FunctionExpression' }

@@ -11,6 +11,8 @@ const { ownerIn } = require('./closures.js');
  * @typedef {import('./closures').ClosureScope} ClosureScope
  * @typedef {import('../syntax/types').Node} Node
  * @typedef {import('../syntax/types').Identifier} Identifier
+ * @typedef {import('../syntax/types').FunctionNode} FunctionNode
+ * @typedef {import('../syntax/types').ClassNode} ClassNode
  * @typedef {import('./expressions').Initialized} Initialized
  */
 
@@ -39,6 +41,11 @@ class Look extends Walker {
      * @type {ClosureScope[]}
      */
     this.scopes = [];
+    /**
+     * The function whose `this` the code has.
+     * @type {FunctionNode|null}
+     */
+    this.ofThis = null;
     if (module) this.startScope(top);
   }
 
@@ -50,6 +57,27 @@ class Look extends Walker {
     scope.closure = { captured: new Map(), assigned: new Map(), firsts: new Map(), waited: this.waited, recorded: new Set(), label: '' };
     this.scopes.push(/** @type {ClosureScope} */ (scope));
     return nothing;
+  }
+
+  // ---- `this`
+
+  visitFunction(/** @type {FunctionNode} */ node, /** @type {Scope} */ scope) {
+    const outer = this.ofThis;
+    if (node.type !== 'ArrowFunctionExpression') this.ofThis = node;
+    super.visitFunction(node, scope);
+    this.ofThis = outer;
+  }
+
+  ThisExpression() {
+    if (this.ofThis) this.ofThis.usesThis = true;
+  }
+
+  /** Only a constructor of a class that extends no other has an object of its own from the start. */
+  visitClass(/** @type {ClassNode} */ node, /** @type {Scope} */ scope) {
+    for (const member of node.body.body) {
+      if (member.type === 'MethodDefinition' && (member.kind !== 'constructor' || node.superClass)) member.value.isMethod = true;
+    }
+    super.visitClass(node, scope);
   }
 
   // ---- accesses

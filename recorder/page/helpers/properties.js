@@ -86,6 +86,17 @@ function readerOfPrototype(objects) {
   };
 }
 
+/**
+ * The object that a call by `new` has made for the function that it calls.
+ * @param {import('../types').Objects} objects
+ */
+function noterOfMade({ recording, sites, kinds }) {
+  /** @type {(object: object, site: number) => void} */
+  return (object, site) => {
+    if (sites.isDue(object, site)) kinds.hold(object, -1).maker = recording.actions;
+  };
+}
+
 /** @param {import('../types').Objects} objects */
 function helpersOfProperties(objects) {
   const byName = makerByName(objects);
@@ -103,6 +114,7 @@ function helpersOfProperties(objects) {
     f: (object, name, site, value) => { writeByName(object, name, site); return value; },
     /** @type {(object: unknown, key: unknown, site: number, value: unknown) => unknown} */
     fk: (object, key, site, value) => { writeByKey(object, key, site); return value; },
+    N: noterOfMade(objects),
     sp: readPrototype,
     /** @type {ByKey} */
     sk: (object, key, site) => { if (typeof key === 'string' || typeof key === 'number') readPrototype(object, `${key}`, site); return key; },

@@ -4,7 +4,7 @@ import { UNKNOWN } from '../log/values.js';
 import { Scope } from '../objects/scopes.js';
 
 /** @param {import('../types').Objects} objects */
-function helpersOfScopes({ sites, scopes, variables }) {
+function helpersOfScopes({ recording, sites, scopes, variables }) {
   const { objects: lastObjects, staged: lastStaged } = sites;
   const { staged } = variables;
   /**
@@ -48,7 +48,7 @@ function helpersOfScopes({ sites, scopes, variables }) {
      * @param {number} site
      * @param {number} [number] of a module
      */
-    s: (site, number = 0) => new Scope(site, number),
+    s: (site, number = 0) => new Scope(site, number, recording.makingAction()),
   };
 }
 

@@ -94,6 +94,8 @@ class Holder {
     /** The action in which it was first met, and the place where this action gave it a name that it had not. */
     this.since = 0;
     this.namesSite = -1;
+    /** The action that made it, or 0 if this is not known. Its own accesses cannot race (docs/lost.md). */
+    this.maker = 0;
   }
 
   /**

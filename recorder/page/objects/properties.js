@@ -29,7 +29,7 @@ class Properties {
   access(object, name, modes, site) {
     const { kinds, variables } = this;
     const known = kinds.holders.get(object);
-    if (known !== undefined && known.kind >= LEFT_OUT) return;
+    if (known !== undefined && (known.kind >= LEFT_OUT || (modes === 'w' && known.maker === this.recording.actions && !keepsAll))) return;
     if (typeof name === 'string' && name[0] === '#' && name.length > 1) {
       variables.touchModes(kinds.hold(object, site), name, modes, site);
       return;
@@ -226,6 +226,7 @@ class Properties {
    * @param {number} site
    */
   #noteNewName(holder, site) {
+    if (holder.maker === this.recording.actions && !keepsAll) return;
     if (keepsAll || holder.since !== this.recording.actions || holder.find(NAMES) !== null) this.variables.touchName(holder, NAMES, WRITE, site);
     else if (holder.namesSite < 0) holder.namesSite = site;
   }

@@ -13,6 +13,7 @@ let holderOf;
 class Scope {
   #site;
   #number;
+  #maker;
   /** @type {Holder|null} */
   #holder = null;
 
@@ -23,15 +24,18 @@ class Scope {
   /**
    * @param {number} site
    * @param {number} number of a module, or 0
+   * @param {number} maker the action that makes it, or 0
    */
-  constructor(site, number) {
+  constructor(site, number, maker) {
     this.#site = site;
     this.#number = number;
+    this.#maker = maker;
   }
 
   #hold() {
     const holder = new Holder(SCOPE, this.#site, null);
     if (typeof this.#number === 'number') holder.number = this.#number;
+    holder.maker = this.#maker;
     this.#holder = holder;
     return holder;
   }

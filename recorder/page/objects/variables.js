@@ -86,13 +86,27 @@ class Variables {
   touch(holder, variable, mode, site) {
     const { actions } = this.recording;
     variable.flags &= ~IS_COUNTED;
-    if (mode === WRITE) {
+    if (holder.maker === actions) this.#touchOwn(holder, variable, mode, site);
+    else if (mode === WRITE) {
       if (variable.lastWrite !== actions) this.stage(holder, variable, site, this.#valueOf(holder, variable));
     } else if (variable.lastWrite === actions) {
       if (keepsAll) this.waiting.keep(holder, variable, 'r', site, ' own');
     } else if (variable.lastRead !== actions) {
       this.#read(holder, variable, site, this.#valueOf(holder, variable));
     }
+  }
+
+  /**
+   * An access of the action that made a thing to this thing: whatever else touches it gets it from this action, and so comes later. A read shows that
+   * what other actions write is of use.
+   * @param {import('../types').Holder} holder
+   * @param {import('../types').Variable} variable
+   * @param {number} mode
+   * @param {number} site
+   */
+  #touchOwn(holder, variable, mode, site) {
+    if (mode === READ) variable.flags |= IS_READ;
+    if (keepsAll) this.waiting.keep(holder, variable, mode === READ ? 'r' : 'w', site, ' first');
   }
 
   /**
@@ -104,7 +118,7 @@ class Variables {
    */
   readAs(holder, variable, site, value) {
     const { actions } = this.recording;
-    if (variable.lastWrite === actions) this.touch(holder, variable, READ, site);
+    if (variable.lastWrite === actions || holder.maker === actions) this.touch(holder, variable, READ, site);
     else if (variable.lastRead !== actions) this.#read(holder, variable, site, value);
   }
 
@@ -133,6 +147,10 @@ class Variables {
   stage(holder, variable, site, before) {
     const { actions } = this.recording;
     if (variable.lastWrite === actions) return;
+    if (holder.maker === actions) {
+      this.#touchOwn(holder, variable, WRITE, site);
+      return;
+    }
     variable.lastWrite = actions;
     if (keepsAll) this.waiting.keep(holder, variable, 'w', site);
     const { staged } = this;

@@ -81,6 +81,13 @@ class Recording extends OpenDispatches {
     return this.lastMoment();
   }
 
+  /** The number of the action that makes something now, or 0 if nothing recorded runs. */
+  makingAction() {
+    if (this.isOver || !this.isRunning()) return 0;
+    this.finishReturned();
+    return this.actions;
+  }
+
   /**
    * Records an access of the running action. If nothing recorded runs, it is counted.
    * @param {string} mode
