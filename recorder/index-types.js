@@ -25,8 +25,8 @@
  */
 /**
  * A problem of a list, with the members of docs/ci.md, "JSON". `replay` is there if it was run again.
- * @typedef {{name: string, look: string, part: string, seen: string, words: string, summary: string, rank: {number: number, reason: string},
- *   isKnown: boolean, fails: boolean, hasLine: boolean, runs: number[], bothOrders: boolean,
+ * @typedef {{name: string, look: string, part: string, seen: string, words: string, summary: string, fix: string,
+ *   rank: {number: number, reason: string}, isKnown: boolean, fails: boolean, hasLine: boolean, runs: number[], bothOrders: boolean,
  *   names: {name: string, runs: number[], bothOrders: boolean}[], races: ProblemRace[],
  *   replay?: {race: number, verdict: string, differs: boolean, effect?: string, sentence?: string, words: string}}} Problem
  */

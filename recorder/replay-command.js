@@ -212,12 +212,12 @@ class ReplayCommand {
   }
 
   /**
-   * The view's problems with their places in the list as it is after the replays.
+   * The view's problems with their places and sections in the list as it is after the replays.
    * @param {Shown} model
    */
   inOrder(model) {
-    const places = new Map(this.listing.problems.map(({ name }, k) => [name, k]));
-    return model.problems.map((one) => ({ ...one, order: places.get(one.name) ?? one.order }));
+    const places = new Map(this.listing.problems.map((one, order) => [one.name, { order, part: this.listing.partOf(one) }]));
+    return model.problems.map((one) => ({ ...one, ...places.get(one.name) }));
   }
 
   /**

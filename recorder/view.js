@@ -84,7 +84,7 @@ async function writeView(traceFile, report, { known = null, isLinkedLater = fals
   const links = isLinkedLater ? [] : await queried;
   const listing = busy(() => new Listing([problems], known));
   const nameOf = (/** @type {number} */ race) => problems.ofRaces[race].problem;
-  const ordered = { problems: listing.problems, nameOf, leads: problems.leads, summaryOf: listing.summaryOf.bind(listing) };
+  const ordered = { problems: listing.problems, nameOf, leads: problems.leads, listing };
   const trace = quoted(traceFile);
   const commands = { viewer: called('er_view'), trace: traceFile, command: `${called('er_view')} ${trace}`, report: `${called('er_cli')} < ${trace}` };
   /** @type {Shown} */

@@ -18,6 +18,11 @@ const INTERVALS = {
   requestIdleCallback: ['idle callback', 'requested'], 'import()': ['module', 'requested'],
 };
 
+/** So many requests are followed back from an action to code of the page's own. */
+const MOST_STEPS = 20;
+/** How an action comes from the one that requested it (races/actions.js). */
+const REQUESTED = new Set(['asked for by', 'registered by', 'called by', 'goes on from']);
+
 class Callbacks {
   /**
    * @param {import('../races/words.js').Words} words
@@ -40,10 +45,10 @@ class Callbacks {
     switch (word) {
       case 'parse': return `parser at ${this.words.element(b)}`;
       case 'exec': return this.script(a);
-      case 'timer': return this.asked('timeout', 'scheduled', names.timeouts[a]);
-      case 'tick': case 'anim': return this.tick(a);
-      case 'reply': return this.reply(b);
-      case 'message': return this.message(names.messages?.[a]);
+      case 'timer': return this.asked('timeout', 'scheduled', names.timeouts[a], number);
+      case 'tick': case 'anim': return this.tick(a, number);
+      case 'reply': return this.reply(b, number);
+      case 'message': return this.asked('message', 'posted', names.messages?.[a], number);
       case 'run': return this.handler(action);
       case 'close': return `the browser, after ${action.dispatch ? this.of(action.dispatch.number) : 'an event'}`;
       case 'back': return this.of(action.first);
@@ -52,13 +57,51 @@ class Callbacks {
   }
 
   /**
-   * A callback with its name, and where it was requested.
-   * @param {string} what @param {string} verb @param {Asked|undefined} facts
+   * A callback with its name, and where it was requested; if that is in a library, also where the page's own code is from which it comes.
+   * @param {string} what @param {string} verb @param {Asked|undefined} facts @param {number} number of the action
    */
-  asked(what, verb, facts) {
+  asked(what, verb, facts, number) {
     const name = (facts?.function || '').replace(/^(?:bound )+/, '').trim();
     const at = facts?.place ? `, ${verb} at ${this.placeInWords(facts.place)}` : '';
-    return `${what}${name ? ` ${shown(name)}` : ''}${at}${at && facts?.way ? ` (via ${this.placeInWords(facts.way)})` : ''}`;
+    const own = at && facts?.place && this.words.isOfLibrary(facts.place) ? this.ownOrigin(number) : null;
+    const [word, place] = own ? ['from', own] : ['via', facts?.way];
+    return `${what}${name ? ` ${shown(name)}` : ''}${at}${at && place ? ` (${word} ${this.placeInWords(place)})` : ''}`;
+  }
+
+  /**
+   * The place in the page's own code from which an action comes: where it was requested, or what requested it, and so on.
+   * @param {number} number
+   * @returns {Place|null}
+   */
+  ownOrigin(number) {
+    const { list } = this.words.actions;
+    /** @type {number|undefined} */
+    let next = number;
+    for (let k = 0; k < MOST_STEPS && next !== undefined; k++) {
+      /** @type {Action} */
+      const action = list[list[next].first];
+      const place = this.requestOf(action)?.place;
+      if (place && !this.words.isOfLibrary(place)) return place;
+      next = action.origins.find(({ word }) => REQUESTED.has(word))?.action;
+    }
+    return null;
+  }
+
+  /**
+   * Where an action was requested, if it was.
+   * @param {Action} action
+   * @returns {Asked|undefined}
+   */
+  requestOf({ words: [word, a, b, c] }) {
+    const { names } = this;
+    switch (word) {
+      case 'timer': return names.timeouts[a];
+      case 'tick': case 'anim': return { ...names.timeouts[Number(a) - FIRST_FOREIGN_TIMEOUT], ...names.intervals[a] };
+      case 'reply': return names.requests[b];
+      case 'message': return names.messages?.[a];
+      case 'run': return names.handlers[c];
+      default: return undefined;
+    }
   }
 
   /**
@@ -71,13 +114,13 @@ class Callbacks {
 
   /**
    * The callback of an interval, or of what counts as one.
-   * @param {string} number
+   * @param {string} number @param {number} action
    */
-  tick(number) {
+  tick(number, action) {
     const facts = this.names.intervals[number] || {};
-    if (!facts.why) return this.asked('timeout', 'scheduled', { ...this.names.timeouts[Number(number) - FIRST_FOREIGN_TIMEOUT], ...facts });
+    if (!facts.why) return this.asked('timeout', 'scheduled', { ...this.names.timeouts[Number(number) - FIRST_FOREIGN_TIMEOUT], ...facts }, action);
     const [what, verb] = INTERVALS[facts.why] || [`callback of ${shown(facts.why)}`, 'requested'];
-    return this.asked(what, verb, facts);
+    return this.asked(what, verb, facts, action);
   }
 
   /**
@@ -91,18 +134,10 @@ class Callbacks {
 
   /**
    * The reply of a request, and where it was requested.
-   * @param {string} number
+   * @param {string} number @param {number} action
    */
-  reply(number) {
-    return this.asked(`reply of ${this.request(number)}`, 'requested', { ...this.names.requests[number], function: '' });
-  }
-
-  /**
-   * A message, and where it was posted.
-   * @param {Asked|undefined} facts
-   */
-  message(facts) {
-    return this.asked('message', 'posted', facts);
+  reply(number, action) {
+    return this.asked(`reply of ${this.request(number)}`, 'requested', { ...this.names.requests[number], function: '' }, action);
   }
 
   /**
@@ -111,13 +146,13 @@ class Callbacks {
    */
   handler(action) {
     const facts = this.names.handlers[action.words[3]] || {};
-    if (facts.type === 'reply of fetch') return this.reply(action.dispatch?.words[2] || '');
+    if (facts.type === 'reply of fetch') return this.reply(action.dispatch?.words[2] || '', action.number);
     if (facts.type === UNSEEN) return UNSEEN;
-    if (facts.type === 'await') return this.asked('code after await', 'waiting', { ...facts, function: '' });
-    if (facts.type === 'job') return this.asked('promise reaction', 'set', facts);
+    if (facts.type === 'await') return this.asked('code after await', 'waiting', { ...facts, function: '' }, action.number);
+    if (facts.type === 'job') return this.asked('promise reaction', 'set', facts, action.number);
     const place = facts.place || this.names.elements[facts.target ?? '']?.place;
     const of = action.dispatch?.words[0] === 'reply' ? ` of ${this.request(action.dispatch.words[2])}` : '';
-    return this.asked(`${shown(facts.type || 'event')} handler${of}`, 'registered', { ...facts, place });
+    return this.asked(`${shown(facts.type || 'event')} handler${of}`, 'registered', { ...facts, place }, action.number);
   }
 }
 

@@ -24,10 +24,9 @@ const { APART } = require('./patterns/table.js');
 const MOST_NAMED = 3;
 /** So many races of a problem are looked through for what else has the same two places. */
 const MOST_RACES = 500;
-const HERE = /(?:^|[;:] )here (.*?)(?:; and covered by it|$)/;
 
 /** Where a callback was requested, and the place in a library by way of which. */
-const ASKED = /, [a-z]+ at (\S+)(?: \(via \S+\))?$/;
+const ASKED = /, [a-z]+ at (\S+)(?: \((?:via|from) \S+\))?$/;
 
 /**
  * The first few texts, without the words at the start that all of them have; of what has the same words, with where it was requested.
@@ -91,13 +90,21 @@ class Entries {
     return summaryOf(this.toldOf(line));
   }
 
+  /**
+   * A usual change for a problem.
+   * @param {Listed} line
+   */
+  fixOf(line) {
+    return this.toldOf(line).fix;
+  }
+
   /** @param {Listed} line @param {Listed[]} others @returns {Entry} */
   of(line, others) {
     const { sentence, place, sides } = this.toldOf(line);
     const { look, name } = line;
     const alsos = line.worst === undefined ? this.alsoOf(line) : ['', ''];
     return {
-      place, sentence, look: look.name, part: look.part, name, more: this.more(line, others), details: this.details(line),
+      place, sentence, look: look.name, part: this.listing.partOf(line), name, more: this.more(line, others), details: this.details(line),
       sides: sides.map((side, k) => ({ ...side, also: alsos[k] })),
     };
   }
@@ -135,11 +142,10 @@ class Entries {
   details(line) {
     const { look } = line;
     const cause = this.causeOf(line);
-    const here = HERE.exec(look.seen)?.[1] || '';
     const replay = this.listing.verdictOf(line);
     const seen = this.listing.seenInWords(line);
     /** @type {Entry['details']} */
-    const all = [['cause', cause ? summaryOf(cause) : ''], ['recorded', here], ['replayed', replay ? replay.sentence || replay.words : this.notReplayed(line)], ['runs', seen]];
+    const all = [['cause', cause ? summaryOf(cause) : ''], ['recorded', look.here], ['replayed', replay ? replay.sentence || replay.words : this.notReplayed(line)], ['runs', seen], ['fix', this.fixOf(line)]];
     return all.filter(([, text]) => text);
   }
 

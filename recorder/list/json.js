@@ -42,10 +42,11 @@ function plainProblem(listing, problem, index, { failing, lines }, folder) {
   return {
     name,
     look: look.name,
-    part: look.part,
+    part: listing.partOf(problem),
     seen: look.seen,
     words,
     summary: listing.summaryOf(problem),
+    fix: listing.fixOf(problem),
     rank: { number: index + 1, reason: listing.rankOf(problem).reason },
     isKnown,
     fails: failing.has(problem),

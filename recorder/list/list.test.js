@@ -104,9 +104,9 @@ test('problems at one location are one line, but where their names are asked for
   const problems = await problemsOf(lines, { ...TIMER_FACTS, timeouts: { 1: { place: [1, 1, 1] }, 2: { place: [1, 1, 22] }, 3: { place: [1, 2, 1] } }, places });
   assert.strictEqual(problems.lines().length, 3);
   const told = linesOf(new Listing([problems], null));
-  const heads = (/** @type {string[]} */ all) => all.filter((line) => /^\S/.test(line));
+  const heads = (/** @type {string[]} */ all) => all.filter((line) => /^\S+ {2}/.test(line));
   assert.deepStrictEqual(heads(told).map((line) => line.replace(/ {3,}/, '   ')), ['app.3f9a2b71.js:4  `count` may change before or after it is written   other']);
-  assert.match(told[3], /^ {4}[0-9a-f]{12} \(for races\.known\), and 2 more races in 3 problems$/);
+  assert.match(told[4], /^ {4}[0-9a-f]{12} \(for races\.known\), and 2 more races in 3 problems$/);
   assert.strictEqual(heads(linesOf(new Listing([problems], new Known('', 'known')))).length, 3);
 });
 
@@ -152,6 +152,29 @@ test('one problem of two clicks, told with both', async () => {
   assert.strictEqual(list[0].races.length, 2);
   assert.match(list[0].words, /2 such: the click at button#go, a#link7\.$/);
   assert.strictEqual(list[0].look.name, 'late handler');
+});
+
+test('a late handler that ran and only read is in a section of its own, at the end; one that wrote is not', async () => {
+  const late = (/** @type {string} */ access) => ['parse 0 1 plain', 'parse 0 2 async', 'parse 0 3 async', 'exec 2', 'w var 0 count', 'exec 3', 'on 1', 'w slot 1 click/1', 'w var 0 count',
+    'fire 1 1 click', 'r slot 1 click/1', 'run 1 0 1', access, 'close 1'];
+  /** @type {Given} */
+  const facts = { elements: { 1: { tag: 'button', id: 'go' } }, handlers: { 1: { type: 'click', target: 1, place: [1, 3, 1] } }, dispatches: { 1: { type: 'click', act: 1000 } }, places: { 6: [1, 3, 1], 9: [1, 3, 1], 10: [1, 4, 1] } };
+  const lines = async (/** @type {string} */ access) => linesOf(new Listing([await problemsOf(late(access), facts)], null));
+  const idle = await lines('r var 0 other');
+  assert.match(idle[0], /^2 problems \(1 other; 1 late handlers that changed nothing recorded\)$/);
+  assert.ok(idle.indexOf('-- late handlers that changed nothing recorded') > idle.indexOf('-- other'));
+  assert.ok(idle.includes('    recorded: the handler was there, and changed nothing that is recorded'));
+  assert.match((await lines('w var 0 other'))[0], /^2 problems \(1 loses what a user does; 1 other\)$/);
+});
+
+test('a place behind a library is that of the page\'s own code from which it comes', async () => {
+  const library = { address: 'http://localhost:8080/jquery.js', text: '\n', isLibrary: true };
+  const timers = { 1: { place: /** @type {import('./types').Place} */ ([2, 1, 1]) }, 2: { place: /** @type {import('./types').Place} */ ([1, 1, 22]) } };
+  const races = await problemsOf(['parse 0 2 inline', 'exec 2', 'set 2 0', 'set 3 9', 'timer 2', 'set 1 0', 'timer 1', 'w var 0 count', 'timer 3', 'w var 0 count'],
+    { ...TIMER_FACTS, files: [...NAMES.files, library], timeouts: { ...timers, 3: { place: [2, 1, 9] } }, places: { 4: [1, 1, 22], 5: [2, 1, 9], 7: [2, 1, 1], 9: [2, 1, 5], 11: [2, 1, 7] } });
+  const [head, first] = linesOf(new Listing([races], null));
+  assert.match(head, /^app\.3f9a2b71\.js:1 {2}`count` may change/);
+  assert.match(first, /jquery\.js:1:5 {2}timeout, scheduled at jquery\.js:1:1 \(from app\.3f9a2b71\.js:1:22\)$/);
 });
 
 test('a user\'s act has the place of the element at which it is', async () => {

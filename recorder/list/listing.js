@@ -4,7 +4,7 @@
 const { Entries } = require('./entries.js');
 const { APART } = require('./patterns/table.js');
 const { hasLine } = require('./problems.js');
-const { rankOf, sortByRank } = require('./rank.js');
+const { partOf, rankOf, sortByRank } = require('./rank.js');
 
 /**
  * @typedef {import('./problems.js').Problem} Problem
@@ -65,12 +65,20 @@ class Listing {
   }
 
   /**
+   * The section of the list in which a problem is.
+   * @param {Listed} problem
+   */
+  partOf(problem) {
+    return partOf(problem.look, this.verdictOf(problem));
+  }
+
+  /**
    * By the consequence; then by the pattern, the run and the race.
    * @param {Listed[]} problems
    */
   sorted(problems) {
     const list = [...problems].sort((a, b) => a.look.rank - b.look.rank || a.run - b.run || a.races[0] - b.races[0]);
-    return sortByRank(list, (one) => ({ rank: this.rankOf(one), part: one.look.part, isKnown: one.isKnown }));
+    return sortByRank(list, (one) => ({ rank: this.rankOf(one), part: this.partOf(one), isKnown: one.isKnown }));
   }
 
   /**
@@ -117,6 +125,7 @@ class Listing {
   add(one, problem, k) {
     const { ofRaces } = this.runs[k];
     one.runs.push(k + 1);
+    if (one.look.isIdle && !problem.look.isIdle) one.look = { ...one.look, isIdle: false };
     one.hasLine = one.hasLine || hasLine(problem);
     for (const race of problem.races) {
       const { name, order, ownOrder } = ofRaces[race];
@@ -165,7 +174,7 @@ class Listing {
     /** @type {Map<string, Line>} */
     const lines = new Map();
     for (const line of this.fresh()) {
-      const key = this.known ? line.name : `${line.look.part} ${line.run} ${this.locationOf(line)}`;
+      const key = this.known ? line.name : `${this.partOf(line)} ${line.run} ${this.locationOf(line)}`;
       const known = lines.get(key);
       if (known) known.others.push(line);
       else lines.set(key, { line, others: [] });
@@ -236,6 +245,14 @@ class Listing {
    */
   summaryOf(line) {
     return this.entries.summaryOf(line);
+  }
+
+  /**
+   * A usual change for a problem.
+   * @param {Listed} line
+   */
+  fixOf(line) {
+    return this.entries.fixOf(line);
   }
 }
 

@@ -40,7 +40,7 @@ function caseOf(listing, problem, failing) {
   const isFailing = failing.has(problem);
   const inWords = [listing.summaryOf(problem), problem.words, listing.seenInWords(problem)].filter(Boolean).join('\n');
   const failure = isFailing ? `<failure${attributes({ type: look.name, message: problem.words })}>${escapeXml(inWords)}</failure>` : `<system-out>${escapeXml(inWords)}</system-out>`;
-  return { part: look.part, text: `<testcase${facts}>${failure}</testcase>`, isFailing };
+  return { part: listing.partOf(problem), text: `<testcase${facts}>${failure}</testcase>`, isFailing };
 }
 
 /** @param {string} name @param {Case[]} cases */

@@ -23,14 +23,14 @@ function problemItem(listing, links, one) {
   const seen = one.runs.slice(0, MOST_LOADS).map((run) => link(links[run - 1], String(run))).join(', ');
   const more = one.runs.length > MOST_LOADS ? `, and ${one.runs.length - MOST_LOADS} more` : '';
   return `<li${one.isKnown ? ' class="known"' : ''}>${escapeText(listing.summaryOf(one))}. ${escapeText(one.words)}${one.look.seen ? ` (${escapeText(one.look.seen)})` : ''}`
-    + ` <code>${one.name}</code><br>in ${one.runs.length === 1 ? 'load' : 'loads'} ${seen}${more}${one.orders.size > 1 ? ', in both orders' : ''}</li>`;
+    + ` <code>${one.name}</code><br>Usual change: ${escapeText(listing.fixOf(one))}<br>in ${one.runs.length === 1 ? 'load' : 'loads'} ${seen}${more}${one.orders.size > 1 ? ', in both orders' : ''}</li>`;
 }
 
 /** @param {LoadsListing} listing @param {string[]} links */
 function problemList(listing, links) {
   const lines = listing.fresh();
   const known = listing.knownLines();
-  const parts = [...new Set(lines.map(({ look }) => look.part))].map((part) => ({ part, some: lines.filter(({ look }) => look.part === part) }));
+  const parts = [...new Set(lines.map((one) => listing.partOf(one)))].map((part) => ({ part, some: lines.filter((one) => listing.partOf(one) === part) }));
   const sections = known.length ? [...parts, { part: 'known', some: known }] : parts;
   return sections.map(({ part, some }) => `<h3>${escapeText(part)}</h3>\n<ul>\n${some.map((one) => problemItem(listing, links, one)).join('\n')}\n</ul>`).join('\n');
 }

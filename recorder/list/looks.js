@@ -99,8 +99,9 @@ class Looks {
     const event = this.words.action(race.actions[k]);
     const look = acts[k] ? 'late' : 'missed';
     const [type, handler = ''] = race.location.split(' ')[2].split('/');
-    const here = k === 0 ? 'here it came before the handler was set' : `here the handler was there${this.isIdle(race.actions[k], handler) ? ', and changed nothing that is recorded' : ''}`;
-    return lookOf(look, `a handler that comes late: ${event} may find none; ${here}`, detailOf(look, 'slot', type));
+    const isIdle = k === 1 && this.isIdle(race.actions[k], handler);
+    const here = k === 0 ? 'here it came before the handler was set' : `here the handler was there${isIdle ? ', and changed nothing that is recorded' : ''}`;
+    return lookOf(look, `a handler that comes late: ${event} may find none; ${here}`, detailOf(look, 'slot', type), isIdle && look === 'late');
   }
 
   /**

@@ -28,14 +28,15 @@ const PLAIN = { hasColor: false, width: 100, isTerminal: false };
  * @param {Style} style
  */
 function linesOf(listing, isComplete = true, style = PLAIN) {
-  const lines = [];
-  let part = '';
   const told = listing.told();
-  const parts = new Set(told.map(({ line }) => line.look.part));
+  const lines = told.length > 1 ? [countsOf(listing)] : [];
+  let part = '';
+  const parts = new Set(told.map(({ line }) => listing.partOf(line)));
   const hasParts = parts.size > 1 || parts.has(APART);
   told.forEach(({ line, others }) => {
-    if (hasParts && line.look.part !== part) lines.push(`-- ${line.look.part}`);
-    part = line.look.part;
+    const own = listing.partOf(line);
+    if (hasParts && own !== part) lines.push(`-- ${own}`);
+    part = own;
     lines.push(...linesOfEntry(listing.entryOf(line, others), style), '');
   });
   const none = listing.known && listing.problems.length ? 'No race that is not known' : 'No race';
@@ -52,19 +53,26 @@ function knownLines(listing) {
 }
 
 /**
+ * How many problems there are, by section.
+ * @param {Listing} listing
+ */
+function countsOf(listing) {
+  const parts = listing.told().map(({ line }) => listing.partOf(line));
+  const counts = [...new Set(parts)].map((part) => `${parts.filter((one) => one === part).length} ${part}`);
+  return `${parts.length} problem${parts.length === 1 ? '' : 's'}${counts.length ? ` (${counts.join('; ')})` : ''}`;
+}
+
+/**
  * The last line of all: how many problems there are by section, how many are known, what replays found, and whether the recordings lack something.
  * @param {Listing} listing
  */
 function totalsOf(listing) {
-  const told = listing.told();
-  const parts = [...new Set(told.map(({ line }) => line.look.part))];
-  const counts = parts.map((part) => `${told.filter(({ line }) => line.look.part === part).length} ${part}`);
   const known = listing.knownLines().length;
   const verdicts = listing.verdicts.flatMap((some) => [...some?.values() || []]);
   const differing = verdicts.filter(({ effect }) => effect);
   const onlyHandlers = differing.filter(({ differences = [] }) => differences.length && differences.every(({ kind }) => kind === 'event')).length;
   const only = onlyHandlers ? ` (${onlyHandlers === differing.length ? 'only' : `${onlyHandlers} only`} in which handlers run)` : '';
-  return [`${told.length} problem${told.length === 1 ? '' : 's'}${counts.length ? ` (${counts.join('; ')})` : ''}`, ...(known ? [`${known} known`] : []),
+  return [countsOf(listing), ...(known ? [`${known} known`] : []),
     ...(verdicts.length ? [`${differing.length} of ${verdicts.length} differ in the other order${only}`] : []), ...incompleteInWords(listing)].join(', ');
 }
 

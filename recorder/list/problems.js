@@ -4,7 +4,7 @@
 const { isOfTree } = require('../races/spelled-locations.js');
 const { LastingNames } = require('./lasting.js');
 const { Looks } = require('./looks.js');
-const { isHarm, isAlwaysTold } = require('./patterns/table.js');
+const { isHarm, isAlwaysTold, isWorse } = require('./patterns/table.js');
 const { ProblemWords, listed } = require('./problem-words.js');
 
 /**
@@ -57,7 +57,7 @@ class Problems {
       let one = problems.get(problem);
       if (!one) problems.set(problem, one = { name: problem, races: [], groups: [], look, sites });
       one.races.push(k);
-      if (look.rank < one.look.rank) one.look = look;
+      if (isWorse(look, one.look)) one.look = look;
     });
     this.leads.forEach((race, k) => problems.get(this.ofRaces[race].problem)?.groups.push(k));
     const list = [...problems.values()].map((one) => this.complete(one));
@@ -140,14 +140,14 @@ class Problems {
     /** @type {number|undefined} */
     let worst;
     for (const race of races) {
-      if (worst === undefined || this.ofRaces[race].look.rank < this.ofRaces[worst].look.rank) worst = race;
+      if (worst === undefined || isWorse(this.ofRaces[race].look, this.ofRaces[worst].look)) worst = race;
     }
     return worst;
   }
 
   /** @param {Problem} one @param {number|undefined} race */
   lookAs(one, race) {
-    if (race === undefined || this.ofRaces[race].look.rank >= one.look.rank) return;
+    if (race === undefined || !isWorse(this.ofRaces[race].look, one.look)) return;
     const { look } = this.ofRaces[race];
     const covered = `and covered by it, ${look.seen ? `${look.seen}: ` : ''}${this.words.race(this.report.races[race])}`;
     one.look = { ...look, seen: [one.look.seen, covered].filter(Boolean).join('; ') };

@@ -1,6 +1,8 @@
 'use strict';
 // The order of the list: by what a problem does to the user of the page. What a replay found comes first, then the pattern with its measured share of harm.
 
+const { IDLE } = require('./patterns/table.js');
+
 /**
  * @typedef {import('./patterns/table.js').Look} Look
  * @typedef {import('./types').Verdict} Verdict
@@ -27,6 +29,8 @@ const JUDGED = {
  */
 const ASSUMED = { 'loses what a user does': 0.5, 'may throw': 0.2, other: 0.05, 'often harmless': 0.01 };
 const WEIGHT = 2;
+/** What is assumed of a lost event whose handler changed nothing when it ran: its section comes after those of all other patterns of a page. */
+const ASSUMED_OF_IDLE = 0.001;
 
 const ERROR = 'an uncaught error';
 const LOST_EVENTS = new Set(['a lost act', 'a lost event']);
@@ -51,16 +55,17 @@ const kindOf = ({ look, detail }) => (detail ? `${look} ${detail}` : look);
 
 /**
  * The chance of harm of a pattern.
- * @param {Pick<Look, 'look'|'part'|'detail'>} look
+ * @param {Pick<Look, 'look'|'part'|'detail'|'isIdle'>} look
  * @param {Shares} judged
  */
-const chanceOf = (look, judged) => shareOf(judged[kindOf(look)] || [0, 0], ASSUMED[look.part] ?? 0);
+const chanceOf = (look, judged) => (look.isIdle ? ASSUMED_OF_IDLE : shareOf(judged[kindOf(look)] || [0, 0], ASSUMED[look.part] ?? 0));
 
 /** @type {{[detail: string]: string}} */
 const OF_DETAIL = { '': '', choosing: ', of an event by which a user chooses,', element: ', of an element that is looked up,' };
 
 /** @param {Look} look @param {Shares} shares */
 function reasonOf(look, shares) {
+  if (look.isIdle) return 'its handler ran, and changed nothing that is recorded';
   const [harmful, judged] = shares[kindOf(look)] || [0, 0];
   const pattern = `the pattern "${look.name}"${OF_DETAIL[look.detail]}`;
   return judged ? `of ${judged} judged problems of ${pattern} ${harmful} did harm` : `no problem of ${pattern} was judged`;
@@ -99,6 +104,16 @@ function rankOf(look, verdict, judged = JUDGED) {
   return { chance: chanceOf(look, judged), ...found };
 }
 
+/**
+ * The section of a problem: that of its pattern, or that of late handlers that changed nothing, unless more differs without the handler.
+ * @param {Look} look
+ * @param {Verdict} [verdict]
+ */
+function partOf(look, verdict) {
+  const isChanging = verdict?.verdict === 'turned' && levelOf(verdict).level < LEVELS.event;
+  return look.isIdle && !isChanging ? IDLE : look.part;
+}
+
 /** @param {Rank} a @param {Rank} b */
 const compareRanks = (a, b) => a.level - b.level || b.chance - a.chance;
 
@@ -116,4 +131,4 @@ function sortByRank(list, factsOf) {
   return all.map(({ one }) => one);
 }
 
-module.exports = { rankOf, kindOf, sortByRank, JUDGED };
+module.exports = { rankOf, partOf, kindOf, sortByRank, JUDGED };

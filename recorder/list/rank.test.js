@@ -4,8 +4,8 @@
 const assert = require('node:assert');
 const { test } = require('node:test');
 const { judgedOf, listsOf, sharesOf } = require('../test/corpus/judged-lists.js');
-const { detailOf, lookOf } = require('./patterns/table.js');
-const { rankOf, sortByRank, JUDGED } = require('./rank.js');
+const { detailOf, isWorse, lookOf } = require('./patterns/table.js');
+const { partOf, rankOf, sortByRank, JUDGED } = require('./rank.js');
 
 /**
  * @typedef {import('./types').Verdict} Verdict
@@ -20,7 +20,7 @@ const { rankOf, sortByRank, JUDGED } = require('./rank.js');
 const differs = (effect, kinds = []) => ({ race: 1, verdict: 'turned', effect: effect || undefined, words: '', differences: kinds.map((kind) => ({ kind })) });
 
 /** @param {One[]} list */
-const namesOf = (list) => sortByRank(list, ({ look, verdict }) => ({ rank: rankOf(look, verdict), part: look.part, isKnown: false })).map(({ name }) => name);
+const namesOf = (list) => sortByRank(list, ({ look, verdict }) => ({ rank: rankOf(look, verdict), part: partOf(look, verdict), isKnown: false })).map(({ name }) => name);
 
 test('what a replay found comes first, and a lost act without another effect goes down', () => {
   assert.deepStrictEqual(namesOf([
@@ -50,6 +50,15 @@ test('an event by which a user chooses comes before one that comes again, and an
   assert.deepStrictEqual(namesOf([late('mousemove'), late('change'), late('keyup'), late('click')]), ['change', 'click', 'mousemove', 'keyup']);
   const use = (/** @type {string} */ word) => ({ name: word, look: lookOf('undefined', '', detailOf('undefined', word, '')) });
   assert.deepStrictEqual(namesOf([use('var'), use('elem')]), ['elem', 'var']);
+});
+
+test('the section of late handlers that changed nothing: not if more differs when the page runs again', () => {
+  const idle = lookOf('late', 'here the handler was there, and changed nothing', 'choosing', true);
+  assert.deepStrictEqual([partOf(idle), partOf(idle, differs('a lost act', ['event'])), partOf(idle, differs('a lost act', ['event', 'text']))].map((part) => part.split(' ')[0]), ['late', 'late', 'loses']);
+  assert.deepStrictEqual(namesOf([{ name: 'idle', look: idle }, { name: 'other', look: lookOf('other') }, { name: 'same', look: lookOf('same') }]).pop(), 'idle');
+  assert.strictEqual(rankOf(idle).reason, 'its handler ran, and changed nothing that is recorded');
+  assert.strictEqual(isWorse(lookOf('late'), idle), true);
+  assert.strictEqual(isWorse(idle, lookOf('late')), false);
 });
 
 test('each rank has its reason in words', () => {

@@ -4,6 +4,7 @@
 
 const fs = require('node:fs');
 const path = require('node:path');
+const { FIXES } = require('./fixes.js');
 const { LOOKS, RANKS } = require('./patterns/table.js');
 const { placesOf, plainPlace, uriOf } = require('./places.js');
 
@@ -40,9 +41,12 @@ const idOf = (look) => `race/${LOOKS[look].name.replace(/ /g, '-')}`;
 /** @param {{part: string}} look */
 const levelOf = ({ part }) => LEVELS[part] || 'note';
 
+/** @param {string} text */
+const capital = (text) => text.slice(0, 1).toUpperCase() + text.slice(1);
+
 /** @param {LookKey} look */
 function rule(look) {
-  return { id: idOf(look), name: LOOKS[look].name, shortDescription: { text: SAYS[look] }, defaultConfiguration: { level: levelOf(LOOKS[look]) } };
+  return { id: idOf(look), name: LOOKS[look].name, shortDescription: { text: SAYS[look] }, help: { text: `${capital(FIXES[look])}.` }, defaultConfiguration: { level: levelOf(LOOKS[look]) } };
 }
 
 /**

@@ -6,7 +6,7 @@ const { test } = require('node:test');
 const { LOOKS } = require('./patterns/table.js');
 const { sentenceOf } = require('./sentences.js');
 
-const SIDE = { verb: '', what: '', place: '', actor: 'DOMContentLoaded', event: '', act: '', reply: '', at: null };
+const SIDE = { verb: '', what: '', place: '', actor: 'DOMContentLoaded', event: '', act: '', reply: '', at: null, own: null };
 
 /**
  * @typedef {import('./sentences.js').Facts} Facts

@@ -5,6 +5,7 @@ const { FIRST_FIELD, FIRST_OBJECT } = require('../common/numbers.js');
 const { shown } = require('../common/shown.js');
 const { Callbacks } = require('./callbacks.js');
 const { labelOf } = require('./element-labels.js');
+const { fixOf } = require('./fixes.js');
 const { sentenceOf } = require('./sentences.js');
 
 /**
@@ -15,12 +16,12 @@ const { sentenceOf } = require('./sentences.js');
  */
 /**
  * `verb` and `what` say what it does, `actor` the callback or the event. `event` is set for an event that looks for handlers, `act` for a user's act,
- * `reply` for a reply.
- * @typedef {{verb: string, what: string, place: string, actor: string, event: string, act: string, reply: string, at: Place|null}} Side
+ * `reply` for a reply. `own` is `at`, or the place from which that comes, if it is in the page's own code.
+ * @typedef {{verb: string, what: string, place: string, actor: string, event: string, act: string, reply: string, at: Place|null, own: Place|null}} Side
  */
 /**
- * The sentence without its place, that place, and the two sides.
- * @typedef {{sentence: string, place: string, sides: [Side, Side]}} Told
+ * The sentence without its place, that place, the two sides, and a usual change.
+ * @typedef {{sentence: string, place: string, sides: [Side, Side], fix: string}} Told
  */
 
 const EVENTS = new Set(['fire', 'wfire', 'inline']);
@@ -102,7 +103,7 @@ class Sides {
     const what = isEvent ? event?.target || this.callbacks.of(number) : this.thing(location);
     return {
       verb, what, at, place: this.place(at), actor: isEvent && event ? '' : this.callbacks.of(number), event: event?.words || '',
-      act: this.actOf(number), reply: this.replyOf(number),
+      act: this.actOf(number), reply: this.replyOf(number), own: at && !this.words.isOfLibrary(at) ? at : this.callbacks.ownOrigin(number),
     };
   }
 
@@ -193,10 +194,10 @@ class Sides {
     let sides = this.both(race, first);
     if (isAlike(sides)) sides = this.words.apart(() => this.both(race, first));
     if (isAlike(sides)) sides.forEach((side, k) => { side.actor = `${side.actor || side.what}, run ${this.words.nthOf(this.firstOf(race.actions[k === 0 ? first : 1 - first])) + 1}`; });
-    const at = sides[0].at || sides[1].at;
+    const at = sides[0].own || sides[1].own || sides[0].at || sides[1].at;
     const thing = kind === 'handler' ? this.thing(race.location) : marked(this.thing(race.location));
     const sentence = sentenceOf(look, { sides, thing, field: this.field(race.location), modes: race.modes, kind });
-    return { sentence, place: at ? this.place(at, false) : this.page(), sides };
+    return { sentence, place: at ? this.place(at, false) : this.page(), sides, fix: fixOf(look, { kind, isOfUser: !!sides[0].act }) };
   }
 
   /** @param {Race} race @param {number} first @returns {[Side, Side]} */

@@ -27,7 +27,7 @@ const USES = [
   "const { problems, isFailing, views, notSeen } = await list(['traces'], { known: 'races.known', writesKnown: true, sarif: 'a.sarif', junit: 'a.xml', html: 'out' });",
   'const places: (string|undefined)[] = problems.flatMap(({ races }) => races.flatMap((race) => race.places.map((place) => place?.file)));',
   'const ranks: number[] = problems.map(({ rank }) => rank.number);',
-  'const names: string[] = [...problems.map(({ name, words, summary, look, part }) => name + words + summary + look + part), ...notSeen.map(({ name }) => name), ...views];',
+  'const names: string[] = [...problems.map(({ name, words, summary, fix, look, part }) => name + words + summary + fix + look + part), ...notSeen.map(({ name }) => name), ...views];',
   "const reversal = await replay(recording.trace, problems[0].name, { command: 'npm test', time: 60 });",
   'const verdict: [string|null, string|null, boolean, number|undefined] = [reversal.verdict, reversal.effect, reversal.isFound, reversal.suiteStatus];',
   "try { await replay(recording.trace, 1, { mayChange: true }); } catch (fault) { if (fault instanceof EventRacerError && fault.code === 'REFUSED') console.log(fault.message); }",

@@ -15,9 +15,10 @@ const { RULES } = require('./rules.js');
  */
 /**
  * What the list knows of the races, by their indices: their problems, the worst first; the problem of each race; the race that is shown for each group;
- * the sentence of a problem.
+ * what the list says of a problem.
  * @typedef {import('../list/listing.js').Listed} Listed
- * @typedef {{problems: Listed[], nameOf: (race: number) => string, leads: number[], summaryOf: (problem: Listed) => string}} Ordered
+ * @typedef {Pick<import('../list/listing.js').Listing, 'summaryOf'|'fixOf'|'partOf'>} Said
+ * @typedef {{problems: Listed[], nameOf: (race: number) => string, leads: number[], listing: Said}} Ordered
  */
 
 /** The bytes of the model: the page is to have at most 5 MB with its script, also if each of these is one more after the limit. */
@@ -192,8 +193,8 @@ class Model {
    * the others of all groups.
    * @param {Ordered} ordered
    */
-  choose({ problems, nameOf, leads, summaryOf }) {
-    const shown = new Shown(this, nameOf, summaryOf);
+  choose({ problems, nameOf, leads, listing }) {
+    const shown = new Shown(this, nameOf, listing);
     const lines = problems.filter(({ groups }) => groups.length);
     const add = (/** @type {number} */ group) => shown.addGroup(leads[group], group, this.report.groups[group].size);
     lines.every((problem) => shown.addProblem(problem) && problem.groups.slice(0, MOST_FIRST_GROUPS).every(add));
@@ -227,12 +228,12 @@ class Shown {
   /**
    * @param {Model} model
    * @param {(race: number) => string} nameOf the name of a race's problem
-   * @param {(problem: Listed) => string} summaryOf the sentence of a problem
+   * @param {Said} listing
    */
-  constructor(model, nameOf, summaryOf) {
+  constructor(model, nameOf, listing) {
     this.model = model;
     this.nameOf = nameOf;
-    this.summaryOf = summaryOf;
+    this.listing = listing;
     /** @type {Map<string, number>} the index of a problem by its name */
     this.indices = new Map();
     /** @type {Map<number, PackedRace>} by index */
@@ -248,12 +249,13 @@ class Shown {
    * @param {Listed} problem
    */
   addProblem(problem) {
+    const { listing } = this;
     const { name, words, look, first, isKnown } = problem;
     if (this.model.left <= 0) return false;
     this.indices.set(name, this.problems.length);
     this.addRace(first);
-    const summary = this.summaryOf(problem);
-    const plain = { name, words, summary, order: this.problems.length, first: first + 1, look: look.name, rank: look.rank, part: look.part, seen: look.seen, isKnown };
+    const told = { summary: listing.summaryOf(problem), fix: listing.fixOf(problem), part: listing.partOf(problem) };
+    const plain = { name, words, ...told, order: this.problems.length, first: first + 1, look: look.name, rank: look.rank, seen: look.seen, isKnown };
     this.problems.push(plain);
     this.model.left -= sizeOf(plain);
     return true;

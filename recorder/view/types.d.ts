@@ -23,12 +23,15 @@ export interface ShownProblem {
   words: string;
   /** The first line of its entry in the list. */
   summary: string;
+  /** A usual change. */
+  fix: string;
   /** Its index in the list, the worst first. */
   order: number;
   /** The number of the race that is shown for it. */
   first: number;
   look: string;
   rank: number;
+  /** The section of the list. */
   part: string;
   seen: string;
   isKnown: boolean;

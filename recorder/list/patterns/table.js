@@ -5,6 +5,8 @@ const LOSES = 'loses what a user does';
 const THROWS = 'may throw';
 const REST = 'other';
 const HARMLESS = 'often harmless';
+/** The section of late handlers that ran in the recording, and of which it has nothing but reads. */
+const IDLE = 'late handlers that changed nothing recorded';
 /** The section of two acts of a user against each other: a page is not at fault for their order. */
 const APART = 'another input, not another order';
 
@@ -27,9 +29,9 @@ const LOOKS = {
 
 /** @typedef {keyof typeof LOOKS} LookKey */
 /**
- * A pattern as it was found in a race: `seen` says in words what was seen, and `rank` is its index in the table. `detail` tells races of a pattern apart that
- * do harm more often than others (list/rank.js).
- * @typedef {{look: LookKey, rank: number, name: string, part: string, seen: string, detail: Detail}} Look
+ * A pattern as it was found in a race: `seen` says in words what was seen, and `here` which of the two orders the recording had; `rank` is its index in the
+ * table. `detail` tells races of a pattern apart that do harm more often than others (list/rank.js). `isIdle`: the handler ran, and changed nothing.
+ * @typedef {{look: LookKey, rank: number, name: string, part: string, seen: string, here: string, detail: Detail, isIdle: boolean}} Look
  */
 /** @typedef {''|'choosing'|'element'} Detail an event by which a user chooses something is lost; an element is looked up */
 
@@ -56,12 +58,19 @@ const known = new Map();
  * A pattern with what was seen: one object for all races that have it.
  * @param {LookKey} look @param {Detail} detail @returns {Look}
  */
-function lookOf(look, seen = '', detail = '') {
+function lookOf(look, seen = '', detail = '', isIdle = false) {
   const key = `${look} ${detail} ${seen}`;
   let one = known.get(key);
-  if (!one) known.set(key, one = { look, rank: RANKS.indexOf(look), ...LOOKS[look], seen, detail });
+  const here = /(?:^|[;:] )here (.*)$/.exec(seen)?.[1] || '';
+  if (!one) known.set(key, one = { look, rank: RANKS.indexOf(look), ...LOOKS[look], seen, here, detail, isIdle });
   return one;
 }
+
+/**
+ * Whether a pattern is worse than another one. Of two lost events the one whose handler changed something is.
+ * @param {Pick<Look, 'rank'|'isIdle'>} one @param {Pick<Look, 'rank'|'isIdle'>} other
+ */
+const isWorse = (one, other) => one.rank < other.rank || (one.rank === other.rank && other.isIdle && !one.isIdle);
 
 /** @param {{part: string}} look */
 const isHarm = ({ part }) => part === LOSES || part === THROWS;
@@ -73,4 +82,4 @@ const isHarm = ({ part }) => part === LOSES || part === THROWS;
  */
 const isAlwaysTold = ({ look }) => look === 'field' || look === 'act' || look === 'undefined' || look === 'replies';
 
-module.exports = { LOOKS, RANKS, APART, lookOf, detailOf, isHarm, isAlwaysTold };
+module.exports = { LOOKS, RANKS, APART, IDLE, lookOf, detailOf, isWorse, isHarm, isAlwaysTold };

@@ -48,7 +48,9 @@ function dispatchesOf(keys) {
       const one = { key: `${key} #${count}`, words: keys.words.action(action.number), isOfUser: keys.actOf(action) > 0, handlers: [] };
       byNumber.set(dispatch, one);
       ran.set(one.key, one);
-    } else if (word === 'run') byNumber.get(dispatch)?.handlers.push({ key: keys.handler(type), words: keys.words.action(action.number) });
+    } else if (word === 'run' && !keys.names.handlers[type]?.isEmpty) { // an empty handler only orders
+      byNumber.get(dispatch)?.handlers.push({ key: keys.handler(type), words: keys.words.action(action.number) });
+    }
   }
   return ran;
 }

@@ -10,6 +10,10 @@ import { isHarmless, rankOfVerdict } from './replays.js';
  * @typedef {import('./races.js').Line} Line
  */
 
+/** A section of the list (list/patterns/table.js), and what its fold says. */
+const IDLE = 'late handlers that changed nothing recorded';
+const IDLE_IN_WORDS = 'whose late handler ran, and changed nothing that is recorded';
+
 /**
  * @param {Race} race
  * @param {string} kind
@@ -58,15 +62,21 @@ function folded(found) {
 }
 
 /**
- * The lines in pieces; those that have no visible difference in the other order are folded.
+ * A fold of lines, if there are some.
+ * @param {Line[]} lines
+ * @param {string} what
+ */
+const fold = (lines, what) => (lines.length ? [foldable('harmless', make('summary', {}, `${counted(lines.length, 'problem')} ${what}`), () => pieces(lines, problemBox))] : []);
+
+/**
+ * The lines in pieces; those that have no visible difference in the other order are folded, and those whose late handler changed nothing.
  * @param {Line[]} lines
  */
 function piecesByVerdict(lines) {
   const harmless = lines.filter(isHarmless);
-  if (!harmless.length) return [pieces(lines, problemBox)];
-  const others = lines.filter((line) => !harmless.includes(line));
-  const summary = make('summary', {}, `${counted(harmless.length, 'problem')} with no visible difference in the other order`);
-  return [pieces(others, problemBox), foldable('harmless', summary, () => pieces(harmless, problemBox))];
+  const idle = lines.filter((line) => line.problem?.part === IDLE && !harmless.includes(line));
+  const others = lines.filter((line) => !harmless.includes(line) && !idle.includes(line));
+  return [pieces(others, problemBox), ...fold(idle, IDLE_IN_WORDS), ...fold(harmless, 'with no visible difference in the other order')];
 }
 
 /**

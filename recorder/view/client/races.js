@@ -36,7 +36,7 @@ function groupBox({ number, size, first, races }, problem = undefined) {
   const summary = make('summary', {}, badge(first.kind), make('span', { class: 'sentence' }, problem?.summary || first.words), ...badges, ...verdictBadge(first),
     make('span', { class: 'size' }, counted(size, 'race')));
   return foldable('group', summary, () => {
-    const box = make('div', { class: 'inside' }, ...(problem ? [make('p', { class: 'lines' }, first.words), ...problem.seen ? [seenBox(problem)] : []] : []), raceBox(first));
+    const box = make('div', { class: 'inside' }, ...(problem ? [make('p', { class: 'lines' }, first.words), ...toldBoxes(problem)] : []), raceBox(first));
     const others = races.filter((race) => race !== first);
     if (others.length) box.append(otherRaces(others));
     const left = size - others.length - 1;
@@ -65,15 +65,20 @@ function problemBox({ problem, groups }) {
   const summary = make('summary', {}, badge(first.kind), make('span', { class: 'sentence' }, problem.summary), ...lookBadges(problem), ...verdictBadge(first),
     make('span', { class: 'size' }, `${counted(groups.length, 'group')}, ${counted(races, 'race')}`));
   return foldable('problem', summary, () => {
-    const box = make('div', { class: 'inside' });
-    if (problem.seen) box.append(seenBox(problem));
+    const box = make('div', { class: 'inside' }, ...toldBoxes(problem));
     box.append(pieces(groups, (group) => groupBox(group)));
     return box;
   });
 }
 
-/** @param {ShownProblem} problem */
-const seenBox = ({ look, seen }) => make('p', { class: 'seen' }, `It looks like: ${look}. In this recording: ${seen}.`);
+/**
+ * What was seen of the pattern, and a usual change.
+ * @param {ShownProblem} problem
+ */
+function toldBoxes({ look, seen, fix }) {
+  const boxes = seen ? [make('p', { class: 'seen' }, `It looks like: ${look}. In this recording: ${seen}.`)] : [];
+  return [...boxes, make('p', { class: 'fix' }, make('strong', {}, 'Usual change: '), fix)];
+}
 
 /** @param {Race[]} others */
 function otherRaces(others) {

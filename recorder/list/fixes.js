@@ -1,0 +1,40 @@
+'use strict';
+// A usual change for each pattern, for the page's author: what the list, the view, `--json` and SARIF say. It depends on what is looked up or used, and by whom.
+
+/** @typedef {import('./patterns/table.js').LookKey} LookKey */
+/**
+ * The kind of what the race is at, and whether the side that finds nothing comes from an act of the user.
+ * @typedef {{kind: string, isOfUser: boolean}} Use
+ */
+
+const OF_ELEMENT = 'look it up after it was added: `defer` in place of `async`, or DOMContentLoaded';
+const OF_USER = 'disable the control until it is set, or check for it first';
+const OF_VARIABLE = 'use it after it is set: wait for the load event of its script, or for a promise';
+
+/** @type {Record<LookKey, string>} */
+const FIXES = {
+  late: 'register it in a script right after the element, or disable the element until then',
+  field: 'write only while the field is empty, or before the user can reach it',
+  act: 'keep what the act wrote (check for it first), or disable the control until this has run',
+  undefined: `${OF_VARIABLE}; for an element: ${OF_ELEMENT}; in code that a user starts: ${OF_USER}`,
+  missed: 'register it in a script without `async`, or check first whether the event has already come',
+  replies: 'discard a reply to an older request: number the requests, or abort the older one',
+  other: 'if the order matters, let one side wait for the other, or check that it is still wanted',
+  flag: 'usually none: the side that comes last sees the flag of the other',
+  counter: 'usually none: the count is the same in both orders',
+  ticks: 'usually none: browsers keep this order',
+  same: 'usually none: the value is the same in both orders',
+  scratch: 'usually none: each callback begins with a value of its own',
+  acts: 'usually none: the user decides the order; check that both orders do what is expected',
+};
+
+/**
+ * The change for a problem.
+ * @param {LookKey} look @param {Use} use
+ */
+function fixOf(look, { kind, isOfUser }) {
+  if (look !== 'undefined') return FIXES[look];
+  return isOfUser ? OF_USER : kind === 'element' ? OF_ELEMENT : OF_VARIABLE;
+}
+
+module.exports = { FIXES, fixOf };
