@@ -8,6 +8,10 @@ import re
 # as many edits as one check is given at most
 MOST_AT_ONCE = 10
 HEAD = re.compile(r"^( *)(?:pub(?:\([a-z]+\))? )?(?:const )?fn (\w+)")
+# what a line about a mutant begins with if the mutant is refused
+REFUSED = "refused, as it must be"
+# what a line has if only the name that the mutant removed was missed, which shows nothing about a contract
+BY_NAME = "only because a proof file names"
 # what says that something is not proved
 OPEN = re.compile(r"\berror\b|is not proved")
 # what says that a proof file names a thing which the edit took away, and nothing of a clause
@@ -134,6 +138,11 @@ def batches(edits, crate):
         room.append((function, edit))
     alone += [it[0][1] for it in found if len(it) == 1]
     return [it for it in found if len(it) > 1], alone
+
+
+def is_refused(line):
+    """Whether the line about a mutant says that a contract refuses it."""
+    return line.startswith(REFUSED) and BY_NAME not in line
 
 
 def name_of(edit):
