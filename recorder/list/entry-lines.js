@@ -12,8 +12,12 @@ const { withoutCommands } = require('../common/shown.js');
 const WIDEST = 100;
 const INDENT = '    ';
 const LONGEST_PADDED = 34;
-/** @type {{[name: string]: [start: string, end: string]}} */
-const CODES = { bold: ['\u001b[1m', '\u001b[22m'], dim: ['\u001b[2m', '\u001b[22m'], harm: ['\u001b[31m', '\u001b[39m'], pattern: ['\u001b[33m', '\u001b[39m'] };
+/**
+ * Only what can be read on dark and on light terminals: of the usual palettes yellow has as little contrast as 1.7 on white, and faint text 1.9. Red has at
+ * least 3 on all, enough for bold text.
+ * @type {{[name: string]: [start: string, end: string]}}
+ */
+const CODES = { bold: ['\u001b[1m', '\u001b[22m'], harm: ['\u001b[1;31m', '\u001b[22;39m'] };
 
 /**
  * The style of a stream. `NO_COLOR` is that of no-color.org.
@@ -30,6 +34,12 @@ function styleOf(stream, environment, color = 'auto') {
 
 /** @param {Style} style @param {string} name @param {string} text */
 const painted = ({ hasColor }, name, text) => (hasColor && text ? CODES[name].join(text) : text);
+
+/**
+ * The line before the problems of a section.
+ * @param {string} part @param {Style} style
+ */
+const sectionLine = (part, style) => painted(style, 'bold', `-- ${part}`);
 
 /**
  * Lines of words, of which no line but one of a single long word is wider.
@@ -58,7 +68,7 @@ function headLines({ place, sentence, look, part }, style) {
   const isOneLine = text.length + 2 + look.length <= style.width || !style.isTerminal;
   const [first, ...rest] = isOneLine ? [text] : wrapped(text, style.width, INDENT);
   const colored = painted(style, 'bold', place) + first.slice(place.length);
-  const pattern = painted(style, part.startsWith('loses') || part.startsWith('may') ? 'harm' : 'pattern', look);
+  const pattern = part.startsWith('loses') || part.startsWith('may') ? painted(style, 'harm', look) : look;
   if (isOneLine) return [colored + ' '.repeat(gap) + pattern];
   const last = rest[rest.length - 1] ?? first;
   const isRoom = last.length + 4 + look.length <= style.width;
@@ -88,7 +98,7 @@ function sideLines({ sides }, style) {
 function entryLines(entry, style) {
   const details = entry.details.flatMap(([label, text]) => wrapped(`${INDENT}${label}: ${text}`, style.width, INDENT.repeat(2)));
   const name = `${INDENT}${entry.name} (for races.known)${entry.more ? `, ${entry.more}` : ''}`;
-  return [...headLines(entry, style), ...sideLines(entry, style), ...details, painted(style, 'dim', name)];
+  return [...headLines(entry, style), ...sideLines(entry, style), ...details, name];
 }
 
 /**
@@ -103,4 +113,4 @@ function harmless(entry) {
 /** @param {Entry} entry @param {Style} style */
 const linesOfEntry = (entry, style) => entryLines(harmless(entry), style);
 
-module.exports = { linesOfEntry, styleOf, wrapped };
+module.exports = { linesOfEntry, sectionLine, styleOf, wrapped };

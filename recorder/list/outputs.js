@@ -4,7 +4,7 @@
 const { printStyled } = require('../common/output.js');
 const { jsonText } = require('../common/shown.js');
 const { writeWhole } = require('../common/whole-file.js');
-const { linesOfEntry, styleOf } = require('./entry-lines.js');
+const { linesOfEntry, sectionLine, styleOf, wrapped } = require('./entry-lines.js');
 const { librariesInWords } = require('../trace/accesses.js');
 const { plainListing } = require('./json.js');
 const { APART } = require('./patterns/table.js');
@@ -29,13 +29,13 @@ const PLAIN = { hasColor: false, width: 100, isTerminal: false };
  */
 function linesOf(listing, isComplete = true, style = PLAIN) {
   const told = listing.told();
-  const lines = told.length > 1 ? [countsOf(listing)] : [];
+  const lines = told.length > 1 ? wrapped(countsOf(listing), style.width, '    ') : [];
   let part = '';
   const parts = new Set(told.map(({ line }) => listing.partOf(line)));
   const hasParts = parts.size > 1 || parts.has(APART);
   told.forEach(({ line, others }) => {
     const own = listing.partOf(line);
-    if (hasParts && own !== part) lines.push(`-- ${own}`);
+    if (hasParts && own !== part) lines.push(sectionLine(own, style));
     part = own;
     lines.push(...linesOfEntry(listing.entryOf(line, others), style), '');
   });
