@@ -39,6 +39,8 @@ const { why } = require('./view/why.js');
 
 /** Of a trace with more actions it is not queried why these are ordered: each query takes as long as the report, seconds. */
 const MOST_TO_QUERY = 8000;
+/** So many of the variables that are left out have a line. */
+const MOST_LEFT_OUT = 3;
 const NO_NAMES = {
   files: [], elements: {}, documents: {}, handlers: {}, timeouts: {}, intervals: {}, requests: {}, messages: {}, dispatches: {}, objects: {}, places: {},
 };
@@ -104,6 +106,18 @@ function writePage(traceFile, shown) {
 }
 
 /**
+ * What was left out, a line for each of the first and one for all others.
+ * @param {import('./list/problems.js').Problems['leftOut']} all
+ * @param {string} file that has all of it
+ */
+function leftOutLines(all, file) {
+  const lines = all.slice(0, MOST_LEFT_OUT).map(({ words, accesses, pairs }) => `${words}, with ${accesses} accesses and ${pairs} pairs`);
+  const others = all.slice(MOST_LEFT_OUT);
+  const sum = (/** @type {'accesses'|'pairs'} */ what) => others.reduce((so, one) => so + one[what], 0);
+  return others.length ? [...lines, `${others.length} more, with ${sum('accesses')} accesses and ${sum('pairs')} pairs: ${file} has them`] : lines;
+}
+
+/**
  * Has a trace analyzed and writes its view.
  * @param {string} traceFile
  * @param {string} command whose name messages start with
@@ -122,9 +136,7 @@ async function viewTrace(traceFile, command, options = {}) {
   }
   const shown = await writeView(traceFile, report, options);
   if (leftOut.length) printError(`${command}: ${traceFile} is written again without what is over the limits of the analyzer`);
-  for (const { words, accesses, pairs } of shown.problems.leftOut) {
-    printError(`${command}: left out, over the limits of the analyzer: ${words}, with ${accesses} accesses and ${pairs} pairs`);
-  }
+  for (const line of leftOutLines(shown.problems.leftOut, besides(traceFile, '.names.json'))) printError(`${command}: left out, over the limits of the analyzer: ${line}`);
   return { status, view: { status, report, isRewritten: leftOut.length > 0, ...shown } };
 }
 
@@ -162,6 +174,6 @@ async function main(args) {
   });
 }
 
-module.exports = { viewTrace, writePage, besides };
+module.exports = { leftOutLines, viewTrace, writePage, besides };
 
 if (require.main === module) runCommand('er_view', main);

@@ -259,6 +259,16 @@ test('where a variable is counted, and nobody uses the value', () => {
   assert.ok(text.isCount([0, 3, 1]));
 });
 
+test('a place in a minified file: only the text near it is read', () => {
+  const before = 'function f(a){if(a.b)return a.c(1,2)+a.d};'.repeat(50000);
+  const text = new SourceText({ ...NAMES, files: [{ address: PAGE, text: `${before}n++;app.n--;x=n++` }] });
+  const column = before.length + 1;
+  const begin = process.cpuUsage();
+  for (let k = 0; k < 3000; k++) assert.deepStrictEqual([0, 'n++;app.'.length, 'n++;app.n--;x='.length].map((more) => text.isCount([0, 1, column + more])), [true, true, false]);
+  const { user } = process.cpuUsage(begin);
+  assert.ok(user < 3e6, `${user} microseconds`);
+});
+
 test('the first ticks of two intervals of one delay', async () => {
   const lines = ['parse 0 1 inline', 'exec 1', 'every 1 50', 'every 2 50', 'tick 1', 'w var 0 x', 'tick 2', 'w var 0 x'];
   const intervals = { 1: { why: 'setInterval' }, 2: { why: 'setInterval' } };

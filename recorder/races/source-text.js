@@ -9,6 +9,10 @@ const { withoutDigest } = require('./build-digest.js');
 /** A longer line, as of a minified file, is identified by the text after the place. */
 const LONGEST_LINE = 200;
 const LONGEST_REST = 80;
+/** So much of the text before a place says whether a statement starts there: a minified file is one line. */
+const LONGEST_BEFORE = 1000;
+/** In place of the text before that: no statement starts after it. */
+const CUT = '(';
 
 /** The text before a name that starts a statement; after a bracket or `else` the statement is a branch. Then that text with the sign of a count. */
 const BEGIN_OF_STATEMENT = /(?:^|[;{})]|\belse|\bdo)\s*(?:[\w$]+\.)*$/;
@@ -60,13 +64,21 @@ class SourceText {
   }
 
   /**
+   * The text of a place's line, before the place and from it on.
+   * @param {Place} place
+   */
+  around([file, line, column]) {
+    const text = this.linesOf(file)[line] || '';
+    const begin = column - 1 - LONGEST_BEFORE;
+    return { before: begin > 0 ? CUT + text.slice(begin, column - 1) : text.slice(0, column - 1), after: text.slice(column - 1) };
+  }
+
+  /**
    * Whether a variable is counted up or down at a place, in a statement of its own: then no code uses the value.
    * @param {Place} place
    */
-  isCount([file, line, column]) {
-    const text = this.linesOf(file)[line] || '';
-    const before = text.slice(0, column - 1);
-    const after = text.slice(column - 1);
+  isCount(place) {
+    const { before, after } = this.around(place);
     if (BEGIN_OF_STATEMENT.test(before)) return /^[\w$]+\s*(?:\+\+|--)\s*(?:[;}]|$)/.test(after) || /^(?:\+\+|--)\s*[\w$.]+\s*(?:[;}]|$)/.test(after);
     return BEGIN_OF_COUNT.test(before) && /^[\w$]+\s*(?:[;}]|$)/.test(after);
   }

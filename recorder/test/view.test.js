@@ -8,7 +8,7 @@ const { pathToFileURL } = require('node:url');
 const { after, before, test } = require('node:test');
 const { Chromium } = require('../browser/chromium.js');
 const { Tab } = require('../browser/tab.js');
-const { writePage } = require('../view.js');
+const { leftOutLines, writePage } = require('../view.js');
 const { run, temporaryFolder } = require('./cleanup.js');
 
 const TOP = path.join(__dirname, '..', '..');
@@ -178,6 +178,12 @@ test('why two actions are ordered', { timeout: 150000 }, async () => {
   }
   assert.match(ordered.stdout, /^These steps put action 0 .* before action 4 .*:\n {2}.*by rule \d+: /);
   assert.match((await ask('4', '5')).stdout, /^Nothing puts action 4 .* before action 5 .*\./);
+});
+
+test('many variables that are over the limits: three lines, and one for all others', () => {
+  const all = [1, 2, 3, 4, 5].map((k) => ({ location: `var 0 v${k}`, words: `"v${k}"`, accesses: k, pairs: 10 * k }));
+  assert.deepStrictEqual(leftOutLines(all.slice(0, 3), 'f'), ['"v1", with 1 accesses and 10 pairs', '"v2", with 2 accesses and 20 pairs', '"v3", with 3 accesses and 30 pairs']);
+  assert.deepStrictEqual(leftOutLines(all, 'f').slice(3), ['2 more, with 9 accesses and 90 pairs: f has them']);
 });
 
 test('a trace without names', { timeout: 150000 }, async () => {

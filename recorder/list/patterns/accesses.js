@@ -91,6 +91,7 @@ class Accesses {
     this.seen = new Set();
     // An access is in many races: what its line or its location says is found once.
     this.isEmptyBefore = remembered(this.isEmptyBefore.bind(this));
+    this.isCountAt = remembered(this.isCountAt.bind(this));
     this.isUpdate = remembered(this.isUpdate.bind(this));
     this.isScratch = remembered(this.isScratch.bind(this));
     this.readLines(actions);
@@ -226,9 +227,8 @@ class Accesses {
     if (this.isCountAt(line)) return true;
     const place = this.places[line];
     if (!place) return false;
-    const [file, number, column] = place;
-    const text = this.sources.linesOf(file)[number] || '';
-    if (UPDATE.test(text.slice(column - 1)) || COUNT_BEFORE.test(text.slice(0, column - 1))) return true;
+    const { before, after } = this.sources.around(place);
+    if (UPDATE.test(after) || COUNT_BEFORE.test(before)) return true;
     return this.inAction(location, action).some((one) => !one.isWrite && one.line < line && String(this.places[one.line]) === String(place));
   }
 
