@@ -35,7 +35,7 @@ class Controls {
 
   /**
    * What is known of a control that was disabled ever since it came: what enabled it first, once that has been. Null of one that a user might have
-   * reached before.
+   * reached before. All documents of a recording share this: a control can go to another one.
    * @param {Element} control
    * @returns {{moment: Moment|null}|null|undefined}
    */
@@ -131,7 +131,7 @@ class Controls {
   }
 
   /**
-   * The number of the element that stands for the target of an act, after what enabled and what showed it, or 0.
+   * The number of the element that stands for the target of an act, after what enabled and what showed it, or 0. The dispatch begins after these.
    * @param {EventDispatch} dispatch
    */
   standIn(dispatch) {
@@ -178,17 +178,24 @@ class Controls {
   }
 
   /**
-   * An act comes of one at another target, and is written in the close of that, so that all after it there is after what it is after. This may not be
-   * said of the code that enabled the control, but where a handler of this code runs, which says so by itself.
+   * Called for an act that comes of one at another target, and is written in the close of that, so that all after it there is after what it is after. This
+   * may not be said of the code that enabled the control, except if a handler of this code runs, which shows it. Inside of the dispatch it is not said again.
    * @param {EventDispatch} dispatch
    */
-  tellOf(dispatch) {
+  noteEnabling(dispatch) {
     const { event, target } = dispatch;
     const moment = this.#reached(event, target);
-    if (!moment || findItem(this.recording.dispatches, ({ comesAfter }) => comesAfter && hasItem(comesAfter, moment.event))) return;
-    if (!this.page.handlers.hasOneOf(target, event.type, moment.event)) return;
+    if (!moment || this.#isTold(moment) || !this.page.handlers.hasOneOf(target, event.type, moment.event)) return;
     this.page.joins.here([moment], ENABLED);
     dispatch.comesAfter = [moment.event];
+  }
+
+  /**
+   * Whether an open dispatch comes after a moment.
+   * @param {Moment} moment
+   */
+  #isTold({ event }) {
+    return !!findItem(this.recording.dispatches, ({ comesAfter }) => comesAfter && hasItem(comesAfter, event));
   }
 }
 

@@ -145,7 +145,7 @@ class Dispatches {
     while (recording.dispatches.length > height) recording.finishTop();
     const cause = recording.dispatches[height - 1];
     recording.close(cause);
-    this.page.controls.tellOf(dispatch);
+    this.page.controls.noteEnabling(dispatch);
     this.writeInline(dispatch, `a consequence of ${cause.event?.type}`);
     return true;
   }

@@ -4,6 +4,7 @@ import { digitsOf, fits, found, sliceOf } from '../core/strings.js';
 import { Map, Math, String, TextEncoder, Uint8Array, apply } from '../core/taken.js';
 
 const LONGEST_NAME = 255;
+/** Upper case, so that a name is written in one way (docs/format.md). */
 const DIGITS = '0123456789ABCDEF';
 /** Whole characters, also those of two units. */
 const FIRST_CHARACTERS = /^[^]{0,55}/u;

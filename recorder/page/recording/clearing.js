@@ -11,11 +11,11 @@ import { Number, Object, apply } from '../core/taken.js';
 const QUEUES = { clearTimeout: 'timers', clearInterval: 'timers', cancelAnimationFrame: 'frames', cancelIdleCallback: 'idle' };
 
 /**
- * Whether a hold is of the callback that the page clears. A number can come as a text.
+ * Whether a hold is of the callback that the page clears. `Steering.note` has set its `request`.
  * @param {import('../types').Held} hold
  * @param {import('../types').PageWindow} window
- * @param {string} queue
- * @param {unknown} given
+ * @param {string} queue of the function that clears, by `QUEUES`
+ * @param {unknown} given its argument: the number, or a text of it
  */
 function isOf({ request }, window, queue, given) {
   if (!request || request.window !== window || request.queue !== queue) return false;

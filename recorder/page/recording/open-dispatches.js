@@ -23,7 +23,10 @@ class OpenDispatches extends Lines {
     this.contexts = [];
     /** The browser's task, as far as it is seen: events of one task have one number. */
     this.task = 0;
-    /** @type {import('../types').Dispatch[]} */
+    /**
+     * Those that are open, outermost first.
+     * @type {import('../types').Dispatch[]}
+     */
     this.dispatches = [];
   }
 
