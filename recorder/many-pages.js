@@ -44,7 +44,8 @@ function readList(file) {
   try {
     text = fs.readFileSync(file, 'utf8');
   } catch (fault) {
-    throw new CommandFault(`${file}: ${fault instanceof Error ? fault.message : fault}`, STATUS.usage);
+    const { code, message } = /** @type {NodeJS.ErrnoException} */ (fault);
+    throw new CommandFault(code === 'ENOENT' ? `--list: there is no file ${file}` : `--list: ${file} cannot be read: ${message}`, STATUS.usage);
   }
   const addresses = addressesOf(text);
   if (!addresses.length) throw new CommandFault(`${file} has no address`, STATUS.usage);

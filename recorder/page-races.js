@@ -14,7 +14,8 @@ const { judgeAndView } = require('./judged.js');
 const { Known } = require('./list/known.js');
 const { Listing } = require('./list/listing.js');
 const { writeOutputs, tellLines, totalsOf } = require('./list/outputs.js');
-const { parseCommand, UsageFault } = require('./recording/options.js');
+const { checkArguments, UsageFault } = require('./options/parse.js');
+const { parseCommand } = require('./recording/options.js');
 const { phase } = require('./phase.js');
 const { Recorder } = require('./recording/recorder.js');
 const { listPages } = require('./many-pages.js');
@@ -177,7 +178,7 @@ async function main(args) {
   const { options, positionals, isHelp } = parseCommand('er_page', args);
   if (isHelp) return printHelp('er_page');
   const isOfMany = !!(options.list || options.sitemap);
-  if (positionals.length !== (isOfMany ? 0 : 1)) throw new UsageFault('');
+  checkArguments(positionals, isOfMany ? [] : ['URL']);
   if (!isOfMany && (options.junit || options.html)) throw new UsageFault('--junit and --html require --list FILE or --sitemap URL');
   if (programState() === 'missing' || (options.isReplayed && !canReplay('er_page'))) return STATUS.noProgram;
   if (isOfMany) return listPages(options);

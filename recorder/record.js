@@ -11,7 +11,8 @@ const { phase } = require('./phase.js');
 const { Progress } = require('./progress.js');
 const { AttachedRecorder } = require('./recording/attached-recorder.js');
 const { writeFiles, namesFile } = require('./recording/files.js');
-const { parseCommand, UsageFault } = require('./recording/options.js');
+const { checkArguments, UsageFault } = require('./options/parse.js');
+const { parseCommand } = require('./recording/options.js');
 const { Recorder, RecordingFault } = require('./recording/recorder.js');
 
 /** @typedef {import('./recording/options.js').RecordingOptions} RecordingOptions */
@@ -134,7 +135,7 @@ async function main(args) {
   const { options, positionals, isHelp } = parseCommand('er_record', args);
   if (isHelp) return printHelp('er_record');
   const { attach } = options;
-  if (positionals.length !== (attach ? 1 : 2)) throw new UsageFault('');
+  checkArguments(positionals, attach ? ['OUT.trace'] : ['URL', 'OUT.trace']);
   const given = attach ? `${attach.host}:${attach.port}` : positionals[0];
   const { failed, incomplete } = await recordInto(given, positionals[positionals.length - 1], options, recorderFor(given, options));
   return failed || incomplete;

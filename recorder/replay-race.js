@@ -12,7 +12,8 @@ const { LastingNames } = require('./list/lasting.js');
 const { Listing } = require('./list/listing.js');
 const { runProgram } = require('./races/program.js');
 const { judgeWithin } = require('./races/within-limits.js');
-const { parseCommand, UsageFault } = require('./recording/options.js');
+const { checkArguments, UsageFault } = require('./options/parse.js');
+const { parseCommand } = require('./recording/options.js');
 const { readOrigin } = require('./recording/origin.js');
 const { recordInto } = require('./record.js');
 const { Recorder } = require('./recording/recorder.js');
@@ -149,7 +150,7 @@ async function replayTrace(trace, given, hasTime) {
 async function main(args) {
   const { options, positionals, isHelp } = parseCommand('er_replay', args);
   if (isHelp) return printHelp('er_replay');
-  if (positionals.length !== 1) throw new UsageFault('');
+  checkArguments(positionals, ['OUT.trace']);
   if (!options.races.length) throw new UsageFault('--race K is missing: the number of a race of OUT.trace');
   const hasTime = args.some((arg) => /^--time(=|$)/.test(arg));
   return canReplay('er_replay') ? replayTrace(positionals[0], options, hasTime) : STATUS.noProgram;

@@ -101,7 +101,7 @@ function canReplay() {
 async function main(args) {
   const { options, positionals, isHelp } = parseCommand('er_suite', args);
   if (isHelp) return printHelp('er_suite');
-  if (!positionals.length) throw new UsageFault('');
+  if (!positionals.length) throw new UsageFault('FOLDER is missing');
   const folders = [...new Map(positionals.map((folder) => [path.resolve(folder), folder])).values()];
   const wrong = folders.find((folder) => !fs.statSync(folder, { throwIfNoEntry: false })?.isDirectory());
   if (wrong !== undefined) throw new UsageFault(`there is no folder ${wrong}`);

@@ -11,7 +11,7 @@ const { stoppable } = require('./common/stoppable.js');
 const { writeWhole } = require('./common/whole-file.js');
 const { Listing } = require('./list/listing.js');
 const { Problems } = require('./list/problems.js');
-const { parseArguments, UsageFault } = require('./options/parse.js');
+const { checkArguments, parseArguments, UsageFault } = require('./options/parse.js');
 const { atSignalsMercy } = require('./phase.js');
 const { linksBetween } = require('./races/links.js');
 const { endAsking, isProved, programState } = require('./races/program.js');
@@ -131,7 +131,7 @@ async function viewTrace(traceFile, command, options = {}) {
     return { status };
   }
   if (report.refused) {
-    printError(`${command}: the trace is refused at line ${report.refused.line}: ${report.refused.cause}`);
+    printError(`${command}: the trace is refused at line ${report.refused.line}: ${report.refused.cause} (docs/format.md, "Refusals")`);
     return { status };
   }
   const shown = await writeView(traceFile, report, options);
@@ -165,7 +165,7 @@ async function main(args) {
   const [traceFile, ...actions] = positionals;
   const areNumbers = actions.length === 2 && actions.every((one) => /^\d{1,9}$/.test(one));
   if (options.isWhy && !areNumbers) throw new UsageFault('--why takes the numbers of two actions, after OUT.trace');
-  if (!traceFile || (!options.isWhy && actions.length)) throw new UsageFault('');
+  if (!options.isWhy) checkArguments(positionals, ['OUT.trace']);
   if (!fs.existsSync(traceFile)) throw new CommandFault(`there is no file ${traceFile}`, STATUS.noPage);
   if (programState() === 'missing') return STATUS.noProgram;
   return stoppable(() => endAsking(STATUS.stopped), async () => {

@@ -21,8 +21,8 @@ const FLAGS = [
   '--disable-background-timer-throttling', '--disable-renderer-backgrounding', '--disable-backgrounding-occluded-windows',
   // no keyring, no dialogs of the browser itself, the same colors on each machine
   '--password-store=basic', '--no-default-browser-check', '--disable-hang-monitor', '--disable-prompt-on-repost', '--force-color-profile=srgb',
-  // one process for a page and all its frames, so that their actions come in one order
-  // nor do the popups of the address bar load, hundreds of scripts for each window: no page sees them
+  // One process for a page and all its frames, so that their actions come in one order. The popups of the address bar do not load: for each new window
+  // they are pages with hundreds of modules in a process of their own, which took most of the processor time of a small page, and no page sees them.
   '--disable-site-isolation-trials', '--disable-features=IsolateOrigins,site-per-process,BackForwardCache,Prerender2,WebUIOmniboxPopup,WebUIOmniboxAimPopup',
   '--remote-debugging-pipe',
 ];
@@ -39,7 +39,10 @@ const READ_OF_HOME = ['.pki', '.local/share/pki', '.fonts', '.local/share/fonts'
 const OF_HOME = /^XDG_(CONFIG_HOME|CACHE_HOME|DATA_HOME|STATE_HOME|RUNTIME_DIR)$/;
 const NO_SANDBOX = 'it has no sandbox of its own here: install the package chromium-sandbox';
 
-/** The browser does not run as root with its sandbox. */
+/**
+ * The browser does not run as root with its sandbox. The recorder does not change its user: containers have root only, and its files would belong to
+ * somebody else.
+ */
 function sandboxFlags() {
   if (!process.getuid || process.getuid() !== 0) return [];
   printErrorOnce("Chromium's own sandbox is off, since it does not start with it as root: record pages that you do not trust as another user.");

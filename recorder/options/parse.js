@@ -3,7 +3,7 @@
 
 const { parseArgs } = require('node:util');
 
-/** Wrong arguments. The message is empty if their number is wrong. */
+/** Wrong arguments. */
 class UsageFault extends Error {}
 
 /**
@@ -57,4 +57,14 @@ function parseArguments(args, table, options) {
   return { positionals, isHelp: false };
 }
 
-module.exports = { parseArguments, UsageFault };
+/**
+ * Fails if a command has fewer or more arguments than it takes, beside its options.
+ * @param {string[]} positionals
+ * @param {string[]} names of those that it takes, as in its usage
+ */
+function checkArguments(positionals, names) {
+  if (positionals.length < names.length) throw new UsageFault(`${names[positionals.length]} is missing`);
+  if (positionals.length > names.length) throw new UsageFault(`unexpected argument: ${positionals[names.length]}`);
+}
+
+module.exports = { parseArguments, checkArguments, UsageFault };

@@ -51,6 +51,9 @@ function useProgram(facts) {
   ({ state, program } = facts);
 }
 
+/** @param {NodeJS.ErrnoException} cause why the analyzer did not start */
+const whyNot = ({ code, message }) => (code === 'ENOENT' ? 'there is no such file (the variable ER_CLI names the analyzer)' : message);
+
 /**
  * @param {string[]} args
  * @param {string} traceFile
@@ -68,7 +71,7 @@ function runProgram(args, traceFile) {
   child.stdout?.on('data', (piece) => output.push(piece));
   child.stderr?.on('data', (piece) => fault.push(piece));
   return new Promise((resolve) => {
-    child.on('error', (cause) => resolve({ status: STATUS.noProgram, output: '', fault: `${program} can not be run: ${cause.message}` }));
+    child.on('error', (cause) => resolve({ status: STATUS.noProgram, output: '', fault: `${program} cannot be run: ${whyNot(cause)}` }));
     child.on('close', (status) => resolve({ status, output: Buffer.concat(output).toString(), fault: Buffer.concat(fault).toString().trim() }));
   });
 }

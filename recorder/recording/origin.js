@@ -126,6 +126,7 @@ const isTexts = (list) => Array.isArray(list) && list.every((one) => typeof one 
 function readOrigin(traceFile) {
   const text = readText(traceFile);
   const file = `${traceFile.replace(/\.trace$/, '')}.names.json`;
+  if (!fs.existsSync(file)) throw new OriginFault(`there is no file ${file}, which er_page and er_record write beside the trace`);
   const names = readNames(file);
   const { recording } = names;
   if (!recording || !isTexts(recording.words) || typeof recording.page !== 'string') {

@@ -30,6 +30,19 @@ const HINTS = {
   407: ' (a proxy requires a user)',
 };
 
+/**
+ * What to look for if the browser reports an error of the network.
+ * @type {[error: RegExp, hint: string][]}
+ */
+const NETWORK_HINTS = [
+  [/^net::ERR_NAME_NOT_RESOLVED/, ' (no server of this name is known)'],
+  [/^net::ERR_CONNECTION_REFUSED/, ' (no server listens at this address: is it started?)'],
+  [/^net::ERR_UNSAFE_PORT/, ' (the browser requests nothing from this port: let the server listen at another one)'],
+  [/^net::ERR_CERT_/, ' (the certificate is not valid: --ignore-certificate-errors loads the page)'],
+];
+/** @param {string} errorText */
+const hintOf = (errorText) => NETWORK_HINTS.find(([error]) => error.test(errorText))?.[1] || '';
+
 class Recorder extends Session {
   /**
    * @param {string} given a web address, a file or a folder; a user and a password in it go only to its server
@@ -155,7 +168,7 @@ class Recorder extends Session {
     const navigation = this.openTab().send('Page.navigate', { url: address }, this.options.time * 1000 + GRACE);
     const { errorText } = await Promise.race([navigation, this.noAnswer()]);
     this.hasAnswered = true;
-    if (errorText) throw this.notLoaded(errorText);
+    if (errorText) throw this.notLoaded(`${errorText}${hintOf(errorText)}`);
     if (responses?.failures.includes(address.replace(/#.*$/, ''))) throw this.notLoaded('there is no such file');
     if (this.pageStatus >= 400) throw this.notLoaded(`the server answered ${this.pageStatus}${HINTS[this.pageStatus] || ''}`);
     this.acts.user = new User(this.openTab());

@@ -103,7 +103,7 @@ test('wrong arguments: what is wrong, the usage, and where the options are', { t
   for (const words of [[], ['a'], ['a', 'b', '--do', 'jump:x'], ['a', 'b', '--time', '0'], ['http://', 'b']]) {
     const { status, stderr } = await run('er_record', words, temporary('usage'));
     assert.strictEqual(status, 2, words.join(' '));
-    assert.match(stderr, /^usage: er_record/m);
+    assert.match(stderr, /^er_record: .+\nusage: er_record/);
   }
   for (const command of ['er_page', 'er_view', 'er_replay', 'er_suite']) assert.strictEqual((await run(command, [], temporary('usage'))).status, 2, command);
 });
@@ -137,7 +137,7 @@ test('an analyzer in a folder that a shell would not take as it is', { timeout: 
   assert.match(fs.readFileSync(file.replace('.trace', '.html'), 'utf8'), /"command":"\.\/er_view '[^"]*o'\\\\''brien'\\\\''s; false\/a trace\.trace'"/);
   const none = await runProgram(path.join(TOP, 'er_view'), [file], { env: { ...process.env, ER_CLI: `${program} --json` }, longest: LONGEST_RUN });
   assert.strictEqual(none.status, 10);
-  assert.match(none.stderr, /er cli --json can not be run: /);
+  assert.match(none.stderr, /er cli --json cannot be run: /);
 });
 
 test('a page that does not load', { timeout: 150000 }, async () => {
@@ -148,7 +148,7 @@ test('a page that does not load', { timeout: 150000 }, async () => {
   assert.ok(isWhole(traceFile('missing')));
   const closed = await run('er_record', ['http://127.0.0.1:1/', traceFile('closed')], own);
   assert.strictEqual(closed.status, 4);
-  assert.match(closed.stderr, /did not load: net::ERR/);
+  assert.match(closed.stderr, /did not load: net::ERR_UNSAFE_PORT \(the browser requests nothing from this port: let the server listen at another one\)$/m);
   await assertNothingLeft(own);
 });
 

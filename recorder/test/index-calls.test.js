@@ -164,7 +164,7 @@ test('the other codes: a step that is not done, no analyzer, a process that is k
   await fails(replay(undone, 1), 'NOT_DONE');
   const code = `require(${JSON.stringify(path.join(TOP, 'recorder', 'index.js'))}).judge(${JSON.stringify(trace)}).catch(({ code, message }) => console.log(code, message))`;
   const { stdout } = await run(process.execPath, ['-e', code], { env: { ...process.env, ER_CLI: path.join(folder, 'no-analyzer') }, longest: LONGEST });
-  assert.match(stdout, /^NO_ANALYZER .*can not be run/);
+  assert.match(stdout, /^NO_ANALYZER .*cannot be run/);
   const killed = fails(record(SHOP, { trace: file('killed'), actions: ['wait:30000'], time: 60 }), 'INTERNAL', /ended without an answer/);
   await sleep(1000);
   process.kill(callProcess(), 'SIGKILL');

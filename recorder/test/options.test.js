@@ -7,6 +7,7 @@ const path = require('node:path');
 const { test } = require('node:test');
 const { HELP, usageOf } = require('../options/help.js');
 const { LIBRARIES } = require('../options/libraries.js');
+const { checkArguments } = require('../options/parse.js');
 const { parseCommand, parseOptions, TABLES } = require('../recording/options.js');
 const { NEWEST_VERSION } = require('../trace/spelling.js');
 
@@ -102,6 +103,12 @@ test('arguments that are wrong say which one', () => {
   ];
   for (const [args, message] of cases) assert.throws(() => parseCommand('er_page', args), { message }, args.join(' '));
   assert.throws(() => parseCommand('er_record', ['--attach', 'example.com:9222', 'x']), /--attach takes HOST:PORT of this machine/);
+});
+
+test('a missing argument and one too many are named', () => {
+  checkArguments(['x', 'y'], ['URL', 'OUT.trace']);
+  assert.throws(() => checkArguments(['x'], ['URL', 'OUT.trace']), { message: 'OUT.trace is missing' });
+  assert.throws(() => checkArguments(['x', 'y'], ['URL']), { message: 'unexpected argument: y' });
 });
 
 test('values after =, what is no option after --, and help', () => {

@@ -178,6 +178,8 @@ test('why two actions are ordered', { timeout: 150000 }, async () => {
   }
   assert.match(ordered.stdout, /^These steps put action 0 .* before action 4 .*:\n {2}.*by rule \d+: /);
   assert.match((await ask('4', '5')).stdout, /^Nothing puts action 4 .* before action 5 .*\./);
+  const none = await ask('0', '99');
+  assert.deepStrictEqual([none.status, none.stderr], [2, 'er_view: the trace has no action 0 or no action 99\n']);
 });
 
 test('many variables that are over the limits: three lines, and one for all others', () => {
