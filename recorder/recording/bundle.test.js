@@ -47,7 +47,7 @@ test('without its comments a module has the same tokens, in the same lines', () 
   const page = path.join(__dirname, '..', 'page');
   const files = fs.readdirSync(page, { recursive: true, encoding: 'utf8' }).filter((name) => name.endsWith('.js'));
   assert.ok(files.length > 50);
-  const tokens = (/** @type {string} */ text) => [...tokenizer(text, { ecmaVersion: 2023, sourceType: 'module', locations: true })]
+  const tokens = (/** @type {string} */ text) => [...tokenizer(text, { ecmaVersion: 'latest', sourceType: 'module', locations: true })]
     .map(({ type, loc, start, end }) => `${loc?.start.line} ${type.label} ${text.slice(start, end)}`);
   for (const name of files) {
     const text = fs.readFileSync(path.join(page, name), 'utf8');

@@ -67,7 +67,7 @@ class WorkedRecorder extends Recorder {
 }
 
 /**
- * Counts the messages of the protocol from now on; returns what tells their number and size.
+ * Counts the messages of the protocol from now on; returns what reports their number and size.
  * @param {import('../browser/protocol.js').Protocol} browser
  */
 function countMessages(browser) {
