@@ -104,7 +104,7 @@ function setHelpers(window, helpers, isFirst) {
 
 /** @param {PageWindow} window */
 function begin(window) {
-  const send = takeBinding(window) || sendLater(window);
+  const send = takeBinding(window) || (settings.isDriven ? sendLater(window) : () => {});
   if (settings.isDriven && window.__er) return; // it came as a part of the page before
   if (!isFirstOfOpened(window)) {
     startRecorder(window, send, window.document.documentElement && settings.isDriven ? 'parser' : undefined);

@@ -1,6 +1,7 @@
 'use strict';
 // Puts modules together into one text, for a page or a world of its own. Each module is a function, so only its exports can be seen outside of it. Names
-// are the same as in the file, in stacks too, and the first line of each module has the name of its file.
+// are the same as in the file, in stacks too, and the first line of each module has the name of its file. Comments and blanks at the start of a line are
+// left out, not the lines themselves: the browser reads the text for each document.
 //
 // The modules have only two forms, so no parser is needed: `import { a, b as c } from './file.js';` at the start of a line, and one `export { a, b };` at
 // the end. Other forms are refused, as are names that are not exported, and cycles.
@@ -12,9 +13,15 @@ const IMPORT = /^import (\{[^{}]*\}) from '(\.[^']*\.js)';$/gm;
 const EXPORT = /^export (\{[^{}]*\});\s*$/m;
 const OTHER = /^(?:import|export)\b.*/m;
 const AS = /\s+as\s+/g;
+/** Comments that begin a line, and blanks there. */
+const COMMENT = /^[ \t]*(?:\/\*\*[^]*?\*\/|\/\/.*)$/gm;
+const INDENT = /^[ \t]+/gm;
 
 /** @param {string} braces */
 const namesIn = (braces) => braces.slice(1, -1).split(',').map((name) => name.trim()).filter(Boolean);
+
+/** @param {string} text */
+const withoutComments = (text) => text.replace(COMMENT, (comment) => comment.replace(/[^\n]+/g, '')).replace(INDENT, '');
 
 /** @typedef {{constant: string, exported: string[]}} Module the constant that has the exports, and their names */
 
@@ -41,7 +48,7 @@ class Bundle {
     this.modules.set(file, null);
     /** @type {string[]} */
     let exported = [];
-    const text = fs.readFileSync(file, 'utf8')
+    const text = withoutComments(fs.readFileSync(file, 'utf8'))
       .replace(IMPORT, (all, names, from) => this.taken(file, names, path.join(path.dirname(file), from)))
       .replace(EXPORT, (all, names) => { exported = namesIn(names); return `return ${names};\n`; });
     const other = OTHER.exec(text);
@@ -82,4 +89,4 @@ function bundled(entry, parameters) {
   return `(function (${parameters.join(', ')}) {\n'use strict';\n${bundle.texts.join('\n')}\nreturn ${constant};\n})`;
 }
 
-module.exports = { bundled };
+module.exports = { bundled, withoutComments };

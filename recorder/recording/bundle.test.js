@@ -6,7 +6,8 @@ const fs = require('node:fs');
 const os = require('node:os');
 const path = require('node:path');
 const { test } = require('node:test');
-const { bundled } = require('./bundle.js');
+const { tokenizer } = require('/usr/share/nodejs/acorn');
+const { bundled, withoutComments } = require('./bundle.js');
 
 /**
  * The exports of main.js among some modules.
@@ -40,6 +41,18 @@ test('a module runs once, after those that it imports', (t) => {
     'b.js': "import { list } from './list.js';\n\nlist.push('b');\nconst b = list.length;\n\nexport { b };\n",
   });
   assert.deepStrictEqual(list, ['b', 'main', 1]);
+});
+
+test('without its comments a module has the same tokens, in the same lines', () => {
+  const page = path.join(__dirname, '..', 'page');
+  const files = fs.readdirSync(page, { recursive: true, encoding: 'utf8' }).filter((name) => name.endsWith('.js'));
+  assert.ok(files.length > 50);
+  const tokens = (/** @type {string} */ text) => [...tokenizer(text, { ecmaVersion: 'latest', sourceType: 'module', locations: true })]
+    .map(({ type, loc, start, end }) => `${loc?.start.line} ${type.label} ${text.slice(start, end)}`);
+  for (const name of files) {
+    const text = fs.readFileSync(path.join(page, name), 'utf8');
+    assert.deepStrictEqual(tokens(withoutComments(text)), tokens(text), name);
+  }
 });
 
 /** @type {[name: string, files: {[name: string]: string}, message: RegExp][]} */

@@ -33,11 +33,14 @@ function ofRecording({ secret }, use) {
   return `typeof __er === 'object' && __er.recording && __er.recording('${secret}')${use}`;
 }
 
+/** @param {string} sign */
+const escaped = (sign) => `\\u${sign.charCodeAt(0).toString(16).padStart(4, '0')}`;
+
 /**
- * A value as code: JSON, a regular expression or a function.
+ * A value as code: JSON, a regular expression or a function. One sign that is not of Latin-1 would double what the whole script takes in the browser.
  * @param {unknown} value
  */
-const codeOf = (value) => (value instanceof RegExp || typeof value === 'function' ? String(value) : JSON.stringify(value));
+const codeOf = (value) => (value instanceof RegExp || typeof value === 'function' ? String(value) : JSON.stringify(value).replace(/[\u0080-\uffff]/g, escaped));
 
 /**
  * The interfaces of the browser that have `on..` properties. Runs in the page, if nobody has asked the browser before.

@@ -207,10 +207,11 @@ class Session {
     await this.responses.start();
     await tab.closeOpenedWindows(() => { this.windows++; });
     if (options.isRaw) return;
-    await tab.send('Runtime.addBinding', { name: this.ownNames.binding });
     await tab.send('Page.addScriptToEvaluateOnNewDocument', {
       source: pageScript(handlerOwners, { ...options, ...this.ownNames, handlerNames, holds: holds || (pauses ? [] : undefined), isDriven }),
+      runImmediately: !isDriven, // in the empty page, without a binding: so the script is compiled when the page comes
     });
+    await tab.send('Runtime.addBinding', { name: this.ownNames.binding });
   }
 
   /**

@@ -80,7 +80,8 @@ function putConstructor(window, name, Replacement) {
 function replaceProperty(owner, name, make) {
   const descriptor = Object.getOwnPropertyDescriptor(owner, name);
   if (!descriptor || !descriptor.set || !descriptor.configurable) return;
-  Object.defineProperty(owner, name, { ...descriptor, ...make(/** @type {import('../types').Accessors} */ (descriptor)) });
+  const { get = descriptor.get, set = descriptor.set } = make(/** @type {import('../types').Accessors} */ (descriptor));
+  Object.defineProperty(owner, name, { get, set, enumerable: descriptor.enumerable, configurable: true });
 }
 
 /**

@@ -38,7 +38,7 @@ function makerByName(objects) {
   const { objects: lastObjects } = sites;
   const access = accessing(objects);
   return (modes) => (object, name, site) => {
-    if (lastObjects[site] === object) return object;
+    if (site < lastObjects.length && lastObjects[site] === object) return object;
     if (sites.isDue(object, site)) access(object, name, modes, site);
     return object;
   };
@@ -57,14 +57,14 @@ function makerByKey(objects) {
   /** @type {(object: unknown, key: unknown, modes: Modes, site: number) => void} */
   const accessByKey = (object, key, modes, site) => {
     if (typeof key !== 'string' && typeof key !== 'number') return;
-    const items = lastObjects[site] === object ? lastItems[site] : 0;
+    const items = site < lastObjects.length && lastObjects[site] === object ? lastItems[site] : 0;
     if (!sites.isDue(object, site)) return;
     lastItems[site] = items;
     access(object, key, modes, site);
     sites.noteKey(object, key, site);
   };
   return (modes) => (object, key, site) => {
-    if (lastObjects[site] === object && hasHad(key, site)) return key;
+    if (site < lastObjects.length && lastObjects[site] === object && hasHad(key, site)) return key;
     accessByKey(object, key, modes, site);
     return key;
   };
