@@ -164,7 +164,7 @@ export interface NewDispatch {
   visit?: string;
   /** The page whose load event waits for it. */
   awaits?: Page;
-  /** Events before it, by a rule or by a handler in it (document/controls.js). */
+  /** Events before it, by a rule or by a handler in it (reach/controls.js). */
   comesAfter?: TraceEvent[];
   /** The start of a key that can change the field at which it is pressed. */
   pressed?: Moment;

@@ -7,7 +7,7 @@ const { LETTERS_OF_ACT } = require('../../common/numbers.js');
 const USER_EVENTS = new Set(['click', 'dblclick', 'auxclick', 'contextmenu', 'mousedown', 'mouseup', 'mousemove', 'mouseover', 'mouseout', 'mouseenter',
   'mouseleave', 'pointerdown', 'pointerup', 'pointermove', 'pointerover', 'pointerout', 'pointerenter', 'pointerleave', 'touchstart', 'touchend',
   'keydown', 'keypress', 'keyup', 'beforeinput', 'input', 'change', 'submit', 'wheel', 'select', 'selectionchange', 'selectstart']);
-/** The reason of an interval that is the run of such an address (page/document/scripts.js). */
+/** The reason of an interval that is the run of such an address (page/scripts/addresses.js). */
 const ADDRESS = 'a javascript: address';
 
 class UserActs {

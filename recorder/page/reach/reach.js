@@ -28,7 +28,7 @@ const LONGEST_IN_ALL = 1000;
 
 /** @typedef {import('../types').Moment} Moment */
 /** @typedef {import('../types').Target} Target */
-/** @typedef {import('./tree.js').Maker} Maker */
+/** @typedef {import('../document/tree.js').Maker} Maker */
 /**
  * What is known of an element: whether it has no box, and the code that first made it reachable by keys and by a pointer (null: at any time).
  * @typedef {{isRoot: boolean, keys: Moment|null|undefined, pointer: Moment|null|undefined}} State

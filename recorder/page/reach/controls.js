@@ -17,7 +17,7 @@ const REACHED = 'the code that showed it';
 
 /** @typedef {import('../types').Moment} Moment */
 /** @typedef {import('../types').Target} Target */
-/** @typedef {import('./tree.js').Maker} Maker */
+/** @typedef {import('../document/tree.js').Maker} Maker */
 /** @typedef {import('../events/dispatches.js').EventDispatch} EventDispatch */
 
 class Controls {
