@@ -1,5 +1,5 @@
 -- With which status the program ends, and with which line on standard error.
-use Rattle.std.specs.Prelude.{◌≡◌, ◌≢◌, ◌⊎◌, ℕ, List, Option, Some, option_map, codes}
+use Rattle.std.specs.Prelude.{◌≡◌, ◌≢◌, ℕ, List, Option, Some, option_map, codes}
 use Rattle.er_words.specs.declared.commands.Asked.{Asked}
 use Rattle.er_words.specs.declared.commands.Command.TheVariants.{Gen}
 use Rattle.er_words.specs.Words.{Asks}
@@ -38,7 +38,12 @@ no_words_line = codes "er_cli: arguments could not be read"
 abbrev pub no_words_status : ℕ
 no_words_status = 7
 
--- how the program ends there, or where memory ran out
-abbrev pub LacksWords : Option (List ℕ) → ℕ → Type 0
-LacksWords line status = ((line ≡ Some no_words_line) × (status ≡ no_words_status))
-    ⊎ ((line ≡ line_of NoMemory) × (status ≡ status_of NoMemory))
+-- how the program ends there
+pub record LacksWords (line : Option (List ℕ)) (status : ℕ) : Type 0 where
+  pub line_is : line ≡ Some no_words_line
+  pub status_is : status ≡ no_words_status
+
+-- how it ends if memory ran out
+pub record LacksMemory (line : Option (List ℕ)) (status : ℕ) : Type 0 where
+  pub line_is : line ≡ line_of NoMemory
+  pub status_is : status ≡ status_of NoMemory

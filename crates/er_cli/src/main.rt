@@ -1,12 +1,13 @@
 //! The program: standard input, standard output and the arguments, and what `run` makes of them.
 #![tactic(auto)]
 
-ghost use Rattle.std.specs.Prelude.{◌≡◌, drop, map, string_bytes, IfErr, IfOk};
+ghost use Rattle.std.specs.Prelude.{◌≡◌, ◌≢◌, drop, map, string_bytes, IfErr, IfOk};
+ghost use Rattle.std.specs.IoError.{error_kind};
 ghost use Rattle.std.specs.Process.{exit_status};
 ghost use Rattle.std.specs.Vec.Iter.{into_iter_items};
 ghost use Rattle.er_run.specs.Status.{line_of, status_of};
 ghost use Rattle.er_run.specs.Promise.{streams};
-ghost use Rattle.er_cli.specs.Ended.{EndsWith, LacksWords, line_printed};
+ghost use Rattle.er_cli.specs.Ended.{EndsWith, LacksMemory, LacksWords, line_printed};
 
 mod printed;
 
@@ -18,7 +19,7 @@ use er_shard::FreeGate;
 use printed::{Printed, print};
 use std::alloc::{AllocError, Global};
 use std::env::{self, Args};
-use std::io;
+use std::io::{self, ErrorKind};
 use std::process::ExitCode;
 use std::thread::Threads;
 
@@ -50,8 +51,10 @@ fn start<R: Threads + Sync + Eprint, S: Source, K: Sink>(
         (streams (S.left source.old) (K.got sink.old) (S.faults source.old) (K.faults sink.old))
         (streams (S.left source.new) (K.got sink.new) (S.faults source.new) (K.faults sink.new))
         (line_printed result.line) (exit_status result.code)) }
-    ensures no_words { IfErr args
-        (λ _. LacksWords (line_printed result.line) (exit_status result.code)) }
+    ensures no_words { IfErr args (λ error. error_kind error ≢ ErrorKind.OutOfMemory
+        → LacksWords (line_printed result.line) (exit_status result.code)) }
+    ensures no_memory { IfErr args (λ error. error_kind error ≡ ErrorKind.OutOfMemory
+        → LacksMemory (line_printed result.line) (exit_status result.code)) }
     ensures untouched { IfErr args (λ _. (source.new ≡ source.old) × (sink.new ≡ sink.old)) }
 {
     match args {
@@ -123,9 +126,12 @@ fn finish(rt: &impl Eprint, outcome: Outcome) -> Ending
 
 /// Shows that the system did not pass the arguments.
 fn refuse(rt: &impl Eprint, error: io::Error) -> Ending
-    ensures { LacksWords (line_printed result.line) (exit_status result.code) }
+    ensures no_words { error_kind error ≢ ErrorKind.OutOfMemory
+        → LacksWords (line_printed result.line) (exit_status result.code) }
+    ensures no_memory { error_kind error ≡ ErrorKind.OutOfMemory
+        → LacksMemory (line_printed result.line) (exit_status result.code) }
 {
-    if error.kind() == io::ErrorKind::OutOfMemory {
+    if error.kind() == ErrorKind::OutOfMemory {
         return finish(rt, Outcome::NoMemory);
     }
     Ending {

@@ -127,7 +127,7 @@ pub record IsJudgedFor (asked : Command) (from to : Meters) (judged : Judged) : 
   pub compared : IsComparedFor asked judged.session from.compares to.compares
   pub tested : IsTestedFor asked judged.session from.tests to.tests
 
--- the line behind these records, newest first, is refused for this cause; or memory ran out
+-- the line after these records, newest first, is refused for this cause; or memory ran out
 abbrev pub IsEndFault : Option Cause → List Record → FeedFault → Type 0
 IsEndFault cause h (faults.Refused n c) = (n ≡ length h + 2) × (cause ≡ Some c)
 IsEndFault cause h faults.NoMemory = Unit {0}
@@ -136,7 +136,7 @@ IsEndFault cause h faults.NoMemory = Unit {0}
 abbrev pub IsListFault : Version → List Record → FeedFault → Type 0
 IsListFault v h fault = (other : Option Cause) → IsEndFault (listing_cause v h other) h fault
 
--- what the words can ask for: 1 to 64 shards, and races from number 1
+-- what arguments can request: 1 to 64 shards, and races from number 1
 pub record IsAskable (shards : ℕ) (command : Command) : Type 0 where
   pub least : 1 ≤ shards
   pub most : shards ≤ most_shards

@@ -61,7 +61,7 @@ pub record HasCause (f : Format) (v : Version) (earlier : List Record) (bytes : 
   pub begins : bytes ≡ line l ++ rest
   pub cause : legality.cause (rules v) (reverse earlier) read ≡ Some c
 
--- they begin with a last line that has the cause behind the earlier records
+-- they begin with a last line that has the cause after the earlier records
 pub record EndHasCause (f : Format) (asked : Command) (v : Version) (earlier : List Record)
     (bytes : List ℕ) (c : Cause) : Type 0 where
   pub few : length earlier + 2 ≤ most_lines

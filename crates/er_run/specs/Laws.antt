@@ -45,7 +45,7 @@ LongerInput = (asked : Command) (bytes more : List ℕ) (n : ℕ) (c : Cause)
     → FirstIllegal (format_of asked) asked (bytes ++ more) n c
 
 -- The bytes of a legal trace, without some of the last, are refused for `no-end`, at the line
--- behind their last LF.
+-- after their last LF.
 abbrev pub CutTrace : Type 0
 CutTrace = (asked : Command) (v : Version) (records : List Record) (bytes more : List ℕ)
     → IsTrace (format_of asked) v (bytes ++ more) records → IsLegal (rules v) (reverse records)
@@ -53,16 +53,16 @@ CutTrace = (asked : Command) (v : Version) (records : List Record) (bytes more :
     → Answers (format_of asked) asked bytes (Refused (count_of_lf bytes + 1) NoEnd)
     (refusal_for asked (count_of_lf bytes + 1) NoEnd)
 
--- The kept accesses stand in the order of their lines, each once.
+-- The distinct accesses are in the order of their lines, each once.
 abbrev pub KeptInOrder : Type 0
 KeptInOrder = (h : List Record) → IsStrictlyIncreasing (map (λ (x : Kept). x.line) (kept h))
 
--- the lines of the one race stand before those of the other: its first line is less, or the first
--- lines are the same and its second is less
+-- the lines of one race come before those of another: its first line is less, or the first lines
+-- are the same and its second is less
 abbrev pub StandsBefore : Kept × Kept → Kept × Kept → Type 0
 StandsBefore p q = (p.0.line < q.0.line) ⊎ ((p.0.line ≡ q.0.line) × (p.1.line < q.1.line))
 
--- The races stand in the order of their lines, each once.
+-- The races are in the order of their lines, each once.
 abbrev pub RacesInOrder : Type 0
 RacesInOrder = (v : Version) (h : List Record) (i j : ℕ) (p q : Kept × Kept) → i < j
     → slice_get (races v h) i ≡ Some p → slice_get (races v h) j ≡ Some q → StandsBefore p q

@@ -1,4 +1,4 @@
--- Which lists are legal, and when the `end` line behind them is refused. Lists of records stand
+-- Which lists are legal, and when the `end` line after them is refused. Lists of records are
 -- newest first.
 use Rattle.std.specs.Prelude.{◌≡◌, ℕ, Bool, ◌||◌, nat_lt, nat_le, if◌then◌else◌, List, [], ◌∷◌, length, Option, Some, None}
 use Rattle.er_text.specs.declared.causes.Cause.{Cause}
@@ -58,7 +58,7 @@ abbrev pub explain_cause : ℕ → ℕ → List Record → Option Cause
 explain_cause i j h = if nat_le (length (told h).actions) i
     || nat_le (length (told h).actions) j then Some NoAction else None
 
--- the first cause for which the `end` line behind the records is refused, by what is asked
+-- the first cause for which the `end` line after the records is refused, by command
 abbrev pub end_cause_for : Command → Version → List Record → Option Cause
 end_cause_for (Check json input) v h = end_cause v h
 end_cause_for (Gen n) v h = end_cause v h

@@ -1,4 +1,4 @@
--- What is asked of the meters of a run, and what they do.
+-- The condition on the counters of a run, and that they never fall.
 use Rattle.std.specs.Prelude.{◌<◌, ◌≤◌, ◌^◌}
 use Rattle.er_run.specs.declared.meters.Meters.{Meters}
 

@@ -159,7 +159,7 @@ abbrev pub Holds : Command → Option (List ℕ) → List ℕ → Type 0
 Holds (Gen n) left bytes = bytes ≡ text One (generated n)
 Holds _ left bytes = left ≡ Some bytes
 
--- the count of a source's faults did not rise, where the command reads it
+-- the error count of the source did not rise, if the command reads it
 abbrev pub NoReadFailed : Command → ℕ → ℕ → Type 0
 NoReadFailed (Gen n) old new = Unit {0}
 NoReadFailed _ old new = Rose old new → ⊥
@@ -194,5 +194,5 @@ pub record IsRun (words : List (List ℕ)) (old new : Streams) (from to : Meters
   -- no answer comes after a failed call
   pub no_fault : IsAnswer outcome → (new.failed_reads ≡ old.failed_reads)
       × (new.failed_writes ≡ old.failed_writes)
-  -- no comparison and no test is forgotten, whatever the outcome
+  -- no counter falls, whatever the outcome
   pub rise : Rise from to

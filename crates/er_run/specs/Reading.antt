@@ -72,13 +72,13 @@ IsFinalFault f bytes (faults.Refused n c) =
     ((asked : Command) → FirstIllegal f asked bytes n c) × (c ≢ NoEnd)
 IsFinalFault f bytes faults.NoMemory = Unit {0}
 
--- The `end` line was read and nothing behind it; or a line is refused, where the source is at its
--- end or which no further byte changes.
+-- The `end` line was read and nothing after it; or a line is refused, and the source is at its end
+-- or no further byte changes that.
 abbrev pub IsEnd : Option (List ℕ) → Option LineRefusal → Type 0
 IsEnd left None = Unit {0}
 IsEnd left (Some refused) = IsSpent left ⊎ (refused.cause ≢ NoEnd)
 
--- A chunk was read, and behind the bytes before it the feed and the session stand for it too.
+-- A chunk was read, and the feed and the session represent it too, after the bytes before it.
 pub record Advances (f : Format) (left_old left_new : Option (List ℕ)) (mark : Mark)
     (kept : List ℕ) (fault : Option FeedFault) (session : Option Session) (bytes : List ℕ)
     (records : List Record) : Type 0 where
@@ -91,8 +91,8 @@ pub record Advances (f : Format) (left_old left_new : Option (List ℕ)) (mark :
 abbrev pub IsOpen : Format → List ℕ → List Record → Type 0
 IsOpen f bytes records = ¬ IsTraceOf f bytes records
 
--- With the chunk that was read behind these bytes the reading is at its end, and the session stands
--- for its records.
+-- With the chunk that was read after these bytes, reading is at its end, and the session represents
+-- its records.
 pub record Ends (f : Format) (left_old left_new : Option (List ℕ)) (session : Option Session)
     (refused : Option LineRefusal) (bytes : List ℕ) : Type 0 where
   pub chunk : List ℕ
@@ -103,7 +103,7 @@ pub record Ends (f : Format) (left_old left_new : Option (List ℕ)) (session : 
   pub reading : IsReading f (version_or_first session) (bytes ++ chunk) records refused
   pub end : IsEnd left_new refused
 
--- With the chunk that was read behind these bytes a record is refused.
+-- With the chunk that was read after these bytes, a record is refused.
 pub record IsRefusedBehind (f : Format) (left_old left_new : Option (List ℕ)) (n : ℕ) (c : Cause)
     (bytes : List ℕ) : Type 0 where
   pub chunk : List ℕ
@@ -117,8 +117,8 @@ pub record IsUndecided (f : Format) (left_old left_new : Option (List ℕ))
   pub gave : Gives left_old bytes left_new
   pub fresh : (asked : Command) → IsFinal f asked bytes → ⊥
 
--- How a call that may fail leaves the count of a source's faults: one more where it failed, and
--- else as it was.
+-- How a call that may fail leaves the error count of a source: one more if it failed, and else as
+-- it was.
 pub record CountsReads {X : Type 0} (result : Result X InputFault) (old new : ℕ) : Type 0 where
   pub rose : IsErrOf result Failed → Rose old new
   pub once : IsErrOf result Failed → new ≡ one_more old
@@ -141,7 +141,7 @@ pub record IsReadTo (f : Format) (left_old left_new : Option (List ℕ)) (n : �
   pub before : IsUndecided f left_old left bytes
   pub refused : IsRefusedBehind f left left_new n c bytes
 
--- The bytes that were taken are a legal trace, which was judged, and nothing stands behind it.
+-- The bytes that were taken are a legal trace, which was judged, and nothing comes after it.
 pub record IsAcceptedInput (f : Format) (asked : Command) (left_old left_new : Option (List ℕ))
     (judged : Judged) : Type 0 where
   pub taken : List ℕ

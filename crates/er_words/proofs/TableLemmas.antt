@@ -58,7 +58,7 @@ no_explain inputs.Text e = cc
 no_explain inputs.Json e = cc
 
 one_row : (g : Given) (c d : Command) → mode_of c ≡ mode_of d → AreOptions g c → AreOptions g d → c ≡ d
-one_row g (Check a i) (Check b j) mode first second = ap (λ json. Check json i) (ap (λ (x : Given). x.json) (sym first ∙ second)) ∙ ap (λ input. Check b input) (one_input i j mode)
+one_row g (Check a i) (Check b j) mode first second = ap (λ json. Check json i) (sym first.0 ∙ second.0) ∙ ap (λ input. Check b input) (one_input i j mode)
 one_row g (Check a i) (Gen n) mode first second = absurd (no_gen i mode)
 one_row g (Check a i) (Schedule k) mode first second = absurd (no_schedule i mode)
 one_row g (Check a i) (Explain m n) mode first second = absurd (no_explain i mode)

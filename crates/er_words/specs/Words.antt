@@ -113,10 +113,6 @@ abbrev pub HasShards : Option Text → ℕ → Type 0
 HasShards None n = n ≡ 1
 HasShards (Some word) n = IsShardsGiven word n
 
--- no option is given
-abbrev pub nothing : Given
-nothing = record { number = None; race = None; from = None; to = None; shards = None; json = false }
-
 -- the word for the mode that reads such lines
 abbrev pub word_of : Input → Text
 word_of inputs.Text = codes "check"
@@ -129,15 +125,16 @@ mode_of (Gen n) = codes "gen"
 mode_of (Schedule k) = codes "schedule"
 mode_of (Explain i j) = codes "explain"
 
--- no options are given but those that belong to the mode, and those that it requires are
+-- the options that the mode requires are given, and those that do not belong to it are not
 abbrev pub AreOptions : Given → Command → Type 0
-AreOptions g (Check json input) = g ≡ record nothing { shards = g.shards; json = json }
-AreOptions g (Gen n) =
-    Has IsNumberGiven g.number n × (g ≡ record nothing { shards = g.shards; number = g.number })
-AreOptions g (Schedule k) =
-    Has IsRaceGiven g.race k × (g ≡ record nothing { shards = g.shards; race = g.race })
-AreOptions g (Explain i j) =
-    Has IsNumber g.from i × Has IsNumber g.to j × (g ≡ record nothing { from = g.from; to = g.to })
+AreOptions g (Check json input) = (g.json ≡ json)
+    × (g.number ≡ None) × (g.race ≡ None) × (g.from ≡ None) × (g.to ≡ None)
+AreOptions g (Gen n) = Has IsNumberGiven g.number n
+    × (g.race ≡ None) × (g.from ≡ None) × (g.to ≡ None) × (g.json ≡ false)
+AreOptions g (Schedule k) = Has IsRaceGiven g.race k
+    × (g.number ≡ None) × (g.from ≡ None) × (g.to ≡ None) × (g.json ≡ false)
+AreOptions g (Explain i j) = Has IsNumber g.from i × Has IsNumber g.to j
+    × (g.number ≡ None) × (g.race ≡ None) × (g.shards ≡ None) × (g.json ≡ false)
 
 abbrev pub IsCommand : Text → Given → Command → Type 0
 IsCommand mode g c = (mode ≡ mode_of c) × AreOptions g c
