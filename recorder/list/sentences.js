@@ -28,7 +28,7 @@ function neutral({ thing, modes, kind }) {
 /** @type {Record<LookKey, (facts: Facts) => string>} */
 const SENTENCES = {
   late: ({ sides }) => `${eventOf(sides[1])} is lost until its handler is registered`,
-  field: ({ field }) => `what is typed into ${field} is overwritten`,
+  field: ({ field, modes }) => `what is typed into ${field} ${modes === 'ww' ? 'is overwritten' : 'may be overwritten before it is read'}`,
   act: ({ sides, thing }) => `${thing}, set after ${sides[1].act || 'an act of the user'}, may be overwritten`,
   undefined: ({ thing, kind }) => `${thing} may not be ${kind === 'element' ? 'in the page' : thing.startsWith('`') ? 'defined' : 'set'} yet`,
   missed: ({ sides }) => `${eventOf(sides[1])} may come before its handler is registered`,

@@ -197,7 +197,7 @@ class Sides {
     const at = sides[0].own || sides[1].own || sides[0].at || sides[1].at;
     const thing = kind === 'handler' ? this.thing(race.location) : marked(this.thing(race.location));
     const sentence = sentenceOf(look, { sides, thing, field: this.field(race.location), modes: race.modes, kind });
-    return { sentence, place: at ? this.place(at, false) : this.page(), sides, fix: fixOf(look, { kind, isOfUser: !!sides[0].act }) };
+    return { sentence, place: at ? this.place(at, false) : this.page(), sides, fix: fixOf(look, { kind, isOfUser: !!sides[0].act, modes: race.modes }) };
   }
 
   /** @param {Race} race @param {number} first @returns {[Side, Side]} */
