@@ -156,7 +156,8 @@ impl Clocks {
         requires { link < length self.now }
         ensures known { IsTakenFrom (length self.now) result.links
             × IsReachFrom (length self.now) result.reach }
-        ensures links { (p : List ℕ) → IsOnlyLink self.now p link → LinksAre self.now result.links p }
+        ensures links { (p : List ℕ) → IsOnlyLink self.now p link
+            → LinksAre self.now result.links p }
         ensures reach { (p : List ℕ) → IsOnlyLink self.now p link
             → IsReachedBy self.now result.reach p }
     {
