@@ -42,6 +42,15 @@ class EventRacerError extends Error {
 const aborted = (signal) => new EventRacerError('ABORTED', 'the call was aborted', { cause: signal.reason });
 
 /**
+ * Why a call failed: of what its process printed, the lines with a command's name, without that and without how much was recorded.
+ * @param {string} said
+ */
+function reasonOf(said) {
+  const lines = said.split(/[\r\n]+/).flatMap((line) => /^er_\w+: (?!\d+ actions in )(.*)$/.exec(line)?.[1] || []);
+  return lines.length ? lines.join('\n') : said.trim();
+}
+
+/**
  * What the process of a call answers.
  * @param {import('node:child_process').ChildProcess} child
  * @returns {Promise<{answer: import('./index-types.js').Answer|null, said: string}>}
@@ -81,7 +90,7 @@ async function call(task, signal) {
     if (signal?.aborted) throw aborted(signal);
     if (!answer) throw new EventRacerError('INTERNAL', `the process of the call ended without an answer: ${said.trim()}`);
     if ('result' in answer) return answer.result;
-    throw new EventRacerError(CODES[answer.status] || 'INTERNAL', answer.message || said.trim());
+    throw new EventRacerError(CODES[answer.status] || 'INTERNAL', answer.message || reasonOf(said));
   } finally {
     clearTimeout(limit);
     signal?.removeEventListener('abort', stop);
@@ -155,7 +164,8 @@ async function judge(trace, options = {}) {
  * @returns {Promise<Report>}
  */
 async function list(traces, options = {}) {
-  if (!Array.isArray(traces) || !traces.length) refuse('there is no trace');
+  if (!Array.isArray(traces)) refuse('traces is no list of files and folders');
+  if (!traces.length) refuse('there is no trace');
   traces.forEach((trace) => checkText(trace, 'trace'));
   const { signal, args } = checked(listArguments, options);
   return /** @type {Report} */ (await call({ name: 'list', traces, args }, signal));
@@ -170,6 +180,7 @@ async function list(traces, options = {}) {
  */
 async function replay(trace, problem, options = {}) {
   checkText(trace, 'trace');
+  if (typeof problem !== 'number') checkText(problem, 'problem');
   const { signal, args } = checked(replayArguments, options);
   return /** @type {Reversal} */ (await call({ name: 'replay', trace, problem, isOfSuite: !!options.command, args }, signal));
 }

@@ -131,7 +131,7 @@ async function viewTrace(traceFile, command, options = {}) {
     return { status };
   }
   if (report.refused) {
-    printError(`${command}: the trace is refused at line ${report.refused.line}: ${report.refused.cause} (docs/format.md, "Refusals")`);
+    printError(`${command}: ${traceFile}: the trace is refused at line ${report.refused.line}: ${report.refused.cause} (docs/format.md, "Refusals")`);
     return { status };
   }
   const shown = await writeView(traceFile, report, options);

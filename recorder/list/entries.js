@@ -53,6 +53,7 @@ class Entries {
     this.folder = folder;
     /** @type {Sides[]} by run */
     this.sides = [];
+    this.notReplayedWords = 'no (--most N replays more races)';
   }
 
   /**
@@ -155,7 +156,7 @@ class Entries {
    */
   notReplayed({ look }) {
     const isSome = this.listing.verdicts.some((verdicts) => verdicts?.size);
-    return isSome && look.part !== APART ? 'no (--most N replays more races)' : '';
+    return isSome && look.part !== APART ? this.notReplayedWords : '';
   }
 
   /**

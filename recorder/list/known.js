@@ -46,7 +46,7 @@ class Known {
     } catch (error) {
       const { code, message } = /** @type {NodeJS.ErrnoException} */ (error);
       if (code === 'ENOENT' && mayLack) return new Known(HEAD.join('\n'), file);
-      throw new KnownFault(`${file}: ${code === 'ENOENT' ? 'there is no such file' : message}`);
+      throw new KnownFault(`${file}: ${code === 'ENOENT' ? 'there is no such file; --write-known creates it' : message}`);
     }
     return new Known(text, file);
   }

@@ -15,6 +15,7 @@ class LoadEntries extends Entries {
   constructor(listing) {
     super(listing, null);
     this.loads = listing.loads;
+    this.notReplayedWords = 'no (--replay PROBLEM replays it)';
   }
 
   /** @param {Listed} line */

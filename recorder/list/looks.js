@@ -102,7 +102,7 @@ class Looks {
     const [type, handler = ''] = race.location.split(' ')[2].split('/');
     const isIdle = k === 1 && this.isIdle(race.actions[k], handler);
     const here = k === 0 ? 'here it came before the handler was set' : `here the handler was there${isIdle ? ', and changed nothing that is recorded' : ''}`;
-    return lookOf(look, `a handler that comes late: ${event} may find none; ${here}`, detailOf(look, 'slot', type), isIdle && look === 'late');
+    return lookOf(look, `a handler that comes late: ${event} may find none; ${here}`, detailOf(look, 'slot', type), isIdle);
   }
 
   /**

@@ -148,7 +148,8 @@ test('an abort meanwhile: each call ends soon, and leaves no process', LIMIT, as
 test('wrong arguments', LIMIT, async () => {
   await fails(/** @type {any} */ (record)(SHOP), 'USAGE', /options are missing/);
   await fails(/** @type {any} */ (record)(undefined, { trace }), 'USAGE', /url is no text/);
-  await fails(/** @type {any} */ (list)(trace), 'USAGE', /there is no trace/);
+  await fails(/** @type {any} */ (list)(trace), 'USAGE', /traces is no list/);
+  await fails(/** @type {any} */ (replay)(trace), 'USAGE', /problem is no text/);
   await fails(/** @type {any} */ (list)([trace], { what: 1 }), 'USAGE', /unknown option: what/);
   await fails(list([trace], { writesKnown: true }), 'USAGE', /--write-known requires --known/);
   await fails(list([trace], { known: path.join(folder, 'none.known') }), 'USAGE', /there is no such file/);

@@ -56,7 +56,7 @@ test('a call that is aborted ends its browser', LIMIT, async () => {
 
 test('errors have codes', LIMIT, async () => {
   const none = path.join(folder, 'none.trace');
-  await fails(record('none.html', { trace: none }), 'NO_PAGE', /none\.html/);
+  await fails(record('none.html', { trace: none }), 'NO_PAGE', /^none\.html did not load: there is no such file$/);
   await fails(record(SHOP, { trace: 'x' }), 'USAGE', /trace/);
   // @ts-expect-error: a member that the types do not allow
   await fails(record(SHOP, { trace: none, what: 1 }), 'USAGE', /unknown option: what/);
@@ -66,7 +66,7 @@ test('errors have codes', LIMIT, async () => {
   await fails(judge(path.join(folder, 'lacking.trace')), 'NO_PAGE');
   await fails(list([]), 'USAGE');
   fs.writeFileSync(none, 'webtrace 3\nwrong\n');
-  await fails(judge(none), 'REFUSED', /refused at line 2/);
+  await fails(judge(none), 'REFUSED', /none\.trace: the trace is refused at line 2/);
 });
 
 test('the example for node --test', LIMIT, async () => {

@@ -67,10 +67,19 @@ function lookOf(look, seen = '', detail = '', isIdle = false) {
 }
 
 /**
- * Whether a pattern is worse than another one. Of two lost events the one whose handler changed something is.
- * @param {Pick<Look, 'rank'|'isIdle'>} one @param {Pick<Look, 'rank'|'isIdle'>} other
+ * By which pattern a line is shown if it covers several, the lowest first: typed text that is lost comes before events, and a late handler that changed nothing
+ * after all that may do harm.
+ * @param {Pick<Look, 'look'|'rank'|'detail'|'isIdle'>} look
  */
-const isWorse = (one, other) => one.rank < other.rank || (one.rank === other.rank && other.isIdle && !one.isIdle);
+function severityOf({ look, rank, detail, isIdle }) {
+  if (isIdle) return RANKS.indexOf('other') + 1 / 2;
+  if (look === 'field') return -2;
+  if (look === 'late') return detail === 'choosing' ? -1 : RANKS.indexOf('act') + 1 / 2;
+  return rank;
+}
+
+/** @param {Look} one @param {Look} other whether a line is rather shown by the first pattern */
+const isWorse = (one, other) => severityOf(one) < severityOf(other);
 
 /** @param {{part: string}} look */
 const isHarm = ({ part }) => part === LOSES || part === THROWS;
