@@ -164,7 +164,7 @@ test('a late handler that ran and only read is in a section of its own, at the e
   assert.match(idle[0], /^2 problems \(1 other; 1 late handlers that changed nothing recorded\)$/);
   assert.ok(idle.indexOf('-- late handlers that changed nothing recorded') > idle.indexOf('-- other'));
   assert.ok(idle.includes('    recorded: the handler was there, and changed nothing that is recorded'));
-  assert.match((await lines('w var 0 other'))[0], /^2 problems \(1 loses what a user does; 1 other\)$/);
+  assert.match((await lines('w var 0 other'))[0], /^2 problems \(loses what a user does: 1; other: 1\)$/);
 });
 
 test('a place behind a library is that of the page\'s own code from which it comes', async () => {

@@ -58,7 +58,7 @@ function knownLines(listing) {
  */
 function countsOf(listing) {
   const parts = listing.told().map(({ line }) => listing.partOf(line));
-  const counts = [...new Set(parts)].map((part) => `${parts.filter((one) => one === part).length} ${part}`);
+  const counts = [...new Set(parts)].map((part) => `${part}: ${parts.filter((one) => one === part).length}`);
   return `${parts.length} problem${parts.length === 1 ? '' : 's'}${counts.length ? ` (${counts.join('; ')})` : ''}`;
 }
 
