@@ -210,8 +210,10 @@ class Looks {
   }
 
   /** @param {Race} race */
-  scratch({ location }) {
-    return this.accesses.isScratch(location) ? lookOf('scratch', 'each action that writes it writes all of it, and none reads what another one wrote') : null;
+  scratch({ location, modes, lines, actions }) {
+    const { kept } = this.accesses;
+    const isOwn = lines.every((line, k) => modes[k] === 'w' || kept[line] || this.accesses.isWrittenBefore(location, actions[k], line));
+    return isOwn && this.accesses.isScratch(location) ? lookOf('scratch', 'each action that writes it writes all of it, and none reads what another one wrote') : null;
   }
 }
 

@@ -1,7 +1,8 @@
 #!/usr/bin/env node
 'use strict';
 // applications.js [options] FOLDER [NAME..]: records the applications of applications/list.js, or those that are named, and writes the tables of
-// docs/measured/applications.md. Appends a line of JSON for each to FOLDER/applications.jsonl when it is done. All servers end with it, also by Ctrl-C.
+// docs/measured/applications.md. Appends a line of JSON for each to FOLDER/applications.jsonl when it is done; at its end these replace the lines of
+// applications/applications.jsonl. All servers end with it, also by Ctrl-C.
 
 const fs = require('node:fs');
 const path = require('node:path');
@@ -10,7 +11,7 @@ const { programState } = require('../races/program.js');
 const { run } = require('./cleanup.js');
 const { APPLICATIONS } = require('./applications/list.js');
 const { versionsOf, install } = require('./applications/installed.js');
-const { appendLine, linesOf } = require('./applications/lines.js');
+const { appendLine, linesOf, STORED, textOf } = require('./applications/lines.js');
 const { recordApplication } = require('./applications/record-application.js');
 const { documentOf } = require('./applications/tables.js');
 const { writeWhole } = require('../common/whole-file.js');
@@ -25,8 +26,9 @@ const USAGE = `usage: applications.js [options] FOLDER [NAME..]
   --install     installs the packages that are missing, with apt-get and without what it only recommends; else an application with a missing one is left out
   --loads N     so many loads of each page with and without the recorder, for their times (3)
   --replays N   so many races of each list are run again in the other order (0)
-  --missing     only those that have no line yet, or failed
-  --tables      records nothing: writes the tables of the lines that are there`;
+  --missing     only those that have no line in FOLDER yet, or failed
+  --tables      records nothing: writes the tables of the lines that are there
+Ctrl-C stops it: with --missing, the same call goes on.`;
 const USAGE_STATUS = 2;
 const DOCUMENT = path.join(__dirname, '..', '..', 'docs', 'measured', 'applications.md');
 const DEFAULTS = { installs: false, isMissingOnly: false, tablesOnly: false, loads: 3, replays: 0 };
@@ -110,7 +112,9 @@ async function main(words) {
       console.log(withoutCommands(inWords(line)));
     }
   }
-  writeWhole(DOCUMENT, documentOf(linesOf(file)));
+  const lines = linesOf(STORED, file);
+  writeWhole(STORED, textOf(lines));
+  writeWhole(DOCUMENT, documentOf(lines));
   return 0;
 }
 

@@ -275,7 +275,8 @@ class Accesses {
   }
 
   /**
-   * Whether several actions write a variable of an object, and none reads what another one wrote: each uses it only in itself.
+   * Whether several actions write a variable of an object, and none reads what another one wrote: each uses it only in itself. A read before all writes finds
+   * the first value.
    * @param {string} location
    */
   isScratch(location) {
@@ -289,7 +290,7 @@ class Accesses {
     for (const { line, action, isWrite } of this.of(location)) {
       if (isWrite && this.isUpdate(line, action, location)) return false;
       if (isWrite || this.kept[line]) writers.add(action);
-      else if (!writers.has(action)) return false;
+      else if (writers.size && !writers.has(action)) return false;
     }
     return writers.size >= FEWEST_WRITERS;
   }

@@ -120,6 +120,15 @@ test('a scratch value, which each action writes whole', async () => {
   assert.deepStrictEqual(await patternsAt(timers([[`w ${S}`, WRITE]]), S, ACT), ['scratch']);
 });
 
+test('a scratch value whose first value was read, which is a race of its own', async () => {
+  const lines = timers([[`w ${S}`, WRITE]]);
+  const early = /** @type {Lines} */ ([...lines.slice(0, 3), ['set 3 0'], ...lines.slice(3)]);
+  const at = early.findIndex(([line]) => line.startsWith('fire'));
+  early.splice(at, 0, ['timer 3'], [`r ${S}`, USE]);
+  const looks = await patternsAt(early, S, ACT);
+  assert.ok(looks.includes('scratch') && looks.some((look) => look !== 'scratch') && !looks.includes('act'), String(looks));
+});
+
 test('what looks like it: a read of what another action wrote, a sum, two actions', async () => {
   assert.ok((await patternsAt(timers([[`r ${S}`, USE], [`w ${S}`, WRITE]]), S, ACT)).includes('act'));
   assert.ok((await patternsAt(timers([[`w ${S}`, ADD]]), S, ACT)).includes('act'));

@@ -7,7 +7,7 @@ const path = require('node:path');
 const { test } = require('node:test');
 const { temporaryFolder } = require('../cleanup.js');
 const { draw, faultsOf, judgementText } = require('./judged.js');
-const { linesOf, appendLine } = require('./lines.js');
+const { linesOf, appendLine, textOf } = require('./lines.js');
 const { listOf, problemsOf } = require('./lists.js');
 const { documentOf, medianOf } = require('./tables.js');
 
@@ -49,6 +49,9 @@ test('a later line takes the place of an earlier one, and a cut one does not cou
   fs.appendFileSync(file, '{"application":"a"');
   appendLine(file, { application: 'b', version: '1', began: '', seconds: 2, failure: 'y' });
   assert.deepStrictEqual(linesOf(file).map(({ application, failure }) => [application, failure]), [['b', 'y']]);
+  const newer = path.join(temporaryFolder('lines'), 'newer');
+  fs.writeFileSync(newer, textOf([{ application: 'c', version: '1', began: '', seconds: 1, failure: 'z' }]));
+  assert.deepStrictEqual(linesOf(file, newer, path.join(newer, 'none')).map(({ failure }) => failure), ['y', 'z'], 'an application that is not recorded again keeps its line');
 });
 
 test('acts against each other are not drawn, and what was judged stays', () => {

@@ -2,8 +2,12 @@
 // The lines of the applications: one of JSON for each, appended as it comes. A later line of an application takes the place of an earlier one.
 
 const fs = require('node:fs');
+const path = require('node:path');
 
 /** @typedef {import('./types').Line} Line */
+
+/** Those of the tables, so that one application can be recorded again. */
+const STORED = path.join(__dirname, 'applications.jsonl');
 
 /**
  * @param {string} text
@@ -20,12 +24,11 @@ function parsed(text) {
 
 /**
  * The last line of each application, in alphabetical order.
- * @param {string} file
+ * @param {string[]} files  the newest last
  * @returns {Line[]}
  */
-function linesOf(file) {
-  if (!fs.existsSync(file)) return [];
-  const lines = fs.readFileSync(file, 'utf8').split('\n').filter(Boolean).flatMap(parsed);
+function linesOf(...files) {
+  const lines = files.filter((file) => fs.existsSync(file)).flatMap((file) => fs.readFileSync(file, 'utf8').split('\n').filter(Boolean).flatMap(parsed));
   return [...new Map(lines.map((line) => [line.application, line])).values()].sort((a, b) => (a.application < b.application ? -1 : 1));
 }
 
@@ -38,4 +41,7 @@ function appendLine(file, line) {
   fs.appendFileSync(file, `${isCut ? '\n' : ''}${JSON.stringify(line)}\n`);
 }
 
-module.exports = { linesOf, appendLine };
+/** @param {Line[]} lines */
+const textOf = (lines) => lines.map((line) => `${JSON.stringify(line)}\n`).join('');
+
+module.exports = { linesOf, appendLine, textOf, STORED };
