@@ -2,9 +2,10 @@
 // Phases after a recording, which may keep this process busy: a line on standard error every five seconds, and an end by a signal at once.
 
 const { Worker } = require('node:worker_threads');
+const { SIGNALS } = require('./common/stoppable.js');
 
+/** Milliseconds between two lines. */
 const EVERY = 5000;
-const SIGNALS = ['SIGINT', 'SIGTERM', 'SIGHUP'];
 
 /** Runs in a thread of its own, so that it prints while this one is busy. */
 const PRINTS = `

@@ -1,5 +1,6 @@
 'use strict';
-// er_record URL OUT.trace: records a page. Writes OUT.trace and OUT.names.json.
+// er_record URL OUT.trace: records a page. Writes OUT.trace and OUT.names.json. Also for er_page, er_replay, pages of a list and programs (index-task.js), which
+// call recordInto.
 
 const { printError } = require('./common/output.js');
 const { runCommand, printHelp } = require('./command.js');
@@ -94,10 +95,10 @@ async function writeRecorded(recorder, options, traceFile) {
 
 /**
  * Records a page into a file. Fails with a WriteFault, before anything is recorded if the folder takes no files.
- * @param {string} given
- * @param {string} traceFile
+ * @param {string} given the page: an address, a file or a folder; with --attach HOST:PORT
+ * @param {string} traceFile the names are written beside it
  * @param {RecordingOptions} options
- * @param {Recorder|AttachedRecorder} recorder
+ * @param {Recorder|AttachedRecorder} recorder that of `recorderFor` if `options.attach` can be set: the default has a browser of its own
  * @returns {Promise<Ending>}
  */
 async function recordInto(given, traceFile, options, recorder = new Recorder(given, options)) {
@@ -121,8 +122,8 @@ async function recordInto(given, traceFile, options, recorder = new Recorder(giv
 }
 
 /**
- * The recorder of a page, or of what another program loads. Refuses a flow over several pages.
- * @param {string} given
+ * The recorder of a page, or of what another program loads (`options.attach`). Refuses a flow over several pages.
+ * @param {string} given as for `recordInto`
  * @param {RecordingOptions} options
  */
 function recorderFor(given, options) {

@@ -112,7 +112,7 @@ class AttachedChromium extends Protocol {
 /** The first tab of a browser, as it is. */
 class AttachedTab extends Tab {
   /**
-   * The session of the browser's first tab.
+   * The session of the browser's first tab. Chromium's list has no order, so a line names the tab if there are several.
    * @param {Protocol} browser
    */
   static async first(browser) {

@@ -1,14 +1,16 @@
 'use strict';
-// Work that a signal stops.
+// Work that a signal (Ctrl-C, a kill, a closed terminal) stops in an orderly way, for the commands.
 
+/** The signals that end a command. */
 const SIGNALS = ['SIGINT', 'SIGTERM', 'SIGHUP'];
 
 /**
- * Runs work that a signal stops.
+ * Runs work that a signal stops. Meanwhile a signal does not end the process: `stop` must see to it that `work` settles. Calls can be nested: a signal then
+ * calls each `stop`.
  * @template T
- * @param {() => void} stop
+ * @param {() => void} stop called for the first signal, and again for each further one
  * @param {() => Promise<T>} work
- * @returns {Promise<T>}
+ * @returns {Promise<T>} the result of `work`, or its fault
  */
 async function stoppable(stop, work) {
   SIGNALS.forEach((signal) => process.on(signal, stop));
@@ -19,4 +21,4 @@ async function stoppable(stop, work) {
   }
 }
 
-module.exports = { stoppable };
+module.exports = { stoppable, SIGNALS };

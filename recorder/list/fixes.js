@@ -3,13 +3,14 @@
 
 /** @typedef {import('./patterns/table.js').LookKey} LookKey */
 /**
- * The kind of what the race is at, and whether the side that finds nothing comes from an act of the user.
- * @typedef {{kind: string, isOfUser: boolean}} Use
+ * The kind of what the race is at, whether the side that finds nothing comes from an act of the user, and whether both sides write.
+ * @typedef {{kind: string, isOfUser: boolean, modes?: string}} Use
  */
 
 const OF_ELEMENT = 'look it up after it was added: `defer` in place of `async`, or DOMContentLoaded';
 const OF_USER = 'disable the control until it is set, or check for it first';
 const OF_VARIABLE = 'use it after it is set: wait for the load event of its script, or for a promise';
+const OF_READ = 'when code writes the field, clear the timeout and drop the reply that read it';
 
 /** @type {Record<LookKey, string>} */
 const FIXES = {
@@ -32,7 +33,8 @@ const FIXES = {
  * The change for a problem.
  * @param {LookKey} look @param {Use} use
  */
-function fixOf(look, { kind, isOfUser }) {
+function fixOf(look, { kind, isOfUser, modes = 'ww' }) {
+  if (look === 'field' && modes !== 'ww') return OF_READ;
   if (look !== 'undefined') return FIXES[look];
   return isOfUser ? OF_USER : kind === 'element' ? OF_ELEMENT : OF_VARIABLE;
 }

@@ -21,6 +21,12 @@ test('every pattern has a usual change, which is one line of the list', () => {
   }
 });
 
+test('a field that is written twice, and one that is read', () => {
+  const [written, read] = ['ww', 'rw'].map((modes) => fixOf('field', { kind: 'variable', isOfUser: true, modes }));
+  assert.strictEqual(written, FIXES.field);
+  assert.match(read, /^when code writes the field, clear the timeout/);
+});
+
 test('a use before the definition: of an element, of a variable, by a user', () => {
   const [element, variable, byUser] = [['element', false], ['variable', false], ['variable', true]].map(([kind, isOfUser]) => fixOf('undefined', { kind: String(kind), isOfUser: !!isOfUser }));
   assert.match(element, /`defer`/);

@@ -6,6 +6,7 @@ const { isOfTree } = require('../races/spelled-locations.js');
 const { Accesses, isNothing } = require('./patterns/accesses.js');
 const { UserActs } = require('./patterns/user-acts.js');
 const { detailOf, lookOf } = require('./patterns/table.js');
+const { isTypedOver } = require('./patterns/typed.js');
 
 /**
  * @typedef {import('./patterns/table.js').Look} Look
@@ -86,7 +87,7 @@ class Looks {
     const acts = race.actions.map((action) => this.userActs.actOf(action));
     if (acts[0] && acts[1]) return lookOf('acts', `${acts[0] === acts[1] ? 'both come from one act of a user' : 'two acts of a user'}: it takes another input to turn them, not another order`);
     if (race.location.startsWith('slot ')) return this.handler(race, acts) || lookOf('other');
-    return this.alike(race) || this.writes(race, acts) || this.flag(race) || this.use(race) || this.scratch(race) || lookOf('other');
+    return this.alike(race) || this.writes(race, acts) || this.typed(race) || this.flag(race) || this.use(race) || this.scratch(race) || lookOf('other');
   }
 
   /**
@@ -171,6 +172,12 @@ class Looks {
     const order = act === 0 ? 'here the user came first, and it was written over' : 'here the user came last';
     if (isField(location)) return lookOf('field', `a field written over what a user typed; ${order}`);
     return lookOf('act', `what a user's act wrote may be written over; ${order}`);
+  }
+
+  /** @param {Race} race */
+  typed(race) {
+    if (!isField(race.location) || !isTypedOver(race, this.accesses, this.actions.list)) return null;
+    return lookOf('field', `a field written over what a user typed, before it is read; here it was ${race.modes[0] === 'w' ? 'written' : 'read'} first`, 'read');
   }
 
   /**

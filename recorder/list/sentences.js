@@ -16,7 +16,7 @@ const capital = (text) => text.slice(0, 1).toUpperCase() + text.slice(1);
 const withArticle = (word) => `${/^[aeiou]/i.test(word) ? 'an' : 'a'} ${word}`;
 
 /** @param {Side} side a dispatch that looks for handlers */
-const eventOf = ({ event, actor }) => (event ? withArticle(event) : actor);
+const eventOrActor = ({ event, actor }) => (event ? withArticle(event) : actor);
 
 /** @param {Facts} facts */
 function neutral({ thing, modes, kind }) {
@@ -27,11 +27,11 @@ function neutral({ thing, modes, kind }) {
 
 /** @type {Record<LookKey, (facts: Facts) => string>} */
 const SENTENCES = {
-  late: ({ sides }) => `${eventOf(sides[1])} is lost until its handler is registered`,
-  field: ({ field }) => `what is typed into ${field} is overwritten`,
+  late: ({ sides }) => `${eventOrActor(sides[1])} is lost until its handler is registered`,
+  field: ({ field, modes }) => `what is typed into ${field} ${modes === 'ww' ? 'is overwritten' : 'may be overwritten before it is read'}`,
   act: ({ sides, thing }) => `${thing}, set after ${sides[1].act || 'an act of the user'}, may be overwritten`,
   undefined: ({ thing, kind }) => `${thing} may not be ${kind === 'element' ? 'in the page' : thing.startsWith('`') ? 'defined' : 'set'} yet`,
-  missed: ({ sides }) => `${eventOf(sides[1])} may come before its handler is registered`,
+  missed: ({ sides }) => `${eventOrActor(sides[1])} may come before its handler is registered`,
   replies: ({ sides }) => `an older ${sides[0].reply || 'reply'} may overwrite a newer one`,
   other: neutral,
   flag: ({ thing }) => `${thing} is a flag that one side sets and the other side reads`,

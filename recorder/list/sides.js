@@ -98,20 +98,21 @@ class Sides {
     const number = actions[k];
     const isEvent = kind === 'handler' && modes[k] === 'r';
     const at = this.words.placeOfAccess(lines[k], number);
-    const event = isEvent ? this.eventOf(number) : null;
+    const event = isEvent ? this.eventInWords(number) : null;
     const verb = isEvent ? event?.verb || 'event' : this.verb(kind, modes[k], lines[k]);
     const what = isEvent ? event?.target || this.callbacks.of(number) : this.thing(location);
     return {
       verb, what, at, place: this.place(at), actor: isEvent && event ? '' : this.callbacks.of(number), event: event?.words || '',
-      act: this.actOf(number), reply: this.replyOf(number), own: at && !this.words.isOfLibrary(at) ? at : this.callbacks.ownOrigin(number),
+      act: this.actInWords(number), reply: this.replyOf(number), own: at && !this.words.isOfLibrary(at) ? at : this.callbacks.ownOrigin(number),
     };
   }
 
   /**
-   * An event at an element, as `click at a`.
-   * @param {number} number
+   * The event that an action looks up handlers of, as `click at a`; null if it looks up none, as a callback.
+   * @param {number} number of the action
+   * @returns {{verb: string, target: string, words: string}|null} `words` is the verb and the target
    */
-  eventOf(number) {
+  eventInWords(number) {
     const { words: [word, , element, type] } = this.words.actions.list[this.words.actions.list[number].first];
     if (!EVENTS.has(word) || type === 'then') return null;
     const target = word === 'wfire' ? 'the window' : this.words.element(element) + this.labelOf(element);
@@ -139,23 +140,28 @@ class Sides {
    * @param {number} k
    */
   actorOf({ location, modes, actions }, k) {
-    const event = location.startsWith('slot ') && modes[k] === 'r' ? this.eventOf(actions[k]) : null;
+    const event = location.startsWith('slot ') && modes[k] === 'r' ? this.eventInWords(actions[k]) : null;
     return event ? event.target : this.callbacks.of(actions[k]);
   }
 
   /**
-   * What a user did, if an action comes from that.
-   * @param {number} number
+   * What a user did, as `the click at a`, if an action comes from that.
+   * @param {number} number of the action
+   * @returns {string} '' if it comes from no act
    */
-  actOf(number) {
+  actInWords(number) {
     const { userActs } = this.problems;
     if (!userActs.actOf(number)) return '';
     const { dispatch } = this.words.actions.list[this.firstOf(number)];
-    const event = this.eventOf(dispatch ? dispatch.number : number) || this.eventOf(userActs.eventOf(number).number);
+    const event = this.eventInWords(dispatch ? dispatch.number : number) || this.eventInWords(userActs.eventOf(number).number);
     return event ? `the ${event.words}` : '';
   }
 
-  /** @param {number} number */
+  /**
+   * The reply whose event an action is in, as `reply of GET cart`.
+   * @param {number} number of the action
+   * @returns {string} '' if it is in none
+   */
   replyOf(number) {
     const request = this.problems.userActs.requestOf(number);
     return request ? `reply of ${this.callbacks.request(request).replace(/[?#].*$/, '')}` : '';
@@ -185,10 +191,10 @@ class Sides {
 
   /**
    * What the list says of a race: its sentence and its two sides.
-   * @param {number} number of a race @param {LookKey} look @returns {Told}
+   * @param {number} index of the race in the report, from 0 (races are printed from 1) @param {LookKey} look @returns {Told}
    */
-  of(number, look) {
-    const race = this.problems.report.races[number];
+  of(index, look) {
+    const race = this.problems.report.races[index];
     const { kind } = this.words.location(race.location);
     const first = this.leading(race, look);
     let sides = this.both(race, first);
@@ -197,7 +203,7 @@ class Sides {
     const at = sides[0].own || sides[1].own || sides[0].at || sides[1].at;
     const thing = kind === 'handler' ? this.thing(race.location) : marked(this.thing(race.location));
     const sentence = sentenceOf(look, { sides, thing, field: this.field(race.location), modes: race.modes, kind });
-    return { sentence, place: at ? this.place(at, false) : this.page(), sides, fix: fixOf(look, { kind, isOfUser: !!sides[0].act }) };
+    return { sentence, place: at ? this.place(at, false) : this.page(), sides, fix: fixOf(look, { kind, isOfUser: !!sides[0].act, modes: race.modes }) };
   }
 
   /** @param {Race} race @param {number} first @returns {[Side, Side]} */

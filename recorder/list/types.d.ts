@@ -1,26 +1,8 @@
 // What the list and the view read: the program's report, the names beside a trace (OUT.names.json), and what a replay found.
 
-/** File (its index), line and column, both from 1. */
-export type Place = [file: number, line: number, column: number];
+import type { Place, Race, Report } from '../races/types';
 
-/** A race of the report; `actions` and `lines` are those of its two accesses. */
-export interface Race {
-  actions: [first: number, second: number];
-  lines: [first: number, second: number];
-  location: string;
-  modes: string;
-  group: number;
-}
-
-export interface Report {
-  races: Race[];
-  groups: { race: number; size: number }[];
-  actions: number;
-  accesses: number;
-  pairs: number;
-  chains: number;
-  links: number;
-}
+export type { Place, Race, Report };
 
 export interface SourceFile {
   address: string;

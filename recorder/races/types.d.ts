@@ -1,9 +1,12 @@
 // Types of a trace's report and of its OUT.names.json, for the type check only.
 
-/** A place in a file: the file's number, the line and the column, both from 1. */
+/** A place in a file: the file's number, from 0, the line and the column, both from 1. */
 export type Place = [file: number, line: number, column: number];
 
-/** A race of the report. `lines` are lines of the trace, from 1. `modes` has a letter for each access, `r` or `w`. */
+/**
+ * A race of the report: its two accesses. `actions` are numbers of actions, from 0; `lines` are lines of the trace, from 1; `modes` has a letter for each
+ * access, as `rw`; `group` is the number, from 1, of the group that the race names.
+ */
 export interface Race {
   actions: [first: number, second: number];
   lines: [first: number, second: number];
@@ -15,7 +18,7 @@ export interface Race {
 /** A report of the analyzer. Of a trace that it refuses there is only `refused`. */
 export interface Report {
   races: Race[];
-  /** The first race and the number of races of each group. */
+  /** Of each group the number of its first race, from 1, and how many races name the group. */
   groups: { race: number, size: number }[];
   actions: number;
   accesses: number;

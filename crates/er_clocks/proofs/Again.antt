@@ -28,7 +28,7 @@ head_is x y xs ys e = cc
 same_reach : (older : List (List ℕ)) (p q : List ℕ) → ((i : ℕ) → reaches older p i ≡ reaches older q i) → (i j : ℕ) → joins (p ∷ older) i j ≡ joins (q ∷ older) i j
 same_reach older p q same i j = ap (λ (b : Bool). if j == length older then (i == j) || b else joins older i j) (same i)
 
-kept_by_reach : (older : List (List ℕ)) (p q : List ℕ) → ((i : ℕ) → reaches older p i ≡ reaches older q i) → kept_of older p ≡ kept_of older q
+pub kept_by_reach : (older : List (List ℕ)) (p q : List ℕ) → ((i : ℕ) → reaches older p i ≡ reaches older q i) → kept_of older p ≡ kept_of older q
 kept_by_reach older p q same =
     head_is (kept_of older p) (kept_of older q) (links older) (links older) (sym (links_grow p older) ∙ links_of_paths (p ∷ older) (q ∷ older) refl (same_reach older p q same) ∙ links_grow q older)
 
@@ -45,7 +45,7 @@ filter_end : (t : ℕ → Bool) (xs : List ℕ) (x : ℕ) → t x ≡ false → 
 filter_end t [] x h = rw h refl
 filter_end t (y ∷ ys) x h = ap (λ (zs : List ℕ). if t y then y ∷ zs else zs) (filter_end t ys x h)
 
-kept_still : (p : List ℕ) (older : List (List ℕ)) (ks : List ℕ) → ((k : ℕ) → is_among k ks ≡ true → k < length older) → kept_of (p ∷ older) ks ≡ kept_of older ks
+pub kept_still : (p : List ℕ) (older : List (List ℕ)) (ks : List ℕ) → ((k : ℕ) → is_among k ks ≡ true → k < length older) → kept_of (p ∷ older) ks ≡ kept_of older ks
 kept_still p older ks below =
     let same : (i : ℕ) → keeps (joins (p ∷ older)) ks i ≡ keeps (joins older) ks i = λ i. ap (λ (b : Bool). is_among i ks && not b) (any_still p older i ks below) in
     let lack : is_among (length older) ks ≡ false = never (is_among (length older) ks) (λ h. let l = below (length older) h in omega arith) in
@@ -160,6 +160,21 @@ only_reach lists xs i m is = same_test _ _
       | inr e ↦ absurd (cc)
     ]))
 
+-- a number is the only link where it stands alone
+pub only_itself : (lists : List (List ℕ)) (xs : List ℕ) (i : ℕ) → length xs ≡ 1 → slice_index xs 0 ≡ i → i < length lists → IsOnlyLink lists xs i
+only_itself lists [] i long at h = absurd (omega (arith, long))
+only_itself lists (x ∷ []) i long at h =
+    let itself : joins lists x x ≡ true = paths_stand lists x (subst (λ (m : ℕ). m < length lists) (sym at) h) in (
+      or_left (x == i) false (grind (arith, nat_tests)),
+      λ k e. elim (or_cases (x == k) false e) [
+        | inl here ↦
+            let same : x ≡ k = grind (arith, nat_tests) in
+            ap (λ (m : ℕ). joins lists m i) (sym same) ∙ ap (joins lists x) (sym at) ∙ itself
+        | inr none ↦ absurd (cc)
+      ],
+    )
+only_itself lists (x ∷ y ∷ xs) i long at h = absurd (omega (arith, long))
+
 one_below : (n i : ℕ) → i < n → AllByRecursion (λ k. k < n) (i ∷ [])
 one_below n i h = (h, tt)
 
@@ -214,3 +229,13 @@ pub found_before : (P : ℕ → Type 0) (xs : List ℕ) (n : ℕ) → length xs 
 found_before P xs n long f = all_found P xs (λ m h.
     let back : length xs - 1 - (length xs - 1 - m) ≡ m = omega (arith, h) in
     subst (λ (i : ℕ). P (slice_index xs i)) back (f (length xs - 1 - m) (omega (arith, h, long))))
+
+-- the newest action's own links repeat it
+pub newest_repeats : (lists : List (List ℕ)) (n : ℕ) → n + 1 ≡ length lists → RepeatsNewest lists (links_of lists n)
+newest_repeats [] n e = absurd (omega (arith, e))
+newest_repeats (p ∷ older) n e =
+    let last : n ≡ length older = omega (arith, e) in
+    let same : (k : ℕ) → is_among k (links_of (p ∷ older) n) ≡ is_among k (links_of (p ∷ older) (length older)) = λ k. ap (λ (m : ℕ). is_among k (links_of (p ∷ older) m)) last in (
+      λ k h. link_before (p ∷ older) (length older) k (sym (same k) ∙ h),
+      λ k h. same k ∙ h,
+    )

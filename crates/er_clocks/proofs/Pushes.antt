@@ -216,9 +216,6 @@ clock_pushed stored rows seen numbers places lengths count p row links x place m
     rw (reverse-append stored (links ∷ []), is, more_is, place_is, are ∙ links_newest p seen)
     (clock_more seen rows numbers places lengths count p row x now room (λ c h. counts c h ∙ members_agree seen p c) found)
 
-pub stands_pushed : (stored seen lists : List (List ℕ)) (p links : List ℕ) → reverse stored ≡ seen → links ≡ links_of (p ∷ seen) (length seen) → StandsFor seen lists → StandsFor (reverse (stored ++ links ∷ [])) (p ∷ lists)
-stands_pushed stored seen lists p links is are s = rw (reverse-append stored (links ∷ []), is, are ∙ links_newest p seen) (stands_more seen lists p s)
-
 pub clocks_tell_paths : ClocksTellPaths
 clocks_tell_paths kept lists stands = (stands_long kept lists stands, λ i j. stands_paths kept lists i j stands)
 

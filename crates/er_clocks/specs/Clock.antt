@@ -1,8 +1,9 @@
 -- What clocks keep, and for which lists of predecessors they stand. Rows stand oldest first, lists
 -- of links newest first.
-use Rattle.std.specs.Prelude.{◌≡◌, ℕ, suc, ◌*◌, ◌<◌, ◌≤◌, ◌==◌, if◌then◌else◌, List, ◌∷◌, length, map, slice_index}
+use Rattle.std.specs.Prelude.{◌≡◌, ℕ, suc, ◌*◌, ◌<◌, ◌≤◌, ◌==◌, true, if◌then◌else◌, List, ◌∷◌, length, map, slice_index}
 use Rattle.std.specs.List.{sum}
 use Rattle.er_paths.specs.Limits.{most_actions}
+use Rattle.er_paths.specs.Paths.{is_among}
 use Rattle.er_paths.specs.links.Chains.{chains, chain_of, place_of, entry}
 use Rattle.er_paths.specs.links.Links.{links, total}
 use Rattle.er_clocks.specs.Shared.{row_of}
@@ -43,3 +44,10 @@ Tells kept has = (lists : List (List ℕ)) → StandsFor kept lists → has list
 abbrev pub StandsForMore : List (List ℕ) → List ℕ → List (List ℕ) → Type 0
 StandsForMore old preds new = (lists : List (List ℕ)) → StandsFor old lists
     → StandsFor new (preds ∷ lists)
+
+-- Where the newest action has these earlier predecessors, they stand now for one action more with
+-- the same ones.
+abbrev pub StandsForAgain : List (List ℕ) → List (List ℕ) → Type 0
+StandsForAgain old new = (p : List ℕ) (older : List (List ℕ))
+    → ((k : ℕ) → is_among k p ≡ true → k < length older)
+    → StandsFor old (p ∷ older) → StandsFor new (p ∷ p ∷ older)

@@ -38,6 +38,11 @@ links_taken lists (Own_list links) = links
 abbrev pub LinksAre : List (List ℕ) → Taken (List ℕ) → List ℕ → Type 0
 LinksAre lists one p = links_taken lists one ≡ links_before p lists
 
+-- Of what is linked to by these, the links are these too, and the entries are made by them.
+pub record AreMade (lists : List (List ℕ)) (one : Taken (List ℕ)) (by : Reach) : Type 0 where
+  pub links : LinksAre lists one (links_taken lists one)
+  pub reach : IsReachedBy lists by (links_taken lists one)
+
 -- the lowest chain of which all members are counted, or how many chains there are
 abbrev pub IsFit : List (List ℕ) → (ℕ → ℕ) → ℕ → Type 0
 IsFit lists at x =

@@ -1,6 +1,6 @@
 //! A list of links.
 
-ghost use Rattle.std.specs.Prelude.{◌≡◌, ◌≤◌, length, IfOk};
+ghost use Rattle.std.specs.Prelude.{◌≡◌, ◌≤◌, [], ◌∷◌, length, IfOk};
 ghost use Rattle.er_clocks.specs.InPlace.{numbers_of, AreInPlace};
 
 use crate::row::Number;
@@ -67,6 +67,15 @@ fn apart(alloc: Global, numbers: &[Number]) -> Result<Held, NoMemory>
 }
 
 impl LinkList {
+    /// One link alone, which needs no memory.
+    pub(crate) fn one(number: Number) -> Self
+        ensures { result ≡ number ∷ [] }
+    {
+        LinkList {
+            held: Held::Few(1, [number, 0, 0, 0, 0, 0]),
+        }
+    }
+
     /// Takes no more memory than the numbers need.
     pub(crate) fn copied(alloc: Global, numbers: &[Number]) -> Result<Self, NoMemory>
         ensures { IfOk result (λ list. list ≡ numbers.now) }

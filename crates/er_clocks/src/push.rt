@@ -1,16 +1,16 @@
 //! One action more.
 
-ghost use Rattle.std.specs.Prelude.{◌≡◌, ◌+◌, ◌≤◌, ◌<◌, [], All, length, slice_index, IfOk, OnOk, OnErr};
+ghost use Rattle.std.specs.Prelude.{◌≡◌, ◌+◌, ◌≤◌, ◌<◌, ◌∷◌, [], All, length, slice_index, IfOk, OnOk, OnErr};
 ghost use Rattle.std.specs.Vec.{vec_len, vec_capacity};
 ghost use Rattle.er_paths.specs.Limits.{most_actions};
-ghost use Rattle.er_clocks.specs.Clock.{StandsForMore};
-ghost use Rattle.er_clocks.specs.Reached.{IsReachFrom, IsHeldOff, IsLikeOff};
+ghost use Rattle.er_clocks.specs.Clock.{StandsForMore, StandsForAgain};
+ghost use Rattle.er_clocks.specs.Reached.{links_taken, AreMade, IsReachFrom, IsHeldOff, IsLikeOff};
 ghost use Rattle.er_clocks.specs.Shared.{shared, taken, AreShared, IsTakenFrom};
 
 use crate::list::LinkList;
 use crate::row::{Row, number_at};
 use crate::shared::{Shared, Taken, put_number};
-use crate::sources::Reach;
+use crate::sources::{Reach, Sources};
 use crate::{Chains, Clocks};
 use er_io::NoMemory;
 use std::alloc::Global;
@@ -30,9 +30,38 @@ impl Clocks {
         ensures grown { OnOk result (length self.new ≡ length self.old + 1) }
         ensures kept { OnErr result (self.new ≡ self.old) }
     {
-        let number = self.numbers.len() as u32;
         let alloc = *self.numbers.allocator();
         let sources = self.sources_of(alloc, preds)?;
+        self.put(alloc, sources)
+    }
+
+    /// Adds the next action, to which edges lead from where they lead to the newest, and answers
+    /// its number. That costs a few look-ups, however many they are.
+    pub fn push_again(&mut self) -> Result<u32, NoMemory>
+        requires begun { 0 < length self.old }
+        requires room { length self.old < most_actions }
+        ensures number { IfOk result (λ n. n ≡ length self.old) }
+        ensures pushed { OnOk result (StandsForAgain self.old self.new) }
+        ensures grown { OnOk result (length self.new ≡ length self.old + 1) }
+        ensures kept { OnErr result (self.new ≡ self.old) }
+    {
+        let alloc = *self.numbers.allocator();
+        let sources = self.sources_of_newest();
+        self.put(alloc, sources)
+    }
+
+    /// Adds the next action, with these links and entries.
+    fn put(&mut self, alloc: Global, sources: Sources) -> Result<u32, NoMemory>
+        requires room { length self.old < most_actions }
+        requires links { IsTakenFrom (length self.old) sources.links }
+        requires reach { IsReachFrom (length self.old) sources.reach }
+        requires made { AreMade self.old sources.links sources.reach }
+        ensures number { IfOk result (λ n. n ≡ length self.old) }
+        ensures put { OnOk result
+            (self.new ≡ links_taken self.old sources.links ∷ self.old) }
+        ensures kept { OnErr result (self.new ≡ self.old) }
+    {
+        let number = self.numbers.len() as u32;
         let chain = self.fit(&sources.reach);
         let place = place_at(&self.chains, chain);
         let row = row_for(&self.rows, &self.numbers, alloc, sources.reach, chain)?;

@@ -112,7 +112,5 @@ pub(crate) fn put_number(numbers: &mut Vec<u32>, number: u32)
     requires { vec_len numbers.old < vec_capacity numbers.old }
     ensures { numbers.new.items ≡ numbers.old.items ++ number ∷ [] }
 {
-    let Ok(()) = numbers.push(number) else {
-        unreachable!()
-    };
+    numbers.push_reserved(number);
 }

@@ -5,13 +5,13 @@
 //! Else the numbers, sorted, are taken from the greatest down. One that the row covers already is
 //! no link, and costs a look-up.
 
-ghost use Rattle.std.specs.Prelude.{◌≡◌, ◌≤◌, ◌<◌, ℕ, true, List, [], All, length, slice_index, IfOk, OnOk, IfSome};
+ghost use Rattle.std.specs.Prelude.{◌≡◌, ◌≤◌, ◌<◌, ◌-◌, ℕ, true, List, [], All, length, slice_index, IfOk, OnOk, IfSome};
 ghost use Rattle.er_paths.specs.Paths.{is_among};
 ghost use Rattle.er_paths.specs.links.Chains.{chain_of, place_of};
 ghost use Rattle.er_paths.specs.links.Links.{links_of};
 ghost use Rattle.std.specs.List.Sorted.{IsStrictlyIncreasing};
 ghost use Rattle.er_clocks.specs.Sources.{AllJoin, ComeBefore, HasLinks, HasTwin, IsFoundWith, IsOnlyLink, IsTaken, ReachesToo, RepeatsNewest, TakesToo};
-ghost use Rattle.er_clocks.specs.Reached.{IsReachedBy, IsReachFrom, LinksAre};
+ghost use Rattle.er_clocks.specs.Reached.{links_taken, IsReachedBy, IsReachFrom, LinksAre};
 ghost use Rattle.er_clocks.specs.Shared.{IsTakenFrom};
 
 use crate::Clocks;
@@ -49,7 +49,7 @@ impl Clocks {
             return Ok(self.sources_of_newest());
         }
         match self.only_link(preds) {
-            Some(link) => self.sources_behind(alloc, link),
+            Some(link) => Ok(self.sources_behind(link)),
             None => self.joined_sources(alloc, preds),
         }
     }
@@ -101,8 +101,10 @@ impl Clocks {
     }
 
     /// The links of the newest action and its entries, but for itself.
-    fn sources_of_newest(&self) -> Sources
+    pub(crate) fn sources_of_newest(&self) -> Sources
         requires { 0 < length self.now }
+        ensures newest { links_taken self.now result.links
+            ≡ links_of self.now (length self.now - 1) }
         ensures known { IsTakenFrom (length self.now) result.links
             × IsReachFrom (length self.now) result.reach }
         ensures links { (p : List ℕ) → RepeatsNewest self.now p → LinksAre self.now result.links p }
@@ -123,6 +125,9 @@ impl Clocks {
     {
         if preds.is_empty() {
             return None;
+        }
+        if preds.len() == 1 {
+            return Some(preds[0]);
         }
         let link = greatest(preds);
         if self.all_join(preds, link) {
@@ -147,21 +152,20 @@ impl Clocks {
     }
 
     /// This one link, and the entries of it.
-    fn sources_behind(&self, alloc: Global, link: u32) -> Result<Sources, NoMemory>
+    fn sources_behind(&self, link: u32) -> Sources
         requires { link < length self.now }
-        ensures known { IfOk result
-            (λ s. IsTakenFrom (length self.now) s.links × IsReachFrom (length self.now) s.reach) }
-        ensures links { IfOk result
-            (λ s. (p : List ℕ) → IsOnlyLink self.now p link → LinksAre self.now s.links p) }
-        ensures reach { IfOk result
-            (λ s. (p : List ℕ) → IsOnlyLink self.now p link → IsReachedBy self.now s.reach p) }
+        ensures known { IsTakenFrom (length self.now) result.links
+            × IsReachFrom (length self.now) result.reach }
+        ensures links { (p : List ℕ) → IsOnlyLink self.now p link
+            → LinksAre self.now result.links p }
+        ensures reach { (p : List ℕ) → IsOnlyLink self.now p link
+            → IsReachedBy self.now result.reach p }
     {
         let number = self.places[link as usize] + 1;
-        let links = LinkList::copied(alloc, &[link as Number])?;
-        Ok(Sources {
-            links: Taken::Own(links),
+        Sources {
+            links: Taken::Own(LinkList::one(link as Number)),
             reach: Reach::Like(link, number),
-        })
+        }
     }
 
     /// The links among these numbers, and the row that they make.

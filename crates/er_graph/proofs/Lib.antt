@@ -1,4 +1,3 @@
-pub mod LinkLemmas
 pub mod AgainLemmas
 pub mod RunLemmas
 pub mod FamilyLemmas

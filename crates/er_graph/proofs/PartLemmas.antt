@@ -23,7 +23,7 @@ use Rattle.er_pieces.proofs.TogetherLemmas.{handed_stay_enough, handed_are_below
 use Rattle.er_history.specs.Sound.{out_of_order, IsSound}
 use Rattle.er_history.proofs.HistoryLemmas.{edges_length, actions_are_numbered, among_from, among_below}
 use Rattle.er_history.proofs.NamedLemmas.{no_cause, sound_lists_are_named}
-use Rattle.er_clocks.specs.Clock.{StandsFor}
+use Rattle.er_clocks.specs.Clock.{StandsFor, StandsForAgain}
 use Rattle.er_clocks.proofs.Pushes.{clocks_of_paths, clocks_tell_paths}
 use Rattle.er_page.specs.declared.page.Page.{Page}
 use Rattle.er_page.specs.Accepted.{result_of}
@@ -32,7 +32,7 @@ use Rattle.er_page.specs.Page.{IsPage, IsSomePage}
 use Rattle.er_path_rules.specs.timer.Timed.{IsTimed, IsSomeTimed}
 use Rattle.er_history.specs.Rules.{Rule, rules}
 use Rattle.er_graph.specs.Again.{is_peer_of_newest}
-use Rattle.er_graph.specs.Next.{ComesAfter, ComesNow, TimedMore, StandForSome, StandsForAgain}
+use Rattle.er_graph.specs.Next.{ComesAfter, ComesNow, TimedMore}
 use Rattle.er_graph.proofs.AgainLemmas.{peer_of_newest, some_runs}
 use Rattle.er_graph.proofs.RunLemmas.{runs_have_one_list}
 use Rattle.er_graph.specs.Accepted.{Accepted, AreOf, records, lines_of, cause_now, IsTold, AreTimed, IsNext, IsSomeGraph}
@@ -122,9 +122,6 @@ clocks_room v page links x some begin = ∥∥₁_elim some (hlevel props) (λ n
   where
     room_of : (h : List Record) → ComesAfter v page links x h → length links < most_actions
     room_of h is = omega (arith, clocks_long v page links x h is, room_left h x (no_cause (rules v) h x is.legal).fits begin)
-
-pub some_clocks : (v : Version) (page : Page) (links : List (List ℕ)) (x : Record) → ∥ ComesNow v page links x ∥₁ → ∥ StandForSome links ∥₁
-some_clocks v page links x some = ∥∥₁_map some (λ now. record { lists = edges (rules v) (told now.list).actions; stand = now.comes.timed.clocks })
 
 -- where a handler runs behind a peer, there is a newest action
 pub clocks_begun : (v : Version) (page : Page) (links : List (List ℕ)) (x : Record) → ∥ ComesNow v page links x ∥₁ → ((h : List Record) → IsPage page h → is_peer_of_newest h x ≡ true) → 0 < length links

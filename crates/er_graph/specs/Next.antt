@@ -1,8 +1,7 @@
 -- A record that comes next, by the page and the clocks. Lists stand newest first.
-use Rattle.std.specs.Prelude.{◌≡◌, ℕ, ◌<◌, true, List, ◌∷◌, length, None}
+use Rattle.std.specs.Prelude.{◌≡◌, ℕ, List, ◌∷◌, None}
 use Rattle.er_trace.specs.declared.record.Record.{Record}
 use Rattle.er_trace.specs.declared.version.Version.{Version}
-use Rattle.er_paths.specs.Paths.{is_among}
 use Rattle.er_history.specs.History.{told}
 use Rattle.er_history.specs.Edges.{edges}
 use Rattle.er_history.specs.Rules.{rules}
@@ -31,15 +30,3 @@ pub record ComesNow (v : Version) (shown : Page) (links : List (List ℕ))
 abbrev pub TimedMore : Version → Page → List (List ℕ) → Record → List (List ℕ) → Type 0
 TimedMore v shown old x new = (h : List Record) → ComesAfter v shown old x h
     → StandsFor new (edges (rules v) (told (x ∷ h)).actions)
-
--- clocks stand for some list
-pub record StandForSome (links : List (List ℕ)) : Type 0 where
-  pub lists : List (List ℕ)
-  pub stand : StandsFor links lists
-
--- Where the newest action has these earlier predecessors, they stand now for one action more with
--- the same ones.
-abbrev pub StandsForAgain : List (List ℕ) → List (List ℕ) → Type 0
-StandsForAgain old new = (p : List ℕ) (older : List (List ℕ))
-    → ((k : ℕ) → is_among k p ≡ true → k < length older)
-    → StandsFor old (p ∷ older) → StandsFor new (p ∷ p ∷ older)

@@ -6,7 +6,7 @@ ghost use Rattle.er_history.specs.History as history;
 ghost use Rattle.er_graph.specs.Accepted.{Accepted, cause_now, IsTold, AreTimed, IsNext};
 ghost use Rattle.er_graph.specs.Next.{ComesNow, TimedMore};
 
-use crate::again::{follows_peer, push_again};
+use crate::again::follows_peer;
 use crate::order::sources;
 use er_clocks::Clocks;
 use er_io::NoMemory;
@@ -98,7 +98,7 @@ fn push(
     ensures { OnOk result (TimedMore version page.now clocks.old rec.now clocks.new) }
 {
     if follows_peer(page, rec) {
-        return push_again(alloc, clocks);
+        return clocks.push_again();
     }
     let sources = sources(alloc, page, clocks, version, rec)?;
     clocks.push(sources.as_slice())

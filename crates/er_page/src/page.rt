@@ -116,10 +116,6 @@ impl Page {
             → room h rec.now ≡ None → IsPage self.new (rec.now ∷ h)) }
         ensures kept { OnErr result ((h : List Record) → IsPage self.old h → IsPage self.new h) }
     {
-        // An access declares, starts and finishes nothing.
-        if let Record::Access { .. } = rec {
-            return Ok(());
-        }
         self.make_room(rec)?;
         match start_of(&self.stack, &self.pieces, rec) {
             Some(start) => self.begin(rec, start),

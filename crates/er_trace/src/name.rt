@@ -10,7 +10,7 @@ ghost use Rattle.er_text.specs.Name.{most_name, IsName};
 use er_io::NoMemory;
 use er_text::NameWord;
 use smallvec::SmallVec;
-use std::alloc::Global;
+use std::alloc::{AllocError, Global};
 use std::hash::{Hash, Hasher};
 use std::marker::Model;
 
@@ -119,6 +119,17 @@ impl Name {
         ensures { IfOk result (λ name. name ≡ self.now) }
     {
         Name::new(self.alloc, self.bytes())
+    }
+}
+
+impl Clone for Name {
+    ghost is_clone = { λ x y. y ≡ x };
+
+    fn clone(&self) -> Result<Name, AllocError> {
+        match Name::new(self.alloc, self.bytes()) {
+            Ok(name) => Ok(name),
+            Err(NoMemory) => Err(AllocError),
+        }
     }
 }
 

@@ -94,7 +94,7 @@ impl Mode {
 }
 
 /// A logical location. Its number declares nothing and needs no declaration.
-#[derive(PartialEq, Eq, Hash, Drop)]
+#[derive(Clone, PartialEq, Eq, Hash, Drop)]
 pub enum Loc {
     /// A variable of an object.
     Var(u32, Name),
@@ -106,7 +106,7 @@ pub enum Loc {
 
 /// A record. Documents, elements, handlers, timeouts, intervals, requests, dispatches, messages,
 /// animation callbacks and jobs are numbered apart from each other.
-#[derive(Drop)]
+#[derive(Clone, Drop)]
 pub enum Record {
     /// A parse step that makes an element.
     Parse {
@@ -250,11 +250,7 @@ impl Loc {
     pub fn copy(&self) -> Result<Loc, NoMemory>
         ensures { IfOk result (λ loc. loc ≡ self.now) }
     {
-        Ok(match self {
-            Loc::Var(object, name) => Loc::Var(*object, name.copy()?),
-            Loc::Elem(doc, name) => Loc::Elem(*doc, name.copy()?),
-            Loc::Slot(element, name) => Loc::Slot(*element, name.copy()?),
-        })
+        Ok(self.clone()?)
     }
 }
 
@@ -263,118 +259,6 @@ impl Record {
     pub fn copy(&self) -> Result<Record, NoMemory>
         ensures { IfOk result (λ copied. copied ≡ self.now) }
     {
-        Ok(match self {
-            Record::Parse { doc, element, kind } => Record::Parse {
-                doc: *doc,
-                element: *element,
-                kind: *kind,
-            },
-            Record::ParseFrame {
-                doc,
-                element,
-                inner,
-            } => Record::ParseFrame {
-                doc: *doc,
-                element: *element,
-                inner: *inner,
-            },
-            Record::Exec { element } => Record::Exec { element: *element },
-            Record::Timer { timeout } => Record::Timer { timeout: *timeout },
-            Record::Tick { interval } => Record::Tick {
-                interval: *interval,
-            },
-            Record::Dcl { dispatch, doc } => Record::Dcl {
-                dispatch: *dispatch,
-                doc: *doc,
-            },
-            Record::Load { dispatch, doc } => Record::Load {
-                dispatch: *dispatch,
-                doc: *doc,
-            },
-            Record::Eload { dispatch, element } => Record::Eload {
-                dispatch: *dispatch,
-                element: *element,
-            },
-            Record::Fire {
-                dispatch,
-                element,
-                name,
-            } => Record::Fire {
-                dispatch: *dispatch,
-                element: *element,
-                name: name.copy()?,
-            },
-            Record::Wfire {
-                dispatch,
-                doc,
-                name,
-            } => Record::Wfire {
-                dispatch: *dispatch,
-                doc: *doc,
-                name: name.copy()?,
-            },
-            Record::Reply { dispatch, request } => Record::Reply {
-                dispatch: *dispatch,
-                request: *request,
-            },
-            Record::Inline {
-                dispatch,
-                element,
-                name,
-            } => Record::Inline {
-                dispatch: *dispatch,
-                element: *element,
-                name: name.copy()?,
-            },
-            Record::Run {
-                dispatch,
-                group,
-                handler,
-            } => Record::Run {
-                dispatch: *dispatch,
-                group: *group,
-                handler: *handler,
-            },
-            Record::Close { dispatch } => Record::Close {
-                dispatch: *dispatch,
-            },
-            Record::Back { dispatch } => Record::Back {
-                dispatch: *dispatch,
-            },
-            Record::New { doc, element, kind } => Record::New {
-                doc: *doc,
-                element: *element,
-                kind: *kind,
-            },
-            Record::NewFrame {
-                doc,
-                element,
-                inner,
-            } => Record::NewFrame {
-                doc: *doc,
-                element: *element,
-                inner: *inner,
-            },
-            Record::On { handler } => Record::On { handler: *handler },
-            Record::Set { timeout, delay } => Record::Set {
-                timeout: *timeout,
-                delay: *delay,
-            },
-            Record::Every { interval, delay } => Record::Every {
-                interval: *interval,
-                delay: *delay,
-            },
-            Record::Send { request } => Record::Send { request: *request },
-            Record::Post { message } => Record::Post { message: *message },
-            Record::Ask { anim } => Record::Ask { anim: *anim },
-            Record::Queue { job } => Record::Queue { job: *job },
-            Record::Message { message } => Record::Message { message: *message },
-            Record::Anim { anim } => Record::Anim { anim: *anim },
-            Record::Job { job } => Record::Job { job: *job },
-            Record::Access { mode, loc } => Record::Access {
-                mode: *mode,
-                loc: loc.copy()?,
-            },
-        })
+        Ok(self.clone()?)
     }
 }

@@ -295,4 +295,4 @@ class Accesses {
   }
 }
 
-module.exports = { Accesses, isNothing };
+module.exports = { Accesses, isNothing, countBefore };

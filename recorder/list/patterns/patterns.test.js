@@ -3,6 +3,7 @@
 
 const assert = require('node:assert');
 const { test } = require('node:test');
+const { FIRST_FIELD } = require('../../common/numbers.js');
 const { judgeLines } = require('../../test/list-support.js');
 const { Problems } = require('../problems.js');
 
@@ -124,4 +125,27 @@ test('what looks like it: a read of what another action wrote, a sum, two action
   assert.ok((await patternsAt(timers([[`w ${S}`, ADD]]), S, ACT)).includes('act'));
   assert.deepStrictEqual(await patternsAt(actAndTimeout([[`w ${S}`, WRITE]], [[`w ${S}`, WRITE]]), S, ACT), ['act']);
   assert.ok(!(await patternsAt(timers([[`w ${S}`, WRITE]]).map(([line, ...rest]) => [line.replace(S, 'var 0 type'), ...rest]), 'var 0 type', ACT)).includes('scratch'), 'a global variable is the page\'s');
+});
+
+const FIELD = `var ${FIRST_FIELD + 1} value`;
+const TYPED = /** @type {Lines} */ ([['parse 0 1 plain'], ['parse 0 2 inline'], ['exec 2'], ['on 1'], ['w slot 1 keydown'], ['fire 1 1 input'], [`w ${FIELD}`], ['set 1 0'], ['close 1']]);
+/**
+ * A user types into a field, a timeout reads it, and then the handler of a key does something.
+ * @param {Lines} handler
+ * @returns {Lines}
+ */
+const typedThen = (handler, typed = TYPED) => [...typed, ['timer 1'], [`r ${FIELD}`, USE], ['fire 2 1 keydown'], ['r slot 1 keydown'], ['run 2 0 1'], ...handler, ['close 2']];
+const BY_USER = { dispatches: { 1: { type: 'input', act: 1000 }, 2: { type: 'keydown', act: 2000 } } };
+
+test('a field that code writes over what a user typed, before it is read', async () => {
+  assert.deepStrictEqual(await patternsAt(typedThen([[`w ${FIELD}`, WRITE]]), FIELD, BY_USER), ['acts', 'field'], 'the letter against the key, and the timeout against the key');
+});
+
+test('what looks like it: a value made of the typed one, another letter, nothing typed', async () => {
+  const madeOfIt = await patternsAt(typedThen([[`r ${FIELD}`, USE], [`w ${FIELD}`, WRITE]]), FIELD, BY_USER);
+  assert.ok(!madeOfIt.includes('field'), String(madeOfIt));
+  const letter = /** @type {Lines} */ ([...TYPED, ['timer 1'], [`r ${FIELD}`, USE], ['fire 2 1 input'], [`w ${FIELD}`], ['close 2']]);
+  assert.ok(!(await patternsAt(letter, FIELD, BY_USER)).includes('field'));
+  const untyped = TYPED.filter(([line]) => !line.startsWith('w '));
+  assert.ok(!(await patternsAt(typedThen([[`w ${FIELD}`, WRITE]], untyped), FIELD, BY_USER)).includes('field'));
 });

@@ -33,7 +33,7 @@ const LOOKS = {
  * table. `detail` tells races of a pattern apart that do harm more often than others (list/rank.js). `isIdle`: the handler ran, and changed nothing.
  * @typedef {{look: LookKey, rank: number, name: string, part: string, seen: string, here: string, detail: Detail, isIdle: boolean}} Look
  */
-/** @typedef {''|'choosing'|'element'} Detail an event by which a user chooses something is lost; an element is looked up */
+/** @typedef {''|'choosing'|'element'|'read'} Detail an event by which a user chooses something is lost; an element is looked up; a field is read, not written again */
 
 /** Events by which a user chooses, changes or submits something. Others, as of the mouse that moves, of a key or of a scroll, come again soon. */
 const CHOOSING = new Set(['click', 'dblclick', 'change', 'input', 'submit']);

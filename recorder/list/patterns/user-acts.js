@@ -37,8 +37,10 @@ class UserActs {
   }
 
   /**
-   * The user act that an action comes from.
-   * @param {number} number @returns {number} the user act of an action, or 0
+   * The user act that an action comes from: the act's number, from 1; minus the dispatch's number for an event of a user that no act of the recording
+   * caused; 0 if no user did it.
+   * @param {number} number of the action
+   * @returns {number}
    */
   actOf(number) {
     let act = this.known.get(number);
@@ -50,8 +52,8 @@ class UserActs {
   }
 
   /**
-   * The run of a `javascript:` address is the default action of the click that requested it.
-   * @param {number} number
+   * As `actOf`, not remembered. The run of a `javascript:` address is the default action of the click that requested it.
+   * @param {number} number of the action
    * @returns {number}
    */
   findAct(number) {
@@ -65,7 +67,8 @@ class UserActs {
 
   /**
    * The request whose reply an action is in.
-   * @param {number} number @returns {string|null} the request of a reply
+   * @param {number} number of the action
+   * @returns {string|null} the request's number, as the trace has it
    */
   requestOf(number) {
     const { words } = this.eventOf(number);

@@ -106,7 +106,7 @@ function taskPoster(window) {
 
 /**
  * The same in the queue in which the browser puts the news of rejections that nobody handles, so in one order with them: that of a `details` element
- * which stands nowhere, and opens.
+ * outside the document, which opens. V8 reports this order only to its embedder.
  * @param {import('../types').PageWindow} window
  * @returns {(call: () => void) => void}
  */

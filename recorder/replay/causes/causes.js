@@ -105,10 +105,10 @@ class Causes {
    * @returns {Cause|null}
    */
   act(dispatch) {
-    const act = this.run.actOf(dispatch);
+    const act = this.run.actOfDispatch(dispatch);
     const letter = act % LETTERS_OF_ACT;
     const done = this.run.acts.find(({ number }) => number === wholeAct(act));
-    const first = this.run.first(([word, of]) => /^w?fire$/.test(word) && this.run.actOf(of) === act);
+    const first = this.run.first(([word, of]) => /^w?fire$/.test(word) && this.run.actOfDispatch(of) === act);
     if (!done || !first) return null;
     return { means: 'act', act, after: 0, action: first.number, words: `the user's "${done.said}" comes later${letter ? ` from letter ${letter} on` : ''}` };
   }

@@ -99,7 +99,7 @@ class RunFacts {
    * The number of the user's act that caused a dispatch, or 0.
    * @param {string} dispatch
    */
-  actOf(dispatch) {
+  actOfDispatch(dispatch) {
     return this.names.dispatches[dispatch]?.act || 0;
   }
 
@@ -124,7 +124,7 @@ class RunFacts {
    */
   actsBefore(number) {
     const dispatches = [...this.originsOf(number)].map((one) => this.list[one].words).filter(([word]) => /^w?fire$/.test(word));
-    return new Set(dispatches.map(([, dispatch]) => this.actOf(dispatch)).filter(Boolean));
+    return new Set(dispatches.map(([, dispatch]) => this.actOfDispatch(dispatch)).filter(Boolean));
   }
 
   /**

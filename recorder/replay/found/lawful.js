@@ -9,7 +9,7 @@ const { runProgram } = require('../../races/program.js');
 /** @typedef {import('../../races/keys.js').Keys} Keys */
 /** @typedef {{action: number, there: number}} Needed an action of the recorded run, and its number in the other one */
 
-/** How many of the needed actions are queried: those nearest to the two accesses. */
+/** How many of the needed actions are queried, since each query passes the whole trace: those nearest to the two accesses. They are found by their names. */
 const MOST_ASKED = 12;
 const AT_ONCE = 3;
 /** The number of an action that did not come again. */

@@ -5,7 +5,7 @@
 module.exports = {
   application: 'jupyter-notebook',
   loses: 'A click at Run before the kernel is there does nothing: the cell shows no result, no mark and no message, also later.',
-  line: /^`this\.kernel` may not be defined/,
+  line: /^The kernel of the object first used at codecell\.js:\d+ may not be set yet/,
   async run(page, isOther) {
     if (isOther) page.hold(/\/api\/sessions/);
     await page.load();

@@ -7,7 +7,7 @@ const SHOWN = "[...document.querySelectorAll('.suggestions-results .suggestions-
 module.exports = {
   application: 'mediawiki',
   loses: 'A user who types fast and presses the arrow key gets another title than the one that fits: the typed letters are replaced.',
-  line: /^The value of input#searchInput may change/,
+  line: /^What is typed into input#searchInput may be overwritten before it is read/,
   async run(page, isOther) {
     await page.load();
     await page.click('#searchInput');

@@ -1,6 +1,6 @@
 use Rattle.std.proofs.Common.{sym}
 use Rattle.std.proofs.lemmas.Result.{on_ok_weaker}
-use Rattle.er_graph.proofs.PartLemmas.{some_page, some_timed, some_clocks, known_sources, clocks_room, clocks_begun, timed_more, timed_again}
+use Rattle.er_graph.proofs.PartLemmas.{some_page, some_timed, known_sources, clocks_room, clocks_begun, timed_more, timed_again}
 use Rattle.er_graph.proofs.grow.push.Goals as goal
 
 pub follows_peer-requires : goal.follows_peer-requires
@@ -8,14 +8,13 @@ follows_peer-requires c = record { some = some_page c.args.version c.args.page.n
 
 pub push_again-requires : goal.push_again-requires
 push_again-requires c = record {
-  some = some_clocks c.args.version c.args.page.now c.args.clocks.now c.args.rec.now c.requires.now;
   begun = clocks_begun c.args.version c.args.page.now c.args.clocks.now c.args.rec.now c.requires.now (λ h page. sym (c.if-follows_peer.ensures h page));
   room = clocks_room c.args.version c.args.page.now c.args.clocks.now c.args.rec.now c.requires.now c.requires.begins;
 }
 
 pub returns-then-follows_peer : goal.returns-then-follows_peer
 returns-then-follows_peer c = on_ok_weaker c.push_again.result
-    (λ pushed. timed_again c.args.version c.args.page.now c.args.clocks.now c.push_again.new.clocks c.args.rec.now (λ h page. sym (c.if-follows_peer.ensures h page)) pushed) c.push_again.ensures
+    (λ pushed. timed_again c.args.version c.args.page.now c.args.clocks.now c.push_again.new.self c.args.rec.now (λ h page. sym (c.if-follows_peer.ensures h page)) pushed) c.push_again.ensures.pushed
 
 pub sources-requires : goal.sources-requires
 sources-requires c = record {

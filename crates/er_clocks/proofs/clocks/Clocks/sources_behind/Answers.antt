@@ -8,7 +8,7 @@ pub overflow_add-number : goal.overflow_add-number
 overflow_add-number c = let few = place_few c.self.inside c.args.self.now c.args.link c.index.result.now (as_seen c.self.inside c.args.self.now c.self.invariant c.self.view_is) c.requires c.index.ensures in omega (arith, few)
 
 pub returns-clause-links : goal.returns-clause-links
-returns-clause-links c = λ p is. c.in_ok-links.ensures ∙ only_links c.args.self.now p c.args.link c.requires is
+returns-clause-links c = λ p is. c.one.ensures ∙ only_links c.args.self.now p c.args.link c.requires is
 
 pub returns-clause-reach : goal.returns-clause-reach
 returns-clause-reach c = λ p is d.

@@ -1,8 +1,14 @@
-use Rattle.std.proofs.Common.{◌≡◌, ◌+◌, ◌-◌, ℕ, length, refl, arith}
+use Rattle.std.proofs.Common.{◌≡◌, ◌+◌, ◌-◌, ℕ, length, refl, ap, arith}
 use Rattle.er_paths.specs.links.Links.{links_of}
 use Rattle.er_clocks.proofs.Again.{links_repeated, reach_repeated}
 use Rattle.er_clocks.proofs.LookUps.{as_seen, place_few, place_seen}
 use Rattle.er_clocks.proofs.clocks.Clocks.sources_of_newest.Goals as goal
+
+pub returns-clause-newest : goal.returns-clause-newest
+returns-clause-newest c =
+    let s = as_seen c.self.inside c.args.self.now c.self.invariant c.self.view_is in
+    let last : c.len.result - 1 ≡ length c.args.self.now - 1 = omega (arith, c.len.ensures, c.self.inside.numbers.ok.0, s.clock.numbers_long) in
+    ap (links_of c.args.self.now) last
 
 pub returns-clause-links : goal.returns-clause-links
 returns-clause-links c = λ p is.

@@ -3,7 +3,7 @@ use Rattle.std.specs.Prelude.{option_map}
 use Rattle.std.proofs.lemmas.Result.{on_ok_weaker, on_err_weaker}
 use Rattle.er_page.specs.Pieces.{about_start}
 use Rattle.er_page.proofs.AcceptedLemmas.{accepted_named}
-use Rattle.er_page.proofs.TakenLemmas.{accessed, next_kept}
+use Rattle.er_page.proofs.TakenLemmas.{next_kept}
 use Rattle.er_page.proofs.page.Page.apply.Goals as goal
 
 pub begin-requires : goal.begin-requires
@@ -12,9 +12,6 @@ begin-requires c = record {
   claimed = c.in_ok-make_room.ensures.claimed;
   tasks = c.in_ok-make_room.ensures.tasks;
 }
-
-pub returns-in-Access-clause-taken : goal.returns-in-Access-clause-taken
-returns-in-Access-clause-taken c = λ h is named fits. accessed c.args.self.now h c.args.rec.now _ _ c.in-Access.is is named fits
 
 pub returns-in-Some : goal.returns-in-Some
 returns-in-Some c = record {
