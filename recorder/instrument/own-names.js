@@ -2,6 +2,7 @@
 // Names of the browser that a page takes for variables of its own: `var status`, `function find()`, `class Animation`. From then on they are global
 // variables like others, in all scripts of the page.
 
+const { digestOf } = require('../common/digest.js');
 const { addDeclared, addHoisted, addLexical } = require('./syntax/names.js');
 
 /**
@@ -50,6 +51,8 @@ class BrowserNames {
      * @type {Set<string>}
      */
     this.own = new Set();
+    /** What `signature` answered last, and for how many own names. */
+    this.lastSigned = { own: -1, text: '' };
   }
 
   /**
@@ -59,6 +62,15 @@ class BrowserNames {
   set(names, areAll = true) {
     this.names = new Set(names);
     this.areAll = areAll;
+    this.lastSigned.own = -1;
+  }
+
+  /** A text that is the same if `has` and `take` answer the same. */
+  signature() {
+    if (this.lastSigned.own === this.own.size) return this.lastSigned.text;
+    const names = [...this.names].sort();
+    this.lastSigned = { own: this.own.size, text: digestOf(JSON.stringify([this.areAll, names, names.filter((name) => this.own.has(name))])) };
+    return this.lastSigned.text;
   }
 
   /**
@@ -76,8 +88,16 @@ class BrowserNames {
    */
   take(program) {
     const taken = declaredNames(program).filter(({ name }) => this.names.has(name) || !this.areAll);
-    taken.forEach(({ name }) => this.own.add(name));
+    this.takeNames(taken.map(({ name }) => name));
     return taken;
+  }
+
+  /**
+   * Takes names that `take` has given for the same text.
+   * @param {string[]} names
+   */
+  takeNames(names) {
+    names.forEach((name) => this.own.add(name));
   }
 }
 

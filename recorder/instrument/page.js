@@ -7,7 +7,7 @@ const { codeOfAddress, scriptType } = require('../common/html.js');
 const { encodeValue } = require('./attribute-text.js');
 const { EditedText } = require('./edits.js');
 const { withoutIntegrity } = require('./import-map.js');
-const { instrument } = require('./instrument.js');
+const { keptMarks } = require('./kept-marks.js');
 const { SvgText, canInsert } = require('./svg-text.js');
 const { readTags, attributeOf, SVG, MATH } = require('./tags.js');
 
@@ -195,7 +195,7 @@ class PageRewriter {
    * @returns {Edit[]}
    */
   editsOf(code, options, start) {
-    const { edits, fault } = instrument(code, options);
+    const { edits, fault } = keptMarks.instrument(code, options);
     if (fault) this.source.miss('scripts', fault, start);
     else this.source.noteMarked(code, new EditedText(code, edits).text);
     return edits || [];
@@ -220,7 +220,7 @@ class PageRewriter {
    * @param {Attribute} attribute
    */
   markValue(code, kind, attribute) {
-    const { edits, fault } = instrument(code, { ...this.source.options(kind, attribute.start, { wholeAtStart: true }), type: attribute.name.slice(2) });
+    const { edits, fault } = keptMarks.instrument(code, { ...this.source.options(kind, attribute.start, { wholeAtStart: true }), type: attribute.name.slice(2) });
     if (edits) return new EditedText(code, edits).text;
     this.source.miss(kind === 'handler' ? 'handler attributes' : 'javascript: addresses', fault, attribute.start, attribute.start);
     return null;

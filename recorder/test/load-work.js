@@ -1,6 +1,6 @@
 #!/usr/bin/env node
 'use strict';
-// load-work.js [--times N] [--into FILE] PAGE..: what a load costs in processor time and in messages, with and without the recorder, alternately; each figure is
+// load-work.js [--times N] [--into FILE] [--heading WORDS] PAGE..: what a load costs in processor time and in messages, with and without the recorder, alternately; each figure is
 // the least of N loads (8). Other work of the machine does not count, so a busy machine gives nearly the same figures. By hand. A PAGE is as for profile.js.
 
 const { parseOptions } = require('../recording/options.js');
@@ -117,7 +117,9 @@ async function measure(page, times) {
 
 /** @param {string[]} words */
 async function main(words) {
-  const { pages, into, times } = measuredOf(words);
+  const left = [...words];
+  const heading = left.includes('--heading') ? left.splice(left.indexOf('--heading'), 2)[1] : 'The work of a load';
+  const { pages, into, times } = measuredOf(left);
   /** @type {(string|number)[][]} */
   const rows = [];
   /** @type {string[]} */
@@ -129,8 +131,9 @@ async function main(words) {
     console.log(`${name}: ${figures.map((figure) => `${figure} ${Math.round(plain[figure])}, ${Math.round(recorded[figure])}`).join('; ')}`);
   }
   const text = `By \`recorder/test/load-work.js\`, the least of ${times} loads each without and with the recorder, in milliseconds of processor time: the main thread of the page `
-    + `(all its tasks, of these scripts, compiling, layout and styles), the browser's own process, Node; and the messages of the protocol.\n\n${tableOf(['Page', ...figures], rows)}`;
-  if (into) writeSection(into, 'The work of a load', text, 'The time of a load under the recorder');
+    + `(all its tasks; of these scripts, compiling, layout and styles), the browser's own process, Node; then the messages of the protocol and their size; last the time to the end `
+    + `of load, in which other work of the machine counts. In each cell: without the recorder, with it.\n\n${tableOf(['Page', ...figures], rows)}`;
+  if (into) writeSection(into, heading, text, 'The time of a load under the recorder');
 }
 
 if (require.main === module) main(process.argv.slice(2));

@@ -2,7 +2,7 @@
 // The texts of the pages and scripts of one run: their copies, which the browser gets, and the place in the text for a position in its copy.
 
 const { HANDLER_NAMES } = require('../common/handler-names.js');
-const { instrument } = require('../instrument/instrument.js');
+const { keptMarks } = require('../instrument/kept-marks.js');
 const { BrowserNames } = require('../instrument/own-names.js');
 const { PageRewriter } = require('../instrument/page.js');
 const { readMap } = require('../trace/source-map.js');
@@ -103,9 +103,9 @@ class Sources {
     const known = this.byAddress.get(address);
     if (known && known.edited && known.text === code) return known.edited.text; // as in each of several frames
     const source = this.addSource(address, code);
-    let result = instrument(code, source.options('script', 0)); // a module that can be parsed as a script is recognized when it runs
+    let result = keptMarks.instrument(code, source.options('script', 0)); // a module that can be parsed as a script is recognized when it runs
     const { fault } = result;
-    if (fault) result = instrument(code, source.options('module', 0, { isFile: true }));
+    if (fault) result = keptMarks.instrument(code, source.options('module', 0, { isFile: true }));
     if (fault && result.fault) source.miss('scripts', fault.offset > result.fault.offset ? fault : result.fault, 0);
     return this.copy(source, result.edits || []);
   }

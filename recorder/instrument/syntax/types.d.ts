@@ -195,6 +195,10 @@ export interface About { scope?: string, object?: [start: number, end: number] }
 export interface Builtins {
   has(name: string): boolean;
   take?(program: Program): { name: string, isVar: boolean }[];
+  /** Takes what `take` answered for the same text. */
+  takeNames?(names: string[]): void;
+  /** The same text for all that answer the same. */
+  signature?(): string;
 }
 
 /** `address` is the code of a `javascript:` address. */

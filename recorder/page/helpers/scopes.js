@@ -12,7 +12,7 @@ function helpersOfScopes({ recording, sites, scopes, variables }) {
    * @type {(scope: unknown, name: string, site: number, modes: 'w'|'u'|'U', before: unknown, after: unknown) => void}
    */
   const write = (scope, name, site, modes, before, after) => {
-    if (lastObjects[site] !== scope) {
+    if (site >= lastObjects.length || lastObjects[site] !== scope) {
       if (!sites.isDue(scope, site)) return;
       scopes.write(scope, name, site, modes, before);
     }
@@ -22,7 +22,7 @@ function helpersOfScopes({ recording, sites, scopes, variables }) {
   return {
     /** @type {(scope: unknown, name: string, site: number) => void} */
     v: (scope, name, site) => {
-      if (lastObjects[site] !== scope && sites.isDue(scope, site)) scopes.read(scope, name, site);
+      if ((site >= lastObjects.length || lastObjects[site] !== scope) && sites.isDue(scope, site)) scopes.read(scope, name, site);
     },
     /**
      * An expression that reads a variable first passes its values before and after.

@@ -27,7 +27,7 @@ function helpersOfWholes(objects) {
   const look = looking(objects);
   /** @type {(visit: (object: object, site: number, shape: any) => void) => OfWhole} */
   const whole = (visit) => (object, site, shape) => {
-    if (lastObjects[site] === object) return object;
+    if (site < lastObjects.length && lastObjects[site] === object) return object;
     if (sites.isDue(object, site) && !kinds.isLeftOut(object)) look(() => visit(object, site, shape));
     return object;
   };
@@ -55,12 +55,12 @@ function helpersOfCalls(objects) {
   return {
     /** @type {(object: unknown, name: string, site: number) => unknown} */
     m: (object, name, site) => {
-      if (lastObjects[site] !== object && sites.isDue(object, site)) look(() => collections.call(object, name, site));
+      if ((site >= lastObjects.length || lastObjects[site] !== object) && sites.isDue(object, site)) look(() => collections.call(object, name, site));
       return object;
     },
     /** @type {(object: unknown, key: unknown, site: number, method: string) => unknown} */
     a: (object, key, site, method) => {
-      if (lastObjects[site] === object && lastKeys[site] === key) return key;
+      if (site < lastObjects.length && lastObjects[site] === object && lastKeys[site] === key) return key;
       if (!sites.isDue(object, site)) return key;
       lastKeys[site] = key;
       look(() => collections.accessKey(object, key, site, method));

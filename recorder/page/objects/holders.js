@@ -60,6 +60,8 @@ class Variable {
     /** The last actions that read and wrote it. */
     this.lastRead = 0;
     this.lastWrite = 0;
+    /** Where its last write is among those of the running action (variables.js). */
+    this.stagedAt = 0;
     /** Its number in the log. */
     this.line = 0;
     /** The first access, and what waits after it (waiting.js). */

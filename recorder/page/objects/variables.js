@@ -12,6 +12,7 @@ const { keepsAll } = settings;
 /** A write of the running action is five entries of a list: holder, variable, place, the values before and after it. */
 const OF_STAGED = 5;
 const AFTER = 4;
+const NOT_STAGED = -1;
 
 class Variables {
   /** @param {import('../types').Objects} objects */
@@ -155,6 +156,7 @@ class Variables {
     if (keepsAll) this.waiting.keep(holder, variable, 'w', site);
     const { staged } = this;
     const at = staged.length;
+    variable.stagedAt = at;
     staged[at] = holder;
     staged[at + 1] = variable;
     staged[at + 2] = site;
@@ -167,10 +169,8 @@ class Variables {
    * @param {import('../types').Variable} variable
    */
   placeOfStaged(variable) {
-    const { staged } = this;
-    let k = staged.length - OF_STAGED;
-    while (k >= 0 && staged[k + 1] !== variable) k -= OF_STAGED;
-    return k + AFTER;
+    const at = variable.stagedAt;
+    return this.staged[at + 1] === variable ? at + AFTER : NOT_STAGED; // its write may be settled
   }
 
   /**
