@@ -58,7 +58,8 @@ function versionOfMarks() {
   if (version) return version;
   const hash = createHash('sha256');
   const parser = require.resolve('/usr/share/nodejs/acorn');
-  for (const file of [...filesIn(__dirname).filter((name) => name.endsWith('.js')).sort(), parser]) hash.update(`${path.basename(file)}\0`).update(fs.readFileSync(file));
+  const own = [__dirname, path.join(__dirname, '..', 'common')].flatMap(filesIn).filter((name) => name.endsWith('.js') && !name.endsWith('.test.js')).sort();
+  for (const file of [...own, parser]) hash.update(`${path.basename(file)}\0`).update(fs.readFileSync(file)).update('\0');
   version = hash.digest('hex');
   return version;
 }
