@@ -1,7 +1,7 @@
 // Elements that code makes by `createElement`. What the action that made one does with it is in no race, as with other objects (docs/lost.md): others get
 // the element from this action. But others may also look for it in the tree, and come too early: if another action has found it there, all counts.
 
-import { WeakMap, apply, getOwnPropertyDescriptor, hasOwn } from '../core/taken.js';
+import { String, WeakMap, apply, getOwnPropertyDescriptor, hasOwn } from '../core/taken.js';
 
 /** Of what a lookup finds, so many elements are looked at. */
 const MOST_FOUND = 500;
