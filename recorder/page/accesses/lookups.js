@@ -12,6 +12,14 @@ const LOOKUPS = [
   ['DocumentFragment', ['getElementById', 'querySelector', 'querySelectorAll']],
   ['Element', ['querySelector', 'querySelectorAll', 'matches', 'closest']],
 ];
+/**
+ * Those that take no id.
+ * @type {[string, string[]][]}
+ */
+const OTHERS = [
+  ['Document', ['getElementsByClassName', 'getElementsByTagName', 'getElementsByName', 'elementFromPoint', 'elementsFromPoint']],
+  ['Element', ['getElementsByClassName', 'getElementsByTagName']],
+];
 
 /** An attribute, whose value may be like an id, or an id. */
 const PART = /\[[^\]]*\]|#((?:[\w-]|[^\x00-\x7f]|\\.)+)/;
@@ -55,9 +63,28 @@ class Lookups {
     each(LOOKUPS, ({ 0: owner, 1: names }) => each(names, (name) => {
       replaceMethod(this.page.window[owner].prototype, name, (native) => function lookUp(key) {
         if (!lookups.recording.isOver) lookups.#read(this, name, key);
-        return apply(native, this, arguments);
+        return lookups.#noteFound(apply(native, this, arguments));
       });
     }));
+    if (this.recording.objects) this.#watchOthers();
+  }
+
+  #watchOthers() {
+    const lookups = this;
+    each(OTHERS, ({ 0: owner, 1: names }) => each(names, (name) => {
+      replaceMethod(this.page.window[owner].prototype, name, (native) => function lookUp() {
+        return lookups.#noteFound(apply(native, this, arguments));
+      });
+    }));
+  }
+
+  /**
+   * What a lookup has found might have been missing, if code made it.
+   * @param {unknown} result
+   */
+  #noteFound(result) {
+    this.recording.objects?.madeElements.noteResult(result);
+    return result;
   }
 
   /**

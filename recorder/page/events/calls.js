@@ -136,6 +136,7 @@ class Calls {
     const calls = this;
     const declare = (/** @type {Element} */ element) => {
       const { recording, page } = calls;
+      recording.objects?.madeElements.note(element);
       const isMine = element.ownerDocument === page.document;
       if (!recording.isOver && recording.isRunning() && isMine && !DECLARED_AT_INSERTION.has(element.localName)) {
         page.elements.declaredNumber(element);

@@ -98,6 +98,11 @@ class Holder {
     this.namesSite = -1;
     /** The action that made it, or 0 if this is not known. Its own accesses cannot race (docs/lost.md). */
     this.maker = 0;
+    /**
+     * Those of an element, which count if another action finds the element (waiting.js).
+     * @type {any[]|null}
+     */
+    this.own = null;
   }
 
   /**

@@ -137,6 +137,7 @@ class Kinds {
     if (holder === undefined) {
       holder = new Holder(this.kindOf(object), site, object);
       holder.since = this.recording.actions;
+      if (holder.kind === TREE) holder.maker = this.objects.madeElements.makerOf(object);
       this.holders.set(object, holder);
     } else if (holder.site < 0 && site >= 0) this.noteSite(holder, site);
     return holder;

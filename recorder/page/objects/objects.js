@@ -4,6 +4,7 @@
 import { Collections } from './collections.js';
 import { Holder, WINDOW } from './holders.js';
 import { Kinds } from './kinds.js';
+import { MadeElements } from './made-elements.js';
 import { ObjectNames } from './object-names.js';
 import { Patterns } from './patterns.js';
 import { Properties } from './properties.js';
@@ -19,6 +20,7 @@ class Objects {
     this.kinds = new Kinds(this);
     this.objectNames = new ObjectNames(this);
     this.variables = new Variables(this);
+    this.madeElements = new MadeElements(this);
     this.trees = new Trees(this);
     this.properties = new Properties(this);
     this.collections = new Collections(this);

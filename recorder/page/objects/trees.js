@@ -49,6 +49,7 @@ class Trees {
     this.recording = objects.recording;
     this.kinds = objects.kinds;
     this.variables = objects.variables;
+    this.madeElements = objects.madeElements;
     /**
      * The first page; it numbers the nodes of all.
      * @type {import('../types').Page|null}
@@ -64,7 +65,10 @@ class Trees {
    */
   addWindow(page) {
     const { window } = page;
-    if (!this.page) this.page = page;
+    if (!this.page) {
+      this.page = page;
+      this.madeElements.takeGetters(window);
+    }
     each(['HTMLElement', 'SVGElement', 'Element'], (name) => each(Object.keys(PARTS), (part) => {
       const found = getOwnPropertyDescriptor(window[name].prototype, part);
       if (found && found.get) this.getters[this.getters.length] = { owner: window[name], part, get: found.get };
@@ -106,6 +110,7 @@ class Trees {
    */
   access(node, name, modes, site) {
     if (this.notePart(node, name, site)) return;
+    this.madeElements.noteStep(node, name);
     const shown = typeof name === 'string' && node.nodeType === 1 ? SHOWN[name] || null : null;
     if (shown !== null) this.#touch(this.kinds.hold(node, site), shown, modes, site);
     else if (modes === 'r') this.#readOwn(node, name, site);

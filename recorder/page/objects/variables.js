@@ -4,7 +4,7 @@
 import { settings } from '../core/settings.js';
 import { Object, getOwnPropertyDescriptor } from '../core/taken.js';
 import { MISSING, UNKNOWN, keepable } from '../log/values.js';
-import { COUNTED, IS_COUNTED, IS_READ, IS_WRITTEN, KEPT, LIST, PLAIN, READ, SCOPE, TREE, WINDOW, WRITE, accessOf } from './holders.js';
+import { COUNTED, IS_COUNTED, IS_READ, KEPT, LIST, PLAIN, READ, SCOPE, TREE, WINDOW, WRITE, accessOf } from './holders.js';
 import { Waiting } from './waiting.js';
 
 const { keepsAll } = settings;
@@ -87,7 +87,7 @@ class Variables {
   touch(holder, variable, mode, site) {
     const { actions } = this.recording;
     variable.flags &= ~IS_COUNTED;
-    if (holder.maker === actions) this.#touchOwn(holder, variable, mode, site);
+    if (holder.maker === actions && holder.kind !== TREE) this.#touchOwn(holder, variable, mode, site);
     else if (mode === WRITE) {
       if (variable.lastWrite !== actions) this.stage(holder, variable, site, this.#valueOf(holder, variable));
     } else if (variable.lastWrite === actions) {
@@ -134,7 +134,7 @@ class Variables {
     const { actions } = this.recording;
     variable.lastRead = actions;
     variable.flags |= IS_READ;
-    if (keepsAll) this.waiting.keep(holder, variable, 'r', site);
+    if (keepsAll) this.waiting.keep(holder, variable, 'r', site, holder.maker === actions ? ' first' : '');
     this.waiting.settle(holder, variable, accessOf(actions, READ), site, valueFor(holder, value), UNKNOWN);
   }
 
@@ -148,12 +148,12 @@ class Variables {
   stage(holder, variable, site, before) {
     const { actions } = this.recording;
     if (variable.lastWrite === actions) return;
-    if (holder.maker === actions) {
+    if (holder.maker === actions && holder.kind !== TREE) {
       this.#touchOwn(holder, variable, WRITE, site);
       return;
     }
     variable.lastWrite = actions;
-    if (keepsAll) this.waiting.keep(holder, variable, 'w', site);
+    if (keepsAll) this.waiting.keep(holder, variable, 'w', site, holder.maker === actions ? ' first' : '');
     const { staged } = this;
     const at = staged.length;
     variable.stagedAt = at;
@@ -217,7 +217,6 @@ class Variables {
     if (isKept && keepsAll) this.recording.log.line(`same ${variable.line}`);
     if (isKept && variable.lastRead === actions) return;
     if (isKept) variable.lastRead = actions;
-    else variable.flags |= IS_WRITTEN;
     const access = accessOf(actions, isKept ? KEPT : writeMode(variable, after));
     this.waiting.settle(holder, variable, access, site, valueFor(holder, after), valueFor(holder, before));
   }

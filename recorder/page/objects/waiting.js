@@ -37,6 +37,11 @@ class Waiting {
    * @param {unknown} before
    */
   settle(holder, variable, access, site, after, before) {
+    if (holder.maker === actionOf(access)) {
+      this.#holdBack(holder, [variable, access, site, after, before]);
+      return;
+    }
+    if (isWrite(modeOf(access))) variable.flags |= IS_WRITTEN;
     if (variable.flags & MAY_RACE) {
       this.#write(variable, access, site, after, before);
       return;
@@ -51,6 +56,28 @@ class Waiting {
       if (!this.#wait(variable, access, site, after, before)) return;
     }
     if (mayRace(holder, variable)) this.#writeAll(holder, variable);
+  }
+
+  /**
+   * An access of the action that made an element.
+   * @param {import('../types').Holder} holder
+   * @param {any[]} access as `settle` gets it
+   */
+  #holdBack(holder, access) {
+    if (holder.own === null) holder.own = [];
+    const { own } = holder;
+    if (own.length < MOST_WAITING) own[own.length] = access;
+  }
+
+  /**
+   * Another action has found an element where it might have been missing: what the action that made the element has done with it counts from now on.
+   * @param {import('../types').Holder} holder
+   */
+  release(holder) {
+    const { own } = holder;
+    holder.own = null;
+    holder.maker = 0;
+    if (own !== null) each(own, ({ 0: variable, 1: access, 2: site, 3: after, 4: before }) => this.settle(holder, variable, access, site, after, before));
   }
 
   /**

@@ -7,6 +7,7 @@ import { each, findItem, keep, keysOf } from '../core/lists.js';
 import { fits } from '../core/strings.js';
 import { Map, Set, WeakSet, apply } from '../core/taken.js';
 import { isElement } from '../core/things.js';
+import { Filled } from './filled.js';
 import { Inert } from './inert.js';
 import { Places, parentOf } from './places.js';
 
@@ -60,6 +61,7 @@ class Reach {
     this.timeInAll = 0;
     this.inert = new Inert(page);
     this.places = new Places(page);
+    this.filled = new Filled(page);
   }
 
   // ---- what comes
@@ -122,7 +124,7 @@ class Reach {
    * @param {Moment|null} moment
    */
   #lookFirstAt({ element, isMade }, moment) {
-    if (isMade || !moment) this.#lookFirst(element, isMade ? moment : null);
+    if (isMade || !moment) this.#lookFirst(element, isMade ? moment : null, !isMade);
     else if (!this.states.has(element)) this.states.set(element, null);
   }
 
@@ -130,8 +132,9 @@ class Reach {
    * An element that no look has met before. `moment` is the code that put it there.
    * @param {Element} element
    * @param {Moment|null} moment
+   * @param {boolean} isParsed whether the parser has made it, and no code has run since
    */
-  #lookFirst(element, moment) {
+  #lookFirst(element, moment, isParsed = false) {
     if (this.states.has(element) || !apply(this.natives.isConnected, element, [])) return;
     if (this.#isCovered(element)) {
       this.covered.add(element);
@@ -139,13 +142,20 @@ class Reach {
     }
     const level = this.#levelOf(element);
     const cause = moment && moment.event !== this.page.elements.makers.get(element) ? moment : null; // its maker is before it by a rule
-    if (level === IN_REACH && !cause) return;
-    const state = { isRoot: level === HIDDEN && this.#displayOf(element) === 'none', keys: undefined, pointer: undefined };
+    const filling = isParsed && level === IN_REACH ? this.#fillingOf(element) : null;
+    if (level === IN_REACH && !cause && !filling) return;
+    /** @type {State} */
+    const state = { isRoot: level === HIDDEN && this.#displayOf(element) === 'none', keys: undefined, pointer: filling || undefined };
     if (level === HIDDEN && !state.isRoot && this.#displayOf(element) === 'contents') return;
     this.states.set(element, state);
     if (level < IN_REACH && this.waiting.size < MOST_HIDDEN) this.waiting.set(element, state);
     else if (level < IN_REACH) this.states.set(element, null);
     this.#settle(state, level, cause);
+  }
+
+  /** The parse step before which a pointer finds nothing of an element, or null. */
+  #fillingOf(/** @type {Element} */ element) {
+    return !this.places.isExhausted() && this.places.isAimedAt(element) ? this.filled.momentOf(element) : null;
   }
 
   /**
@@ -176,6 +186,7 @@ class Reach {
       return;
     }
     const level = this.#isUnfolding(element) ? IN_REACH : this.#levelOf(element);
+    if (level === IN_REACH && !moment && state.keys === null && state.pointer === undefined) state.pointer = this.#fillingOf(element) || undefined;
     this.#settle(state, level, moment);
     if (level === IN_REACH) this.waiting.delete(element);
     if (state.isRoot && before && level > HIDDEN) this.#lookInside(element);
@@ -244,6 +255,7 @@ class Reach {
   momentsOf(event, target) {
     const way = this.#wayOf(event, target);
     if (!way) return [];
+    if (this.fresh.length && !this.recording.contexts.length) this.lookBefore(); // no code has run by now
     /** @type {Moment[]} */
     const moments = [];
     for (let element = /** @type {Element|null} */ (target); element && element.nodeType === 1; element = parentOf(this.natives, element)) {

@@ -113,6 +113,13 @@ exports.cases = [
       'run pressed'],
     races: [],
   },
+  {
+    page: 'filled-by-parser.html',
+    words: ['own', 'link', 'padded', 'tall', 'before', 'words', 'second', 'part'].flatMap((id) => ['--do', `click:#${id}`]),
+    due: ['fire div#own showing', 'run click', 'r #inside', 'fire a#link showing', 'run click', 'r #in-link', 'run click', 'r #in-padded', 'run click', 'r #in-tall'],
+    never: ['fire div#padded showing', 'fire div#tall showing', 'fire div#before showing', 'fire div#words showing', 'fire span#part showing'],
+    races: ['#in-before', '#in-padded', '#in-part', '#in-tall', '#in-words', '#is-second'],
+  },
   // what no code has shown, or what an act comes to in another way
   ...['show-by-animation.html', 'show-by-sheet.html'].map((page) => ({
     page, words: ['--do', 'wait:500', '--do', 'click:#go'], due: ['w settings', 'run clicked'], never: ['fire button#go showing'], races: ['click of button#go'],
