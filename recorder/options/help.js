@@ -21,8 +21,8 @@ const USER_AND_NETWORK = `User and network:
   --avoid REGEX     with --clicks: click nothing whose text or name matches; "none" avoids
                     nothing (delete, log out, quit, reset, stop and others)
   --slow MS         delay each file by up to MS milliseconds, the same in each run
-  --time SECONDS    stop if load takes longer than SECONDS, or SECONDS after its end, and
-                    use what came until then (30)
+  --time SECONDS    stop if load takes over SECONDS, or if what follows load takes over
+                    SECONDS, and use what came until then (30)
   --root DIR        folder to serve if URL is a file (the file's own folder)
   --fallback FILE   file in the served folder, such as index.html, that is served for
                     paths without a file: the routes of a single-page application
@@ -122,12 +122,14 @@ Examples:
   er_page build/index.html --runs 3 --known races.known --sarif races.sarif
 
 Exit status:
-  0    no race, or only known races and races between two acts of the user
-  1    a race
-  2    wrong arguments, or a bad file of known races; nothing is recorded
+  0    a complete recording with no race, or with only known races and races
+       between two acts of the user
+  1    another race
+  2    wrong arguments, or a bad file of known races; nothing is recorded. With
+       --replay, also: listed, but not replayed without --yes
   3    the analyzer refused the trace: a bug of the recorder
-  4    the page did not load, or no race was found but the recording is not
-       complete: --time was over before the page was quiet
+  4    the page did not load; or no race for status 1 was found, and the recording
+       is not complete: --time was over before the page was quiet
   5    the browser failed, or a file could not be written
   6    a step of --do or --flow could not be done; all files are written
   10   no analyzer; with --replay, also if each answer takes minutes
