@@ -116,7 +116,8 @@ class Replay {
   }
 
   /**
-   * Holds a cause back, and says what came of it.
+   * Holds a cause back, and says what came of it. If its run fails, as when the tab crashes, the race is not turned, with the fault's words; if the browser is
+   * gone, the replay fails.
    * @param {Pick<Reversal, 'cause'|'race'|'isLoose'>} wanted
    * @param {number} number
    * @param {number} tries
