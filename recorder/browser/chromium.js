@@ -169,7 +169,7 @@ class Chromium extends Protocol {
     this.input?.write(`${text}\0`);
   }
 
-  /** Kills the browser without waiting, as this process ends. */
+  /** Kills the browser without waiting, as this process ends, and removes its temporary profile: nothing of a run is left over. */
   killNow() {
     try {
       if (this.process?.pid) process.kill(-this.process.pid, 'SIGKILL'); // the browser and its own processes, which are a group

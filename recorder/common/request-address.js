@@ -1,5 +1,5 @@
 'use strict';
-// Which addresses are those of one request in two runs of a page.
+// Which addresses are those of one request in two runs of a page, for kept answers and replays.
 
 /** The time of a run in a query, in seconds or milliseconds, as jQuery's `cache: false` adds it: these are times from 2017 to 2096. */
 const TIME = /(?<!\d)(?:1[5-9]|[23]\d)\d{8}(?:\d{3})?(?!\d)/g;

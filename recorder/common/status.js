@@ -3,8 +3,11 @@
 
 const STATUS = {
   ok: 0,
+  /** A race, also in a recording that is not complete. */
   race: 1,
+  /** Wrong arguments. */
   usage: 2,
+  /** The analyzer refused the trace: a bug of the recorder. */
   refused: 3,
   /** The page did not load, or its recording is not complete. */
   noPage: 4,
@@ -12,9 +15,11 @@ const STATUS = {
   failed: 5,
   /** A step of --do could not be done. */
   notDone: 6,
+  /** No analyzer, and none could be compiled. */
   noProgram: 10,
   /** An internal error: a bug of the command. */
   internal: 70,
+  /** A signal stopped the command. */
   stopped: 130,
 };
 

@@ -1,5 +1,5 @@
 'use strict';
-// A file that is written whole or not at all.
+// A file that is written whole or not at all, also if the disk is full: else a WriteFault. All output files of the commands are written here.
 
 const { randomBytes } = require('node:crypto');
 const fs = require('node:fs');

@@ -1,5 +1,5 @@
 'use strict';
-// Records each page load of each tab of a browser that another program drives.
+// Records each page load of each tab of a browser that another program drives: for er_browser (main.js) and flows over several pages (flow-recorder.js).
 
 const complaints = require('./complaints.js');
 const { addressKey } = require('./hold-plan.js');

@@ -1,5 +1,5 @@
 'use strict';
-// Answers the requests and responses that the browser has paused, whichever session they were paused in, and reads which become pages.
+// In a browser that a driver drives: answers the requests and responses that are paused, whichever session they were paused in, and reads which become pages.
 
 const { Tab } = require('../browser/tab.js');
 

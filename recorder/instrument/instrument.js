@@ -1,5 +1,5 @@
 'use strict';
-// Marks a script, a module or the text of a handler attribute: its reads and writes, and the start and end of its run.
+// Marks a script, a module or the text of a handler attribute: its reads and writes, and the start (after directives, as 'use strict') and end of its run.
 // What is inserted calls the helpers of page/helpers/ and is between delimiters, so that the page sees its own text in `toString`.
 
 const { quote } = require('./marks/quote.js');
@@ -56,7 +56,8 @@ function leadingImports(body) {
 }
 
 /**
- * Where the run's first call can be: after the directives, which count only at the start.
+ * Where the run's first call can be: after the directives (`'use strict'`), which count only at the start. In a function: `startOfStatements` of
+ * insert/inserter.js.
  * @param {Program} program
  * @param {string} code
  * @param {Options['kind']} kind

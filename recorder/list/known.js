@@ -1,5 +1,6 @@
 'use strict';
-// The file of known problems: in each line a name and its words. Lines that begin with # are comments and keep their position.
+// The file of known problems (races.known, --known): in each line a name and its words. A malformed line is a KnownFault; names that no problem has any more are
+// `notSeen` (stale). Lines that begin with # are comments and keep their position.
 
 const fs = require('node:fs');
 

@@ -1,5 +1,5 @@
 'use strict';
-// The pattern of a race, from the trace and its names alone: it is a reader's first hint, and decides nothing.
+// Which pattern a race has (patterns/accesses.js, all: patterns/table.js), from the trace and its names alone: it is a reader's first hint, and decides nothing.
 
 const { FIRST_FIELD, FIRST_MODULE } = require('../common/numbers.js');
 const { isOfTree } = require('../races/spelled-locations.js');

@@ -1,4 +1,4 @@
-// Frames: a frame of the same origin joins the recording of the page around it, and its document gets a number.
+// Frames (iframes, also nested ones): a frame of the same origin joins the recording and the log of the page around it, and its document gets a number.
 
 import { findItem } from './core/lists.js';
 import { settings } from './core/settings.js';

@@ -67,8 +67,9 @@ class Actions {
   }
 
   /**
-   * @param {string[]} words
-   * @param {number} line
+   * Begins the next action.
+   * @param {string[]} words of its record
+   * @param {number} line of the trace, from 1
    */
   start(words, line) {
     const number = this.list.length;

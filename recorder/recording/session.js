@@ -223,7 +223,7 @@ class Session {
   }
 
   /**
-   * Listens to what the page sends, and to its errors and dialogs.
+   * Listens to what the page sends, to its errors and dialogs, and to a crash of its tab.
    * @param {boolean} [isDriven] whether another program drives the tab
    */
   listen(isDriven = false) {

@@ -116,10 +116,11 @@ class Replay {
   }
 
   /**
-   * Holds a cause back, and says what came of it.
+   * Holds a cause back, and says what came of it. If its run fails, as when the tab crashes, the race is not turned, with the fault's words; if the browser is
+   * gone, the replay fails.
    * @param {Pick<Reversal, 'cause'|'race'|'isLoose'>} wanted
-   * @param {number} number
-   * @param {number} tries
+   * @param {number} number of the race, from 1
+   * @param {number} tries which try this is, from 1
    * @returns {Promise<Reversed & {counted: Cause|null} | {isTurned: false, why: string}>} `counted` is what is to be held back in place of the cause
    */
   async tryCause({ cause, race, isLoose }, number, tries) {

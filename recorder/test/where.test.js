@@ -7,7 +7,8 @@ const fs = require('node:fs');
 const path = require('node:path');
 const { test } = require('node:test');
 
-const { formOf, linesFor, modulesIn, modulesWith, withPaths } = require('../where.js');
+const { linesFor, search } = require('../where.js');
+const { readIndex, withPaths } = require('../where-index.js');
 
 const WHERE = path.join(__dirname, '..', 'where.js');
 /** What a reader looks at. */
@@ -25,9 +26,32 @@ const QUESTIONS = {
   'settings page': 'settings.js', destructuring: 'shapes.js', 'timeout delay': 'timers.js', 'object number': 'object-names.js', password: 'secrets.js', video: 'media.js',
 };
 
-const MODULES = modulesIn(path.join(__dirname, '..'));
+/**
+ * Questions of maintainers about all parts. The first module that is printed, or the best one of the first row, has the answer.
+ * @type {{[words: string]: string}}
+ */
+const FIRST_HITS = {
+  removeEventListener: 'page/events/handlers.js', 'listener once signal': 'page/events/handlers.js', 'use strict directive': 'instrument/instrument.js',
+  'new step --do': 'options/step.js', 'flow step type': 'options/flow.js', 'tab crash replay': 'replay/replay.js', 'page crash': 'recording/session.js',
+  'page navigates away': 'browser/responses/page-steps.js', 'stale known': 'list/known.js', 'malformed known line': 'list/known.js',
+  'races.known': 'list/known.js', 'playwright page.route': 'driven/driven-tab.js', 'driver intercepts requests': 'driven/driven-tab.js',
+  'parse error script': 'instrument/syntax/parse.js', 'disk full': 'common/whole-file.js', 'temporary profile removed': 'browser/chromium.js',
+  'browser killed leftover': 'browser/chromium.js', 'latin1 encoding script': 'browser/text.js', 'popup first page': 'driven/opened-window.js',
+  'sarif location': 'list/sarif.js', 'junit testcase': 'list/loads-junit.js', 'sentence wording pattern': 'list/sentences.js',
+  'suggested change fix': 'list/fixes.js', 'hold release wait': 'replay/steering.js', 'replay stable confirm': 'replay/confirm.js',
+  'view filter list': 'view/client/main.js', 'source excerpt view': 'view/excerpts.js', 'remove element tree': 'page/document/tree.js',
+  'delete operator': 'instrument/walk/expressions.js', 'MutationObserver callback': 'page/tasks/observers.js',
+  'IndexedDB transaction': 'page/tasks/connections.js', 'redirect page step': 'browser/responses/page-steps.js', 'too many accesses': 'trace/limits.js',
+  'WebSocket message frame protocol': 'browser/web-socket.js', 'upload file step': 'options/step.js',
+  'clearTimeout held callback': 'page/recording/clearing.js', 'abort fetch signal': 'page/tasks/requests.js', 'service worker bypass': 'browser/responses.js',
+  'signal Ctrl-C nested': 'common/stoppable.js', 'recorders write folder': 'driven/trace-folder.js', 'profile lock': 'driven/profile-lock.js',
+  'shadow root': 'page/document/shadows.js', 'random seed clock': 'page/core/chance.js', 'proxy object kind': 'page/objects/kinds.js',
+  'sitemap gzip': 'sitemap.js',
+};
+
+const INDEX = readIndex();
 /** @param {string} words */
-const answer = (words) => linesFor(words.split(' '), MODULES);
+const answer = (words) => linesFor(words.split(' '), INDEX);
 
 for (const [words, file] of Object.entries(QUESTIONS)) {
   test(`${words}: ${file}`, () => {
@@ -36,18 +60,29 @@ for (const [words, file] of Object.entries(QUESTIONS)) {
   });
 }
 
+/**
+ * The file to which the first line leads.
+ * @param {string} words
+ */
+function firstHit(words) {
+  const [first] = answer(words).filter((line) => !line.startsWith('no file has'));
+  return (/ \| best recorder\/([^,]*)/.exec(first) || / \| .*?recorder\/([\w./-]+)/.exec(first) || /^recorder\/([^:]*)/.exec(first) || [])[1];
+}
+
+for (const [words, file] of Object.entries(FIRST_HITS)) test(`first of ${words}: ${file}`, () => assert.strictEqual(firstHit(words), file));
+
 /** Words that say nothing of a module. */
 const OTHERS = 'also been come comes does each from have into itself more most only other others such than that their them then there they this what when where whether which with'.split(' ');
 /** So many words of its first comment find a module. */
 const WORDS = 4;
 
 test('each module is found by the first words of its first comment', () => {
-  const modules = MODULES.filter(({ name }) => !name.startsWith('test/'));
+  const modules = INDEX.modules.filter(({ name }) => !name.startsWith('test/'));
   assert.ok(modules.length > 300);
   for (const { name, about } of modules) {
     const words = (about.toLowerCase().match(/[a-z]{4,}/g) || []).filter((word) => !OTHERS.includes(word)).slice(0, WORDS);
     assert.ok(words.length >= 2, `${name} has no first comment of two words`);
-    const found = modulesWith(words.map(formOf), modules).slice(0, FIRST).map((one) => one.name);
+    const found = search(words, { modules, rows: [], headings: [] }).modules.slice(0, FIRST).map((one) => one.module.name);
     assert.ok(found.includes(name), `where.js ${words.join(' ')}: ${found.join(', ')}, without ${name}`);
   }
 });
@@ -59,11 +94,11 @@ test('the map names no file that is not there', () => {
   for (const name of named) assert.ok(fs.existsSync(path.join(__dirname, '..', '..', name)), name);
 });
 
-test('a row has whole paths, and rows that have only some of the words come if none has all', () => {
-  assert.match(answer('clearTimeout')[0], / recorder\/page\/recording\/clearing\.js;/);
+test('a row has whole paths, and comes after the modules if it has only some of the words', () => {
+  assert.match(answer('clearTimeout held dropped').join('\n'), / recorder\/page\/recording\/clearing\.js; awaited/);
   const lines = answer('iframe merge zzz');
-  assert.strictEqual(lines[0], 'These rows have only some of the words:');
-  assert.match(lines[1], /recorder\/page\/frames\.js/);
+  assert.strictEqual(lines[0], 'no file has: zzz');
+  assert.ok(lines.some((line) => /^README\.md: .*recorder\/page\/frames\.js/.test(line)), lines.join('\n'));
 });
 
 test('a file of the map has the names that the map has of it', () => {
@@ -76,8 +111,11 @@ test('a file of the map has the names that the map has of it', () => {
   }
 });
 
-test('words that are only in code, with their lines; and words that are nowhere', () => {
-  assert.match(answer('isCheckpoint')[1], /^recorder\/[\w/.-]+:\d+(,\d+)*: /);
-  assert.deepStrictEqual(answer(['no', 'such', 'word'].join('')), ['nothing found']);
-  assert.strictEqual(execFileSync(process.execPath, [WHERE, ['no', 'such', 'word'].join('')], { encoding: 'utf8' }), 'nothing found\n');
+test('a word that is only in code comes with its lines; words that are nowhere are named, also parts of names; documents', () => {
+  assert.match(answer('isCheckpoint')[0], /^recorder\/[\w/.-]+(:\d+(,\d+)*)?: /);
+  const nowhere = ['no', 'such', 'word'].join('');
+  assert.deepStrictEqual(answer(nowhere), [`no file has: ${nowhere}`]);
+  assert.strictEqual(execFileSync(process.execPath, [WHERE, nowhere], { encoding: 'utf8' }), `no file has: ${nowhere}\n`);
+  assert.deepStrictEqual(answer(`settings ${nowhere} page`).slice(1), answer('settings page'));
+  assert.match(answer('works beside driver').join('\n'), /^Documents:\ndocs\/suites\.md:\d+: /m);
 });

@@ -138,6 +138,7 @@ function byRole(root, { value, name, fit }) {
 }
 
 /**
+ * The elements that an XPath finds.
  * @param {Root} root
  * @param {string} path
  */

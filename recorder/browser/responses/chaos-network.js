@@ -10,7 +10,7 @@ const { sleep } = require('../../common/time.js');
 const MOST = 350;
 
 class ChaosNetwork {
-  /** @param {number} seed */
+  /** @param {number} seed that of `--chaos`: the same delays for the same requests */
   constructor(seed) {
     this.seed = seed;
     /** @type {Map<string, number>} how often an address was requested */

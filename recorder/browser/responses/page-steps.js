@@ -1,5 +1,5 @@
 'use strict';
-// Steps to another page: the page is recorded that was asked for, and what would load another one in its place is not followed.
+// Steps to another page: the page is recorded that was asked for, also in a replay. If it navigates away, the request is refused, or `leaves` is called.
 
 /** @typedef {import('./paused.js').Paused} Paused */
 

@@ -137,7 +137,7 @@ class Inserter {
 }
 
 /**
- * Where the first statement of a body can be: after its directives.
+ * Where the first statement of a function's body can be: after its directives (`'use strict'`). In a script: `startOfRun` of instrument.js.
  * @param {import('../syntax/types').BlockStatement} body
  */
 function startOfStatements({ start, body }) {

@@ -1,5 +1,5 @@
 'use strict';
-// The helpers that marks call: which of its arguments each returns, and helpers that do nothing else.
+// The helpers of `__er` that marks call: which of its arguments each returns, and helpers that do nothing else.
 //
 // The helpers by file in page/helpers/; where marks call them, `grep -rn '__er.NAME(' recorder/instrument` says, and for letters from a table the
 // tables at the top of insert/member-marks.js and insert/call-marks.js, and `Variables.call` in walk/variables.js.

@@ -1,4 +1,4 @@
-// Custom elements that the parser makes: their reactions run while no code is on the stack.
+// Custom elements that the parser makes: in which action their reactions run, while no code is on the stack.
 
 import { each } from '../core/lists.js';
 import { replaceMethod } from '../core/replacing.js';

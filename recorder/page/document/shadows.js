@@ -1,4 +1,4 @@
-// Shadow trees that the parser makes, as of `<template shadowrootmode>`: their elements are parse steps like others, and their scripts run. No lookup
+// Shadow trees (shadow roots) that the parser makes, as of `<template shadowrootmode>`: their elements are parse steps like others, and their scripts run. No lookup
 // by an id in the document finds what is in one.
 
 import { each, findItem, hasItem } from '../core/lists.js';

@@ -140,6 +140,7 @@ class Handlers {
   }
 
   /**
+   * The function that the browser calls in place of a listener. With `{ once: true }` its run also removes it: a write of its slot.
    * @param {number} handler
    * @param {EventTarget} target
    * @param {string} type
@@ -161,6 +162,7 @@ class Handlers {
   }
 
   /**
+   * With `{ signal }`, an abort removes the listener: a write of its slot.
    * @param {EventTarget} target
    * @param {string} type
    * @param {number} handler
@@ -178,6 +180,7 @@ class Handlers {
   }
 
   /**
+   * What `removeEventListener` removes, a listener's function. The removal is a write of its slot.
    * @param {EventTarget} target
    * @param {string} type
    * @param {Listener} listener

@@ -1,4 +1,4 @@
-// XMLHttpRequest and fetch.
+// XMLHttpRequest (Ajax) and fetch: requests, their replies, and the promise of a fetch, also of one that a signal aborts.
 
 import { each } from '../core/lists.js';
 import { replaceMethod } from '../core/replacing.js';
