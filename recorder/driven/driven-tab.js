@@ -91,7 +91,7 @@ class DrivenTab {
     if (isWaiting) this.ready.then(() => this.send('Runtime.runIfWaitingForDebugger')).catch(() => {}); // a tab that has gone
   }
 
-  /** A session for responses. A driver that intercepts requests too (`page.route`) answers before: this session gets what the driver puts in. */
+  /** Attaches a session for responses. If the driver intercepts requests too (`page.route`), it answers before: this session gets what the driver puts in. */
   async answerResponses() {
     const { sessionId } = await this.browser.send('Target.attachToTarget', { targetId: this.targetId, flatten: true });
     this.recorder.sessions.set(sessionId, this);

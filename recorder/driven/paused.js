@@ -1,5 +1,5 @@
 'use strict';
-// In a browser that a driver drives: answers the requests and responses that are paused, whichever session they were paused in, and reads which become pages.
+// Paused requests and responses of a driven browser: answers each in the session in which it was paused, and reads which become pages.
 
 const { Tab } = require('../browser/tab.js');
 

@@ -1,5 +1,5 @@
 'use strict';
-// The unproved analyzer: answers of its source, compiled without its proof (tools/unproved). One answer takes a minute, and so do many that are requested together.
+// Answers of the analyzer's source, compiled without its proof (tools/unproved). One answer takes a minute, and so do many that are requested together.
 
 const { spawn } = require('node:child_process');
 const { createHash } = require('node:crypto');

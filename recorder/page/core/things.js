@@ -1,4 +1,4 @@
-// What a value or a node is.
+// Predicates of things: whether a value is an object or a function, an element, a film or a sound, a plain object; and the document of a window.
 
 import { findItem } from './lists.js';
 import { Object } from './taken.js';

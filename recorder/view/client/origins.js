@@ -1,4 +1,4 @@
-// Where actions come from, and why two of them are ordered.
+// Draws the origins of actions, and why two of them are ordered.
 
 import { make } from './elements.js';
 import { model, races, wordsOf, originsAt } from './model.js';
