@@ -21,7 +21,10 @@ const FILE = /`([\w./-]+(?:\.(?:js|ts|css)|\/|\/launch))`/g;
  * line is one.
  * @typedef {{name: string, text: string, lower: string, about: string, definitions: Definition[], starts: number[], isComment: boolean[]}} Module
  */
-/** A row or a recipe of the map, with whole paths in its answer. @typedef {{question: string, answer: string, files: string[]}} Row */
+/**
+ * A row or a recipe of the map, with whole paths in its answer.
+ * @typedef {{question: string, answer: string, files: string[]}} Row
+ */
 /** @typedef {{file: string, line: number, text: string}} Heading */
 /** @typedef {{modules: Module[], rows: Row[], headings: Heading[]}} Index */
 

@@ -56,7 +56,10 @@ const MOST_OF_COMMENT = 160;
  */
 /** @typedef {{word: string, quality: number}} Form a text to look for, in lower case */
 /** @typedef {{at: number, quality: number}} Occurrence its offset */
-/** `weights` has for each word what the definition or the module has of it. @typedef {{definition: Definition, weights: number[], lines: number[]}} Part */
+/**
+ * `weights` has for each word what the definition or the module has of it.
+ * @typedef {{definition: Definition, weights: number[], lines: number[]}} Part
+ */
 /** @typedef {{module: Module, score: number, share: number, parts: (Part & {score: number})[], lines: number[]}} FoundModule */
 /** @typedef {{row: Row, score: number, share: number}} FoundRow */
 
@@ -66,7 +69,10 @@ const cut = (text, most) => (text.length > most ? `${text.slice(0, most)}..` : t
 const sumOf = (numbers) => numbers.reduce((sum, one) => sum + one, 0);
 /** @param {Module} module */
 const isOfTests = ({ name }) => name.startsWith('test/');
-/** Its own words for others are no answer. @param {Module} module */
+/**
+ * Its own words for others are no answer.
+ * @param {Module} module
+ */
 const isSearched = ({ name }) => !/^where\b|^test\/where/.test(name);
 
 /**
@@ -102,10 +108,19 @@ function occurrences(text, lower, forms) {
   return found;
 }
 
-/** Whether a line has many texts in quotes, as a table of names: each of them says little. @param {string} text @param {number[]} starts @param {number} line from 1 */
+/**
+ * Whether a line has many texts in quotes, as a table of names: each of them says little.
+ * @param {string} text
+ * @param {number[]} starts
+ * @param {number} line from 1
+ */
 const isLong = (text, starts, line) => text.slice(starts[line - 1], starts[line]).split("'").length > MANY_QUOTES;
 
-/** The line of an offset, from 0. @param {number[]} starts @param {number} at */
+/**
+ * The line of an offset, from 0.
+ * @param {number[]} starts
+ * @param {number} at
+ */
 function lineAt(starts, at) {
   let [low, high] = [0, starts.length - 1];
   while (high - low > 1) {
