@@ -14,7 +14,7 @@ exports.cases = [
   { page: 'made-scope.html', due: ['timer', 'w api', 'w old of the closure of ?', 'r state of the closure of load', 'timer', 'r api'],
     never: ['w n of the closure of counter'], races: ['api', 'old of the closure of ?', 'state of the closure of load'] },
   { page: 'made-elements.html', never: ['w style.color of p', 'w mark of p'],
-    races: ['(items) of running', 'content of body', 'mark of i', 'older', 'style of u', 'style.color of b', 'style.color of u', 'title of div'] },
+    races: ['(items) of running', 'mark of i', 'style of u', 'style.color of b', 'style.color of u', 'title of div'] },
   { page: 'made-in-module.html', due: ['w n of the closure of counter', 'w state of this'], races: ['n of the closure of counter', 'state of this'] },
   { page: 'closures-apart.html', due: ['timer', 'timer'] },
   { page: 'closure-keyed.html', due: ['timer', 'r cache of the closure of shop', 'r key of the closure of shop', 'timer', 'w cache of the closure of shop'],
