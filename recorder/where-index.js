@@ -16,15 +16,7 @@ const FILE = /`([\w./-]+(?:\.(?:js|ts|css)|\/|\/launch))`/g;
  * A definition: `line` is its line, `from` the first of its comment, both from 1; `comment` is '' if it has none.
  * @typedef {{name: string, line: number, from: number, parameters: string, comment: string}} Definition
  */
-/**
- * `name` is its path in recorder/, `about` its first comment, `lower` its text in lower case. `starts` has the offset of each line, `isComment` whether the
- * line is one.
- * @typedef {{name: string, text: string, lower: string, about: string, definitions: Definition[], starts: number[], isComment: boolean[]}} Module
- */
-/**
- * A row or a recipe of the map, with whole paths in its answer.
- * @typedef {{question: string, answer: string, files: string[]}} Row
- */
+/** @typedef {{question: string, answer: string, files: string[]}} Row a row or a recipe of the map, with whole paths in its answer */
 /** @typedef {{file: string, line: number, text: string}} Heading */
 /** @typedef {{modules: Module[], rows: Row[], headings: Heading[]}} Index */
 
@@ -55,6 +47,24 @@ function partsOf(text) {
   return { about, definitions, isComment, starts };
 }
 
+/** A module: most have no word of a query, so their lines are read late. */
+class Module {
+  /** @type {ReturnType<typeof partsOf>|undefined} */
+  #parts;
+
+  /** @param {string} name its path in recorder/ @param {string} text */
+  constructor(name, text) {
+    this.name = name;
+    this.text = text;
+    this.lower = text.toLowerCase();
+  }
+
+  /** `about` is its first comment, `starts` has the offset of each line, `isComment` whether the line is one. */
+  get parts() {
+    return this.#parts ??= partsOf(this.text);
+  }
+}
+
 /**
  * The modules below a folder. Unit tests are left out, but not those of test/.
  * @param {string} folder
@@ -66,8 +76,7 @@ function modulesIn(folder) {
     if (entry.isDirectory()) return LEFT_OUT.has(entry.name) ? [] : modulesIn(file);
     const name = path.relative(__dirname, file);
     if (!IS_MODULE.test(entry.name) || (entry.name.endsWith('.test.js') && !name.startsWith('test/'))) return [];
-    const text = fs.readFileSync(file, 'utf8');
-    return [{ name, text, lower: text.toLowerCase(), ...partsOf(text) }];
+    return [new Module(name, fs.readFileSync(file, 'utf8'))];
   });
 }
 

@@ -50,16 +50,13 @@ const MOST_OF_COMMENT = 160;
 
 /**
  * @typedef {import('./where-index.js').Index} Index
- * @typedef {import('./where-index.js').Module} Module
+ * @typedef {Index['modules'][number]} Module
  * @typedef {import('./where-index.js').Row} Row
  * @typedef {import('./where-index.js').Definition} Definition
  */
 /** @typedef {{word: string, quality: number}} Form a text to look for, in lower case */
 /** @typedef {{at: number, quality: number}} Occurrence its offset */
-/**
- * `weights` has for each word what the definition or the module has of it.
- * @typedef {{definition: Definition, weights: number[], lines: number[]}} Part
- */
+/** @typedef {{definition: Definition, weights: number[], lines: number[]}} Part `weights` has for each word what the definition has of it */
 /** @typedef {{module: Module, score: number, share: number, parts: (Part & {score: number})[], lines: number[]}} FoundModule */
 /** @typedef {{row: Row, score: number, share: number}} FoundRow */
 
@@ -110,16 +107,13 @@ function occurrences(text, lower, forms) {
 
 /**
  * Whether a line has many texts in quotes, as a table of names: each of them says little.
- * @param {string} text
- * @param {number[]} starts
- * @param {number} line from 1
+ * @param {string} text @param {number[]} starts @param {number} line from 1
  */
 const isLong = (text, starts, line) => text.slice(starts[line - 1], starts[line]).split("'").length > MANY_QUOTES;
 
 /**
- * The line of an offset, from 0.
- * @param {number[]} starts
- * @param {number} at
+ * The line of an offset, from 0: the last start that is not after it. The last of the starts is after all.
+ * @param {number[]} starts @param {number} at
  */
 function lineAt(starts, at) {
   let [low, high] = [0, starts.length - 1];
@@ -137,10 +131,13 @@ function lineAt(starts, at) {
  * @param {Form[][]} wanted
  */
 function countsIn(module, wanted) {
-  const { name, text, lower, about, definitions, starts, isComment } = module;
+  const { name, text, lower } = module;
+  if (!wanted.some((forms) => forms.some(({ word }) => lower.includes(word) || name.includes(word)))) return null;
+  const { about, definitions, starts, isComment } = module.parts;
   const head = definitions.length ? definitions[0].from : starts.length;
   /** @type {Part[]} */
   const parts = definitions.map((definition) => ({ definition, weights: wanted.map(() => 0), lines: [] }));
+  const firsts = [0, ...definitions.map(({ from }) => from), Infinity];
   const ofAbout = wanted.map(() => 0);
   const weights = wanted.map(() => 0);
   /** @type {number[]} */
@@ -152,16 +149,15 @@ function countsIn(module, wanted) {
     for (const { at, quality } of occurrences(text, lower, forms)) {
       const line = lineAt(starts, at) + 1;
       if (line < head && isComment[line - 1]) continue;
-      let of = -1;
-      while (of + 1 < parts.length && parts[of + 1].definition.from <= line) of++;
-      const isName = of >= 0 && parts[of].definition.line === line;
-      const isQuoted = !isLong(text, starts, line) && /['"`.]/.test(text[at - 1]) && /^\w+['"`]/.test(text.slice(at, at + 60));
+      const of = lineAt(firsts, line);
+      const isName = parts[of - 1]?.definition.line === line;
+      const isQuoted = /['"`.]/.test(text[at - 1]) && /^\w+['"`]/.test(text.slice(at, at + 60)) && !isLong(text, starts, line);
       const weight = quality * (isName ? IN.definition : isComment[line - 1] ? IN.comment : isQuoted ? IN.quoted : IN.code);
       weights[k] += weight;
       lines.push(line);
-      if (of < 0) continue;
-      parts[of].weights[k] += weight;
-      parts[of].lines.push(line);
+      if (!of) continue;
+      parts[of - 1].weights[k] += weight;
+      parts[of - 1].lines.push(line);
     }
   });
   return weights.some(Boolean) ? { module, weights, ofAbout, parts, lines } : null;
@@ -227,7 +223,7 @@ function foundModule({ module, weights, ofAbout, parts, lines }, rarity, best) {
  * A module, and those of its definitions that fit best; or the lines of its code that have a word.
  * @param {FoundModule} found
  */
-function linesOfModule({ module: { name, about }, parts, lines }) {
+function linesOfModule({ module: { name, parts: { about } }, parts, lines }) {
   const told = parts.filter(({ score }) => score >= parts[0].score * LEAST).slice(0, MOST_DEFINITIONS).map(({ definition: { name: own, line, comment, parameters } }) => (
     `  ${line}: ${comment ? `${own}: ${cut(comment, MOST_LETTERS)}` : `${own}(${parameters})`}`));
   const others = told.length ? '' : [...new Set(lines)].slice(0, MOST_DEFINITIONS).map((line) => `:${line}`).join('').replace(/(?<=\d):/g, ',');

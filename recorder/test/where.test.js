@@ -79,7 +79,7 @@ const WORDS = 4;
 test('each module is found by the first words of its first comment', () => {
   const modules = INDEX.modules.filter(({ name }) => !/^test\/|^where|\.d\.ts$/.test(name));
   assert.ok(modules.length > 300);
-  for (const { name, about } of modules) {
+  for (const { name, parts: { about } } of modules) {
     const words = (about.toLowerCase().match(/[a-z]{4,}/g) || []).filter((word) => !OTHERS.includes(word)).slice(0, WORDS);
     assert.ok(words.length >= 2, `${name} has no first comment of two words`);
     const found = search(words, { modules, rows: [], headings: [] }).modules.slice(0, FIRST).map((one) => one.module.name);
