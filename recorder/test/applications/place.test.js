@@ -23,7 +23,7 @@ function isAlive(pid) {
 }
 
 /**
- * Waits until processes that were told to end have done so: on a busy machine that takes a moment.
+ * Waits until processes that get a signal have ended: on a busy machine that takes a moment.
  * @param {number[]} numbers
  */
 async function areGone(numbers) {
