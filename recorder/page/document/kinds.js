@@ -67,14 +67,14 @@ class Kinds {
   }
 
   /**
-   * Null for a data block and for a script that never runs.
+   * Null for a data block and for a script that never runs. In SVG, Chromium does not read `nomodule`.
    * @param {Element} element
    * @returns {'classic'|'module'|null}
    */
   scriptType(element) {
     const isOfSvg = element.namespaceURI === SVG_NAMESPACE;
     const type = settings.scriptType(this.attribute(element, 'type'), isOfSvg ? null : this.attribute(element, 'language'), PATTERNS);
-    return type === 'importmap' || (type === 'classic' && this.has(element, 'nomodule')) ? null : type;
+    return type === 'importmap' || (type === 'classic' && !isOfSvg && this.has(element, 'nomodule')) ? null : type;
   }
 
   /**
@@ -86,7 +86,8 @@ class Kinds {
   }
 
   /**
-   * The kind of a script element that the parser made. One with an empty source never runs, and nothing waits for its error.
+   * The kind of a script element that the parser made. One with an empty source never runs, and nothing waits for its error. In SVG, Chromium reads `async`,
+   * and not `defer`.
    * @param {Element} element
    */
   ofStaticScript(element) {
@@ -95,7 +96,7 @@ class Kinds {
     if (type === 'module') return this.has(element, 'async') ? 'async' : 'defer';
     if (!this.hasSource(element)) return 'inline';
     if (this.has(element, 'async')) return 'async';
-    return this.has(element, 'defer') ? 'defer' : 'sync';
+    return element.namespaceURI === HTML_NAMESPACE && this.has(element, 'defer') ? 'defer' : 'sync';
   }
 
   /**

@@ -182,6 +182,12 @@ exports.cases = [
     ],
   },
   {
+    page: 'svg-defer.html', // Chromium reads neither attribute there: both block the parser
+    words: ['--keep'],
+    due: ['parse script sync', 'exec script', 'w fromFile', 'parse script inline', 'exec script', 'r fromFile', 'w old', 'parse script inline', 'exec script', 'r old', 'w after', 'parse p#late plain'],
+    races: [],
+  },
+  {
     page: 'ready-states.html',
     due: [
       'dcl', 'run onState', 'run parsed', 'close', 'load', 'run onState', 'run loaded', 'run shown', 'close',
