@@ -9,13 +9,14 @@ const { sleep } = require('../common/time.js');
 const { Session, RecordingFault } = require('./session.js');
 
 const POLL = 50;
-/** Is in the tab while a recorder waits for its next page. */
+/** Is in the tab while a recorder is attached to it: true once it waits for the next page, so a driver can load one. */
 const MARK = '__erAttached';
 const IS_TAKEN = `(() => {
   const isTaken = typeof __er !== 'undefined' || typeof ${MARK} !== 'undefined';
-  Object.defineProperty(globalThis, '${MARK}', { value: true, configurable: true });
+  Object.defineProperty(globalThis, '${MARK}', { value: false, configurable: true });
   return isTaken;
 })()`;
+const IS_READY = `void Object.defineProperty(globalThis, '${MARK}', { value: true, configurable: true })`;
 const GIVE_BACK = `delete globalThis.${MARK}`;
 
 class AttachedRecorder extends Session {
@@ -87,6 +88,7 @@ class AttachedRecorder extends Session {
   }
 
   async waitForDriver() {
+    await this.openTab().evaluate(IS_READY).catch(() => {}); // the driver has loaded a page already
     printError(`er_record: attached to ${this.given}: the page that its first tab loads next is recorded`);
     await this.waitWhile(() => !this.responses?.hasPageBegun);
     if (!this.responses?.hasPageBegun) {

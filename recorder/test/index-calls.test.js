@@ -86,15 +86,18 @@ test('each function returns plain data with a version', LIMIT, async () => {
 test('a page that another program loads', LIMIT, async () => {
   const { browser, endpoint } = await startBrowser('driven');
   const [host, port] = endpoint.split(':');
-  const tab = await AttachedTab.first(await AttachedChromium.connect({ host, port: Number(port) }));
-  await tab.send('Page.enable');
-  const recording = attach(endpoint, { trace: file('driven'), time: 3 });
-  for (let k = 0; k < 600 && await tab.evaluate('typeof __erAttached') === 'undefined'; k++) await sleep(100);
-  await tab.send('Page.navigate', { url: `${server.origin}/shop/index.html` });
-  const recorded = await recording;
-  isPlain(recorded);
-  assert.ok(recorded.actions > 3, JSON.stringify(recorded));
-  browser.kill();
+  try {
+    const tab = await AttachedTab.first(await AttachedChromium.connect({ host, port: Number(port) }));
+    await tab.send('Page.enable');
+    const recording = attach(endpoint, { trace: file('driven'), time: 3 });
+    for (let k = 0; k < 600 && !await tab.evaluate('typeof __erAttached !== "undefined" && __erAttached'); k++) await sleep(100);
+    await tab.send('Page.navigate', { url: `${server.origin}/shop/index.html` });
+    const recorded = await recording;
+    isPlain(recorded);
+    assert.ok(recorded.actions > 3, JSON.stringify(recorded));
+  } finally {
+    browser.kill();
+  }
 });
 
 test('a race of a suite is replayed by its command, and folders are listed', LIMIT, async () => {
