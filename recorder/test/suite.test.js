@@ -91,7 +91,7 @@ test('the list of a suite: one of all loads, known races, JSON, SARIF, a page of
   const known = path.join(folder, 'suite.known');
   const first = await suite(traces, '--known', known, '--write-known', '--sarif', path.join(folder, 'suite.sarif'));
   assert.strictEqual(first.status, 1, first.stderr);
-  assert.match(first.stdout, /^shop\.js:9 {2}A click at button#add is lost until its handler is registered +late handler\n[^]*? {4}runs: seen in 2 of 6 loads: .*\n {4}[0-9a-f]{12} \(for races\.known\)/m);
+  assert.match(first.stdout, /^shop\.js:9 {2}A click at button#add is lost until its handler is registered +late handler\n[^]*? {4}runs: seen in 2 of 6 loads: [^]*?\n {4}fix: .*\n {4}[0-9a-f]{12} \(for races\.known\)/m);
   assert.match(first.stdout, /^ {4}writes +topic /m);
   assert.match(first.stdout, /6 page loads, index\.html$/m);
   const again = await suite(traces, '--known', known, '--json');
