@@ -167,7 +167,7 @@ test('a late handler that ran and only read is in a section of its own, at the e
   assert.match((await lines('w var 0 other'))[0], /^2 problems \(loses what a user does: 1; other: 1\)$/);
 });
 
-test('a place behind a library is that of the page\'s own code from which it comes', async () => {
+test('the place of a library\'s call is that of the page\'s own code from which it comes', async () => {
   const library = { address: 'http://localhost:8080/jquery.js', text: '\n', isLibrary: true };
   const timers = { 1: { place: /** @type {import('./types').Place} */ ([2, 1, 1]) }, 2: { place: /** @type {import('./types').Place} */ ([1, 1, 22]) } };
   const races = await problemsOf(['parse 0 2 inline', 'exec 2', 'set 2 0', 'set 3 9', 'timer 2', 'set 1 0', 'timer 1', 'w var 0 count', 'timer 3', 'w var 0 count'],
