@@ -40,7 +40,7 @@ function timedIn(folder) {
     const page = name.slice(0, -OF_LOADS.length);
     /** @type {Loads} */
     const loads = JSON.parse(fs.readFileSync(path.join(pages, name), 'utf8'));
-    const known = (/** @type {(number|null)[]} */ all) => all.filter((one) => one !== null);
+    const known = (/** @type {(number|null)[]} */ all) => all.flatMap((one) => (one === null ? [] : [one]));
     const [without, withIt] = [known(loads.without), known(loads.with)];
     return without.length && withIt.length ? [{ page, without: median(without), with: median(withIt), idle: loads.idle || 0 }] : [];
   });
