@@ -65,9 +65,11 @@ function scriptsOf(page, place) {
  * @param {Sources} sources
  * @param {Answer & {ofPage: string|null}} script
  */
-function isInstrumented(sources, { address, type, body, ofPage }) {
+async function isInstrumented(sources, { address, type, body, ofPage }) {
   try {
-    sources.rewriteScript(address, readText(body, type, false, ofPage).text);
+    const { text } = readText(body, type, false, ofPage);
+    await sources.prepareScript(address, text);
+    sources.rewriteScript(address, text);
     return true;
   } catch {
     return false;
@@ -78,13 +80,14 @@ function isInstrumented(sources, { address, type, body, ofPage }) {
  * @param {Sources} sources
  * @param {Place} place
  * @param {string} address the page's address
- * @returns {number} how many scripts were instrumented
+ * @returns {Promise<number>} how many scripts were instrumented
  */
-function markAhead(sources, place, address) {
+async function markAhead(sources, place, address) {
   const page = answerOf(place, address.replace(/#.*$/, ''));
   if (!page) return 0;
   sources.builtins.set(COMMON_NAMES, false);
-  return scriptsOf(page, place).filter((script) => isInstrumented(sources, script)).length;
+  const answers = await Promise.all(scriptsOf(page, place).map((script) => isInstrumented(sources, script)));
+  return answers.filter(Boolean).length;
 }
 
 module.exports = { markAhead, COMMON_NAMES };

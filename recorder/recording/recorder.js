@@ -120,14 +120,13 @@ class Recorder extends Session {
   async startBrowser(browser) {
     const { viewport, ignoresCertificateErrors, userDataDir, isHeaded } = this.options;
     browser.start({ ...viewport || SIZE, ignoresCertificateErrors, userDataDir, isHeaded });
-    if (!this.options.isRaw) this.prepareScripts();
-    await browser.hasStarted();
+    await Promise.all([browser.hasStarted(), this.options.isRaw || this.prepareScripts()]);
   }
 
   /** Instruments scripts while the browser starts. */
-  prepareScripts() {
+  async prepareScripts() {
     const { address, folder } = this;
-    const marked = folder?.has(address) ? markAhead(this.sources, folder, address) : 0; // a server would get each request twice
+    const marked = folder?.has(address) ? await markAhead(this.sources, folder, address) : 0; // a server would get each request twice
     if (!marked) warmUp();
   }
 
