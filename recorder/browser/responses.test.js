@@ -21,7 +21,7 @@ folder.answer = (/** @type {string} */ address) => ({ status: 200, type: 'text/h
 function failingTexts() {
   const fail = () => { throw new RangeError('too\u001b[2J deep'); };
   return {
-    rewritePage: fail, prepareScript: async () => {}, rewriteScript: fail, nameMap: () => {}, markedTexts: new Map(), missed: new Map(), dropped: new Map(),
+    rewritePage: fail, rewriteScript: fail, nameMap: () => {}, markedTexts: new Map(), missed: new Map(), dropped: new Map(),
     count: (counts, what) => { counts.set(what, (counts.get(what) || 0) + 1); },
   };
 }

@@ -65,11 +65,9 @@ function scriptsOf(page, place) {
  * @param {Sources} sources
  * @param {Answer & {ofPage: string|null}} script
  */
-async function isInstrumented(sources, { address, type, body, ofPage }) {
+function isInstrumented(sources, { address, type, body, ofPage }) {
   try {
-    const { text } = readText(body, type, false, ofPage);
-    await sources.prepareScript(address, text);
-    sources.rewriteScript(address, text);
+    sources.rewriteScript(address, readText(body, type, false, ofPage).text);
     return true;
   } catch {
     return false;
@@ -80,14 +78,13 @@ async function isInstrumented(sources, { address, type, body, ofPage }) {
  * @param {Sources} sources
  * @param {Place} place
  * @param {string} address the page's address
- * @returns {Promise<number>} how many scripts were instrumented
+ * @returns {number} how many scripts were instrumented
  */
-async function markAhead(sources, place, address) {
+function markAhead(sources, place, address) {
   const page = answerOf(place, address.replace(/#.*$/, ''));
   if (!page) return 0;
   sources.builtins.set(COMMON_NAMES, false);
-  const answers = await Promise.all(scriptsOf(page, place).map((script) => isInstrumented(sources, script)));
-  return answers.filter(Boolean).length;
+  return scriptsOf(page, place).filter((script) => isInstrumented(sources, script)).length;
 }
 
 module.exports = { markAhead, COMMON_NAMES };

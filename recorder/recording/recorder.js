@@ -120,13 +120,14 @@ class Recorder extends Session {
   async startBrowser(browser) {
     const { viewport, ignoresCertificateErrors, userDataDir, isHeaded } = this.options;
     browser.start({ ...viewport || SIZE, ignoresCertificateErrors, userDataDir, isHeaded });
-    await Promise.all([browser.hasStarted(), this.options.isRaw || this.prepareScripts()]);
+    if (!this.options.isRaw) this.prepareScripts();
+    await browser.hasStarted();
   }
 
   /** Instruments scripts while the browser starts. */
-  async prepareScripts() {
+  prepareScripts() {
     const { address, folder } = this;
-    const marked = folder?.has(address) ? await markAhead(this.sources, folder, address) : 0; // a server would get each request twice
+    const marked = folder?.has(address) ? markAhead(this.sources, folder, address) : 0; // a server would get each request twice
     if (!marked) warmUp();
   }
 

@@ -162,22 +162,22 @@ test('ten thousand actions in under a minute', { timeout: 150000 }, async () => 
   assert.match(judge(trace).refused, /^$|too-many-races$/);
 });
 
-test('the scripts that a page of a folder names are marked before it loads', async () => {
+test('the scripts that a page of a folder names are marked before it loads', () => {
   const root = temporaryFolder('ahead');
   fs.writeFileSync(path.join(root, 'named.html'), '<!doctype html><script src="code.js"></script><script src="/lost.js"></script><script src="http://127.0.0.2:1/never.js"></script>');
   fs.writeFileSync(path.join(root, 'code.js'), CODE);
   const place = new Folder(root);
   const sources = new Sources();
-  assert.strictEqual(await markAhead(sources, place, `${ORIGIN}/named.html#here`), 1);
+  assert.strictEqual(markAhead(sources, place, `${ORIGIN}/named.html#here`), 1);
   assert.deepStrictEqual(sources.files.map(({ address }) => address), [`${ORIGIN}/code.js`]);
   const [file] = sources.files;
   const marked = 'edited' in file ? file.edited?.text : null;
   assert.strictEqual(sources.rewriteScript(`${ORIGIN}/code.js`, CODE), marked);
   assert.strictEqual(sources.files.length, 1);
-  assert.strictEqual(await markAhead(new Sources(), place, `${ORIGIN}/none.html`), 0);
+  assert.strictEqual(markAhead(new Sources(), place, `${ORIGIN}/none.html`), 0);
   const deep = new Sources();
   deep.rewriteScript = () => { throw new RangeError('too deep'); };
-  assert.strictEqual(await markAhead(deep, place, `${ORIGIN}/named.html`), 0);
+  assert.strictEqual(markAhead(deep, place, `${ORIGIN}/named.html`), 0);
 });
 
 test('a server gets each request once', { timeout: 150000 }, async () => {

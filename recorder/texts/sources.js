@@ -6,7 +6,6 @@ const { keptMarks } = require('../instrument/kept-marks.js');
 const { BrowserNames } = require('../instrument/own-names.js');
 const { PageRewriter } = require('../instrument/page.js');
 const { readMap } = require('../trace/source-map.js');
-const { markingThreads } = require('./marking-threads.js');
 const { Modules } = require('./modules.js');
 const { Places } = require('./places.js');
 const { Source } = require('./source.js');
@@ -93,18 +92,6 @@ class Sources {
     source.edits = marks;
     const edits = marks.map((edit) => (edit.again ? { ...edit, insert: edit.again(insertions) } : edit));
     return this.copy(source, [...insertions(address, html), ...edits]);
-  }
-
-  /**
-   * Marks a long script in another thread: then `rewriteScript` does not take long.
-   * @param {string} address
-   * @param {string} code
-   */
-  async prepareScript(address, code) {
-    if (!markingThreads.takes(code) || this.byAddress.get(address)?.text === code) return;
-    const draft = new Source(this, address, code); // nothing is noted in it
-    const kept = await markingThreads.mark(code, address, draft.options('script', 0));
-    if (kept?.fault) await markingThreads.mark(code, address, draft.options('module', 0, { isFile: true }));
   }
 
   /**

@@ -118,7 +118,7 @@ class Copies {
    * @param {Buffer} bytes
    */
   async fulfill(event, status, headers, type, bytes) {
-    const copy = this.sources && status === 200 && this.isText(event, type) ? await this.copyOf(this.sources, event, headers, type || 'text/javascript', bytes) : null;
+    const copy = this.sources && status === 200 && this.isText(event, type) ? this.copyOf(this.sources, event, headers, type || 'text/javascript', bytes) : null;
     const answer = copy || { headers, type, body: bytes };
     await this.tab.send('Fetch.fulfillRequest', {
       requestId: event.requestId,
@@ -136,9 +136,9 @@ class Copies {
    * @param {string} type
    * @param {Buffer} bytes
    */
-  async copyOf(sources, event, headers, type, bytes) {
+  copyOf(sources, event, headers, type, bytes) {
     try {
-      const copy = await this.instrument(sources, event, type, bytes);
+      const copy = this.instrument(sources, event, type, bytes);
       const map = valueOf(headers, 'sourcemap') || valueOf(headers, 'x-sourcemap');
       if (map) sources.nameMap(withoutHash(event.request.url), map);
       return { ...copy, headers: withoutIntegrity(sources, headers).map((one) => (POLICY_HEADER.test(one.name) ? this.policyOfCopy(sources, event, one) : one)) };
@@ -165,12 +165,11 @@ class Copies {
    * @param {string} type
    * @param {Buffer} bytes
    */
-  async instrument(sources, event, type, bytes) {
+  instrument(sources, event, type, bytes) {
     const isPage = event.resourceType === 'Document';
     const { text, write, charset, ofScripts } = readText(bytes, type, isPage, isPage ? null : this.encodingOfPage);
     if (ofScripts) this.encodingOfPage = ofScripts;
     const address = withoutHash(event.request.url);
-    if (!isPage) await sources.prepareScript(address, text);
     const { holds } = this;
     /** @type {import('./paused.js').MakeInsertions|undefined} */
     const insertions = holds ? (one, html) => holds.insertions(one, html) : undefined;

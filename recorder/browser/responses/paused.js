@@ -26,7 +26,6 @@
  * What instruments texts, and counts what it leaves out (texts/sources.js).
  * @typedef {object} Texts
  * @property {(address: string, html: string, insertions?: MakeInsertions) => string} rewritePage
- * @property {(address: string, code: string) => Promise<void>} prepareScript makes `rewriteScript` fast: others go on meanwhile
  * @property {(address: string, code: string) => string} rewriteScript
  * @property {(address: string, map: string) => void} nameMap takes note of the source map that the response of a script names
  * @property {Map<string, string>} markedTexts
