@@ -42,10 +42,10 @@ function sizesOf(inserts) {
  * The texts of the scripts of a page, each with what is inserted into it.
  * @param {MeasuredPage} page
  */
-async function scriptsOf({ page, words }) {
+function scriptsOf({ page, words }) {
   const { address, folder } = resolveAddress(page, parseOptions([...words, page]).root);
   const sources = new Sources('objects');
-  if (folder) await markAhead(sources, folder, address);
+  if (folder) markAhead(sources, folder, address);
   return sources.files.flatMap((file) => (file instanceof Source && file.edited ? [{ text: file.text, inserts: insertsOf(file) }] : []));
 }
 
@@ -67,13 +67,13 @@ function rowOf(name, scripts) {
 }
 
 /** @param {string[]} words */
-async function main(words) {
+function main(words) {
   const { pages, into } = measuredOf(words);
   /** @type {{text: string, inserts: string[]}[]} */
   const all = [];
   /** @type {Set<string>} */
   const seen = new Set();
-  for (const page of pages) all.push(...(await scriptsOf(page)).filter(({ text }) => !seen.has(text) && seen.add(text)));
+  for (const page of pages) all.push(...scriptsOf(page).filter(({ text }) => !seen.has(text) && seen.add(text)));
   const minified = all.filter(({ text }) => isMinified(text));
   const rows = [rowOf('minified', minified), rowOf('other', all.filter((one) => !minified.includes(one))), rowOf('all', all)];
   const head = ['Scripts', 'Number', 'KB', 'Times as long', ...Object.keys(PARTS).map((part) => `without ${part}`), 'without all of these'];
