@@ -1,5 +1,5 @@
 'use strict';
-// Delays each file but the page, as a slow network does.
+// Delays each file except pages (of frames too), as a slow network does.
 
 const { sleep } = require('../../common/time.js');
 
