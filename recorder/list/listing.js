@@ -44,6 +44,7 @@ class Listing {
     const covered = this.coveredByKnown();
     /** Those with a line: no other problem's line covers them. */
     this.lines = this.problems.filter((one) => one.hasLine || (!one.isKnown && covered.has(one.name)));
+    this.lineNames = new Set(this.lines.map(({ name }) => name));
   }
 
   /**
@@ -201,13 +202,13 @@ class Listing {
   }
 
   /**
-   * How many races a line stands for: those of its groups.
+   * How many races are in the line of a problem: its own, and those that it covers of problems without a line.
    * @param {Listed} problem
    */
-  size({ name, races, run }) {
-    const { report } = this.runs[run];
-    const groups = (this.problemOf(run, name)?.groups || []).map((group) => report.groups[group]);
-    return groups.reduce((sum, { size }) => sum + size, 0) || races.length;
+  size({ name, run }) {
+    const { counts, covered } = this.runs[run];
+    const others = [...covered.get(name) || []].filter(([other]) => !this.lineNames.has(other));
+    return others.reduce((sum, [, count]) => sum + count, counts.get(name) || 0);
   }
 
   /**
