@@ -196,6 +196,7 @@ class ReplayCommand {
   }
 
   lines() {
+    if (!this.results.length) return ['No race was run again to the end.'];
     const lines = ['Run again in the other order:'];
     let part = '';
     for (const { number, result } of this.results) {

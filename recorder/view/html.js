@@ -118,7 +118,7 @@ function renderPage(model) {
 ${unproved(model)}${notComplete(model)}${notShown(model)}${leftOut(model)}${ofLibraries(model)}<form>
 <label>Kind <select id="kind">${KINDS}</select></label>
 <label>Text <input id="text" type="search" placeholder="a name, a file, a handler"></label>
-<label>Order <select id="order">${options(model.replays ? ORDERS_OF_REPLAYS : ORDERS)}</select></label>
+<label>Order <select id="order">${options(model.replays?.length ? ORDERS_OF_REPLAYS : ORDERS)}</select></label>
 <output id="found"></output>
 </form>
 <main id="groups"></main>
