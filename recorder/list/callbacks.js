@@ -18,6 +18,11 @@ const INTERVALS = {
   requestIdleCallback: ['idle callback', 'requested'], 'import()': ['module', 'requested'],
 };
 
+/** What comes before the path of an address, and before the last part of it. */
+const ORIGIN = /^\w+:\/\/[^/?#]*/;
+const FOLDERS = /^[^?#]*\/(?=[^/?#])/;
+/** Events at an element, whose number is their third word. */
+const AT_ELEMENT = new Set(['fire', 'inline', 'eload']);
 /** So many requests are followed back from an action to code of the page's own. */
 const MOST_STEPS = 20;
 /** How an action comes from the one that requested it (races/actions.js). */
@@ -105,11 +110,24 @@ class Callbacks {
   }
 
   /**
-   * A script in words, without its place.
+   * A script in words; its place, if it has no file, only where two sides are told apart.
    * @param {string} number @returns {string}
    */
   script(number) {
-    return this.words.script(number).replace(/^the /, '').replace(/ at .*$/, '');
+    const words = this.words.script(number).replace(/^the /, '');
+    return this.words.isApart ? words : words.replace(/ at .*$/, '');
+  }
+
+  /**
+   * The file that an element loads, where two sides are told apart.
+   * @param {string} number
+   * @returns {string} '' if it loads none
+   */
+  ofFile(number) {
+    const facts = this.names.elements[number] || {};
+    if (facts.standsFor) return this.ofFile(String(facts.standsFor));
+    const source = facts.source || facts.loads;
+    return this.words.isApart && source ? ` of ${this.words.nameOfSource(source)}` : '';
   }
 
   /**
@@ -124,12 +142,12 @@ class Callbacks {
   }
 
   /**
-   * The last part of the address that a request is for.
+   * The last part of the address that a request is for; the whole path, where two sides are told apart.
    * @param {string} number
    */
   request(number) {
     const { address } = this.names.requests[number] || {};
-    return address ? shown(address.replace(/^[^?#]*\/(?=[^/?#])/, '')) : 'a request';
+    return address ? shown(address.replace(this.words.isApart ? ORIGIN : FOLDERS, '')) : 'a request';
   }
 
   /**
@@ -151,7 +169,8 @@ class Callbacks {
     if (facts.type === 'await') return this.asked('code after await', 'waiting', { ...facts, function: '' }, action.number);
     if (facts.type === 'job') return this.asked('promise reaction', 'set', facts, action.number);
     const place = facts.place || this.names.elements[facts.target ?? '']?.place;
-    const of = action.dispatch?.words[0] === 'reply' ? ` of ${this.request(action.dispatch.words[2])}` : '';
+    const [word = '', , number = ''] = action.dispatch?.words || [];
+    const of = word === 'reply' ? ` of ${this.request(number)}` : AT_ELEMENT.has(word) ? this.ofFile(number) : '';
     return this.asked(`${shown(facts.type || 'event')} handler${of}`, 'registered', { ...facts, place }, action.number);
   }
 }

@@ -65,14 +65,6 @@ class LoadsListing extends Listing {
     return `seen in ${runs.length} of ${this.runs.length} loads${both}: ${this.views[runs[0] - 1]}`;
   }
 
-  /**
-   * How many races a line stands for; a load has not stored each of them.
-   * @param {Listed} problem
-   */
-  size(problem) {
-    return this.loads[problem.run].counts.get(problem.name) ?? super.size(problem);
-  }
-
   /** How many lines each load has, new ones and known ones. */
   countsByLoad() {
     const counts = this.runs.map(() => ({ fresh: 0, known: 0 }));

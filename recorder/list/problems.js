@@ -39,6 +39,9 @@ class Problems {
     this.leads = report.groups.map(({ race }) => race - 1);
     report.races.forEach((race, k) => this.mayLead(race, k));
     this.list = this.fold();
+    /** How many races each problem has, by its name. */
+    this.counts = new Map(this.list.map(({ name, races }) => [name, races.length]));
+    this.covered = this.countCovered();
     /** What was left out of the trace since the program cannot take it. */
     this.leftOut = (names.leftOut || []).map(({ location, accesses, pairs }) => ({ location, words: `"${this.words.location(location).text}"`, accesses, pairs }));
     /** What only libraries touch, counted: it is left out of the trace. */
@@ -152,6 +155,24 @@ class Problems {
     const covered = `and covered by it, ${look.seen ? `${look.seen}: ` : ''}${this.words.race(this.report.races[race])}`;
     one.look = { ...look, seen: [one.look.seen, covered].filter(Boolean).join('; ') };
     one.worst = race;
+  }
+
+  /**
+   * How many races of problems without a line each other problem covers: by its name, and by theirs.
+   * @returns {Map<string, Map<string, number>>}
+   */
+  countCovered() {
+    const withLine = new Set(this.lines().map(({ name }) => name));
+    /** @type {Map<string, Map<string, number>>} */
+    const covered = new Map();
+    this.report.races.forEach(({ group }, k) => {
+      const { problem } = this.ofRaces[k];
+      if (withLine.has(problem)) return;
+      const lead = this.ofRaces[this.leads[group - 1]].problem;
+      const counts = covered.get(lead) || new Map();
+      covered.set(lead, counts.set(problem, (counts.get(problem) || 0) + 1));
+    });
+    return covered;
   }
 
   /** The problems with a line of their own: those that have the first race of a group, and what is lost and covered by it. */

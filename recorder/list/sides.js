@@ -115,7 +115,7 @@ class Sides {
   eventInWords(number) {
     const { words: [word, , element, type] } = this.words.actions.list[this.words.actions.list[number].first];
     if (!EVENTS.has(word) || type === 'then') return null;
-    const target = word === 'wfire' ? 'the window' : this.words.element(element) + this.labelOf(element);
+    const target = word === 'wfire' ? 'the window' : this.words.element(element) + this.labelOf(element) + this.callbacks.ofFile(element);
     const verb = `${this.words.unescape(type)} at`;
     return { verb, target, words: `${verb} ${target}` };
   }

@@ -18,6 +18,7 @@ export interface Facts {
   id?: string;
   field?: string;
   source?: string;
+  loads?: string;
   standsFor?: number;
   message?: number;
   type?: string;

@@ -40,9 +40,11 @@ function leftOut({ leftOut: all = [] }) {
  * That the page leaves out some races, if it does.
  * @param {ViewModel} model
  */
-function notShown({ totals, races, report }) {
+function notShown({ totals, listed, races, report }) {
   if (races.length === totals.races) return '';
-  return `<p class="left-out">This page shows ${races.length} of ${totals.races} races, so that a browser can open it: at most 100 of a group, the worst problems first. `
+  const all = totals.problems + (totals.known || 0);
+  const ofProblems = listed.length < all ? `, in ${listed.length} of ${all} problems` : '';
+  return `<p class="left-out">This page shows ${races.length} of ${totals.races} races${ofProblems}, so that a browser can open it: at most 100 of a group, the worst problems first. `
     + `All are in the report, <code>${escapeText(report)}</code>, and in words in the list of <code>--json</code>.</p>\n`;
 }
 
@@ -116,7 +118,7 @@ function renderPage(model) {
 ${unproved(model)}${notComplete(model)}${notShown(model)}${leftOut(model)}${ofLibraries(model)}<form>
 <label>Kind <select id="kind">${KINDS}</select></label>
 <label>Text <input id="text" type="search" placeholder="a name, a file, a handler"></label>
-<label>Order <select id="order">${options(model.replays ? ORDERS_OF_REPLAYS : ORDERS)}</select></label>
+<label>Order <select id="order">${options(model.replays?.length ? ORDERS_OF_REPLAYS : ORDERS)}</select></label>
 <output id="found"></output>
 </form>
 <main id="groups"></main>
