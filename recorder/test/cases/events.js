@@ -335,5 +335,10 @@ exports.cases = [
   // messages of a frame that is not recorded come after what made the frame
   { page: 'message-sandboxed.html', due: ['run starts', 'on heard', 'fire iframe message', 'run heard', 'fire iframe message', 'run heard'], races: [] },
   { page: 'message-sandboxed-early.html', due: ['timer', 'on heard', 'fire iframe message', 'run heard'], races: ['message of window'] },
+  {
+    page: 'message-source.html',
+    due: ['run asks', 'post', 'message', 'run child', 'post', 'close', 'back', 'message', 'run heard', 'r answers'],
+    races: [],
+  },
   { page: 'message-own-and-sandboxed.html', due: ['fire iframe message', 'run heard', 'timer', 'post', 'message', 'run heard'], races: [] },
 ];
